@@ -1,6 +1,7 @@
 -- The numbers of a port's entries in a chain.
-use Rattle.std.proofs.Common.{◌≡◌, ℕ, ◌+◌, ◌-◌, ◌≤◌, ◌<◌, ◌++◌, ◌∷◌, [], List, Bool, true, false, eqb, ltb, ◌&&◌, length, get_or, set, zero, refl, sym, ap, ◌∙◌, subst, arith, inl, inr}
-use Rattle.std.specs.Prelude.{if◌then◌else◌, replicate}
+use Rattle.std.proofs.Common.{◌≡◌, Option, Some, None, ℕ, ◌+◌, ◌-◌, ◌≤◌, ◌<◌, ◌++◌, ◌∷◌, [], List, Bool, true, false, eqb, ltb, ◌&&◌, length, get_or, set, zero, refl, sym, ap, ◌∙◌, subst, arith, inl, inr}
+use Rattle.std.specs.Prelude.{if◌then◌else◌, map, replicate}
+use Rattle.std.specs.Option.{is_some}
 use Rattle.bank.specs.Effect.{memory_at}
 use Rattle.std.specs.List.{range_with_len}
 use Rattle.std.proofs.lemmas.List.{length-set, length-replicate, get_or-replicate, get_or-set_same, get_or-set_other, map-append, map-id, append-nil}
@@ -10,13 +11,13 @@ use Rattle.std.proofs.lemmas.Bool.{cases_eq}
 use Rattle.std.proofs.lemmas.Bool.Decides.{nat_tests}
 use Rattle.rmap.specs.Command.{command_of}
 use Rattle.rmap.specs.Windows.{lies_inside}
-use Rattle.bank.specs.Records.{BankValue, ShareValue, JudgedValue, EntryValue, numbers_of, entry_of, fits, is_bank_place, is_next, after_command, after_record, answer_of, has_room, JournalValue, fresh_bank}
+use Rattle.bank.specs.Records.{BankValue, ShareValue, JudgedValue, EntryValue, numbers_of, entry_of, fits, is_bank_place, is_next, after_command, after_record, answer_of, has_room, next_share, number_left, JournalValue, fresh_bank}
 use Rattle.annals.specs.declared.deed.Deed.{Deed}
-use Rattle.annals.specs.declared.deed.Deed.TheVariants.{Opens, Does, Sets}
+use Rattle.annals.specs.declared.deed.Deed.TheVariants.{Opens, Does, Sets, Asks, Publishes}
 use Rattle.annals.specs.declared.deed.Link.{Link}
-use Rattle.annals.specs.Chains.{ChainValue, chain_of, link}
-use Rattle.annals.specs.Banks.{with_entry, entries_in, entries_of, memory_after, zeros, IsKept}
-use Rattle.annals.proofs.Turns.{own_snoc}
+use Rattle.annals.specs.Chains.{ChainValue, LineValue, at_bank, chain_of, line_with, link}
+use Rattle.annals.specs.Banks.{CountsOn, numbers_at, with_entry, entries_in, entries_of, memory_after, zeros, IsKept}
+use Rattle.annals.proofs.Dues.{at_append, at_other, at_own, numbers_append, own_snoc}
 
 range_more : (start n next : ℕ) → start + n ≡ next → range_with_len start n ++ next ∷ [] ≡ range_with_len start (n + 1)
 range_more start n next last =
@@ -61,6 +62,8 @@ with_append : (d : Deed) (xs ys : List EntryValue) → with_entry d (xs ++ ys) �
 with_append (Opens x) xs ys = refl
 with_append (Does e) xs ys = refl
 with_append (Sets x) xs ys = refl
+with_append (Asks x) xs ys = refl
+with_append (Publishes x) xs ys = refl
 
 entries_snoc : (ls : List Link) (k place next : ℕ) (e : EntryValue) → entries_in (ls ++ link k place (Does e) next ∷ []) ≡ entries_in ls ++ e ∷ []
 entries_snoc [] k place next e = refl
@@ -102,6 +105,37 @@ still_counted k place next old before log b counts s j e fit counted same new at
           let count : get_or counts port 0 ≡ get_or b.counts port 0 = rw new (get_or-set_other b.counts j.port port (s.number + 1) 0 (λ e. other (sym e))) in
           numbers_of-other port (entries_of k before) e (λ is. other (sym at ∙ is)) ∙ (ap (λ (l : List Link). numbers_of port (entries_in l)) same ∙ (counted port within ∙ ap (λ (n : ℕ). range_with_len 0 n) (sym count)))
     ]
+
+-- the share and the line behind an entry
+pub counts_on : (k : ℕ) (s after : ShareValue) (line line' : LineValue) (e : EntryValue) → after ≡ record { port = s.port; number = s.number + 1 } → e.number ≡ s.number → line' ≡ line_with line k e
+    → CountsOn k s after line line'
+counts_on k s after line line' e next number more = record {
+  port = ap (λ (x : ShareValue). x.port) next;
+  line = ap (λ (l : LineValue). l.port) more;
+  elsewhere = λ i apart. ap (λ (l : LineValue). at_bank i l.asked) more ∙ (at_append i line.asked ((k, e) ∷ []) ∙ (ap (λ (es : List EntryValue). at_bank i line.asked ++ es) (at_other i k e [] apart) ∙ append-nil (at_bank i line.asked)));
+  counted = λ was.
+      let own : numbers_at k ((k, e) ∷ []) ≡ s.number ∷ [] = ap (map (λ (x : EntryValue). x.number)) (at_own k e []) ∙ ap (λ (n : ℕ). n ∷ []) number in
+      ap (λ (l : LineValue). numbers_at k l.asked) more ∙ (numbers_append k line.asked ((k, e) ∷ []) ∙ (ap (λ (ns : List ℕ). numbers_at k line.asked ++ ns) own ∙ (ap (λ (ns : List ℕ). ns ++ s.number ∷ []) was ∙ (range_more 0 s.number s.number (omega arith) ∙ ap (λ (x : ShareValue). range_with_len 0 x.number) (sym next)))));
+}
+
+-- nothing was asked for
+pub counts_same : (k : ℕ) (s after : ShareValue) (line line' : LineValue) → after ≡ s → line' ≡ line → CountsOn k s after line line'
+counts_same k s after line line' same still = record {
+  port = ap (λ (x : ShareValue). x.port) same;
+  line = ap (λ (l : LineValue). l.port) still;
+  elsewhere = λ i apart. ap (λ (l : LineValue). at_bank i l.asked) still;
+  counted = λ was. ap (λ (l : LineValue). numbers_at k l.asked) still ∙ (was ∙ ap (λ (x : ShareValue). range_with_len 0 x.number) (sym same));
+}
+
+pub next_share_is : (b : BankValue) (s : ShareValue) (j : JudgedValue) → has_room b j.port ≡ true → next_share b s j ≡ record { port = s.port; number = s.number + 1 }
+next_share_is b s j room = ap (λ (r : Bool). if r then record { port = s.port; number = s.number + 1 } else s) room
+
+-- where no number was left the share stays
+pub share_stays : (b : BankValue) (s : ShareValue) (j : JudgedValue) (n : Option ℕ) → n ≡ number_left b s j → is_some n ≡ false → next_share b s j ≡ s
+share_stays b s j n left none = go (has_room b j.port) refl where
+  go : (r : Bool) → has_room b j.port ≡ r → next_share b s j ≡ s
+  go true is = absurd (cc (sym none, ap is_some left, ap (λ (x : Bool). is_some (if x then Some s.number else None)) is))
+  go false is = ap (λ (x : Bool). if x then record { port = s.port; number = s.number + 1 } else s) is
 
 -- a bank of zeros is what a chain says that has just begun with it
 pub fresh_kept : (b : BankValue) (c : ChainValue) (first size : ℕ) (journal : JournalValue) (ports : ℕ) (extent : ℕ × ℕ) → b ≡ fresh_bank first size journal ports

@@ -13,7 +13,7 @@ use Rattle.annals.specs.declared.deed.Deed.TheVariants.{Does}
 use Rattle.annals.specs.declared.deed.Link.{Link}
 use Rattle.annals.specs.Chains.{chain_of, link}
 use Rattle.annals.specs.Banks.{zeros, after_deed, after_link, memory_after, answer_after}
-use Rattle.annals.proofs.Turns.{own_snoc}
+use Rattle.annals.proofs.Dues.{own_snoc}
 
 fold_snoc : (m : Memory) (xs : List Link) (x : Link) → fold after_link m (xs ++ x ∷ []) ≡ after_link (fold after_link m xs) x
 fold_snoc m [] x = refl

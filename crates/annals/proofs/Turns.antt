@@ -8,10 +8,11 @@ use lib.ListN.{replicate}
 use prog.Atomic.{either}
 use Rattle.logbook.specs.Pages.{Book, Named, Cell, cell, keeps, gives, adds, Nib, no_nib, may_write, step, Moves, Goes}
 use Rattle.annals.specs.declared.deed.Link.{Link}
-use Rattle.annals.specs.Chains.{chain_of, next_of, IsHome, AreHome, AreChained, Draws, Begins, Adds, Looks, IsAdded, IsFirst, word_of}
+use Rattle.annals.specs.Chains.{asked_in, chain_of, next_of, with_asked, IsHome, AreHome, AreAsked, AreChained, IsDue, Draws, Begins, Adds, Looks, link, IsAdded, IsFirst, word_of}
 use Rattle.annals.specs.Banks.{memory_after, after_link, after_deed, zeros, entries_of, entries_in, with_entry}
 use Rattle.std.specs.Prelude.{fold}
 use Rattle.annals.proofs.Fronts.{prefix_trans, prefix_length, prefix_whole}
+use Rattle.annals.proofs.Dues.{LeavesNone, between_same, chain_prefix, chain_snoc, none_asked, own_snoc, still_asked}
 
 abbrev pub shown : List Link → List Link
 shown log = []
@@ -79,18 +80,6 @@ next_snoc [] e = refl
 next_snoc (l ∷ []) e = refl
 next_snoc (l ∷ m ∷ ls) e = next_snoc (m ∷ ls) e
 
--- what begins a history has a chain that begins the history's
-pub chain_prefix : (c : ℕ) (xs ys : List Link) → IsPrefix xs ys → IsPrefix (chain_of c xs) (chain_of c ys)
-chain_prefix c xs ys p = (chain_of c p.0, sym (filter-append (λ (l : Link). l.chain == c) xs p.0) ∙ ap (chain_of c) p.1)
-
-pub chain_snoc : (c : ℕ) (log : List Link) (e : Link) → chain_of c (log ++ e ∷ []) ≡ chain_of c log ++ cond (e.chain == c) (e ∷ []) []
-chain_snoc c log e = filter-append (λ (l : Link). l.chain == c) log (e ∷ [])
-
-pub own_snoc : (c : ℕ) (log : List Link) (e : Link) → e.chain ≡ c → chain_of c (log ++ e ∷ []) ≡ chain_of c log ++ e ∷ []
-own_snoc c log e is =
-    let same : (e.chain == c) ≡ true = grind (arith, nat_tests, is) in
-    chain_snoc c log e ∙ ap (λ (b : Bool). chain_of c log ++ cond b (e ∷ []) []) same
-
 pub other_snoc : (c : ℕ) (log : List Link) (e : Link) → e.chain ≢ c → chain_of c (log ++ e ∷ []) ≡ chain_of c log
 other_snoc c log e not =
     let other : (e.chain == c) ≡ false = grind (arith, nat_tests, not) in
@@ -106,7 +95,7 @@ stays old n = same (n == old) refl where
   same false is = refl
 
 -- the cells stay where the word of a chain is exchanged by itself
-unchanged : (cs : List Cell) (log : List Link) (c : ℕ) → c < 9 → AreChained cs log → slice_set cs c (either ((cell cs c).0 == 1) 1 (cell cs c).0, true) ≡ cs
+unchanged : (cs : List Cell) (log : List Link) (c : ℕ) → c < 41 → AreChained cs log → slice_set cs c (either ((cell cs c).0 == 1) 1 (cell cs c).0, true) ≡ cs
 unchanged cs log c few kept = same_cell cs c (either ((cell cs c).0 == 1) 1 (cell cs c).0) (kept.homes c few) (stays 1 (cell cs c).0)
 
 draws_kept : (cs : List Cell) (log : List Link) → AreChained cs log → AreChained (cs ++ (0, false) ∷ []) (log ++ [])
@@ -117,9 +106,10 @@ draws_kept cs log kept =
       homes = λ c few. more_home cs ((0, false) ∷ []) c (kept.homes c few);
       begun = λ c few is. kept.begun c few (sym (ap (λ (d : Cell). d.0) (more_cell cs ((0, false) ∷ []) c (omega (arith, few, kept.row)))) ∙ is);
       used = λ c. still_home cs (cs ++ (0, false) ∷ []) (chain_of c log) (λ j home. more_home cs ((0, false) ∷ []) j home) (kept.used c);
+      asked = kept.asked;
     })
 
-pub draws_moves : (c : ℕ) (v : List Link) (e : Link) → c < 9
+pub draws_moves : (c : ℕ) (v : List Link) (e : Link) → c < 41
     → Moves AreChained shown moved c (v, (no_nib, None)) (λ n. either (n == 1) 1 n) (Draws (step c 1 1 e) (v, (no_nib, None)))
 draws_moves c v e few cs log kept pre away = (
   omega (arith, few, kept.row),
@@ -136,9 +126,9 @@ draws_moves c v e few cs log kept pre away = (
 )
 
 -- behind a step that gives its pen's cell home, the entry that was added follows the one of its chain that names the cell
-adds_kept : (cs : List Cell) (log : List Link) (e : Link) (key value : ℕ) → key ≡ next_of (chain_of e.chain log) → key < length cs → (cell cs key).1 ≡ false → 0 < length (chain_of e.chain log) → AreChained cs log
+adds_kept : (cs : List Cell) (log : List Link) (e : Link) (key value : ℕ) → key ≡ next_of (chain_of e.chain log) → key < length cs → (cell cs key).1 ≡ false → 0 < length (chain_of e.chain log) → AreAsked (log ++ e ∷ []) → AreChained cs log
     → AreChained (slice_set cs key (value, true)) (log ++ e ∷ [])
-adds_kept cs log e key value names few away some kept =
+adds_kept cs log e key value names few away some asked kept =
     let ds = slice_set cs key (value, true) in
     let used : IsHome ds (next_of (chain_of e.chain log)) = subst (λ (k : ℕ). IsHome ds k) names (ap (λ (c : Cell). c.1) (get_or-set_same cs key (value, true) (0, false) few)) in
     record {
@@ -146,18 +136,19 @@ adds_kept cs log e key value names few away some kept =
       homes = λ c row. set_home cs key value c (kept.homes c row);
       begun = λ c row is. begun c row is;
       used = λ c. chained c (e.chain == c) refl;
+      asked = asked;
     }
   where
     ds : List Cell
     ds = slice_set cs key (value, true)
 
-    apart : (c : ℕ) → c < 9 → c ≢ key
+    apart : (c : ℕ) → c < 41 → c ≢ key
     apart c row same = absurd (cc (kept.homes c row, subst (λ (k : ℕ). (cell cs k).1 ≡ false) (sym same) away))
 
-    before : (c : ℕ) → c < 9 → (cell ds c).0 ≡ 0 → chain_of c log ≡ []
+    before : (c : ℕ) → c < 41 → (cell ds c).0 ≡ 0 → chain_of c log ≡ []
     before c row is = kept.begun c row (sym (ap (λ (d : Cell). d.0) (get_or-set_other cs key c (value, true) (0, false) (apart c row))) ∙ is)
 
-    begun : (c : ℕ) → c < 9 → (cell ds c).0 ≡ 0 → chain_of c (log ++ e ∷ []) ≡ []
+    begun : (c : ℕ) → c < 41 → (cell ds c).0 ≡ 0 → chain_of c (log ++ e ∷ []) ≡ []
     begun c row is =
         let none = before c row is in
         let not : e.chain ≢ c = λ same. absurd (omega (arith, some, ap length (subst (λ (k : ℕ). chain_of k log ≡ []) (sym same) none))) in
@@ -176,14 +167,16 @@ adds_kept cs log e key value names few away some kept =
         rw (other_snoc c log e not) (still c)
 
 -- whatever the book is, the exchange adds the entry to the chain of whoever has the pen
-pub adds_moves : (c : ℕ) (own v : List Link) (e : Link) (p : Nib) → c < 9 → IsPrefix own v → 0 < length (chain_of c own) → p.right ≡ may_write → p.key ≡ next_of (chain_of c own)
-    → e.chain ≡ c → e.place ≡ length (chain_of c own)
+pub adds_moves : (c : ℕ) (own v : List Link) (e : Link) (p : Nib) → c < 41 → IsPrefix own v → 0 < length (chain_of c own) → p.right ≡ may_write → p.key ≡ next_of (chain_of c own)
+    → e.chain ≡ c → e.place ≡ length (chain_of c own) → IsDue e.chain e.deed v
     → Moves AreChained shown moved c (v, (p, None)) (λ n. either (n == 1) 1 n) (Adds (step c 1 1 e) (v, (p, None)))
-adds_moves c own v e p few begins some right key chain place cs log kept pre away =
+adds_moves c own v e p few begins some right key chain place due cs log kept pre away =
     let off = away right in
     let out : (cell cs (next_of (chain_of c own))).1 ≡ false = subst (λ (k : ℕ). (cell cs k).1 ≡ false) key off.1 in
     let same : chain_of c own ≡ chain_of c log = whole cs (chain_of c own) (chain_of c log) some (chain_prefix c own log (prefix_trans own v log begins pre)) (kept.used c) out in
-    let ours : chain_of e.chain log ≡ chain_of c own = ap (λ (k : ℕ). chain_of k log) chain ∙ sym same in (
+    let ours : chain_of e.chain log ≡ chain_of c own = ap (λ (k : ℕ). chain_of k log) chain ∙ sym same in
+    let here : chain_of e.chain v ≡ chain_of e.chain log = subst (λ (k : ℕ). chain_of k v ≡ chain_of k log) (sym chain) (between_same c own v log begins pre same) in
+    let asked : AreAsked (log ++ e ∷ []) = still_asked log v e.chain e.place e.next e.deed pre here due kept.asked in (
       omega (arith, few, kept.row),
       kept.homes c few,
       (
@@ -191,25 +184,26 @@ adds_moves c own v e p few begins some right key chain place cs log kept pre awa
         e ∷ [],
         None,
         right,
-        rw (unchanged cs log c few kept) (adds_kept cs log e p.key p.value (key ∙ ap next_of (sym ours)) off.0 off.1 (subst (λ (l : List Link). 0 < length l) (sym ours) some) kept),
+        rw (unchanged cs log c few kept) (adds_kept cs log e p.key p.value (key ∙ ap next_of (sym ours)) off.0 off.1 (subst (λ (l : List Link). 0 < length l) (sym ours) some) asked kept),
         inl (refl, refl),
-        record { before = log; log = refl; seen = pre; place = ap length ours ∙ sym place },
+        record { before = log; log = refl; seen = pre; place = ap length ours ∙ sym place; asked = kept.asked },
       ),
     )
 
 -- the first entry of a chain
-begins_kept : (cs : List Cell) (log : List Link) (e : Link) → e.chain < 9 → chain_of e.chain log ≡ [] → AreChained cs log → AreChained (slice_set cs e.chain (1, true)) (log ++ e ∷ [])
-begins_kept cs log e few none kept = record {
+begins_kept : (cs : List Cell) (log : List Link) (e : Link) → e.chain < 41 → chain_of e.chain log ≡ [] → LeavesNone e → AreChained cs log → AreChained (slice_set cs e.chain (1, true)) (log ++ e ∷ [])
+begins_kept cs log e few none leaves kept = record {
   row = omega (arith, kept.row, set_length cs e.chain (1, true));
   homes = λ c row. set_home cs e.chain 1 c (kept.homes c row);
   begun = λ c row is. begun c row (e.chain == c) refl is;
   used = λ c. chained c (e.chain == c) refl;
+  asked = none_asked log e leaves kept.asked;
 }
   where
     ds : List Cell
     ds = slice_set cs e.chain (1, true)
 
-    begun : (c : ℕ) → c < 9 → (b : Bool) → (e.chain == c) ≡ b → (cell ds c).0 ≡ 0 → chain_of c (log ++ e ∷ []) ≡ []
+    begun : (c : ℕ) → c < 41 → (b : Bool) → (e.chain == c) ≡ b → (cell ds c).0 ≡ 0 → chain_of c (log ++ e ∷ []) ≡ []
     begun c row true here is =
         let same : e.chain ≡ c = grind (arith, nat_tests, here) in
         let one : (cell ds e.chain).0 ≡ 1 = ap (λ (d : Cell). d.0) (get_or-set_same cs e.chain (1, true) (0, false) (omega (arith, few, kept.row))) in
@@ -232,20 +226,20 @@ begins_kept cs log e few none kept = record {
         let not : e.chain ≢ c = λ same. absurd (grind (arith, nat_tests, here, same)) in
         rw (other_snoc c log e not) (still c)
 
-begins_goes : (cs : List Cell) (log v : List Link) (e : Link) → e.chain < 9 → e.place ≡ length (chain_of e.chain v) → IsPrefix v log → AreChained cs log → (b : Bool) → ((cell cs e.chain).0 == 0) ≡ b
+begins_goes : (cs : List Cell) (log v : List Link) (e : Link) → e.chain < 41 → e.place ≡ length (chain_of e.chain v) → LeavesNone e → IsPrefix v log → AreChained cs log → (b : Bool) → ((cell cs e.chain).0 == 0) ≡ b
     → Goes AreChained shown moved e.chain (v, (no_nib, None)) (λ n. either (n == 0) 1 n) (Begins (step e.chain 0 1 e) (v, (no_nib, None))) cs log
-begins_goes cs log v e few place pre kept true is =
+begins_goes cs log v e few place leaves pre kept true is =
     let here : (cell cs e.chain).0 ≡ 0 = grind (arith, nat_tests, is) in
     let none : chain_of e.chain log ≡ [] = kept.begun e.chain few here in (
       keeps,
       e ∷ [],
       None,
       tt,
-      rw is (begins_kept cs log e few none kept),
+      rw is (begins_kept cs log e few none leaves kept),
       inl (refl, refl),
-      rw is (record { added = record { before = log; log = refl; seen = pre; place = omega (arith, place, ap length none, prefix_length (chain_of e.chain v) (chain_of e.chain log) (chain_prefix e.chain v log pre)) }; none = none }),
+      rw is (record { added = record { before = log; log = refl; seen = pre; place = omega (arith, place, ap length none, prefix_length (chain_of e.chain v) (chain_of e.chain log) (chain_prefix e.chain v log pre)); asked = kept.asked }; none = none }),
     )
-begins_goes cs log v e few place pre kept false is = (
+begins_goes cs log v e few place leaves pre kept false is = (
   keeps,
   [],
   None,
@@ -256,21 +250,22 @@ begins_goes cs log v e few place pre kept false is = (
 )
 
 -- whatever the book is, the exchange adds the first entry of the chain, or finds that there is one
-pub begins_moves : (c : ℕ) (v : List Link) (e : Link) → c < 9 → e.chain ≡ c → e.place ≡ length (chain_of c v)
+pub begins_moves : (c : ℕ) (v : List Link) (e : Link) → c < 41 → e.chain ≡ c → e.place ≡ length (chain_of c v) → LeavesNone e
     → Moves AreChained shown moved c (v, (no_nib, None)) (λ n. either (n == 0) 1 n) (Begins (step c 0 1 e) (v, (no_nib, None)))
-begins_moves c v e few chain place =
+begins_moves c v e few chain place leaves =
     subst (λ (k : ℕ). Moves AreChained shown moved k (v, (no_nib, None)) (λ n. either (n == 0) 1 n) (Begins (step k 0 1 e) (v, (no_nib, None)))) chain
     (λ cs log kept pre away.
-    let row : e.chain < 9 = subst (λ (k : ℕ). k < 9) (sym chain) few in
-    (omega (arith, row, kept.row), kept.homes e.chain row, begins_goes cs log v e row (place ∙ ap (λ (k : ℕ). length (chain_of k v)) (sym chain)) pre kept ((cell cs e.chain).0 == 0) refl))
+    let row : e.chain < 41 = subst (λ (k : ℕ). k < 41) (sym chain) few in
+    (omega (arith, row, kept.row), kept.homes e.chain row, begins_goes cs log v e row (place ∙ ap (λ (k : ℕ). length (chain_of k v)) (sym chain)) leaves pre kept ((cell cs e.chain).0 == 0) refl))
 
--- the rule holds of nine words and no entry
-pub woven_at_first : AreChained (replicate 9 (0, true)) []
+-- the rule holds of 41 words and no entry
+pub woven_at_first : AreChained (replicate 41 (0, true)) []
 woven_at_first = record {
   row = omega arith;
-  homes = λ c few. ap (λ (d : Cell). d.1) (get_or-replicate 9 c (0, true) (0, false) few);
+  homes = λ c few. ap (λ (d : Cell). d.1) (get_or-replicate 41 c (0, true) (0, false) few);
   begun = λ c few is. refl;
   used = λ c. tt;
+  asked = λ port. ([], refl);
 }
 
 -- ---- what an added entry tells
@@ -297,6 +292,13 @@ first_memory c v w e chain f =
     let is : chain_of c w ≡ e ∷ [] = ap (chain_of c) f.added.log ∙ (own_snoc c f.added.before e chain ∙ ap (λ (l : List Link). l ++ e ∷ []) none) in
     ap (λ (l : List Link). fold after_link (zeros (0, 0)) l) is
 
+-- a chain that begins asks for nothing
+pub first_asked : (c : ℕ) (v w : List Link) (e : Link) → e.chain ≡ c → IsFirst v w e → asked_in (chain_of c w) ≡ with_asked e.deed []
+first_asked c v w e chain f =
+    let none : chain_of c f.added.before ≡ [] = subst (λ (k : ℕ). chain_of k f.added.before ≡ []) chain f.none in
+    let is : chain_of c w ≡ e ∷ [] = ap (chain_of c) f.added.log ∙ (own_snoc c f.added.before e chain ∙ ap (λ (l : List Link). l ++ e ∷ []) none) in
+    ap asked_in is
+
 -- a chain that begins has no entry of a journal
 pub first_entries : (c : ℕ) (v w : List Link) (e : Link) → e.chain ≡ c → IsFirst v w e → entries_of c w ≡ with_entry e.deed []
 first_entries c v w e chain f =
@@ -309,7 +311,7 @@ pub known_word : (w : Named) (home : Book) → w.tracked ≡ true → w.book ≡
 known_word w home tracked book = λ i. record { tracked = tracked i; key = w.key; book = book i }
 
 -- whatever the book is, the exchange finds that the chain is what the pen's owner has of it
-pub looks_moves : (c : ℕ) (own v : List Link) (e : Link) (p : Nib) → c < 9 → IsPrefix own v → 0 < length (chain_of c own) → p.right ≡ may_write → p.key ≡ next_of (chain_of c own)
+pub looks_moves : (c : ℕ) (own v : List Link) (e : Link) (p : Nib) → c < 41 → IsPrefix own v → 0 < length (chain_of c own) → p.right ≡ may_write → p.key ≡ next_of (chain_of c own)
     → e.chain ≡ c → e.place ≡ length (chain_of c own)
     → Moves AreChained shown moved c (v, (p, None)) (λ n. either (n == 1) 1 n) (Looks (step c 1 1 e) (v, (p, None)))
 looks_moves c own v e p few begins some right key chain place cs log kept pre away =
@@ -327,6 +329,6 @@ looks_moves c own v e p few begins some right key chain place cs log kept pre aw
         tt,
         rw (unchanged cs log c few kept, all) kept,
         inl (refl, ap shown all),
-        (ap (λ (l : List Link). length (chain_of e.chain l)) all ∙ (ap length ours ∙ sym place), refl),
+        (ap (λ (l : List Link). length (chain_of e.chain l)) all ∙ (ap length ours ∙ sym place), refl, subst AreAsked (sym all) kept.asked),
       ),
     )

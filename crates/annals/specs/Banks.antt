@@ -1,6 +1,6 @@
 -- The history of a node's banks, and what it says of each.
-use Rattle.std.specs.Prelude.{ℕ, ◌≡◌, ◌<◌, ◌&&◌, Bool, List, [], ◌∷◌, None, fold, length, replicate, slice_index, true}
-use Rattle.std.specs.List.{range_with_len}
+use Rattle.std.specs.Prelude.{ℕ, ◌≡◌, ◌≢◌, ◌<◌, ◌==◌, ◌&&◌, Bool, List, [], ◌∷◌, None, fold, length, map, replicate, slice_index, true}
+use Rattle.std.specs.List.{filter, range_with_len}
 use mathlib.Core.List.{IsPrefix}
 use Rattle.rmap.specs.declared.places.Place.TheVariants.{Bank}
 use Rattle.rmap.specs.declared.status.Status.TheVariants.{GeneralError}
@@ -11,9 +11,9 @@ use Rattle.bank.specs.Effect.{Memory, memory_at, with_bytes}
 use Rattle.bank.specs.Answer.{answer, Answer}
 use Rattle.bank.specs.Records.{EntryValue, ShareValue, JudgedValue, BankValue, after_command, after_entry, answer_of, entry_of, fits, fresh_bank, is_place_of, JournalValue, memory_of, next_share, number_left, numbers_of}
 use Rattle.annals.specs.declared.deed.Deed.{Deed}
-use Rattle.annals.specs.declared.deed.Deed.TheVariants.{Opens, Does, Sets}
+use Rattle.annals.specs.declared.deed.Deed.TheVariants.{Opens, Does, Sets, Asks, Publishes}
 use Rattle.annals.specs.declared.deed.Link.{Link}
-use Rattle.annals.specs.Chains.{ChainValue, IsLast, chain_of}
+use Rattle.annals.specs.Chains.{ChainValue, Due, LineValue, IsLast, at_bank, chain_of}
 
 -- so many zero bytes from an address on
 abbrev pub zeros : ℕ × ℕ → Memory
@@ -24,6 +24,8 @@ abbrev pub after_deed : Memory → Deed → Memory
 after_deed m (Opens extent) = zeros extent
 after_deed m (Does entry) = after_entry m entry
 after_deed m (Sets setting) = with_bytes m setting.0 setting.1
+after_deed m (Asks due) = m
+after_deed m (Publishes publish) = m
 
 -- memory after an entry of the history
 abbrev pub after_link : Memory → Link → Memory
@@ -38,6 +40,8 @@ abbrev pub with_entry : Deed → List EntryValue → List EntryValue
 with_entry (Opens extent) entries = entries
 with_entry (Does entry) entries = entry ∷ entries
 with_entry (Sets setting) entries = entries
+with_entry (Asks due) entries = entries
+with_entry (Publishes publish) entries = entries
 
 -- the entries of journals that those deeds left, in order
 abbrev pub entries_in : List Link → List EntryValue
@@ -47,6 +51,10 @@ entries_in (l ∷ ls) = with_entry l.deed (entries_in ls)
 -- all entries that a bank's journal ever had, oldest first, whatever was rotated
 abbrev pub entries_of : ℕ → List Link → List EntryValue
 entries_of bank log = entries_in (chain_of bank log)
+
+-- those of a port's commands, oldest first
+abbrev pub entries_by : (port bank : ℕ) → List Link → List EntryValue
+entries_by port bank log = filter (λ (e : EntryValue). e.port == port) (entries_of bank log)
 
 -- what a judged command is answered behind a history, where there is room
 abbrev pub answer_after : ℕ → List Link → JudgedValue → Answer
@@ -86,6 +94,21 @@ pub record IsRefusedAt (old new : KeptValue) (share after : ShareValue) (judged 
   pub reply_is : reply ≡ reply_of (command_of judged.packet) GeneralError []
   pub kept : new ≡ old
   pub share_is : after ≡ share
+
+-- of those, the numbers of the entries at that bank
+abbrev pub numbers_at : ℕ → List Due → List ℕ
+numbers_at bank dues = map (λ (e : EntryValue). e.number) (at_bank bank dues)
+
+-- the entries that a port asked for at a bank have the numbers from 0 up to its share's, each once and in order
+abbrev pub IsCountOf : ShareValue → (bank : ℕ) → LineValue → Type 0
+IsCountOf share bank line = numbers_at bank line.asked ≡ range_with_len 0 share.number
+
+-- the share of that bank goes on with what its port asked for there, and of no other bank was anything asked for
+pub record CountsOn (bank : ℕ) (share after : ShareValue) (old new : LineValue) : Type 0 where
+  pub port : after.port ≡ share.port
+  pub line : new.port ≡ old.port
+  pub elsewhere : (k : ℕ) → k ≢ bank → at_bank k new.asked ≡ at_bank k old.asked
+  pub counted : IsCountOf share bank old → IsCountOf after bank new
 
 -- the bank's memory is the replay of the chain
 abbrev pub IsReplayed : BankValue → ChainValue → Type 0

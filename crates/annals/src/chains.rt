@@ -3,8 +3,10 @@
 ghost use Rattle.std.specs.Prelude.{◌≡◌, ◌<◌, ◌≤◌, ◌+◌, ◌∷◌, ◌++◌, ◌⊎◌, ℕ, List, [], length, IfSome};
 ghost use mathlib.Core.List.{IsPrefix};
 ghost use Rattle.logbook.specs.Pages.{may_write};
-ghost use Rattle.annals.specs.Chains.{word_of, chain_of, IsLast};
+ghost use Rattle.annals.specs.declared.deed.Link.{Link};
+ghost use Rattle.annals.specs.Chains.{word_of, chain_of, asked_in, IsDue, IsLastOf, IsWhole};
 ghost use Rattle.annals.specs.Banks.{memory_after, zeros, entries_of};
+ghost use Rattle.annals.specs.Publishes.{publishes_in};
 
 use crate::deed::{Extent, Link, Tells};
 use logbook::{Gain, Offer, Opening, Pen, Pens, Plain, Play, Rule, Seen, Start, Word};
@@ -126,7 +128,7 @@ impl Family for Brand {
 /// A pen of a new cell.
 fn drawn(word: &Word<Link, u64, Chained>, seen: &Seen<Link, u64, Chained>) -> Pen
     requires word { word.now ≡ word_of seen.now.book word.now.key }
-    requires few { word.now.key < 9 }
+    requires few { word.now.key < 41 }
     ensures book { result.book ≡ seen.now.book }
     ensures right { result.nib.right ≡ may_write }
 {
@@ -154,15 +156,15 @@ impl Model for Opened {
 
     ghost view = { λ o. (o.seen.book, o.pens.left) };
 
-    ghost invariant = { λ o. (o.pens.book ≡ o.seen.book) × (o.pens.next + o.pens.left ≡ 9) × (o.seen.log ≡ []) };
+    ghost invariant = { λ o. (o.pens.book ≡ o.seen.book) × (o.pens.next + o.pens.left ≡ 41) × (o.seen.log ≡ []) };
 }
 
 impl Opened {
     /// Opens a history.
     pub fn new() -> Opened
-        ensures { result.1 ≡ 9 }
+        ensures { result.1 ≡ 41 }
     {
-        let (seen, pens) = Seen::open_row::<(), Empty>(&(), Start::alone(), 9);
+        let (seen, pens) = Seen::open_row::<(), Empty>(&(), Start::alone(), 41);
         Opened { pens, seen }
     }
 
@@ -177,6 +179,19 @@ impl Opened {
         }
     }
 
+    /// Leaves so many chains out: nobody adds to them.
+    pub fn skip(&mut self, count: u8)
+        requires { count ≤ self.old.1 }
+        ensures left { self.new.1 + count ≡ self.old.1 }
+        ensures family { self.new.0 ≡ self.old.0 }
+    {
+        let mut left = count;
+        while left > 0 {
+            let _pen = self.pens.take();
+            left -= 1;
+        }
+    }
+
     /// The next chain, with its first entry, of a bank of so many zero bytes from an address on. `None` where it has one
     /// already (no test met that). The condition is a chain that is left.
     pub fn chain<J: Family>(&mut self, extent: (u32, u32)) -> Option<Chain<J>>
@@ -184,9 +199,11 @@ impl Opened {
         requires left { 0 < self.old.1 }
         ensures left { self.new.1 + 1 ≡ self.old.1 }
         ensures family { self.new.0 ≡ self.old.0 }
-        ensures number { IfSome result (λ c. c.number + self.old.1 ≡ 9) }
+        ensures number { IfSome result (λ c. c.number + self.old.1 ≡ 41) }
         ensures memory { IfSome result (λ c. memory_after c.number c.log ≡ zeros extent) }
         ensures entries { IfSome result (λ c. entries_of c.number c.log ≡ []) }
+        ensures asked { IfSome result (λ c. asked_in (chain_of c.number c.log) ≡ []) }
+        ensures publishes { IfSome result (λ c. publishes_in (chain_of c.number c.log) ≡ []) }
     {
         let mut pen = self.pens.take();
         let head: Word<Link, u64, Chained> = Word::tracked(0, &mut pen);
@@ -223,7 +240,7 @@ impl Opened {
 pub struct Chain<J: Family> {
     word: Word<Link, u64, Chained>,
     pen: Pen,
-    seen: Seen<Link, u64, Chained>,
+    pub(crate) seen: Seen<Link, u64, Chained>,
     of: PhantomData<J>,
 }
 
@@ -238,15 +255,25 @@ impl<J: Family> Model for Chain<J> {
 }
 
 impl<J: Family> Chain<J> {
-    /// Adds a deed, behind all that is known of the chain and all that one has seen, who then has seen it too.
-    pub(crate) fn add<D: Tells>(&mut self, front: &mut Front<J>, told: &D)
+    /// Somebody learns all that is known of the chain.
+    pub(crate) fn tell(&self, front: &mut Front<J>)
+        ensures chain { IsPrefix self.now.log front.new }
+        ensures front { IsPrefix front.old front.new }
+    {
+        front.seen.learn(&self.seen);
+    }
+
+    /// Adds a deed, behind all that somebody has seen, who then has seen it too. The conditions are one who has seen all that
+    /// is known of the chain, and a deed that may be the next.
+    pub(crate) fn push<D: Tells>(&mut self, front: &mut Front<J>, told: &D)
+        requires begins { IsPrefix self.old.log front.old }
+        requires due { IsDue self.old.number (D.deed told.now) front.old }
         ensures number { self.new.number ≡ self.old.number }
         ensures log { self.new.log ≡ front.new }
-        ensures added { (last : IsLast self.old.number front.old front.new (D.deed told.now))
-            × (chain_of self.old.number last.before ≡ chain_of self.old.number self.old.log) }
+        ensures added { IsLastOf self.old front.old front.new (D.deed told.now) }
     {
         let fresh = drawn(&self.word, &self.seen);
-        let mut offer: Offer<Link, u64, Chained, Nothing> = self
+        let mut offer: Offer<Link, u64, Chained, Nothing> = front
             .seen
             .plain::<Nothing, Adding<D>, Add>(&Adding {
                 word: &self.word,
@@ -254,19 +281,28 @@ impl<J: Family> Chain<J> {
                 told,
                 fresh: &fresh,
             });
-        self.seen.learn(&front.seen);
         let _one = self
             .word
-            .compare_exchange::<Add, Nothing>(1, 1, &mut self.seen, &mut offer, &mut self.pen);
+            .compare_exchange::<Add, Nothing>(1, 1, &mut front.seen, &mut offer, &mut self.pen);
         self.pen = fresh;
-        front.seen = self.seen.again();
+        self.seen = front.seen.again();
     }
-}
 
-impl<J: Family> Chain<J> {
-    /// What was seen of the chain is a beginning of it.
+    /// Adds a deed, behind all that is known of the chain and all that somebody has seen, who then has seen it too. The
+    /// condition is a deed of no command.
+    pub(crate) fn add<D: Tells>(&mut self, front: &mut Front<J>, told: &D)
+        requires free { (log : List Link) → IsDue self.old.number (D.deed told.now) log }
+        ensures number { self.new.number ≡ self.old.number }
+        ensures log { self.new.log ≡ front.new }
+        ensures added { IsLastOf self.old front.old front.new (D.deed told.now) }
+    {
+        self.tell(front);
+        self.push(front, told);
+    }
+
+    /// What was seen is a beginning of a history of which the chain is whole.
     pub(crate) fn begins_with(&mut self, front: &Front<J>)
-        ensures begins { IsPrefix (chain_of self.old.number front.now) (chain_of self.old.number self.old.log) }
+        ensures whole { IsWhole self.old front.now }
         ensures same { self.new ≡ self.old }
     {
         let extent = Extent((0, 0));
@@ -289,8 +325,8 @@ impl<J: Family> Chain<J> {
 /// A beginning of the history that was seen. Contracts see it as its entries.
 #[derive(Drop)]
 pub struct Front<J: Family> {
-    seen: Seen<Link, u64, Chained>,
-    of: PhantomData<J>,
+    pub(crate) seen: Seen<Link, u64, Chained>,
+    pub(crate) of: PhantomData<J>,
 }
 
 impl<J: Family> Model for Front<J> {

@@ -1,14 +1,15 @@
 //! A bank with its chain, as it lies behind a lock.
 
 ghost use Rattle.std.specs.Prelude.{◌≡◌, ◌<◌, ◌+◌, ℕ, [], IfSome, IfNone, length, true, false};
-ghost use Rattle.bank.specs.Records.{after_command, after_rotation, after_setting, answer_of, covers, fits, is_place_of, memory_of, next_share, number_left};
+ghost use Rattle.bank.specs.Records.{after_command, after_rotation, after_setting, answer_of, covers, entry_of, fits, is_place_of, memory_of, next_share, number_left};
 ghost use Rattle.annals.specs.declared.deed.Deed.TheVariants.{Sets};
-ghost use Rattle.annals.specs.Banks.{IsAppliedTo, IsDone, IsFresh, IsRefusedAt, takes};
-ghost use Rattle.annals.specs.Chains.{IsLast, chain_of};
+ghost use Rattle.annals.specs.Banks.{CountsOn, IsAppliedTo, IsDone, IsFresh, IsRefusedAt, takes};
+ghost use Rattle.annals.specs.Chains.{IsLast, chain_of, line_with};
 ghost use mathlib.Core.List.{IsPrefix};
 
 use crate::chains::{Chain, Family, Front, Opened};
 use crate::deed::Setting;
+use crate::line::Line;
 use bank::{Applied, Bank, Journal, Judged, Share};
 use rmap::{Place, ReplyBuf};
 use std::marker::Model;
@@ -39,7 +40,7 @@ impl<J: Family> Kept<J> {
     /// chain has an entry already (no test met that). Conditions: a bank as [`Bank::new`] makes it, and a chain that is left.
     pub fn new(number: u8, bank: Bank, opened: &mut Opened) -> Option<Kept<J>>
         requires family { opened.old.0 ≡ J.book }
-        requires number { (number < 9) × (number + opened.old.1 ≡ 9) }
+        requires number { (number < 9) × (number + opened.old.1 ≡ 41) }
         requires bank { IsFresh bank }
         ensures family { opened.new.0 ≡ opened.old.0 }
         ensures left { opened.new.1 + 1 ≡ opened.old.1 }
@@ -66,10 +67,12 @@ impl<J: Family> Kept<J> {
     fn apply(
         &mut self,
         front: &mut Front<J>,
+        line: &mut Line<J>,
         share: &mut Share,
         judged: Judged,
         reply: &mut ReplyBuf,
     ) -> Applied
+        requires line { line.old.port ≡ share.old.port }
         requires place { is_place_of self.old.chain.number judged.place ≡ true }
         requires fits { fits self.old.bank share.old judged ≡ true }
         ensures bank { self.new.bank ≡ after_command self.old.bank share.old judged }
@@ -82,13 +85,17 @@ impl<J: Family> Kept<J> {
         ensures done { IfSome result.number
             (λ n. IsDone self.old.chain.number front.old front.new share.old judged result reply.new) }
         ensures full { IfNone result.number (front.new ≡ front.old) }
+        ensures asked { IfSome result.number (λ n. line.new
+            ≡ line_with line.old self.old.chain.number (entry_of share.old judged result.status)) }
+        ensures unasked { IfNone result.number (line.new ≡ line.old) }
+        ensures counted { CountsOn self.old.chain.number share.old share.new line.old line.new }
     {
         let applied = self.bank.apply(share, judged, reply);
         if applied.number.is_some() {
             let Some(entry) = self.bank.entries().last() else {
                 unreachable!()
             };
-            self.chain.add(front, entry);
+            line.leave(front, &mut self.chain, self.number, entry);
         }
         applied
     }
@@ -105,17 +112,24 @@ impl<J: Family> Kept<J> {
 
     /// Ends a judged command: does it where its place is this bank and it fits ([`Bank::fits`]), and answers a general error
     /// where not, which leaves all as it was. Where it leaves an entry, that is the last of a history which goes on from
-    /// what the port knew, and status and reply are the definition's on the replay of what stood before it.
+    /// what the port knew, and status and reply are the definition's on the replay of what stood before it; and the port's line
+    /// asked for it. The condition is a line and a share of one port.
     pub fn finish(
         &mut self,
         front: &mut Front<J>,
+        line: &mut Line<J>,
         share: &mut Share,
         judged: Judged,
         reply: &mut ReplyBuf,
     ) -> Applied
+        requires { line.old.port ≡ share.old.port }
         ensures done { IfSome result.number
             (λ n. IsDone self.old.chain.number front.old front.new share.old judged result reply.new) }
         ensures none { IfNone result.number (front.new ≡ front.old) }
+        ensures asked { IfSome result.number (λ n. line.new
+            ≡ line_with line.old self.old.chain.number (entry_of share.old judged result.status)) }
+        ensures unasked { IfNone result.number (line.new ≡ line.old) }
+        ensures counted { CountsOn self.old.chain.number share.old share.new line.old line.new }
         ensures applied { takes self.old share.old judged ≡ true
             → IsAppliedTo self.old.bank self.new.bank share.old share.new judged result reply.new }
         ensures refused { takes self.old share.old judged ≡ false
@@ -134,7 +148,7 @@ impl<J: Family> Kept<J> {
                 number: None,
             };
         }
-        self.apply(front, share, judged, reply)
+        self.apply(front, line, share, judged, reply)
     }
 
     /// Begins a new journal and hands the old one out, as [`Bank::rotate`] does. The history stays. The condition is an

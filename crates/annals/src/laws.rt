@@ -1,7 +1,8 @@
-//! The law of what ports know. The function does no work: its contract is the law.
+//! Laws of what ports know. Each function does no work: its contract is the law.
 
 ghost use Rattle.std.specs.Prelude.{◌⊎◌};
 ghost use mathlib.Core.List.{IsPrefix};
+ghost use Rattle.annals.specs.Publishes.{PublishesGrow};
 
 use crate::chains::{Family, Front};
 
@@ -11,3 +12,8 @@ pub fn share_one_history<J: Family>(one: &Front<J>, other: &Front<J>)
 {
     one.meets(other);
 }
+
+/// What begins a history has the publishes that begin the history's.
+pub fn publishes_grow()
+    ensures { PublishesGrow }
+{}

@@ -19,7 +19,7 @@ use anyhow::{Context, Result};
 use bpf::Image;
 use bver::{Accepted, MapSizes, verify};
 use machine::MapKind;
-use publish::{Opened, ProgramFamily, Programs, Publisher, Reader};
+use publish::{Family, Opened, Programs, Publisher, Reader};
 use std::alloc::Global;
 use std::env;
 use std::marker::Brand;
@@ -50,12 +50,12 @@ fn yes(alloc: Global, sizes: &MapSizes) -> Option<Accepted>
 
 /// A reader, and how many programs it took.
 #[derive(Drop)]
-struct Taker<J: ProgramFamily> {
+struct Taker<J: Family> {
     reader: Reader<J>,
     taken: u64,
 }
 
-impl<J: ProgramFamily> Taker<J> {
+impl<J: Family> Taker<J> {
     /// Takes so often. What was taken is read, so that it is not left out: the program's budget is 2.
     fn take(&mut self, rounds: u32) {
         for _ in 0..rounds {
@@ -69,7 +69,7 @@ impl<J: ProgramFamily> Taker<J> {
 }
 
 /// Publishes so often, and counts the publishes.
-fn publish<J: ProgramFamily, R: Wait + Drop>(
+fn publish<J: Family, R: Wait + Drop>(
     alloc: Global,
     publisher: &mut Publisher<J, R>,
     rounds: u32,
@@ -87,7 +87,7 @@ fn publish<J: ProgramFamily, R: Wait + Drop>(
 
 /// Takes so often with each of some takers, in a thread of its own each, beside a thread that publishes.
 /// How many programs were taken.
-fn take_beside<J: ProgramFamily + Send + Sync, R: Threads + Wait + Sync>(
+fn take_beside<J: Family + Send + Sync, R: Threads + Wait + Sync>(
     rt: &R,
     alloc: Global,
     publisher: &mut Publisher<J, &R>,
@@ -128,7 +128,7 @@ fn print<R: Clock + Print>(
 }
 
 /// Takes on one thread and on four beside a publisher, and publishes beside idle readers.
-fn measure<J: ProgramFamily + Send + Sync, R: Threads + Wait + Clock + Print + Sync>(
+fn measure<J: Family + Send + Sync, R: Threads + Wait + Clock + Print + Sync>(
     rt: &R,
     alloc: Global,
     opened: Opened,
@@ -158,7 +158,7 @@ fn measure<J: ProgramFamily + Send + Sync, R: Threads + Wait + Clock + Print + S
 }
 
 /// Serves packets through a pass, one after the other.
-fn measure_packets<J: ProgramFamily, R: Wait + Clock + Print>(
+fn measure_packets<J: Family, R: Wait + Clock + Print>(
     rt: &R,
     alloc: Global,
     opened: Opened,

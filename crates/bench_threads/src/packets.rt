@@ -5,12 +5,12 @@ ghost use Rattle.std.specs.Prelude.{◌≡◌};
 use anyhow::{Context, Result};
 use bver::Accepted;
 use node_parts::{BankConfig, Banks, NodeConfig, Served};
-use publish::{Opened, ProgramFamily, Publisher};
+use publish::{Family, Opened, Publisher};
 use rmap::{ReplyBuf, Status};
 use spw::{End, Packet};
 use std::alloc::Global;
 use std::sync::Wait;
-use target::{Pass, banks_and_passes, serve_packet};
+use target::{PlainPass, banks_and_passes, serve_packet};
 
 /// A read of the load result, which leaves no entry in a journal.
 pub(crate) const READ: [u8; 16] = [
@@ -25,11 +25,11 @@ const BANK: BankConfig = BankConfig {
 };
 
 /// Whether the read was judged and answered with success.
-fn is_read<J: ProgramFamily, R: Wait + Drop>(
+fn is_read<J: Family, R: Wait + Drop>(
     alloc: Global,
     banks: &mut Banks,
     publisher: &mut Publisher<J, R>,
-    pass: &mut Pass<J>,
+    pass: &mut PlainPass<J>,
     reply: &mut ReplyBuf,
 ) -> Result<bool> {
     let packet = Packet::new(Vec::from_slice(alloc, &READ)?, End::Eop)?;
@@ -42,13 +42,13 @@ fn is_read<J: ProgramFamily, R: Wait + Drop>(
 
 /// A node of one port, and its port's pass, to which so many reads come in.
 #[derive(Drop)]
-pub struct Port<J: ProgramFamily, R: Wait + Drop> {
+pub struct Port<J: Family, R: Wait + Drop> {
     banks: Banks,
     publisher: Publisher<J, R>,
-    pass: Pass<J>,
+    pass: PlainPass<J>,
 }
 
-impl<J: ProgramFamily, R: Wait + Drop> Port<J, R> {
+impl<J: Family, R: Wait + Drop> Port<J, R> {
     /// A fresh node at whose port that program judges.
     pub fn new(alloc: Global, rt: R, opened: Opened, program: Accepted) -> Result<Port<J, R>>
         requires { opened ≡ J.book }

@@ -1,9 +1,8 @@
 //! Ports of a node that are served at once, each in a thread of its own.
 
-ghost use Rattle.std.specs.Prelude.{IfOk, vec_len};
+ghost use Rattle.std.specs.Prelude.{◌≡◌, IfOk, vec_len};
 ghost use Rattle.ports.specs.Queue.{IsServePassOf};
 ghost use Rattle.ports.specs.Serves.{AreServed, IsWorkerOf};
-ghost use Rattle.target.specs.Nodes.{AreOpened};
 
 use anyhow::{Result, bail};
 use bver::Accepted;
@@ -16,7 +15,7 @@ use std::rt::Clock;
 use std::sync::Wait;
 use std::thread::Threads;
 use std::time::Instant;
-use target::{Node, NodeFamily, Opened, Pass};
+use target::{Family, Node, Opened, Pass};
 
 /// How many packets each port is given: as many as its queue holds beside the end mark.
 const PACKETS: u16 = MAX_CAPACITY - 1;
@@ -60,7 +59,7 @@ fn filled<R: Wait>(rt: &R, alloc: Global, bank: u8) -> Result<(Port, ServePass)>
 }
 
 /// A worker of a port of the node, whose replies are kept in memory.
-fn worker<J: NodeFamily, R: Wait + Drop>(
+fn worker<J: Family, R: Wait + Drop>(
     alloc: Global,
     node: &Node<J, R>,
     port: &Port,
@@ -85,7 +84,7 @@ fn worker<J: NodeFamily, R: Wait + Drop>(
 type Desks<J> = (Vec<Port>, Vec<Worker<J, Replies>>);
 
 /// A full port for each pass of the node: its packets go to the bank of its number, or to the only one.
-fn desks<J: NodeFamily, R: Wait + Drop, W: Wait>(
+fn desks<J: Family, R: Wait + Drop, W: Wait>(
     rt: &W,
     alloc: Global,
     node: &Node<J, R>,
@@ -106,7 +105,7 @@ fn desks<J: NodeFamily, R: Wait + Drop, W: Wait>(
 }
 
 /// How many of the workers' replies tell success.
-fn successes<J: NodeFamily>(workers: &[Worker<J, Replies>]) -> u64 {
+fn successes<J: Family>(workers: &[Worker<J, Replies>]) -> u64 {
     let mut done = 0u64;
     for worker in workers {
         for reply in worker.sink.replies() {
@@ -120,7 +119,7 @@ fn successes<J: NodeFamily>(workers: &[Worker<J, Replies>]) -> u64 {
 
 /// Serves so many full ports of a fresh node, which has a bank for each or one for all: how many writes were done, and
 /// the nanoseconds that the ports were served.
-pub fn serve_writes<J: NodeFamily + Send + Sync + 'static, R: Threads + Wait + Clock + Sync>(
+pub fn serve_writes<J: Family + Send + Sync + 'static, R: Threads + Wait + Clock + Sync>(
     rt: &R,
     alloc: Global,
     opened: Opened,
@@ -128,7 +127,7 @@ pub fn serve_writes<J: NodeFamily + Send + Sync + 'static, R: Threads + Wait + C
     ports: u8,
     has_one_bank: bool,
 ) -> Result<(u64, u128)>
-    requires { AreOpened J.ProgramFamily.book J.Family.book opened }
+    requires { opened ≡ J.book }
 {
     let banks = [BANK; 4];
     let count = if has_one_bank {

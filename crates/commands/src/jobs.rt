@@ -1,9 +1,8 @@
 //! The jobs of `rmapctl`.
 
-ghost use Rattle.std.specs.Prelude.{IfErr, IfOk};
+ghost use Rattle.std.specs.Prelude.{◌≡◌, IfErr, IfOk};
 ghost use Rattle.commands.specs.Performed.{IsDone, IsEnded, Performs};
 ghost use Rattle.job_parts.specs.Stops.{StopsBy};
-ghost use Rattle.target.specs.Nodes.{AreOpened};
 
 use job_charts::compare::{CompareWords, compare_file};
 use job_charts::map::{MapWords, map_file};
@@ -33,7 +32,7 @@ use std::io::Write;
 use std::marker::Brand;
 use std::sync::Wait;
 use std::thread::Threads;
-use target::{NodeFamily, Opened};
+use target::{Family, Opened};
 
 /// A job, as a command line names it.
 #[derive(Debug, Drop)]
@@ -75,7 +74,7 @@ pub enum Job {
 }
 
 /// Does a job, up to its end or the fault that ends it, which is still to be printed.
-fn attempt<'a, J: NodeFamily + Send + Sync + 'static, R: Threads + Wait + Sync, F: Files, W: Write>(
+fn attempt<'a, J: Family + Send + Sync + 'static, R: Threads + Wait + Sync, F: Files, W: Write>(
     rt: &R,
     alloc: Global,
     opened: Opened,
@@ -83,7 +82,7 @@ fn attempt<'a, J: NodeFamily + Send + Sync + 'static, R: Threads + Wait + Sync, 
     files: &mut F,
     out: &mut W,
 ) -> Result<Status, Halt<'a>>
-    requires { AreOpened J.ProgramFamily.book J.Family.book opened }
+    requires { opened ≡ J.book }
     ensures done { IfOk result (IsDone F.reads F.writes job.now files.old files.new
         (W.contents out.old) (W.contents out.new)) }
     ensures stops { IfErr result (StopsBy (IsEnded F.reads F.writes job.now files.old files.new
@@ -113,12 +112,7 @@ fn attempt<'a, J: NodeFamily + Send + Sync + 'static, R: Threads + Wait + Sync, 
 }
 
 /// Does a job, where a node that it makes has that history of programs.
-fn perform_opened<
-    J: NodeFamily + Send + Sync + 'static,
-    R: Threads + Wait + Sync,
-    F: Files,
-    W: Write,
->(
+fn perform_opened<J: Family + Send + Sync + 'static, R: Threads + Wait + Sync, F: Files, W: Write>(
     rt: &R,
     alloc: Global,
     opened: Opened,
@@ -126,7 +120,7 @@ fn perform_opened<
     files: &mut F,
     out: &mut W,
 ) -> Result<Status, WriteFault>
-    requires { AreOpened J.ProgramFamily.book J.Family.book opened }
+    requires { opened ≡ J.book }
     ensures { IfOk result (Performs F.reads F.writes job.now files.old files.new
         (W.contents out.old) (W.contents out.new)) }
 {

@@ -4,7 +4,6 @@ ghost use Rattle.std.specs.Prelude.{◌≡◌, ◌≤◌, IfErr, IfOk, length, m
 ghost use Rattle.job_ports.specs.Queues.{AreBeginnings, AreFew, AreFilled, AreOfPorts, IsDesk, IsFilled, ServeEach, new_worker};
 ghost use Rattle.ports.specs.Serves.{AreServed};
 ghost use Rattle.job_parts.specs.declared.faults.Fault.TheVariants.{NoMemory};
-ghost use Rattle.target.specs.Nodes.{AreOpened};
 
 use crate::arrivals::Arrivals;
 use bver::Accepted;
@@ -15,7 +14,7 @@ use spw::Packet;
 use std::alloc::{AllocError, Global};
 use std::sync::Wait;
 use std::thread::Threads;
-use target::{Node, NodeFamily, Opened, Pass};
+use target::{Family, Node, Opened, Pass};
 
 /// A port whose queue holds these packets and then the end mark, what puts into it, and what takes from it.
 fn filled<R: Wait>(
@@ -61,7 +60,7 @@ fn fill<R: Wait>(
 }
 
 /// A worker for each port, in order, whose replies are kept in memory.
-fn workers_of<J: NodeFamily, R: Wait + Drop>(
+fn workers_of<J: Family, R: Wait + Drop>(
     alloc: Global,
     node: &Node<J, R>,
     passes: Vec<Pass<J>>,
@@ -87,7 +86,7 @@ fn workers_of<J: NodeFamily, R: Wait + Drop>(
 
 /// The sink of each worker. What the workers took is taken back into what puts, so that it is known to be all that was
 /// put.
-fn sinks_of<J: NodeFamily>(
+fn sinks_of<J: Family>(
     alloc: Global,
     ports: &[Port],
     mut put_passes: Vec<PutPass>,
@@ -115,7 +114,7 @@ fn sinks_of<J: NodeFamily>(
 
 /// A fresh node whose ports hold packets, what puts into each port, and their workers.
 #[derive(Drop)]
-struct Desks<J: NodeFamily, R: Wait + Drop> {
+struct Desks<J: Family, R: Wait + Drop> {
     node: Node<J, R>,
     ports: Vec<Port>,
     put_passes: Vec<PutPass>,
@@ -123,7 +122,7 @@ struct Desks<J: NodeFamily, R: Wait + Drop> {
 }
 
 /// A fresh node with so many ports, at each of which the program judges, and which hold the packets that came to them.
-fn fresh_desks<'a, 'r, J: NodeFamily, R: Wait>(
+fn fresh_desks<'a, 'r, J: Family, R: Wait>(
     rt: &'r R,
     alloc: Global,
     opened: Opened,
@@ -131,7 +130,7 @@ fn fresh_desks<'a, 'r, J: NodeFamily, R: Wait>(
     program: Accepted,
     arrivals: Arrivals,
 ) -> Result<Desks<J, &'r R>, Fault<'a>>
-    requires room { AreOpened J.ProgramFamily.book J.Family.book opened }
+    requires room { opened ≡ J.book }
     requires few { AreFew arrivals }
     requires count { length arrivals ≡ ports }
     ensures fresh { IfOk result (λ made. IsDesk program ports arrivals made.node made.ports.items
@@ -157,7 +156,7 @@ fn fresh_desks<'a, 'r, J: NodeFamily, R: Wait>(
 
 /// Serves the packets that came to the ports of a fresh node, each port in a thread of its own, to the end: the replies
 /// of each port, and the sum of the reports. The program judges.
-pub fn serve_arrivals<'a, J: NodeFamily + Send + Sync + 'static, R: Threads + Wait + Sync>(
+pub fn serve_arrivals<'a, J: Family + Send + Sync + 'static, R: Threads + Wait + Sync>(
     rt: &R,
     alloc: Global,
     opened: Opened,
@@ -165,7 +164,7 @@ pub fn serve_arrivals<'a, J: NodeFamily + Send + Sync + 'static, R: Threads + Wa
     program: Accepted,
     arrivals: Arrivals,
 ) -> Result<(Vec<Replies>, Report), Fault<'a>>
-    requires room { AreOpened J.ProgramFamily.book J.Family.book opened }
+    requires room { opened ≡ J.book }
     requires few { AreFew arrivals }
     requires count { length arrivals ≡ ports }
     ensures served { IfOk result (λ made. ServeEach program ports arrivals made.0.items made.1) }

@@ -10,7 +10,6 @@ ghost use Rattle.job_parts.specs.Statuses.{IsDoneWith};
 ghost use Rattle.job_parts.specs.Stops.{StopsBy};
 ghost use Rattle.job_ports.specs.ServeJob.{lines_from, port_lines, report_line, serve_app};
 ghost use Rattle.job_ports.specs.ServedFile.{IsNotServed, ServesFile, ServesWords};
-ghost use Rattle.target.specs.Nodes.{AreOpened};
 
 use crate::arriving::read_lines;
 use crate::queues::serve_arrivals;
@@ -25,7 +24,7 @@ use std::alloc::{AllocError, Global};
 use std::io::{self, Write};
 use std::sync::Wait;
 use std::thread::Threads;
-use target::{NodeFamily, Opened};
+use target::{Family, Opened};
 
 /// `serve LINES [--image FILE] [--maps LIST] [--ports N]`.
 pub fn serve_command<'a>(alloc: Global) -> Result<Command<'a>, AllocError>
@@ -39,14 +38,14 @@ pub fn serve_command<'a>(alloc: Global) -> Result<Command<'a>, AllocError>
 
 /// Serves the packet lines of a file on the node of these arguments, and gives the replies of each port, and the sum of the
 /// workers' reports.
-fn serve_words<'a, J: NodeFamily + Send + Sync + 'static, R: Threads + Wait + Sync, F: Files>(
+fn serve_words<'a, J: Family + Send + Sync + 'static, R: Threads + Wait + Sync, F: Files>(
     rt: &R,
     alloc: Global,
     opened: Opened,
     args: &'a LinesArgs,
     files: &mut F,
 ) -> Result<(Vec<Replies>, Report), Halt<'a>>
-    requires { AreOpened J.ProgramFamily.book J.Family.book opened }
+    requires { opened ≡ J.book }
     ensures served { IfOk result (λ made. ServesWords F.reads args.now files.old files.new
         made.0.items made.1) }
     ensures few { IfOk result (λ made. length made.0.items < 256) }
@@ -105,7 +104,7 @@ pub fn print_report<W: Write>(out: &mut W, report: Report) -> io::Result<()>
 /// refused. Where there is one, nothing is printed.
 pub fn serve_file<
     'a,
-    J: NodeFamily + Send + Sync + 'static,
+    J: Family + Send + Sync + 'static,
     R: Threads + Wait + Sync,
     F: Files,
     W: Write,
@@ -117,7 +116,7 @@ pub fn serve_file<
     files: &mut F,
     out: &mut W,
 ) -> Result<Status, Halt<'a>>
-    requires { AreOpened J.ProgramFamily.book J.Family.book opened }
+    requires { opened ≡ J.book }
     ensures done { IfOk result (IsDoneWith (ServesFile F.reads args.now files.old files.new
         (W.contents out.old) (W.contents out.new))) }
     ensures stops { IfErr result (StopsBy (λ fault.

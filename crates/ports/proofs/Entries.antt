@@ -2,20 +2,30 @@
 use Rattle.std.proofs.Common.{◌≡◌, ◌⊎◌, ℕ, Bool, true, false, ◌&&◌, List, [], ◌∷◌, Option, Some, None, sym, refl, ap, ◌∙◌, subst, inl, inr}
 use Rattle.std.specs.Prelude.{IfSome, IfNone, MatchBool, if◌then◌else◌}
 use Rattle.std.proofs.lemmas.Bool.{cases_Bool}
+use mathlib.Core.List.{IsPrefix}
 use Rattle.spw.specs.Cargo.{Cargo}
 use Rattle.bank.specs.Records.{BankValue, ShareValue, JudgedValue, has_room, number_left}
+use Rattle.node_programs.specs.declared.publishes.Publish.{Publish}
+use Rattle.node_parts.specs.Passes.{PassValue}
 use Rattle.node_parts.specs.Applied.{share_of}
 use Rattle.annals.specs.declared.deed.Link.{Link}
-use Rattle.annals.specs.Banks.{IsDone, takes}
+use Rattle.annals.specs.Banks.{takes}
+use Rattle.annals.specs.Publishes.{publishes_of}
+use Rattle.target.specs.Finished.{IsDoneBehind}
 use Rattle.ports.specs.Due.{Judging, Deed, Standing, standing, Worked, IsBanked, IsWindowed, IsJudged, judgings}
 use Rattle.ports.specs.Due.Deed.{Dropped, Answered, Judged}
-use Rattle.ports.specs.Laws.{HasEntered, EntriesFollow}
+use Rattle.ports.specs.Laws.{HasEntered, IsByPublished, EntriesFollow}
+use Rattle.ports.proofs.Following.{dealt_stays, judged_by}
 
-both_are : (a b : Bool) → (a && b) ≡ true → (a ≡ true) × (b ≡ true)
+-- whatever the publishes are that those begin which the port had seen, the command was judged by one of them
+abbrev IsJudgedBehind : ℕ → Judging → PassValue → Type 0
+IsJudgedBehind port j h = (published : List Publish) → IsPrefix h.programs published → IsByPublished published port j
+
+pub both_are : (a b : Bool) → (a && b) ≡ true → (a ≡ true) × (b ≡ true)
 both_are true b e = (refl, e)
 both_are false b e = absurd cc
 
-left_some : (b : BankValue) (share : ShareValue) (j : JudgedValue) → has_room b j.port ≡ true → number_left b share j ≡ Some share.number
+pub left_some : (b : BankValue) (share : ShareValue) (j : JudgedValue) → has_room b j.port ≡ true → number_left b share j ≡ Some share.number
 left_some b share j room = ap (λ r. if r then Some share.number else None) room
 
 left_none : (b : BankValue) (share : ShareValue) (j : JudgedValue) → has_room b j.port ≡ false → number_left b share j ≡ None
@@ -26,15 +36,18 @@ not_both true b e no_both = no_both
 not_both false b e no_both = absurd cc
 
 -- a command that left an entry was done
-entered : (j : Judging) (h after : Standing) → IsBanked j h after → j.entered ≡ true → HasEntered h.front after.front j
-entered j h after is left =
+entered : (port : ℕ) (j : Judging) (h after : Standing) → IsJudgedBehind port j h.pass → IsBanked j h after → j.entered ≡ true → HasEntered port h.front after.front j
+entered port j h after by is left =
     let share = share_of h.pass j.judged.place in let before = is.ended.before in let end = is.ended.finished in
     let parts = both_are (takes before share j.judged) (has_room before.bank j.judged.port) (sym is.entered ∙ left) in
-    let number = (end.applied parts.0).number ∙ left_some before.bank share j.judged parts.1 in record {
+    let number = (end.applied parts.0).number ∙ left_some before.bank share j.judged parts.1 in
+    let behind : IsDoneBehind h.pass.programs before.chain.number h.front after.front share j.judged is.ended.result j.reply
+    = subst (λ (o : Option ℕ). IfSome o (λ n. IsDoneBehind h.pass.programs before.chain.number h.front after.front share j.judged is.ended.result j.reply)) number end.done in record {
       bank = before.chain.number;
       share = share;
       result = is.ended.result;
-      done = subst (λ (o : Option ℕ). IfSome o (λ n. IsDone before.chain.number h.front after.front share j.judged is.ended.result j.reply)) number end.done;
+      done = behind.done;
+      by = by (publishes_of behind.done.last.before) behind.published;
     }
 
 -- one that left none added nothing
@@ -50,28 +63,31 @@ not_entered j h after is none =
     subst (λ (o : Option ℕ). IfNone o (after.front ≡ h.front)) number end.none
 
 -- what a judged command did to the history that its port knows
-step : (j : Judging) (h after : Standing) → IsBanked j h after ⊎ IsWindowed j h after → MatchBool j.entered (HasEntered h.front after.front j) (after.front ≡ h.front)
-step j h after (inl banked) = elim (cases_Bool j.entered) [
-  | inl left ↦ subst (λ b. MatchBool b (HasEntered h.front after.front j) (after.front ≡ h.front)) (sym left) (entered j h after banked left)
-  | inr none ↦ subst (λ b. MatchBool b (HasEntered h.front after.front j) (after.front ≡ h.front)) (sym none) (not_entered j h after banked none)
+step : (port : ℕ) (j : Judging) (h after : Standing) → IsJudgedBehind port j h.pass → IsBanked j h after ⊎ IsWindowed j h after → MatchBool j.entered (HasEntered port h.front after.front j) (after.front ≡ h.front)
+step port j h after by (inl banked) = elim (cases_Bool j.entered) [
+  | inl left ↦ subst (λ b. MatchBool b (HasEntered port h.front after.front j) (after.front ≡ h.front)) (sym left) (entered port j h after by banked left)
+  | inr none ↦ subst (λ b. MatchBool b (HasEntered port h.front after.front j) (after.front ≡ h.front)) (sym none) (not_entered j h after banked none)
 ]
-step j h after (inr windowed) =
-    subst (λ b. MatchBool b (HasEntered h.front after.front j) (after.front ≡ h.front)) (sym windowed.entered) windowed.front
+step port j h after by (inr windowed) =
+    subst (λ b. MatchBool b (HasEntered port h.front after.front j) (after.front ≡ h.front)) (sym windowed.entered) windowed.front
 
 -- one judged command before the others
-follows : (entered : Bool) (j : Judging) (js : List Judging) (known between reached : List Link) → MatchBool entered (HasEntered known between j) (between ≡ known)
-    → EntriesFollow between js reached
-    → MatchBool entered ((l : List Link) × HasEntered known l j × EntriesFollow l js reached) (EntriesFollow known js reached)
-follows true j js known between reached here rest = (between, here, rest)
-follows false j js known between reached here rest = subst (λ l. EntriesFollow l js reached) here rest
+follows : (entered : Bool) (port : ℕ) (j : Judging) (js : List Judging) (known between reached : List Link) → MatchBool entered (HasEntered port known between j) (between ≡ known)
+    → EntriesFollow port between js reached
+    → MatchBool entered ((l : List Link) × HasEntered port known l j × EntriesFollow port l js reached) (EntriesFollow port known js reached)
+follows true port j js known between reached here rest = (between, here, rest)
+follows false port j js known between reached here rest = subst (λ l. EntriesFollow port l js reached) here rest
 
-pub entries_follow : (h after : Standing) (ps : List Cargo) (ds : List Deed) → Worked h ps ds after → EntriesFollow h.front (judgings ds) after.front
+pub entries_follow : (h after : Standing) (ps : List Cargo) (ds : List Deed) → Worked h ps ds after → EntriesFollow h.pass.port h.front (judgings ds) after.front
 entries_follow h after [] [] w = ap (λ (x : Standing). x.front) w
 entries_follow h after [] (d ∷ ds) w = absurd w
 entries_follow h after (p ∷ ps) [] w = absurd w
 entries_follow h after (p ∷ ps) (Dropped ∷ ds) w =
-    subst (λ (x : Standing). EntriesFollow x.front (judgings ds) after.front) w.1.same (entries_follow w.0 after ps ds w.2)
+    subst (λ (x : Standing). EntriesFollow x.pass.port x.front (judgings ds) after.front) w.1.same (entries_follow w.0 after ps ds w.2)
 entries_follow h after (p ∷ ps) (Answered reply ∷ ds) w =
-    subst (λ (x : Standing). EntriesFollow x.front (judgings ds) after.front) w.1.same (entries_follow w.0 after ps ds w.2)
+    subst (λ (x : Standing). EntriesFollow x.pass.port x.front (judgings ds) after.front) w.1.same (entries_follow w.0 after ps ds w.2)
 entries_follow h after (p ∷ ps) (Judged j ∷ ds) w =
-    follows j.entered j (judgings ds) h.front w.0.front after.front (step j (standing w.1.between h.front) w.0 w.1.ended) (entries_follow w.0 after ps ds w.2)
+    let port = (dealt_stays (Judged j) p h w.0 w.1).port in
+    let rest = subst (λ (n : ℕ). EntriesFollow n w.0.front (judgings ds) after.front) port (entries_follow w.0 after ps ds w.2) in
+    follows j.entered h.pass.port j (judgings ds) h.front w.0.front after.front
+    (step h.pass.port j (standing w.1.between h.front) w.0 (λ published begins. judged_by j p h w.0 published w.1 begins) w.1.ended) rest

@@ -30,12 +30,12 @@ use Rattle.ports.proofs.Keeping.{end_keeps, prefix_same, prefix_trans}
 
 -- ---- what stays of a port, and that it saw more
 
-record Stays (h after : PassValue) : Type 0 where
-  programs : IsPrefix h.programs after.programs
-  port : after.port ≡ h.port
-  windows : after.windows ≡ h.windows
-  sizes : after.seat.sizes ≡ h.seat.sizes
-  count : length after.shares ≡ length h.shares
+pub record Stays (h after : PassValue) : Type 0 where
+  pub programs : IsPrefix h.programs after.programs
+  pub port : after.port ≡ h.port
+  pub windows : after.windows ≡ h.windows
+  pub sizes : after.seat.sizes ≡ h.seat.sizes
+  pub count : length after.shares ≡ length h.shares
 
 stays_same : (h after : PassValue) → after ≡ h → Stays h after
 stays_same h after same = record {
@@ -74,16 +74,16 @@ end_stays j between after end = let keeps = end_keeps j between after end in rec
   count = keeps.count;
 }
 
-same_stays : (h after : Standing) → after ≡ h → Stays h.pass after.pass
+pub same_stays : (h after : Standing) → after ≡ h → Stays h.pass after.pass
 same_stays h after same = stays_same h.pass after.pass (ap (λ (x : Standing). x.pass) same)
 
-dealt_stays : (d : Deed) (p : Cargo) (h after : Standing) → IsDealt d p h after → Stays h.pass after.pass
+pub dealt_stays : (d : Deed) (p : Cargo) (h after : Standing) → IsDealt d p h after → Stays h.pass after.pass
 dealt_stays Dropped p h after is = same_stays h after is.same
 dealt_stays (Answered reply) p h after is = same_stays h after is.same
 dealt_stays (Judged j) p h after is =
     stays_on h.pass is.between after.pass (run_stays h.pass is.between p j.judged is.judgement) (end_stays j (standing is.between h.front) after is.ended)
 
-worked_stays : (h after : Standing) (ps : List Cargo) (ds : List Deed) → Worked h ps ds after → Stays h.pass after.pass
+pub worked_stays : (h after : Standing) (ps : List Cargo) (ds : List Deed) → Worked h ps ds after → Stays h.pass after.pass
 worked_stays h after [] [] w = same_stays h after w
 worked_stays h after [] (d ∷ ds) w = absurd w
 worked_stays h after (p ∷ ps) [] w = absurd w
@@ -100,20 +100,22 @@ by_more some more port port' j longer same is = record {
   verdict = subst (λ n. IsVerdict j.program n j.calls j.judged.packet j.judged.verdict) same is.verdict;
 }
 
--- a command that was judged is so by a program that the port has seen then
-judged_published : (j : Judging) (p : Cargo) (h after : Standing) → IsJudged j p h after → IsByPublished after.pass.programs h.pass.port j
-judged_published j p h after is =
+-- a command that was judged is so by a program of any publishes that all begin which its port had seen then
+pub judged_by : (j : Judging) (p : Cargo) (h after : Standing) (published : List Publish) (is : IsJudged j p h after) → IsPrefix is.between.programs published → IsByPublished published h.pass.port j
+judged_by j p h after published is begins =
     let run = is.judgement in let for = run.judged_for in
-    let end = end_stays j (standing is.between h.front) after is.ended in
     let saw : run.seen ≡ is.between.programs = sym (ap (λ (x : PassValue). x.programs) run.asked) in
     record {
       seen = run.seen;
-      begins = subst (λ l. IsPrefix l after.pass.programs) (sym saw) end.programs;
+      begins = subst (λ l. IsPrefix l published) (sym saw) begins;
       shown = subst (λ c. judging_program run.seen (slot_of (command_kind (command_of c)) j.judged.place) ≡ Some (j.program, j.judged.generation)) (sym for.packet)
           (subst (λ a. judging_program run.seen (slot_of (command_kind (command_of p)) j.judged.place) ≡ Some (a, j.judged.generation)) (sym is.program) run.taken.shown);
       verdict = subst (λ c. IsVerdict j.program h.pass.port j.calls c j.judged.verdict) (sym for.packet)
           (subst (λ a. IsVerdict a h.pass.port j.calls p j.judged.verdict) (sym is.program) (subst (λ l. IsVerdict run.program h.pass.port l p j.judged.verdict) (sym is.calls) for.verdict));
     }
+
+judged_published : (j : Judging) (p : Cargo) (h after : Standing) → IsJudged j p h after → IsByPublished after.pass.programs h.pass.port j
+judged_published j p h after is = judged_by j p h after after.pass.programs is (end_stays j (standing is.between h.front) after is.ended).programs
 
 pub programs_were_published : (h after : Standing) (ps : List Cargo) (ds : List Deed) → Worked h ps ds after → All (IsByPublished after.pass.programs h.pass.port) (judgings ds)
 programs_were_published h after [] [] w = All-nil (IsByPublished after.pass.programs h.pass.port)
@@ -151,11 +153,11 @@ ask_once h after (p ∷ ps) (Judged j ∷ ds) w =
 -- ---- shares count entries
 
 -- what a judged command adds to the port's number at a bank
-abbrev bit : Bool → ℕ
+abbrev pub bit : Bool → ℕ
 bit true = 1
 bit false = 0
 
-abbrev one_at : ℕ → Judging → ℕ
+abbrev pub one_at : ℕ → Judging → ℕ
 one_at k j = bit (is_entry_at k j)
 
 next_number : (b : BankValue) (share : ShareValue) (j : JudgedValue) → (next_share b share j).number ≡ share.number + bit (has_room b j.port)
@@ -244,7 +246,7 @@ end_number k j h after (inr is) below =
     let none = no_entry k j.entered j.judged.place is.entered in
     omega (arith, same, none)
 
-judged_number : (k : ℕ) (j : Judging) (p : Cargo) (h after : Standing) → IsJudged j p h after → k < length h.pass.shares → number_at after.pass k ≡ number_at h.pass k + one_at k j
+pub judged_number : (k : ℕ) (j : Judging) (p : Cargo) (h after : Standing) → IsJudged j p h after → k < length h.pass.shares → number_at after.pass k ≡ number_at h.pass k + one_at k j
 judged_number k j p h after is below =
     let same : number_at is.between k ≡ number_at h.pass k = ap (λ x. number_at x k) is.judgement.asked in
     let count = (run_stays h.pass is.between p j.judged is.judgement).count in

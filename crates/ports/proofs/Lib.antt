@@ -9,3 +9,4 @@ mod Reports
 mod Starting
 mod Served
 mod Entries
+mod Whole

@@ -1,5 +1,5 @@
 -- Workers that came back from their threads.
-use Rattle.std.proofs.Common.{◌≡◌, ◌+◌, ◌-◌, ◌<◌, ◌≤◌, ℕ, suc, List, [], ◌∷◌, ◌++◌, Option, None, Some, refl, sym, ap, ◌∙◌, subst, ⊎_elim, inl, inr, arith}
+use Rattle.std.proofs.Common.{◌≡◌, ◌+◌, ◌-◌, ◌<◌, ◌≤◌, ℕ, zero, suc, List, [], ◌∷◌, ◌++◌, Option, None, Some, refl, sym, ap, ◌∙◌, subst, ⊎_elim, inl, inr, arith}
 use Rattle.std.specs.Prelude.{map, length, slice_index_or}
 use Rattle.std.proofs.lemmas.Bool.{cases_lt}
 use Rattle.std.proofs.lemmas.List.{get_or-map, get_or_append_left, get_or-append-add, length-append, length-map}
@@ -8,6 +8,8 @@ use Rattle.std.proofs.lemmas.List.Elements.{All-append, All-cons, All-nil}
 use mathlib.Core.List.{IsPrefix}
 use Rattle.annals.specs.declared.deed.Link.{Link}
 use Rattle.ports.proofs.Keeping.{prefix_trans}
+use Rattle.ports.proofs.Whole.{entries_are_all}
+use Rattle.ports.specs.Worked.{standing_of}
 use Rattle.ports.specs.Queue.{IsServePassOf, IsServePassAfter}
 use Rattle.ports.specs.declared.port.Port.{Port}
 use Rattle.ports.specs.declared.port.ServePass.{ServePass}
@@ -95,6 +97,10 @@ module _ {J S : Type 0} (sent : S → List SentReply) (failed : S → ℕ) (bank
           };
           sum = told.added;
           history = history;
+          entries = λ k w r below.
+              let it = (here k w r below).worked in
+              let low : k < length returned = subst (λ n. k < n) (sym (length-map ended (λ (e : Ended J S). e.worker) ∙ long)) below in
+              entries_are_all (standing_of (slice_index_or old k w)) (standing_of (slice_index_or returned k w)) it.packets it.served.deeds history.whole it.served.worked (history.begin k w low) (history.counted k w low);
         }
 
     -- Where a thread could not be made, fewer workers came back than went in.
@@ -140,12 +146,30 @@ module _ {J S : Type 0} (sent : S → List SentReply) (failed : S → ℕ) (bank
           few = omega (arith, many, whole, few);
         }
 
--- What the workers know of the history begins a list, and so does what one worker more knows where the list is longer.
-pub begin_more : {J S : Type 0} (old new : List Link) (workers : List (Worker J S)) (one : Worker J S) → IsPrefix old new → IsPrefix one.front new → All (λ (w : Worker J S). IsPrefix w.front old) workers → All (λ (w : Worker J S). IsPrefix w.front new) (workers ++ one ∷ [])
-begin_more {J} {S} old new workers one longer here begin =
-    All-append (λ (w : Worker J S). IsPrefix w.front new) workers (one ∷ [])
-    (λ k w below. prefix_trans (slice_index_or workers k w).front old new (begin k w below) longer)
-    (All-cons (λ (w : Worker J S). IsPrefix w.front new) one [] here (All-nil (λ (w : Worker J S). IsPrefix w.front new)))
+-- One worker more.
+pub all_more : {J S : Type 0} (P : Worker J S → Type 0) (workers : List (Worker J S)) (one : Worker J S) → P one → All P workers → All P (workers ++ one ∷ [])
+all_more P workers one here all = All-append P workers (one ∷ []) all (All-cons P one [] here (All-nil P))
+
+-- Of the first threads, what their workers know of the history begins what is known.
+abbrev pub AreKnownTo : {J S : Type 0} → ℕ → List (Ended J S) → List Link → Type 0
+AreKnownTo {J} {S} n ended known = (k : ℕ) (e : Ended J S) → k < n → IsPrefix (slice_index_or ended k e).worker.front known
+
+other_default : {A : Type 0} (xs : List A) (k : ℕ) (d e : A) → k < length xs → slice_index_or xs k d ≡ slice_index_or xs k e
+other_default [] k d e below = absurd (omega (arith, below))
+other_default (x ∷ xs) zero d e below = refl
+other_default (x ∷ xs) (suc k) d e below = other_default xs k d e (omega (arith, below))
+
+-- One more of them.
+pub known_more : {J S : Type 0} (n : ℕ) (ended : List (Ended J S)) (old new : List Link) (d : Ended J S) → n < length ended → IsPrefix old new → IsPrefix (slice_index_or ended n d).worker.front new
+    → AreKnownTo n ended old → AreKnownTo (n + 1) ended new
+known_more {J} {S} n ended old new d below longer here known = λ k e low.
+    ⊎_elim
+    (λ (before : k < n). prefix_trans (slice_index_or ended k e).worker.front old new (known k e before) longer)
+    (λ high.
+    let same : k ≡ n = omega (arith, low, high) in
+    let at : slice_index_or ended k e ≡ slice_index_or ended n d = ap (λ (i : ℕ). slice_index_or ended i e) same ∙ other_default ended n e d below in
+    subst (λ (x : Ended J S). IsPrefix x.worker.front new) (sym at) here)
+    (cases_lt k n)
 
 -- Where no thread was started, all came back as they went in.
 pub all_came_back : {J S : Type 0} (sent : S → List SentReply) (failed : S → ℕ) (old : List (Worker J S)) → HaveComeBack sent failed old old

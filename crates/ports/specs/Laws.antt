@@ -1,5 +1,5 @@
 -- Laws of what a worker did.
-use Rattle.std.specs.Prelude.{◌≡◌, ◌<◌, ℕ, ◌+◌, ◌==◌, ◌&&◌, Bool, false, List, [], ◌∷◌, ◌++◌, length, filter, MatchBool, Some, All}
+use Rattle.std.specs.Prelude.{◌≡◌, ◌<◌, ℕ, ◌+◌, ◌==◌, ◌&&◌, Bool, false, List, [], ◌∷◌, ◌++◌, drop, length, filter, MatchBool, Some, All}
 use Rattle.std.specs.List.{flat_map}
 use mathlib.Core.List.{IsPrefix}
 use Rattle.machine.specs.declared.calls.Call.{Call}
@@ -14,9 +14,12 @@ use Rattle.node_parts.specs.Passes.{PassValue}
 use Rattle.node_parts.specs.Steps.{IsVerdict}
 use Rattle.node_parts.specs.Applied.{share_of}
 use Rattle.bank.specs.declared.bank.Applied.{Applied}
-use Rattle.bank.specs.Records.{ShareValue}
+use Rattle.rmap.specs.declared.status.Status.{Status}
+use Rattle.bank.specs.Records.{EntryValue, ShareValue, numbered_entry}
 use Rattle.annals.specs.declared.deed.Link.{Link}
-use Rattle.annals.specs.Banks.{IsDone}
+use Rattle.annals.specs.Banks.{IsDone, entries_by}
+use Rattle.annals.specs.Publishes.{publishes_of}
+use Rattle.target.specs.Lines.{CountsAllOf}
 use Rattle.ports.specs.Due.{Judging, Deed, Standing, Worked, judgings}
 
 -- the verdict on a command is that of a run, for that port and with its calls, of the program that a beginning of those
@@ -78,25 +81,55 @@ WorkersSharesCount =
     → SharesCount h.pass after.pass deeds
 
 -- the command was done at a bank: it is the last of a history that goes on from what its port knew, and status and reply are
--- the definition's on the replay of what stands before it there
-pub record HasEntered (known reached : List Link) (judging : Judging) : Type 0 where
+-- the definition's on the replay of what stands before it there; before it stands the publish of the program by which it was
+-- judged
+pub record HasEntered (port : ℕ) (known reached : List Link) (judging : Judging) : Type 0 where
   pub bank : ℕ
   pub share : ShareValue
   pub result : Applied
   pub done : IsDone bank known reached share judging.judged result judging.reply
+  pub by : IsByPublished (publishes_of done.last.before) port judging
 
 -- the entries of a port stand in the history in the order of its packets, each behind all that the port knew then; what left
 -- no entry added nothing
-abbrev pub EntriesFollow : (known : List Link) → List Judging → (reached : List Link) → Type 0
-EntriesFollow known [] reached = reached ≡ known
-EntriesFollow known (judging ∷ judgings) reached =
+abbrev pub EntriesFollow : (port : ℕ) (known : List Link) → List Judging → (reached : List Link) → Type 0
+EntriesFollow port known [] reached = reached ≡ known
+EntriesFollow port known (judging ∷ judgings) reached =
     MatchBool judging.entered
-    ((between : List Link) × HasEntered known between judging × EntriesFollow between judgings reached)
-    (EntriesFollow known judgings reached)
+    ((between : List Link) × HasEntered port known between judging × EntriesFollow port between judgings reached)
+    (EntriesFollow port known judgings reached)
+
+-- the entry is that of the command, which is the one of that number of its port at its bank
+pub record IsEntryOf (number : ℕ) (judging : Judging) (entry : EntryValue) : Type 0 where
+  pub status : Status
+  pub entry_is : entry ≡ numbered_entry number judging.judged status
+
+-- the entries are those of the commands, in order and each once, numbered from that number on
+abbrev pub AreEntriesOf : ℕ → List Judging → List EntryValue → Type 0
+AreEntriesOf number [] [] = Unit {0}
+AreEntriesOf number [] (entry ∷ entries) = ⊥
+AreEntriesOf number (judging ∷ judgings) [] = ⊥
+AreEntriesOf number (judging ∷ judgings) (entry ∷ entries) =
+    IsEntryOf number judging entry × AreEntriesOf (number + 1) judgings entries
+
+-- at each bank, the entries of the port in that history, but for those that its share counted at first, are those of its
+-- commands that left one there, in order and each once
+abbrev pub AreAllEntries : List Link → PassValue → List Deed → Type 0
+AreAllEntries log h deeds =
+    (k : ℕ) → k < length h.shares
+    → AreEntriesOf (number_at h k) (filter (is_entry_at k) (judgings deeds))
+    (drop (number_at h k) (entries_by h.port k log))
+
+-- a history that goes on from what a worker knows in the end, and has no entries of its port but those that its shares count,
+-- has none that no command of the worker left
+abbrev pub WorkersEntriesAreAll : Type 0
+WorkersEntriesAreAll =
+    (h after : Standing) (packets : List Cargo) (deeds : List Deed) (log : List Link) → Worked h packets deeds after
+    → IsPrefix after.front log → CountsAllOf after.pass log → AreAllEntries log h.pass deeds
 
 -- each command of a worker that left an entry stands in the history that its port knows in the end, in order, with the status
--- and the reply of the definition on what stands before it
+-- and the reply of the definition on what stands before it, behind the publish of the program by which it was judged
 abbrev pub WorkersEntriesFollow : Type 0
 WorkersEntriesFollow =
     (h after : Standing) (packets : List Cargo) (deeds : List Deed) → Worked h packets deeds after
-    → EntriesFollow h.front (judgings deeds) after.front
+    → EntriesFollow h.pass.port h.front (judgings deeds) after.front

@@ -23,6 +23,8 @@ use Rattle.std.specs.Prelude.{
 use Rattle.std.specs.List.{All, sum_by}
 use mathlib.Core.List.{IsPrefix}
 use Rattle.annals.specs.declared.deed.Link.{Link}
+use Rattle.target.specs.Lines.{CountsAllOf}
+use Rattle.ports.specs.Laws.{AreAllEntries}
 use Rattle.ports.specs.Queue.{IsServePassOf, IsServePassAfter}
 use Rattle.ports.specs.Sinks.{SentReply, cut}
 use Rattle.ports.specs.Worked.{report_sum, IsWorked}
@@ -111,13 +113,16 @@ pub record HaveComeBack {J S : Type 0} (sent : S → List SentReply) (failed : S
   pub most : length new ≤ length old
   pub few : length old ≤ length new + 1
 
--- what the workers know of the history of their node's banks begins one list
+-- what the workers know of the history of their node's banks begins one list, which has no entries of their ports but those
+-- that their shares count
 pub record ShareOneHistory {J S : Type 0} (workers : List (Worker J S)) : Type 0 where
   pub whole : List Link
   pub begin : All (λ (w : Worker J S). IsPrefix w.front whole) workers
+  pub counted : All (λ (w : Worker J S). CountsAllOf w.pass whole) workers
 
--- each worker served its port until the end mark and stands at its place again; that report is the sum of theirs, and what
--- they know of the history of the node's banks begins one list
+-- each worker served its port until the end mark and stands at its place again; that report is the sum of theirs; what they
+-- know of the history of the node's banks begins one list, and of that list each entry of a worker's port, but for those
+-- that its shares counted at first, is that of one command of the worker, in the order of its packets at each bank
 pub record HaveServed {J S : Type 0} (sent : S → List SentReply) (failed : S → ℕ) (banks : ℕ) (ports : List Port)
     (old new : List (Worker J S)) (total : Report) : Type 0 where
   pub reports : List Report
@@ -129,6 +134,8 @@ pub record HaveServed {J S : Type 0} (sent : S → List SentReply) (failed : S �
   pub served : AreServed banks (length old) ports new
   pub sum : total ≡ total_of reports
   pub history : ShareOneHistory new
+  pub entries : (k : ℕ) (worker : Worker J S) (report : Report) (below : k < length old)
+      → AreAllEntries history.whole (slice_index_or old k worker).pass (each k worker report below).served.deeds
 
 -- the list is empty and has room for so many
 abbrev pub HasRoomFor : {X Z : Type 0} → ℕ → Vec X Z → Type 0

@@ -1,6 +1,6 @@
 //! Laws of what workers do. Each function does no work: its contract is the law.
 
-ghost use Rattle.ports.specs.Laws.{WorkersProgramsWerePublished, WorkersAskOnce, WorkersEntriesFollow, WorkersSharesCount};
+ghost use Rattle.ports.specs.Laws.{WorkersProgramsWerePublished, WorkersAskOnce, WorkersEntriesAreAll, WorkersEntriesFollow, WorkersSharesCount};
 
 /// Each verdict of a worker is that of a run of a program that was published in the slot of its command: one that the
 /// worker's pass has seen in the end.
@@ -21,7 +21,15 @@ pub fn workers_shares_count()
 
 /// Each command of a worker that left an entry at a bank stands in the one history of the node's banks, as far as its port
 /// knows it in the end: in the order of the port's packets, each with the status and the reply that the definition of the
-/// answer gives on the replay of what stands before it there.
+/// answer gives on the replay of what stands before it there, and behind the publish of the generation by which it was
+/// judged.
 pub fn workers_entries_follow()
     ensures { WorkersEntriesFollow }
+{}
+
+/// A history that goes on from what a worker knows in the end, and has no entries of its port but those that its shares count
+/// ([`Pass::knows_entries`](target::PortPass::knows_entries)), has at each bank, behind those that the share counted at first,
+/// the entries of the worker's commands that left one there, in the order of their packets, each once, and no others.
+pub fn workers_entries_are_all()
+    ensures { WorkersEntriesAreAll }
 {}

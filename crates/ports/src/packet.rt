@@ -9,11 +9,11 @@ use rmap::{Place, ReplyBuf};
 use spw::Packet;
 use std::alloc::Global;
 use std::sync::{MutexGuard, Wait};
-use target::{BankLock, Front, Node, NodeFamily, Pass, Step, finish, judge, load, stage};
+use target::{BankLock, Family, Front, Node, Pass, Step, finish, judge, load, stage};
 
 /// Ends a judged command at the bank behind the lock. Where it leaves an entry, that is the last of the history that the port
 /// then knows. The condition is the lock of the bank that is the command's place, of which the pass has a share.
-fn finish_locked<R: Wait, J: NodeFamily>(
+fn finish_locked<R: Wait, J: Family>(
     rt: &R,
     lock: &BankLock<J>,
     pass: &mut Pass<J>,
@@ -34,7 +34,7 @@ fn finish_locked<R: Wait, J: NodeFamily>(
 }
 
 /// Ends a judged control write, under the publisher's lock. The condition is that place.
-fn load_locked<R: Wait, J: NodeFamily, Q: Wait + Drop>(
+fn load_locked<R: Wait, J: Family, Q: Wait + Drop>(
     rt: &R,
     alloc: Global,
     node: &Node<J, Q>,
@@ -57,7 +57,7 @@ fn load_locked<R: Wait, J: NodeFamily, Q: Wait + Drop>(
 /// round `finish` alone, the publisher's round `load` alone, and none round `judge`. A command that leaves an entry at a bank
 /// is the last of the history that the port then knows; of any other it is said that some bank, or some list of publishes,
 /// was what it met. The condition is a pass with a share of each bank of the node.
-pub(crate) fn serve_packet<R: Wait, J: NodeFamily, Q: Wait + Drop>(
+pub(crate) fn serve_packet<R: Wait, J: Family, Q: Wait + Drop>(
     rt: &R,
     alloc: Global,
     node: &Node<J, Q>,

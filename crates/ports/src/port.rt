@@ -225,7 +225,8 @@ impl Port {
     }
 
     /// Takes the worker's pass back into the producer's, and so ends the port: the producer may still put, and
-    /// nobody takes. What the worker has taken is a beginning of what was put, in order, each once. The condition
+    /// nobody takes. What the worker has taken is a beginning of what was put, in order, each once. What its port has
+    /// of its node, and knows of the history of the node's banks, stays with the worker's other fields. The condition
     /// is two passes of this port.
     pub fn rejoin(&self, pass: &mut PutPass, serve_pass: ServePass)
         requires puts { IsPutPassOf self.now pass.old }

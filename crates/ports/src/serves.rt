@@ -1,7 +1,9 @@
 //! All ports of a node at once, each in a thread of its own.
 
 ghost use Rattle.std.specs.Prelude.{◌≡◌, ◌+◌, ◌≤◌, ◌++◌, ◌⊎◌, true, false, IfNone, IfOk, IfSome, None, Some, OnErr, length, map, vec_len, vec_capacity};
+ghost use Rattle.std.specs.List.{All};
 ghost use Rattle.std.specs.PromisedHandle.{KeepsEach};
+ghost use mathlib.Core.List.{IsPrefix};
 ghost use Rattle.ports.specs.Serves.{AreServed, HasRoomFor, HaveComeBack, HaveServed, IsOneMissing, IsShort, IsSumOf, IsTotalOf, ShareOneHistory};
 
 use crate::gate::Gate;
@@ -12,7 +14,7 @@ use crate::worker::{Report, Worker};
 use std::alloc::Global;
 use std::sync::{Mutex, Wait};
 use std::thread::{Promise, PromisedHandle, Threads};
-use target::{Front, Node, NodeFamily};
+use target::{Family, Front, Node};
 use thiserror::Error;
 
 /// Why ports were not served.
@@ -60,12 +62,22 @@ fn both(total: Option<Report>, report: Option<Report>) -> Option<Report>
     Some(total?.plus(report?))
 }
 
+/// What anybody knew of the history, and all that the workers know of it.
+fn all_known<J: Family, S: Sink + Drop>(ended: &[Ended<J, S>], mut known: Front<J>) -> Front<J>
+    ensures { All (λ e. IsPrefix e.worker.front result) ended.now }
+{
+    for one in ended {
+        known.learn(&one.worker.front);
+    }
+    known
+}
+
 /// The workers that came back, in order, in a list that has the room, and the sum of their reports where each served. What
-/// the workers know of the history begins one list.
-fn gather<J: NodeFamily, S: Sink + Drop>(
+/// the workers know of the history begins one list, which has no entries of their ports but those that their shares count.
+fn gather<J: Family, S: Sink + Drop>(
     ended: Vec<Ended<J, S>>,
     mut workers: Vec<Worker<J, S>>,
-    mut known: Front<J>,
+    known: Front<J>,
 ) -> (Vec<Worker<J, S>>, Option<Report>)
     requires { HasRoomFor (vec_len ended) workers }
     ensures workers { result.0.items ≡ map (λ e. e.worker) ended.items }
@@ -78,10 +90,12 @@ fn gather<J: NodeFamily, S: Sink + Drop>(
         discarded: 0,
         lost: 0,
     });
+    let known = all_known(ended.as_slice(), known);
     for one in ended {
         total = both(total, one.report);
-        known.learn(&one.worker.front);
-        let Ok(()) = workers.push(one.worker) else {
+        let mut worker = one.worker;
+        worker.pass.knows_entries(&known);
+        let Ok(()) = workers.push(worker) else {
             unreachable!()
         };
     }
@@ -114,7 +128,9 @@ fn with_rest<T: Drop>(mut workers: Vec<T>, rest: Vec<T>) -> Vec<T>
 /// one worker a port, in order, with the port's serve pass, and passes that have as many banks as the node.
 ///
 /// What comes back are the workers, in order, and the sum of their reports. Each command that left an entry at a bank stands
-/// in what its worker knows then of the history of the node's banks, and what the workers know begins one list.
+/// in what its worker knows then of the history of the node's banks, and what the workers know begins one list. Of that list
+/// each entry of a worker's port, but for those that the port had left before, is that of one of these commands: at each bank
+/// they stand in the order of the port's packets, each once. Of entries of ports that were not served nothing is said.
 ///
 /// # Errors
 ///
@@ -124,7 +140,7 @@ fn with_rest<T: Drop>(mut workers: Vec<T>, rest: Vec<T>) -> Vec<T>
 /// went in, or there are none. That no packet was taken then is tested.
 pub fn serve<
     R: Threads + Wait + Sync,
-    J: NodeFamily + Send + Sync + 'static,
+    J: Family + Send + Sync + 'static,
     Q: Wait + Drop + Send,
     S: Sink + Drop + Send + 'static,
     G: Gate + Sync,

@@ -13,11 +13,11 @@ use std::snapshot::Snapshot;
 use std::sync::{Mutex, MutexGuard, Wait};
 use std::thread;
 use std::thread::{Promise, PromisedHandle, Threads};
-use target::{Node, NodeFamily};
+use target::{Family, Node};
 
 /// What a thread gives back: its worker, and the worker's report where it served.
 #[derive(Drop)]
-pub(crate) struct Ended<J: NodeFamily, S: Sink + Drop> {
+pub(crate) struct Ended<J: Family, S: Sink + Drop> {
     pub worker: Worker<J, S>,
     pub report: Option<Report>,
 }
@@ -27,16 +27,16 @@ pub(crate) type Thread<J, S> = PromisedHandle<Ended<J, S>, Start<J, S>>;
 
 /// What a thread promises: the worker that comes back, with a report, is this one behind its end mark.
 #[derive(Drop)]
-pub(crate) struct Start<J: NodeFamily, S: Sink + Drop>(Snapshot<Worker<J, S>>);
+pub(crate) struct Start<J: Family, S: Sink + Drop>(Snapshot<Worker<J, S>>);
 
-impl<J: NodeFamily, S: Sink + Drop> Promise<Ended<J, S>> for Start<J, S> {
+impl<J: Family, S: Sink + Drop> Promise<Ended<J, S>> for Start<J, S> {
     ghost use Rattle.ports.specs.Serves.{IsBack};
 
     ghost kept_by = { λ p r. IsBack S.sent S.failed p.0.value r.worker r.report };
 }
 
 /// Serves the port where all threads were started, and else hands the worker back as it came.
-fn worked_on<R: Wait, J: NodeFamily, Q: Wait + Drop, S: Sink + Drop, G: Gate>(
+fn worked_on<R: Wait, J: Family, Q: Wait + Drop, S: Sink + Drop, G: Gate>(
     rt: &R,
     alloc: Global,
     all_started: &Mutex<bool>,
@@ -65,7 +65,7 @@ fn worked_on<R: Wait, J: NodeFamily, Q: Wait + Drop, S: Sink + Drop, G: Gate>(
 }
 
 /// The port of a worker, which stands at this place.
-fn port_of<'a, J: NodeFamily, S: Sink + Drop, Q: Wait + Drop>(
+fn port_of<'a, J: Family, S: Sink + Drop, Q: Wait + Drop>(
     node: &Node<J, Q>,
     ports: &'a [Port],
     place: usize,
@@ -81,7 +81,7 @@ fn port_of<'a, J: NodeFamily, S: Sink + Drop, Q: Wait + Drop>(
 /// The threads that were started, in order, the workers that were not, and whether all were. A worker whose thread
 /// could not be made is in neither list.
 #[derive(Drop)]
-pub(crate) struct Started<J: NodeFamily, S: Sink + Drop> {
+pub(crate) struct Started<J: Family, S: Sink + Drop> {
     pub threads: Vec<Thread<J, S>>,
     pub rest: Vec<Worker<J, S>>,
     pub all: bool,
@@ -91,7 +91,7 @@ pub(crate) struct Started<J: NodeFamily, S: Sink + Drop> {
 /// ended when this returns.
 pub(crate) fn start_each<
     R: Threads + Wait + Sync,
-    J: NodeFamily + Send + Sync + 'static,
+    J: Family + Send + Sync + 'static,
     Q: Wait + Drop + Send,
     S: Sink + Drop + Send + 'static,
     G: Gate + Sync,

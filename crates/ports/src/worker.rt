@@ -5,11 +5,11 @@ ghost use Rattle.ports.specs.Worked.{report_sum};
 
 use crate::port::ServePass;
 use crate::sink::Sink;
-use target::{Front, NodeFamily, Pass};
+use target::{Family, Front, Pass};
 
 /// What serves a port: what the port has of its node and knows of its history, what takes from its queue, and where its replies go.
 #[derive(Drop)]
-pub struct Worker<J: NodeFamily, S: Sink + Drop> {
+pub struct Worker<J: Family, S: Sink + Drop> {
     /// What the port has of its node.
     pub pass: Pass<J>,
     /// What the port knows of the history of the node's banks: at first that is [`Node::front`](target::Node::front).

@@ -16,7 +16,7 @@ use rmap::ReplyBuf;
 use spw::Packet;
 use std::alloc::Global;
 use std::sync::Wait;
-use target::{Front, Node, NodeFamily, Pass};
+use target::{Family, Front, Node, Pass};
 
 /// Hands a reply to the sink, where there is one. How many replies were lost: 0 or 1.
 #[tactic(auto, using(crate::proofs::Sending::lost_one))]
@@ -35,7 +35,7 @@ fn send<S: Sink>(sink: &mut S, port: u8, reply: &[u8]) -> u64
 
 /// Serves one packet, and hands the reply that is due to the sink. The report of this packet alone. `reply` is where the
 /// reply is written. The condition is a pass with a share of each bank of the node.
-fn one_more<R: Wait, J: NodeFamily, Q: Wait + Drop, S: Sink>(
+fn one_more<R: Wait, J: Family, Q: Wait + Drop, S: Sink>(
     rt: &R,
     alloc: Global,
     node: &Node<J, Q>,
@@ -66,7 +66,7 @@ fn one_more<R: Wait, J: NodeFamily, Q: Wait + Drop, S: Sink>(
 /// its status and reply are the definition's on the replay of what stands before it there. Of any other command at a bank,
 /// and of a load, it is said that some bank, or some list of publishes, was what it met: a lock hides which. What the gate
 /// is told, and that no lock is held meanwhile, is tested.
-pub fn work<R: Wait, J: NodeFamily, Q: Wait + Drop, S: Sink + Drop, G: Gate>(
+pub fn work<R: Wait, J: Family, Q: Wait + Drop, S: Sink + Drop, G: Gate>(
     rt: &R,
     alloc: Global,
     node: &Node<J, Q>,

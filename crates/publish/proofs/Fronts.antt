@@ -1,8 +1,10 @@
 -- Beginnings of one list.
-use Rattle.std.proofs.Common.{◌≡◌, ℕ, zero, suc, ◌≤◌, List, [], ◌∷◌, ◌++◌, length, Some, slice_get, refl, ap, sym, subst, ◌∙◌, arith, append_assoc, length-append}
+use Rattle.std.proofs.Common.{◌≡◌, ◌⊎◌, inl, inr, ℕ, zero, suc, ◌≤◌, List, [], ◌∷◌, ◌++◌, length, Some, slice_get, refl, ap, sym, subst, ◌∙◌, arith, append_assoc, length-append}
 use Rattle.std.proofs.lemmas.List.{append-nil}
 use mathlib.Core.List.{IsPrefix}
 use Rattle.node_programs.specs.declared.publishes.Publish.{Publish}
+use Rattle.annals.specs.declared.deed.Link.{Link}
+use Rattle.annals.specs.Publishes.{PublishesGrow, publishes_of}
 use Rattle.publish.specs.Reached.{Known, known}
 
 -- each list begins with itself
@@ -49,3 +51,12 @@ pub learnt : (old new : Known) (told programs : List Publish) → told ≡ progr
 learnt old new told programs is begins longer =
     let less : length old.programs ≤ length told = subst (λ (l : List Publish). length old.programs ≤ length l) (sym is) (prefix_length old.programs programs begins) in
     ap (λ (r : Known). r.programs) (longer less) ∙ is
+
+-- of two beginnings of one history that with fewer publishes has those that begin the other's
+pub prefix_of_two : (xs ys : List Link) → PublishesGrow → IsPrefix xs ys ⊎ IsPrefix ys xs → length (publishes_of xs) ≤ length (publishes_of ys) → IsPrefix (publishes_of xs) (publishes_of ys)
+prefix_of_two xs ys grow (inl p) le = grow xs ys p
+prefix_of_two xs ys grow (inr p) le = prefix_same (publishes_of xs) (publishes_of ys) (prefix_whole (publishes_of ys) (publishes_of xs) (grow ys xs p) le)
+
+pub swapped : {A B : Type 0} → A ⊎ B → B ⊎ A
+swapped (inl a) = inr a
+swapped (inr b) = inl b

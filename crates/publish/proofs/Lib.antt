@@ -1,4 +1,3 @@
-pub mod Turns
 pub mod Fronts
 pub mod Shelves
 pub mod Families

@@ -1,4 +1,3 @@
-pub mod Chains
 pub mod Reached
 pub mod Tables
 pub mod Sights

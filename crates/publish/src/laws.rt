@@ -3,13 +3,13 @@
 ghost use Rattle.std.specs.Prelude.{◌≡◌};
 ghost use mathlib.Core.List.{IsPrefix};
 
-use crate::history::ProgramFamily;
 use crate::publisher::Publisher;
 use crate::reader::Reader;
+use annals::Family;
 use std::sync::Wait;
 
 /// What a reader knows is a beginning of what was published.
-pub fn readers_know_a_beginning<J: ProgramFamily, R: Wait + Drop>(
+pub fn readers_know_a_beginning<J: Family, R: Wait + Drop>(
     reader: &Reader<J>,
     publisher: &mut Publisher<J, R>,
 )

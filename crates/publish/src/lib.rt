@@ -1,10 +1,10 @@
 //! Who judges now: four program slots that every port reads and one publisher changes.
 //!
-//! [`Programs::new`] makes the [`Publisher`] and a [`Reader`] for each port. What is known of the list of
-//! publishes is carried by tokens of one history, which exists in proofs alone: a [`Reader`] knows a
-//! beginning of it, [`Publisher::install`] adds to it and tells how far it went then ([`Told`]), and
-//! [`Reader::take`] shows the program that judges at a slot ([`Taken`]). [`Staging`] is where the bytes of a
-//! program lie before it is published.
+//! [`Programs::new`] makes the [`Publisher`] and a [`Reader`] for each port. The list of publishes is a chain of the
+//! node's annals, and what is known of it is carried by tokens of that one history, which exists in proofs alone: a
+//! [`Reader`] knows a beginning of it, [`Publisher::install`] adds to it and tells how far it went then ([`Told`]),
+//! [`Reader::take`] shows the program that judges at a slot ([`Taken`]), and [`Reader::tell`] lets its port know in that
+//! history what the reader knows. [`Staging`] is where the bytes of a program lie before it is published.
 #![tactic(auto)]
 
 mod history;
@@ -16,7 +16,8 @@ mod rule;
 mod table;
 mod told;
 
-pub use history::{Opened, ProgramFamily};
+pub use annals::Family;
+pub use history::Opened;
 pub use laws::readers_know_a_beginning;
 pub use node_programs::{
     LAST_SLOT, Publish, PublishFault, STAGING_BYTES, Staging, published_programs,

@@ -1,15 +1,17 @@
 //! A node's table of programs, as it is made.
 
 ghost use Rattle.std.specs.Prelude.{◌≡◌, ◌<◌, ◌∷◌, [], length, None, IfOk, replicate};
+ghost use Rattle.annals.specs.Publishes.{publishes_chain, publishes_of};
 ghost use Rattle.node_programs.specs.Histories.{entry};
 ghost use Rattle.node_programs.specs.Published.{sizes_of};
 ghost use Rattle.publish.specs.Reached.{known};
 
-use crate::history::{Front, Opened, ProgramFamily};
+use crate::history::{Front, History, Opened};
 use crate::publisher::Publisher;
 use crate::reader::Reader;
 use crate::rule::{InFamily, Sight};
 use crate::table::Table;
+use annals::{Chain, Family};
 use bver::{Accepted, MapSizes};
 use left_right::writer::Writer;
 use std::alloc::{AllocError, Global};
@@ -25,7 +27,7 @@ impl Programs {
     /// # Errors
     ///
     /// Memory is refused, or the history has begun already (no test met that).
-    pub fn new<J: ProgramFamily, R: Wait + Drop>(
+    pub fn new<J: Family, R: Wait + Drop>(
         alloc: Global,
         rt: R,
         opened: Opened,
@@ -37,11 +39,32 @@ impl Programs {
         ensures readers { IfOk result
             (λ made. made.1.items ≡ replicate readers (known (entry 0 factory ∷ []) None)) }
     {
+        let chain = opened.into_publishes()?;
+        Programs::with_chain(alloc, rt, chain, factory, readers)
+    }
+
+    /// The programs of a node whose history has chains of banks as well, as [`Programs::new`] makes them. The condition is
+    /// the chain of its publishes, in which nothing was published.
+    ///
+    /// # Errors
+    ///
+    /// Memory is refused.
+    pub fn with_chain<J: Family, R: Wait + Drop>(
+        alloc: Global,
+        rt: R,
+        chain: Chain<J>,
+        factory: Accepted,
+        readers: u8,
+    ) -> Result<(Publisher<J, R>, Vec<Reader<J>>), AllocError>
+        requires number { chain.number ≡ publishes_chain }
+        requires none { publishes_of chain.log ≡ [] }
+        ensures publisher { IfOk result (λ made. made.0 ≡ entry 0 factory ∷ []) }
+        ensures readers { IfOk result
+            (λ made. made.1.items ≡ replicate readers (known (entry 0 factory ∷ []) None)) }
+    {
         let sizes = factory.sizes();
         let first = (0u8, Arc::new(alloc, factory)?);
-        let Some(history) = opened.begin(&first) else {
-            return Err(AllocError);
-        };
+        let history = History::begin(chain, &first);
         let front = history.front();
         let table = Table::first(first.1, front.again())?;
         let spare = table.copy()?;
@@ -64,7 +87,7 @@ impl Programs {
 }
 
 /// So many readers of a table.
-fn entrances<J: ProgramFamily>(
+fn entrances<J: Family>(
     alloc: Global,
     writer: &Writer<Table, Table, Sight, InFamily<J>>,
     front: &Front,

@@ -6,11 +6,12 @@ ghost use Rattle.node_programs.specs.Histories.{longer_history};
 ghost use Rattle.node_programs.specs.Published.{sizes_of};
 ghost use Rattle.publish.specs.Reached.{reached};
 
-use crate::history::{Front, History, ProgramFamily};
+use crate::history::{Front, History};
 use crate::reader::Reader;
 use crate::rule::{InFamily, Shows, Sight};
 use crate::table::Table;
 use crate::told::Told;
+use annals::Family;
 use bver::{Accepted, MapSizes};
 use core::mem::replace_with;
 use left_right::writer::Writer;
@@ -21,14 +22,14 @@ use std::sync::{Arc, Wait};
 
 /// What changes the table of programs. Contracts see it as the list of what was published, which begins
 /// with the factory program. Its end waits for readers.
-pub struct Publisher<J: ProgramFamily, R: Wait + Drop> {
+pub struct Publisher<J: Family, R: Wait + Drop> {
     pub(crate) alloc: Global,
     pub(crate) writer: Writer<Table, Table, Sight, InFamily<J>>,
-    pub(crate) history: History,
+    pub(crate) history: History<J>,
     pub(crate) rt: R,
 }
 
-impl<J: ProgramFamily, R: Wait + Drop> Model for Publisher<J, R> {
+impl<J: Family, R: Wait + Drop> Model for Publisher<J, R> {
     ghost use Rattle.std.specs.Prelude.{◌≡◌, List, [], drop};
     ghost use Rattle.node_programs.specs.declared.publishes.Publish.{Publish};
 
@@ -36,10 +37,10 @@ impl<J: ProgramFamily, R: Wait + Drop> Model for Publisher<J, R> {
 
     ghost view = { λ p. p.writer.desk.shown.value.programs };
 
-    ghost invariant = { λ p. (p.history ≡ p.writer.desk.shown.value) × (p.writer.desk.shown.value.family ≡ J.book) × (drop p.writer.behind p.writer.log.items ≡ []) };
+    ghost invariant = { λ p. (p.history ≡ p.writer.desk.shown.value.programs) × (p.writer.desk.shown.value.family ≡ J.book) × (drop p.writer.behind p.writer.log.items ≡ []) };
 }
 
-impl<J: ProgramFamily, R: Wait + Drop> Drop for Publisher<J, R> {
+impl<J: Family, R: Wait + Drop> Drop for Publisher<J, R> {
     fn drop(self) {
         let Self {
             alloc: _,
@@ -51,7 +52,7 @@ impl<J: ProgramFamily, R: Wait + Drop> Drop for Publisher<J, R> {
     }
 }
 
-impl<J: ProgramFamily, R: Wait + Drop> Publisher<J, R> {
+impl<J: Family, R: Wait + Drop> Publisher<J, R> {
     /// The maps for which each program was accepted, with their kinds: those of the factory program.
     pub fn sizes(&self) -> MapSizes
         ensures { result ≡ sizes_of self.now }
@@ -127,7 +128,7 @@ impl<J: ProgramFamily, R: Wait + Drop> Publisher<J, R> {
 }
 
 /// What is published grows by [`Publisher::install`], which may wait, and the port's reader learns of it.
-impl<J: ProgramFamily, R: Wait + Drop> ProgramStore<Reader<J>> for Publisher<J, R> {
+impl<J: Family, R: Wait + Drop> ProgramStore<Reader<J>> for Publisher<J, R> {
     ghost published = { λ p. p };
 
     ghost known = { λ r. r.programs };
@@ -152,7 +153,7 @@ impl<J: ProgramFamily, R: Wait + Drop> ProgramStore<Reader<J>> for Publisher<J, 
 }
 
 /// The writer once readers see what is pending.
-fn flushed<J: ProgramFamily, R: Wait>(
+fn flushed<J: Family, R: Wait>(
     rt: &R,
     writer: Writer<Table, Table, Sight, InFamily<J>>,
 ) -> (Writer<Table, Table, Sight, InFamily<J>>, ())
@@ -177,7 +178,7 @@ fn flushed<J: ProgramFamily, R: Wait>(
 }
 
 /// The writer once readers see the table.
-fn shown<J: ProgramFamily, R: Wait>(
+fn shown<J: Family, R: Wait>(
     rt: &R,
     writer: Writer<Table, Table, Sight, InFamily<J>>,
     table: Table,

@@ -5,14 +5,16 @@ ghost use Rattle.std.specs.Borrow.{sem, RestsIfNone};
 ghost use mathlib.Core.List.{IsPrefix};
 ghost use Rattle.left_right.specs.Sides.{view};
 ghost use Rattle.bver.specs.Justified.{IsJustified};
+ghost use Rattle.annals.specs.Publishes.{publishes_of};
 ghost use Rattle.node_programs.specs.Published.{judging_program, program_at, generation_at, sizes_of};
 ghost use Rattle.publish.specs.Reached.{IsInside, known, reached};
 ghost use Rattle.publish.specs.contracts.reader.Reader.{the_row};
 
-use crate::history::{Front, ProgramFamily};
+use crate::history::Front;
 use crate::rule::{InFamily, Looks, Sight};
 use crate::table::Table;
 use crate::told::Told;
+use annals::Family;
 use bver::{Accepted, MapSizes};
 use left_right::reader::{Reader as Entrance, Reading};
 use node_programs::Shown;
@@ -22,14 +24,14 @@ use std::mem;
 /// What a port has of the table of programs: how it enters, and how far the history is known to it. It is outside of the
 /// table or inside, and always can enter again. Contracts see it as the programs that it knows, and those of the table in
 /// which it is.
-pub struct Reader<J: ProgramFamily> {
+pub struct Reader<J: Family> {
     outside: Option<Entrance<Table, Sight, InFamily<J>>>,
     inside: Option<Reading<Table, Sight, InFamily<J>>>,
     known: Front,
     sizes: MapSizes,
 }
 
-impl<J: ProgramFamily> Model for Reader<J> {
+impl<J: Family> Model for Reader<J> {
     ghost use Rattle.std.specs.Prelude.{◌≡◌, ◌<◌, ◌⊎◌, IfSome, IsSome, length};
     ghost use Rattle.core.specs.Option.{option_map};
     ghost use mathlib.Core.List.{IsPrefix};
@@ -44,7 +46,7 @@ impl<J: ProgramFamily> Model for Reader<J> {
     ghost invariant = { λ r. (r.known.family ≡ J.book) × (0 < length r.known.programs) × (r.sizes ≡ first_sizes r.known.programs) × IfSome r.outside (λ e. IsPrefix (sight e.place) r.known.programs) × IfSome r.inside (λ e. IsPrefix (sight e.place) r.known.programs) × (IsSome r.outside ⊎ IsSome r.inside) };
 }
 
-impl<J: ProgramFamily> Drop for Reader<J> {
+impl<J: Family> Drop for Reader<J> {
     fn drop(self) {
         let Self {
             outside: _outside,
@@ -59,13 +61,13 @@ impl<J: ProgramFamily> Drop for Reader<J> {
 }
 
 /// The program of a slot, as it was taken. The table keeps it for as long as this is held.
-pub struct Taken<'a, J: ProgramFamily> {
+pub struct Taken<'a, J: Family> {
     reader: &'a mut Reader<J>,
     slot: u8,
     ghost few: { slot < 4 },
 }
 
-impl<J: ProgramFamily> Reader<J> {
+impl<J: Family> Reader<J> {
     /// A reader that knows so much.
     pub(crate) fn new(
         entrance: Entrance<Table, Sight, InFamily<J>>,
@@ -91,6 +93,14 @@ impl<J: ProgramFamily> Reader<J> {
         ensures { result.now ≡ reached J.book self.now.programs }
     {
         &self.known
+    }
+
+    /// Whoever knows a beginning of the node's history then knows the publishes as well that the reader knows.
+    pub fn tell(&self, known: &mut annals::Front<J>)
+        ensures old { IsPrefix known.old known.new }
+        ensures told { IsPrefix self.now.programs (publishes_of known.new) }
+    {
+        self.known.tell(known);
     }
 
     /// The maps for which each program was accepted, with their kinds.
@@ -119,7 +129,7 @@ impl<J: ProgramFamily> Reader<J> {
     pub fn take(&mut self, slot: u8) -> Option<Taken<'_, J>>
         requires slot { slot < 4 }
         ensures* unchanged { sem 𝓛
-            (RestsIfNone (the_row J.row J.ProgramFamily) self.entry (λ t. t.reader.ghost_name) result
+            (RestsIfNone (the_row J.row J.Family) self.entry (λ t. t.reader.ghost_name) result
             (λ n. n ≡ self.old)) }
         ensures same_reference { IfSome result (λ t. t.reader.ghost_name ≡ self.entry.ghost_name) }
         ensures seen { IfSome result (λ t. IsPrefix self.old.programs t.reader.now.programs) }
@@ -190,7 +200,7 @@ impl<J: ProgramFamily> Reader<J> {
     }
 }
 
-impl<J: ProgramFamily> Taken<'_, J> {
+impl<J: Family> Taken<'_, J> {
     /// The program. The condition is one that [`Reader::take`] ensures of what it gives.
     pub fn accepted(&self) -> &Accepted
         requires { IsInside self.now.reader.now }
@@ -210,7 +220,7 @@ impl<J: ProgramFamily> Taken<'_, J> {
     }
 }
 
-impl<'a, J: ProgramFamily> Drop for Taken<'a, J> {
+impl<'a, J: Family> Drop for Taken<'a, J> {
     fn drop(self)
         ensures { self.exit.0.now ≡ known self.entry.reader.now.programs None }
     {

@@ -1,7 +1,7 @@
 //! The rule of the table of programs, and what the steps on it tell.
 
-use crate::history::ProgramFamily;
 use crate::table::Table;
+use annals::Family;
 use crossbeam_utils::rule::{Outcome, Protocol};
 use node_programs::Publish;
 use std::collections::LinkedList;
@@ -11,11 +11,11 @@ use std::marker::PhantomData;
 pub(crate) type Sight = LinkedList<Publish>;
 
 /// The rule: the table is of one family, and each reader saw a beginning of its programs.
-pub(crate) struct InFamily<J: ProgramFamily> {
+pub(crate) struct InFamily<J: Family> {
     of: PhantomData<J>,
 }
 
-impl<J: ProgramFamily> Protocol<Table, Sight> for InFamily<J> {
+impl<J: Family> Protocol<Table, Sight> for InFamily<J> {
     ghost use Rattle.std.specs.Prelude.{[]};
     ghost use Rattle.publish.specs.Sights.{IsInFamily};
 
@@ -25,11 +25,11 @@ impl<J: ProgramFamily> Protocol<Table, Sight> for InFamily<J> {
 }
 
 /// A step of a reader, which sees the programs of the table.
-pub(crate) struct Looks<J: ProgramFamily> {
+pub(crate) struct Looks<J: Family> {
     of: PhantomData<J>,
 }
 
-impl<J: ProgramFamily> Outcome<Table, Sight> for Looks<J> {
+impl<J: Family> Outcome<Table, Sight> for Looks<J> {
     ghost use Rattle.publish.specs.Sights.{Sees};
 
     ghost then = { Sees J.book };

@@ -3,17 +3,18 @@
 ghost use Rattle.std.specs.Prelude.{◌≡◌, ◌<◌, ◌≤◌, ◌+◌, ◌^◌, length};
 ghost use Rattle.publish.specs.Reached.{reached};
 
-use crate::history::{Front, ProgramFamily};
+use crate::history::Front;
+use annals::Family;
 use std::marker::{Model, PhantomData};
 
 /// How far the history went when a program was published. Contracts see it as the programs.
 #[derive(Drop)]
-pub struct Told<J: ProgramFamily> {
+pub struct Told<J: Family> {
     front: Front,
     of: PhantomData<J>,
 }
 
-impl<J: ProgramFamily> Model for Told<J> {
+impl<J: Family> Model for Told<J> {
     ghost use Rattle.std.specs.Prelude.{◌≡◌, ◌<◌, ◌≤◌, ◌^◌, List, length};
     ghost use Rattle.node_programs.specs.declared.publishes.Publish.{Publish};
 
@@ -24,7 +25,7 @@ impl<J: ProgramFamily> Model for Told<J> {
     ghost invariant = { λ t. (t.front.family ≡ J.book) × (0 < length t.front.programs) × (length t.front.programs ≤ 2 ^ 32) };
 }
 
-impl<J: ProgramFamily> Told<J> {
+impl<J: Family> Told<J> {
     /// What tells so much.
     pub(crate) fn new(front: Front) -> Told<J>
         requires family { front.family ≡ J.book }

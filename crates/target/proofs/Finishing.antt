@@ -1,7 +1,8 @@
 -- How a judged command ends at a bank with its chain, by the port's share at its place.
-use Rattle.std.proofs.Common.{◌≡◌, ◌<◌, ℕ, Bool, true, false, true≢false, ◌&&◌, List, length, set, get_or, refl, sym, ap, ◌∙◌, subst, arith}
+use Rattle.std.proofs.Common.{◌≡◌, ◌<◌, ◌++◌, ℕ, Option, None, Some, append_assoc, Bool, true, false, true≢false, ◌&&◌, List, length, set, get_or, refl, sym, ap, ◌∙◌, subst, arith}
 use Rattle.std.specs.Prelude.{IfSome, IfNone}
 use Rattle.std.proofs.lemmas.List.{get_or_read}
+use mathlib.Core.List.{IsPrefix}
 use Rattle.rmap.specs.declared.places.Place.{Place}
 use Rattle.rmap.specs.declared.places.Place.TheVariants.{Bank}
 use Rattle.bank.specs.declared.bank.Applied.{Applied}
@@ -11,9 +12,11 @@ use Rattle.node_parts.specs.Steps.{IsBankBelow}
 use Rattle.node_parts.specs.Applied.{share_of, with_share, IsFinished}
 use Rattle.annals.specs.declared.deed.Link.{Link}
 use Rattle.annals.specs.Banks.{KeptValue, IsAppliedTo, IsDone, IsRefusedAt, takes}
-use Rattle.target.specs.Finished.{IsFinishedAt}
+use Rattle.annals.specs.Publishes.{PublishesGrow, publishes_of}
+use Rattle.node_programs.specs.declared.publishes.Publish.{Publish}
+use Rattle.target.specs.Finished.{IsDoneBehind, IsFinishedAt}
 
-both_are : (a b : Bool) → (a && b) ≡ true → (a ≡ true) × (b ≡ true)
+pub both_are : (a b : Bool) → (a && b) ≡ true → (a ≡ true) × (b ≡ true)
 both_are true b e = (refl, e)
 both_are false b e = absurd cc
 
@@ -21,7 +24,7 @@ both_are false b e = absurd cc
 pub taken_fits : (kept : KeptValue) (share : ShareValue) (j : JudgedValue) → takes kept share j ≡ true → fits kept.bank share j ≡ true
 taken_fits kept share j took = (both_are (is_place_of kept.chain.number j.place) (fits kept.bank share j) took).1
 
-same_bank : (k n : ℕ) → Bank k ≡ Bank n → k ≡ n
+pub same_bank : (k n : ℕ) → Bank k ≡ Bank n → k ≡ n
 same_bank k n e = cc
 
 -- the share that was lent is the port's of the place
@@ -35,7 +38,7 @@ lent h k from place first at same below read =
 pub finished_at : (old new : KeptValue) (known reached : List Link) (h : PassValue) (k from : ℕ) (first share : ShareValue) (j : JudgedValue) (result : Applied) (reply : List ℕ) → j.place ≡ Bank k → from ≡ k → IsBankBelow j.place (length h.shares) → first ≡ get_or h.shares from first
     → (takes old first j ≡ true → IsAppliedTo old.bank new.bank first share j result reply)
     → (takes old first j ≡ false → IsRefusedAt old new first share j result reply)
-    → IfSome result.number (λ n. IsDone old.chain.number known reached first j result reply)
+    → IfSome result.number (λ n. IsDoneBehind h.programs old.chain.number known reached first j result reply)
     → IfNone result.number (reached ≡ known)
     → IsFinishedAt old new known reached h (record h { shares = set h.shares from share }) j result reply
 finished_at old new known reached h k from first share j result reply at same below read applied refused done none =
@@ -44,8 +47,29 @@ finished_at old new known reached h k from first share j result reply at same be
       shares = ap (λ i. record h { shares = set h.shares i share }) same ∙ sym (ap (λ p. with_share h p share) at);
       applied = λ took. subst (λ s. IsAppliedTo old.bank new.bank s share j result reply) (sym is) (applied (subst (λ s. takes old s j ≡ true) is took));
       refused = λ left. subst (λ s. IsRefusedAt old new s share j result reply) (sym is) (refused (subst (λ s. takes old s j ≡ false) is left));
-      done = subst (λ s. IfSome result.number (λ n. IsDone old.chain.number known reached s j result reply)) (sym is) done;
+      done = subst (λ s. IfSome result.number (λ n. IsDoneBehind h.programs old.chain.number known reached s j result reply)) (sym is) done;
       none = none;
+    }
+
+prefix_trans : {A : Type 0} (xs ys zs : List A) → IsPrefix xs ys → IsPrefix ys zs → IsPrefix xs zs
+prefix_trans xs ys zs p q = (p.0 ++ q.0, sym (append_assoc xs p.0 q.0) ∙ (ap (λ w. w ++ q.0) p.1 ∙ q.1))
+
+-- a command that was done behind what the port was told was done behind what it knew, and behind the publishes that it was told
+pub done_behind : (number : Option ℕ) (programs : List Publish) (bank : ℕ) (known told reached front : List Link) (share : ShareValue) (j : JudgedValue) (result : Applied) (reply : List ℕ)
+    → PublishesGrow → IsPrefix known told → IsPrefix programs (publishes_of told)
+    → IfSome number (λ n. front ≡ reached) → IfSome number (λ n. IsDone bank told reached share j result reply)
+    → IfSome number (λ n. IsDoneBehind programs bank known front share j result reply)
+done_behind None programs bank known told reached front share j result reply grow more telling is done = tt
+done_behind (Some n) programs bank known told reached front share j result reply grow more telling is done =
+    let before = done.last.before in record {
+      done = record {
+        place = done.place;
+        last = record { before = before; next = done.last.next; log = is ∙ done.last.log; seen = prefix_trans known told before more done.last.seen };
+        status = done.status;
+        numbers = done.numbers;
+        reply_is = done.reply_is;
+      };
+      published = prefix_trans programs (publishes_of told) (publishes_of before) telling (grow told before done.last.seen);
     }
 
 -- where the bank takes it, it ends as at a plain bank

@@ -1,15 +1,24 @@
 -- How a judged command ends at a bank with its chain.
 use Rattle.std.specs.Prelude.{◌≡◌, ℕ, List, true, false, IfSome, IfNone}
+use mathlib.Core.List.{IsPrefix}
 use Rattle.bank.specs.declared.bank.Applied.{Applied}
 use Rattle.bank.specs.Records.{ShareValue, JudgedValue}
+use Rattle.node_programs.specs.declared.publishes.Publish.{Publish}
 use Rattle.node_parts.specs.Passes.{PassValue}
 use Rattle.node_parts.specs.Applied.{share_of, with_share}
 use Rattle.annals.specs.declared.deed.Link.{Link}
 use Rattle.annals.specs.Banks.{KeptValue, IsAppliedTo, IsDone, IsRefusedAt, takes}
+use Rattle.annals.specs.Publishes.{publishes_of}
+
+-- the command was done at the bank, and those publishes stand in the history before it
+pub record IsDoneBehind (programs : List Publish) (bank : ℕ) (known reached : List Link) (share : ShareValue)
+    (judged : JudgedValue) (result : Applied) (bytes : List ℕ) : Type 0 where
+  pub done : IsDone bank known reached share judged result bytes
+  pub published : IsPrefix programs (publishes_of done.last.before)
 
 -- how a judged command ends at a bank with its chain, by the port's own share of it: it is applied where the bank takes it,
 -- else refused; nothing of the port changes but that share. Where it leaves an entry, that is the last of the history that
--- the port then knows
+-- the port then knows, behind all publishes that the port knew
 pub record IsFinishedAt (old new : KeptValue) (known reached : List Link) (holder after : PassValue)
     (judged : JudgedValue) (result : Applied) (bytes : List ℕ) : Type 0 where
   pub share : ShareValue
@@ -19,5 +28,5 @@ pub record IsFinishedAt (old new : KeptValue) (known reached : List Link) (holde
   pub refused : takes old (share_of holder judged.place) judged ≡ false
       → IsRefusedAt old new (share_of holder judged.place) share judged result bytes
   pub done : IfSome result.number
-      (λ n. IsDone old.chain.number known reached (share_of holder judged.place) judged result bytes)
+      (λ n. IsDoneBehind holder.programs old.chain.number known reached (share_of holder judged.place) judged result bytes)
   pub none : IfNone result.number (reached ≡ known)

@@ -2,3 +2,4 @@ pub mod Passes
 pub mod Steps
 pub mod Nodes
 pub mod Finished
+pub mod Lines

@@ -1,21 +1,10 @@
 -- How a node that threads share is made.
 use Rattle.std.specs.Prelude.{◌≡◌, ◌<◌, ℕ, List, [], length, replicate, slice_index, None}
 use base.Stored.{Gv}
-use Rattle.logbook.specs.Pages.{Book}
 use Rattle.bver.specs.Justified.{AcceptedValue}
 use Rattle.cells.specs.Seats.{CellSeatValue, seat}
 use Rattle.publish.specs.Reached.{Known, known}
 use Rattle.node_parts.specs.Nodes.{first_programs}
-
--- two histories that were opened, as their books: that of a node's programs, and that of its banks
-pub record OpenedValue : Type 0 where
-  pub programs : Book
-  pub banks : Book
-
--- the histories have those books
-pub record AreOpened (programs banks : Book) (opened : OpenedValue) : Type 0 where
-  pub programs_are : opened.programs ≡ programs
-  pub banks_are : opened.banks ≡ banks
 
 -- so many seats at the cells of that name, for the program's maps, and readers that know of the program
 pub record AreFirst (factory : AcceptedValue) (home : Gv) (ports : ℕ) (seats : List CellSeatValue)

@@ -5,15 +5,15 @@ ghost use Rattle.bank.specs.Records.{fits, is_next};
 ghost use Rattle.node_parts.specs.Steps.{IsBankBelow};
 ghost use Rattle.node_parts.specs.Applied.{IsFinished, share_of};
 
-use crate::pass::Pass;
+use crate::pass::PlainPass;
 use bank::{Applied, Bank, Judged};
 use node_parts::shares_agree;
-use publish::ProgramFamily;
+use publish::Family;
 use rmap::{Place, ReplyBuf};
 
 /// How a judged command ends at the bank of its place.
-fn end<J: ProgramFamily>(
-    pass: &mut Pass<J>,
+fn end<J: Family>(
+    pass: &mut PlainPass<J>,
     bank: &mut Bank,
     judged: Judged,
     reply: &mut ReplyBuf,
@@ -39,8 +39,8 @@ fn end<J: ProgramFamily>(
 /// reply. Where [`Bank::fits`] says no, it is a general error, and nothing changes: that does not
 /// happen where bank and pass were made together ([`paired_commands_fit`](node_parts::paired_commands_fit)). The condition
 /// is the place of a bank of which the port has a share ([`Pass::banks`]).
-pub(crate) fn finish<J: ProgramFamily>(
-    pass: &mut Pass<J>,
+pub(crate) fn finish<J: Family>(
+    pass: &mut PlainPass<J>,
     bank: &mut Bank,
     judged: Judged,
     reply: &mut ReplyBuf,

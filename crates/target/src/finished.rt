@@ -1,25 +1,35 @@
 //! The second half of a packet's way: its effect at a bank with its chain, as it lies behind a lock.
 
-ghost use Rattle.std.specs.Prelude.{◌≡◌, length, true};
+ghost use Rattle.std.specs.Prelude.{◌≡◌, IfNone, IfSome, length, true};
 ghost use Rattle.bank.specs.Records.{is_next};
 ghost use Rattle.node_parts.specs.Steps.{IsBankBelow};
 ghost use Rattle.node_parts.specs.Applied.{share_of};
 ghost use Rattle.annals.specs.Banks.{takes};
 ghost use Rattle.target.specs.Finished.{IsFinishedAt};
 
-use crate::family::NodeFamily;
 use crate::pass::Pass;
-use annals::{Front, Kept};
+use annals::{Family, Front, Kept, publishes_grow};
 use bank::{Applied, Judged};
 use node_parts::shares_agree;
 use rmap::{Place, ReplyBuf};
 
+/// The port knows what was reached, where an entry was left.
+fn advance<J: Family>(front: &mut Front<J>, reached: Front<J>, number: Option<u64>)
+    ensures some { IfSome number (λ n. front.new ≡ reached) }
+    ensures none { IfNone number (front.new ≡ front.old) }
+{
+    if number.is_some() {
+        *front = reached;
+    }
+}
+
 /// Ends a judged command at a bank with its chain, with the port's share of the bank of its place, and leaves the reply:
 /// [`Kept::finish`]. Where it leaves an entry, that is the last of a history which goes on from what the port knew, and the
-/// port knows it then; status and reply are the definition's on the replay of what stood before it. Where the bank is
-/// another, or [`Bank::fits`](bank::Bank::fits) says no, it is a general error, and nothing changes. The condition is the
+/// port knows it then, and its line asked for it before; status and reply are the definition's on the replay of what stood
+/// before it, and all publishes that the port knew stand before it too: so that of the program by which it was judged. Where
+/// the bank is another, or [`Bank::fits`](bank::Bank::fits) says no, it is a general error, and nothing changes. The condition is the
 /// place of a bank of which the port has a share ([`Pass::banks`]).
-pub fn finish<J: NodeFamily>(
+pub fn finish<J: Family>(
     pass: &mut Pass<J>,
     kept: &mut Kept<J>,
     front: &mut Front<J>,
@@ -40,5 +50,16 @@ pub fn finish<J: NodeFamily>(
     let Place::Bank(k) = judged.place() else {
         unreachable!()
     };
-    kept.finish(front, &mut pass.shares[usize::from(k)], judged, reply)
+    publishes_grow();
+    let mut known = front.again();
+    pass.reader.tell(&mut known);
+    let applied = kept.finish(
+        &mut known,
+        &mut pass.line,
+        &mut pass.shares[usize::from(k)],
+        judged,
+        reply,
+    );
+    advance(front, known, applied.number);
+    applied
 }

@@ -10,7 +10,6 @@
 #![tactic(auto)]
 
 mod applied;
-mod family;
 mod finished;
 mod loads;
 mod lock;
@@ -21,8 +20,7 @@ mod served;
 mod staged;
 mod step;
 
-pub use annals::{Front, Kept, share_one_history};
-pub use family::{NodeFamily, Opened};
+pub use annals::{Front, Kept, Line, share_one_history};
 pub use finished::finish;
 pub use loads::load;
 pub use lock::BankLock;
@@ -34,7 +32,8 @@ pub use node_parts::{
     shares_agree, slot, staging_fills_its_window,
 };
 pub use parts::banks_and_passes;
-pub use pass::Pass;
+pub use pass::{NoLine, Pass, PlainPass, PortLine, PortPass};
+pub use publish::{Family, Opened};
 pub use served::serve_packet;
 pub use staged::stage;
 pub use step::{Step, judge};

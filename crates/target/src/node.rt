@@ -1,22 +1,23 @@
 //! A node, as threads share it.
 
-ghost use Rattle.std.specs.Prelude.{◌≡◌, ◌<◌, ◌≤◌, ◌-◌, [], length, IfOk, IfErr, None};
+ghost use Rattle.std.specs.Prelude.{◌≡◌, ◌<◌, ◌≤◌, ◌+◌, ◌-◌, [], length, IfOk, IfErr, None};
 ghost use base.Stored.{Gv};
 ghost use Rattle.std.specs.List.{All};
 ghost use Rattle.annals.specs.Banks.{IsFresh};
+ghost use Rattle.annals.specs.Publishes.{publishes_chain, publishes_of};
 ghost use Rattle.cells.specs.Seats.{cells};
 ghost use Rattle.node_parts.specs.Nodes.{IsNodeFault, first_passes, limit_fault};
-ghost use Rattle.target.specs.Nodes.{AreNumbered, AreOpened};
+ghost use Rattle.target.specs.Lines.{AreNew};
+ghost use Rattle.target.specs.Nodes.{AreNumbered};
 
-use crate::family::{NodeFamily, Opened};
 use crate::lock::BankLock;
-use crate::parts::banks_and_passes;
-use crate::pass::Pass;
-use annals::{Front, Kept};
+use crate::parts::cells_and_passes;
+use crate::pass::{Pass, PlainPass};
+use annals::{BANK_CHAINS, Chain, Family, Front, Kept, Line};
 use bver::Accepted;
 use cells::Cells;
 use node_parts::{Banks, NodeConfig, NodeFault};
-use publish::Publisher;
+use publish::{Opened, Publisher};
 use rmap::MAX_BANKS;
 use std::alloc::{AllocError, Global};
 use std::marker::Model;
@@ -26,13 +27,13 @@ use std::sync::{Mutex, Wait};
 /// its lock. What belongs to one port is in the port's [`Pass`], and what it knows of the history is its [`Front`]. The
 /// value of a node is how many banks it has. Its end waits for readers.
 #[derive(Drop)]
-pub struct Node<J: NodeFamily, R: Wait + Drop> {
+pub struct Node<J: Family, R: Wait + Drop> {
     banks: Vec<BankLock<J>>,
     publisher: Mutex<Publisher<J, R>>,
     front: Front<J>,
 }
 
-impl<J: NodeFamily, R: Wait + Drop> Model for Node<J, R> {
+impl<J: Family, R: Wait + Drop> Model for Node<J, R> {
     ghost use Rattle.std.specs.Prelude.{◌≡◌, ℕ, [], length};
     ghost use base.Stored.{Gv};
     ghost use Rattle.target.specs.Nodes.{AreNumbered};
@@ -44,19 +45,21 @@ impl<J: NodeFamily, R: Wait + Drop> Model for Node<J, R> {
     ghost invariant = { λ n. AreNumbered n.banks.items × (n.front ≡ []) };
 }
 
-/// The banks behind their locks, in order, with their numbers, each with the chain of its number in the history. It ends
-/// with `AllocError` also where a chain has begun before (no test met that).
-fn locks<J: NodeFamily>(
+/// The banks behind their locks, in order, with their numbers, each with the chain of its number in the history. Chains of
+/// banks that are not there are left out. It ends with `AllocError` also where a chain has begun before (no test met that).
+fn locks<J: Family>(
     alloc: Global,
     banks: Banks,
     history: &mut annals::Opened,
 ) -> Result<Vec<BankLock<J>>, AllocError>
-    requires family { history.old.0 ≡ J.Family.book }
-    requires chains { history.old.1 ≡ 9 }
+    requires family { history.old.0 ≡ J.book }
+    requires chains { history.old.1 ≡ 41 }
     requires few { length banks ≤ MAX_BANKS }
     requires fresh { All IsFresh banks }
     ensures count { IfOk result (λ locks. length locks.items ≡ length banks) }
     ensures numbers { IfOk result (λ locks. AreNumbered locks.items) }
+    ensures chains { IfOk result (λ _. history.new.1 + publishes_chain ≡ 41) }
+    ensures family { IfOk result (λ _. history.new.0 ≡ history.old.0) }
 {
     let mut locks = Vec::with_capacity(alloc, banks.len())?;
     let mut number = 0;
@@ -67,12 +70,61 @@ fn locks<J: NodeFamily>(
         locks.push(BankLock::new(number, kept))?;
         number += 1;
     }
+    history.skip(BANK_CHAINS - number);
     Ok(locks)
 }
 
-impl<J: NodeFamily, R: Wait + Drop> Node<J, R> {
+/// The banks behind their locks, as [`locks`] makes them, and the chain of what is published, which is empty. Behind it stand
+/// the lines of ports.
+fn locks_and_chain<J: Family>(
+    alloc: Global,
+    banks: Banks,
+    history: &mut annals::Opened,
+) -> Result<(Vec<BankLock<J>>, Chain<J>), AllocError>
+    requires family { history.old.0 ≡ J.book }
+    requires chains { history.old.1 ≡ 41 }
+    requires few { length banks ≤ MAX_BANKS }
+    requires fresh { All IsFresh banks }
+    ensures count { IfOk result (λ made. length made.0.items ≡ length banks) }
+    ensures numbers { IfOk result (λ made. AreNumbered made.0.items) }
+    ensures chain { IfOk result (λ made. made.1.number ≡ publishes_chain) }
+    ensures none { IfOk result (λ made. publishes_of made.1.log ≡ []) }
+    ensures chains { IfOk result (λ _. history.new.1 ≡ 32) }
+    ensures family { IfOk result (λ _. history.new.0 ≡ history.old.0) }
+{
+    let locks = locks(alloc, banks, history)?;
+    let Some(chain) = history.publishes() else {
+        return Err(AllocError);
+    };
+    Ok((locks, chain))
+}
+
+/// The passes, each with the line of its port, which is the next chain of the history. It ends with `AllocError` also where a
+/// chain has begun before (no test met that).
+fn with_lines<J: Family>(
+    alloc: Global,
+    plain: Vec<PlainPass<J>>,
+    history: &mut annals::Opened,
+) -> Result<Vec<Pass<J>>, AllocError>
+    requires family { history.old.0 ≡ J.book }
+    requires chains { history.old.1 ≡ 32 }
+    requires new { AreNew 0 plain.items }
+    ensures { IfOk result (λ passes. passes.items ≡ plain.items) }
+{
+    let mut passes = Vec::with_capacity(alloc, plain.len())?;
+    for pass in plain {
+        let Some(line) = Line::new(pass.port(), history) else {
+            return Err(AllocError);
+        };
+        passes.push(pass.with_line(line))?;
+    }
+    Ok(passes)
+}
+
+impl<J: Family, R: Wait + Drop> Node<J, R> {
     /// A node with locks round banks of zero bytes and round what publishes its programs, and a pass for each
-    /// port, in order: the parts that [`banks_and_passes`] makes. `Ports` and then `Banks` where a number is
+    /// port, in order: the parts that [`banks_and_passes`](crate::banks_and_passes)
+    /// makes. `Ports` and then `Banks` where a number is
     /// outside its limits; `Memory` where memory was refused: a publisher that was made already ends then, which
     /// may wait. The condition is a program that was accepted for the maps of the configuration.
     pub fn new(
@@ -82,7 +134,7 @@ impl<J: NodeFamily, R: Wait + Drop> Node<J, R> {
         config: &NodeConfig,
         factory: Accepted,
     ) -> Result<(Node<J, R>, Vec<Pass<J>>), NodeFault>
-        requires family { AreOpened J.ProgramFamily.book J.Family.book opened }
+        requires family { opened ≡ J.book }
         requires sizes { factory.sizes ≡ config.now.sizes }
         ensures banks { IfOk result (λ made. made.0 ≡ length config.now.banks.now) }
         ensures passes { IfOk result
@@ -104,7 +156,7 @@ impl<J: NodeFamily, R: Wait + Drop> Node<J, R> {
         config: &NodeConfig,
         factory: Accepted,
     ) -> Result<(Node<J, R>, Cells, Vec<Pass<J>>), NodeFault>
-        requires family { AreOpened J.ProgramFamily.book J.Family.book opened }
+        requires family { opened ≡ J.book }
         requires sizes { factory.sizes ≡ config.now.sizes }
         ensures banks { IfOk result (λ made. made.0 ≡ length config.now.banks.now) }
         ensures cells { IfOk result
@@ -114,12 +166,19 @@ impl<J: NodeFamily, R: Wait + Drop> Node<J, R> {
         ensures limits { IfOk result (λ _. limit_fault config.now ≡ None) }
         ensures fault { IfErr result (IsNodeFault (limit_fault config.now)) }
     {
-        let (programs, mut history) = opened.into_parts();
+        let mut history = opened.into_chains();
         let front = history.front();
-        let (banks, cells, publisher, passes) = banks_and_passes(
-            alloc, rt, programs, config, factory,
+        let (banks, mut by_port) = Banks::new(alloc, config)?;
+        let (banks, chain) = locks_and_chain(alloc, banks, &mut history)?;
+        let (cells, publisher, plain) = cells_and_passes(
+            alloc,
+            rt,
+            chain,
+            config,
+            factory,
+            &mut by_port,
         )?;
-        let banks = locks(alloc, banks, &mut history)?;
+        let passes = with_lines(alloc, plain, &mut history)?;
         let publisher = Mutex::new(publisher);
         let node = Node {
             banks,

@@ -8,22 +8,22 @@ ghost use Rattle.node_parts.specs.Pairs.{ArePaired, IsPaired};
 
 use crate::applied::finish;
 use crate::loads::load;
-use crate::pass::Pass;
+use crate::pass::PlainPass;
 use crate::staged::stage;
 use crate::step::{Step, judge};
 use node_parts::{Banks, Served, Stop, packets_keep_pairs};
-use publish::{ProgramFamily, Publisher, readers_know_a_beginning};
+use publish::{Family, Publisher, readers_know_a_beginning};
 use rmap::{Place, ReplyBuf};
 use spw::Packet;
 use std::alloc::Global;
 use std::sync::Wait;
 
 /// What becomes of a packet, whatever the node and the port.
-fn serve<J: ProgramFamily, R: Wait + Drop>(
+fn serve<J: Family, R: Wait + Drop>(
     alloc: Global,
     banks: &mut Banks,
     publisher: &mut Publisher<J, R>,
-    pass: &mut Pass<J>,
+    pass: &mut PlainPass<J>,
     packet: Packet,
     reply: &mut ReplyBuf,
 ) -> Served
@@ -51,11 +51,11 @@ fn serve<J: ProgramFamily, R: Wait + Drop>(
 /// names, or to the port's staging, or loads what is staged there. `reply` holds the reply that is due then, if any. It
 /// takes memory and may wait for readers only where it loads. What the port knew is a beginning of what was published. The condition is a pass with the number of banks; where
 /// banks and pass were made together each command that is judged is applied.
-pub fn serve_packet<J: ProgramFamily, R: Wait + Drop>(
+pub fn serve_packet<J: Family, R: Wait + Drop>(
     alloc: Global,
     banks: &mut Banks,
     publisher: &mut Publisher<J, R>,
-    pass: &mut Pass<J>,
+    pass: &mut PlainPass<J>,
     packet: Packet,
     reply: &mut ReplyBuf,
 ) -> Served

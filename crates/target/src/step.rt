@@ -4,11 +4,11 @@ ghost use Rattle.std.specs.Prelude.{◌≡◌, IfErr, IfOk, OnErr};
 ghost use Rattle.node_programs.specs.Published.{sizes_of};
 ghost use Rattle.target.specs.Steps.{IsJudgedByTaken, IsStep};
 
-use crate::pass::Pass;
+use crate::pass::{PortLine, PortPass};
 use bank::{Admitted, Judged};
 use cells::CellSeat;
 use node_parts::{RunContext, Stop, admit, judge_by, slot};
-use publish::{ProgramFamily, Reader};
+use publish::{Family, Reader};
 use rmap::{Discard, ReplyBuf, Status, put_reply};
 use spw::Packet;
 
@@ -28,7 +28,7 @@ pub enum Step {
 
 /// Judges an admitted command by the program that the reader takes in the slot of its place: one run on its
 /// header. The command comes back where no program is given.
-fn judge_taken<J: ProgramFamily>(
+fn judge_taken<J: Family>(
     context: &mut RunContext<CellSeat>,
     reader: &mut Reader<J>,
     admitted: Admitted,
@@ -55,7 +55,11 @@ fn judge_taken<J: ProgramFamily>(
 /// its place on the header of its command. That is the program that some list of publishes has there which begins with
 /// all that the port knew; that it is the last published, and that one is taken at all, is tested. `reply` holds the reply
 /// that is due then, if any.
-pub fn judge<J: ProgramFamily>(pass: &mut Pass<J>, packet: Packet, reply: &mut ReplyBuf) -> Step
+pub fn judge<J: Family, L: PortLine + Drop>(
+    pass: &mut PortPass<J, L>,
+    packet: Packet,
+    reply: &mut ReplyBuf,
+) -> Step
     ensures step { IsStep result packet pass.old pass.new reply.new }
 {
     let admitted = match admit(packet, pass.context.windows(), reply) {

@@ -4,7 +4,7 @@ ghost use Rattle.std.specs.Prelude.{◌≡◌, ◌⊎◌, IfOk, IfSome};
 ghost use Rattle.annals.specs.Banks.{IsFresh};
 ghost use mathlib.Core.List.{IsPrefix};
 
-use annals::{Family, Front, Kept, Opened, share_one_history};
+use annals::{Family, Front, Kept, Line, Opened, share_one_history};
 use bank::{Bank, Journal, Judged, Share};
 use node_parts::admit;
 use rmap::{ReplyBuf, Windows};
@@ -38,12 +38,13 @@ const READS: [&str; 2] = [
     "0 FE014C0067000101A00000000000042F EOP",
 ];
 
-/// What a port has: its number, what it knows of the history, its share of each bank, and where commands end that came to
-/// another bank.
+/// What a port has: its number, what it knows of the history, its line, its share of each bank, and where commands end that
+/// came to another bank.
 #[derive(Drop)]
 struct Desk<J: Family> {
     port: u8,
     front: Front<J>,
+    line: Line<J>,
     shares: (Share, Share),
     spare: SpareBank,
 }
@@ -74,6 +75,7 @@ fn finish<J: Family>(
     rt: &impl Wait,
     lock: &Mutex<Kept<J>>,
     front: &mut Front<J>,
+    line: &mut Line<J>,
     share: &mut Share,
     spare: &mut SpareBank,
     judged: Judged,
@@ -81,11 +83,11 @@ fn finish<J: Family>(
 ) -> Option<u64> {
     let mut guard = lock.lock(rt);
     let kept = &mut *guard;
-    if !kept.is_at(judged.place()) {
+    if !kept.is_at(judged.place()) || line.port() != share.port() {
         spare.end(judged, reply);
         return None;
     }
-    kept.finish(front, share, judged, reply).number
+    kept.finish(front, line, share, judged, reply).number
 }
 
 /// Sends a line to the first bank and one to the second: the numbers of their entries.
@@ -103,6 +105,7 @@ fn send<J: Family>(
     let Desk {
         port,
         front,
+        line,
         shares,
         spare,
     } = desk;
@@ -110,6 +113,7 @@ fn send<J: Family>(
         rt,
         &banks.first,
         front,
+        line,
         &mut shares.0,
         spare,
         one,
@@ -120,6 +124,7 @@ fn send<J: Family>(
         rt,
         &banks.second,
         front,
+        line,
         &mut shares.1,
         spare,
         two,
@@ -184,12 +189,14 @@ fn set_up<J: Family>(
     alloc: Global,
     port: u8,
     front: Front<J>,
+    line: Line<J>,
     first: Share,
     second: Share,
 ) -> Result<Desk<J>, Fail> {
     Ok(Desk {
         port,
         front,
+        line,
         shares: (first, second),
         spare: SpareBank::new(alloc)?,
     })
@@ -201,7 +208,7 @@ fn served_by_two<J: Family + Send + Sync, R: Threads + Wait + Abort + Sync>(
     mut opened: Opened,
 ) -> Result<(), Fail>
     requires family { opened.0 ≡ J.book }
-    requires chains { opened.1 ≡ 9 }
+    requires chains { opened.1 ≡ 41 }
 {
     let knows_nothing = opened.front::<J>();
     let (first, a, b) = fresh(alloc)?;
@@ -210,14 +217,18 @@ fn served_by_two<J: Family + Send + Sync, R: Threads + Wait + Abort + Sync>(
         first: Mutex::new(Kept::new(0, first, &mut opened).ok_or("a chain")?),
         second: Mutex::new(Kept::new(1, second, &mut opened).ok_or("another chain")?),
     };
-    let one = set_up(alloc, 0, knows_nothing.again(), a, c)?;
-    let other = set_up(alloc, 1, knows_nothing, b, d)?;
-    let (one, _other) = work_both(rt, alloc, &banks, one, other).ok_or("an entry is missing")?;
+    opened.skip(7);
+    let line = Line::new(0, &mut opened).ok_or("a line")?;
+    let one = set_up(alloc, 0, knows_nothing.again(), line, a, c)?;
+    let line = Line::new(1, &mut opened).ok_or("another line")?;
+    let other = set_up(alloc, 1, knows_nothing, line, b, d)?;
+    let (mut one, _other) = work_both(rt, alloc, &banks, one, other).ok_or("an entry is missing")?;
     let Pair { first, second } = banks;
     let mut first = first.into_inner();
     let mut second = second.into_inner();
     first.knows_all(&one.front);
     second.knows_all(&one.front);
+    one.line.knows_all(&one.front);
     assert!(rt; first.entries().len() == 200 && second.entries().len() == 200);
     assert!(rt; first.memory(BASE) == Some(0x01) && second.memory(BASE) == Some(0xA1));
     Ok(())

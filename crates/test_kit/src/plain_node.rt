@@ -8,27 +8,27 @@ use bpf::Image;
 use bver::{Accepted, verify};
 use node_parts::{BankConfig, Banks, NodeConfig, NodeFault, Served};
 use node_programs::Staging;
-use publish::{Opened, ProgramFamily, Publisher};
+use publish::{Family, Opened, Publisher};
 use rmap::ReplyBuf;
 use spw::Packet;
 use std::alloc::Global;
 use std::sync::Wait;
 use std::test::Fail;
-use target::{Pass, Step, banks_and_passes, judge, serve_packet};
+use target::{PlainPass, Step, banks_and_passes, judge, serve_packet};
 
 /// A node of logical address 0xFE in one thread: its banks, what publishes its programs, the passes of its ports, and the
 /// reply to the packet that came last. Each call that is lent its parts is a method of one call: a test that makes several
 /// of them in a row is dear to prove.
 #[derive(Drop)]
-pub struct PlainNode<J: ProgramFamily, R: Wait + Drop> {
+pub struct PlainNode<J: Family, R: Wait + Drop> {
     alloc: Global,
     banks: Banks,
     publisher: Publisher<J, R>,
-    passes: Vec<Pass<J>>,
+    passes: Vec<PlainPass<J>>,
     reply: ReplyBuf,
 }
 
-impl<J: ProgramFamily, R: Wait + Drop> PlainNode<J, R> {
+impl<J: Family, R: Wait + Drop> PlainNode<J, R> {
     /// A fresh node with so many ports and those banks. That program judges at first.
     pub fn new(
         alloc: Global,
@@ -124,7 +124,7 @@ impl<J: ProgramFamily, R: Wait + Drop> PlainNode<J, R> {
     }
 
     /// Takes the node apart: what its ports had of it.
-    pub fn into_passes(self) -> Vec<Pass<J>> {
+    pub fn into_passes(self) -> Vec<PlainPass<J>> {
         let PlainNode { passes, .. } = self;
         passes
     }

@@ -9,7 +9,7 @@ use ports::{MAX_CAPACITY, Port, PutPass, Replies, ServePass, Sink, Worker};
 use std::alloc::Global;
 use std::sync::Wait;
 use std::test::Fail;
-use target::{Node, NodeFamily, Pass};
+use target::{Family, Node, Pass};
 use test_kit::packet;
 
 /// A port of that capacity with the packets of those lines and then the end mark, what puts into it, and what takes
@@ -39,7 +39,7 @@ pub fn filled(
 }
 
 /// A worker of that pass and that sink, which serves a port of the node.
-pub fn worker<J: NodeFamily, R: Wait + Drop, S: Sink + Drop>(
+pub fn worker<J: Family, R: Wait + Drop, S: Sink + Drop>(
     node: &Node<J, R>,
     port: &Port,
     pass: Pass<J>,
@@ -64,7 +64,7 @@ pub fn worker<J: NodeFamily, R: Wait + Drop, S: Sink + Drop>(
 pub type Desks<J> = (Vec<Port>, Vec<PutPass>, Vec<Worker<J, Replies>>);
 
 /// A port of that capacity for each pass, with the packets of the lines at the pass's place.
-pub fn filled_desks<J: NodeFamily, R: Wait + Drop>(
+pub fn filled_desks<J: Family, R: Wait + Drop>(
     rt: &impl Wait,
     alloc: Global,
     node: &Node<J, R>,

@@ -1,13 +1,14 @@
 //! Nodes behind their locks, and programs to judge there.
 
-ghost use Rattle.target.specs.Nodes.{AreOpened};
+
+ghost use Rattle.std.specs.Prelude.{◌≡◌};
 
 use bver::{Accepted, verify};
 use node_parts::{BankConfig, NodeConfig};
 use std::alloc::Global;
 use std::sync::Wait;
 use std::test::Fail;
-use target::{Node, NodeFamily, Opened, Pass};
+use target::{Family, Node, Opened, Pass};
 use test_kit::{image_of_text, sizes};
 
 /// The program of a text, with that budget, for maps of those sizes.
@@ -17,7 +18,7 @@ pub fn accepted(alloc: Global, text: &str, budget: u32, maps: &str) -> Result<Ac
 }
 
 /// A node of logical address 0xFE with those banks, and the passes of its ports. That program judges at first.
-pub fn shared_node<J: NodeFamily, R: Wait + Drop>(
+pub fn shared_node<J: Family, R: Wait + Drop>(
     rt: R,
     alloc: Global,
     opened: Opened,
@@ -25,7 +26,7 @@ pub fn shared_node<J: NodeFamily, R: Wait + Drop>(
     banks: &[BankConfig],
     factory: Accepted,
 ) -> Result<(Node<J, R>, Vec<Pass<J>>), Fail>
-    requires { AreOpened J.ProgramFamily.book J.Family.book opened }
+    requires { opened ≡ J.book }
 {
     let config = NodeConfig {
         address: 0xFE,

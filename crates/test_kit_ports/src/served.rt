@@ -1,6 +1,7 @@
 //! Ports that were served until their end marks.
 
-ghost use Rattle.target.specs.Nodes.{AreOpened};
+
+ghost use Rattle.std.specs.Prelude.{◌≡◌};
 
 use crate::filling::{filled, filled_desks, worker};
 use crate::nodes::shared_node;
@@ -11,11 +12,11 @@ use std::alloc::Global;
 use std::sync::Wait;
 use std::test::Fail;
 use std::thread::Threads;
-use target::{BankLock, Node, NodeFamily, Opened, Pass};
+use target::{BankLock, Family, Node, Opened, Pass};
 use test_kit::program;
 
 /// The bank of that number, behind its lock.
-fn bank_of<J: NodeFamily, R: Wait + Drop>(node: &Node<J, R>, k: u8) -> Result<&BankLock<J>, Fail> {
+fn bank_of<J: Family, R: Wait + Drop>(node: &Node<J, R>, k: u8) -> Result<&BankLock<J>, Fail> {
     if usize::from(k) >= node.banks() {
         return Err("no bank".into());
     }
@@ -24,7 +25,7 @@ fn bank_of<J: NodeFamily, R: Wait + Drop>(node: &Node<J, R>, k: u8) -> Result<&B
 
 /// What one worker left that served the only port of a node.
 #[derive(Drop)]
-pub struct ServedPort<J: NodeFamily, R: Wait + Drop, S: Sink + Drop> {
+pub struct ServedPort<J: Family, R: Wait + Drop, S: Sink + Drop> {
     node: Node<J, R>,
     /// Where the replies went.
     pub sink: S,
@@ -32,7 +33,7 @@ pub struct ServedPort<J: NodeFamily, R: Wait + Drop, S: Sink + Drop> {
     pub report: Report,
 }
 
-impl<J: NodeFamily, R: Wait + Drop, S: Sink + Drop> ServedPort<J, R, S> {
+impl<J: Family, R: Wait + Drop, S: Sink + Drop> ServedPort<J, R, S> {
     /// The bank of that number, behind its lock.
     pub fn bank(&self, k: u8) -> Result<&BankLock<J>, Fail> {
         bank_of(&self.node, k)
@@ -41,7 +42,7 @@ impl<J: NodeFamily, R: Wait + Drop, S: Sink + Drop> ServedPort<J, R, S> {
 
 /// Serves a port of the node by its pass: the queue has room for the packets of those lines and the end mark, which are
 /// in it. Then the worker's pass goes back into the producer's. What is left are the sink and what the worker says.
-pub fn served_at<J: NodeFamily, Q: Wait + Drop, R: Wait, S: Sink + Drop, G: Gate>(
+pub fn served_at<J: Family, Q: Wait + Drop, R: Wait, S: Sink + Drop, G: Gate>(
     rt: &R,
     alloc: Global,
     node: &Node<J, Q>,
@@ -64,7 +65,7 @@ pub fn served_at<J: NodeFamily, Q: Wait + Drop, R: Wait, S: Sink + Drop, G: Gate
 }
 
 /// The same at the only port of a fresh node, whose program says yes.
-pub fn served_port<'a, J: NodeFamily, R: Wait, S: Sink + Drop, G: Gate>(
+pub fn served_port<'a, J: Family, R: Wait, S: Sink + Drop, G: Gate>(
     rt: &'a R,
     alloc: Global,
     opened: Opened,
@@ -73,7 +74,7 @@ pub fn served_port<'a, J: NodeFamily, R: Wait, S: Sink + Drop, G: Gate>(
     sink: S,
     gate: &G,
 ) -> Result<ServedPort<J, &'a R, S>, Fail>
-    requires { AreOpened J.ProgramFamily.book J.Family.book opened }
+    requires { opened ≡ J.book }
 {
     let factory = program(alloc, 0)?;
     let (node, mut passes) = shared_node::<J, _>(rt, alloc, opened, 1, banks, factory)?;
@@ -84,7 +85,7 @@ pub fn served_port<'a, J: NodeFamily, R: Wait, S: Sink + Drop, G: Gate>(
 
 /// What the workers left that served the ports of a node side by side.
 #[derive(Drop)]
-pub struct ServedPorts<J: NodeFamily, R: Wait + Drop> {
+pub struct ServedPorts<J: Family, R: Wait + Drop> {
     node: Node<J, R>,
     /// The workers that came back, in order.
     pub workers: Vec<Worker<J, Replies>>,
@@ -92,7 +93,7 @@ pub struct ServedPorts<J: NodeFamily, R: Wait + Drop> {
     pub report: Result<Report, ServeFault>,
 }
 
-impl<J: NodeFamily, R: Wait + Drop> ServedPorts<J, R> {
+impl<J: Family, R: Wait + Drop> ServedPorts<J, R> {
     /// The bank of that number, behind its lock.
     pub fn bank(&self, k: u8) -> Result<&BankLock<J>, Fail> {
         bank_of(&self.node, k)
@@ -109,7 +110,7 @@ impl<J: NodeFamily, R: Wait + Drop> ServedPorts<J, R> {
 /// program judges at first.
 pub fn served_ports<
     'a,
-    J: NodeFamily + Send + Sync + 'static,
+    J: Family + Send + Sync + 'static,
     R: Threads + Wait + Sync,
     G: Gate + Sync,
 >(
@@ -123,7 +124,7 @@ pub fn served_ports<
     lines: &[&[&str]],
     gate: &G,
 ) -> Result<ServedPorts<J, &'a R>, Fail>
-    requires { AreOpened J.ProgramFamily.book J.Family.book opened }
+    requires { opened ≡ J.book }
 {
     let (node, mut passes) = shared_node::<J, _>(rt, alloc, opened, ports, banks, factory)?;
     passes.truncate(lines.len());

@@ -3,7 +3,7 @@
 ghost use Rattle.std.specs.Prelude.{◌≡◌};
 
 use node_parts::{Served, Stop};
-use publish::{Opened, ProgramFamily};
+use publish::{Family, Opened};
 use spw::read_line;
 use std::alloc::Global;
 use std::fs;
@@ -26,7 +26,7 @@ fn line_of(alloc: Global, port: u8, what: Served, reply: &[u8]) -> Result<String
 }
 
 /// What comes of the packet lines of a text, by `serve_packet` at a node whose program says yes, as `judge` prints it.
-fn served<J: ProgramFamily, R: Wait>(
+fn served<J: Family, R: Wait>(
     rt: &R,
     alloc: Global,
     opened: Opened,

@@ -1,6 +1,7 @@
 //! Four ports, each in a thread of its own, that load programs for writes and write, at one node.
 
-ghost use Rattle.target.specs.Nodes.{AreOpened};
+
+ghost use Rattle.std.specs.Prelude.{◌≡◌};
 
 use super::remainders::slow_crc;
 use crate::tests::checks::same;
@@ -12,7 +13,7 @@ use std::process::Abort;
 use std::sync::Wait;
 use std::test::Fail;
 use std::thread::Threads;
-use target::{NodeFamily, Opened};
+use target::{Family, Opened};
 use test_kit::{LOAD, PLAIN_WRITE, STAGE, bank, program};
 use test_kit_ports::served_ports;
 
@@ -123,12 +124,12 @@ fn compare_all(rt: &impl Abort, mut told: Vec<u32>) -> Result<(), Fail> {
 }
 
 /// Serves the four ports, and compares what they replied and what the journal has.
-fn four_load<J: NodeFamily + Send + Sync + 'static, R: Threads + Wait + Abort + Sync>(
+fn four_load<J: Family + Send + Sync + 'static, R: Threads + Wait + Abort + Sync>(
     rt: &R,
     alloc: Global,
     opened: Opened,
 ) -> Result<(), Fail>
-    requires { AreOpened J.ProgramFamily.book J.Family.book opened }
+    requires { opened ≡ J.book }
 {
     let factory = program(alloc, 0)?;
     let banks = [bank(1024)];

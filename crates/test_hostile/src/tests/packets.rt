@@ -6,7 +6,7 @@ use super::answers::{Slow, slow_answer, slow_reply};
 use crate::tests::checks::same;
 use hex::decode;
 use node_parts::{BankConfig, Served, Stop};
-use publish::{Opened, ProgramFamily};
+use publish::{Family, Opened};
 use spw::{End, Packet};
 use std::alloc::{AllocError, Global};
 use std::marker::Brand;
@@ -25,7 +25,7 @@ a read with a reply address|FE014D000000050667000200A0000000000004BC|Short 40|0 
 ";
 
 /// What becomes of a packet at a fresh node whose program says yes, and the reply.
-fn served_afresh<J: ProgramFamily, R: Wait>(
+fn served_afresh<J: Family, R: Wait>(
     rt: &R,
     alloc: Global,
     opened: Opened,

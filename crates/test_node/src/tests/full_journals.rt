@@ -5,7 +5,7 @@ ghost use Rattle.std.specs.Prelude.{◌≡◌};
 use crate::tests::checks::same;
 use bank::{Applied, Bank};
 use node_parts::Served;
-use publish::{Opened, ProgramFamily};
+use publish::{Family, Opened};
 use rmap::Status;
 use std::alloc::Global;
 use std::marker::Brand;
@@ -29,7 +29,7 @@ fn journal_with_room_for_one(rt: HostRuntime) -> Result<(), Fail> {
     one_entry::<Brand, _>(&rt, rt.alloc(), Opened::new())
 }
 
-fn one_entry<J: ProgramFamily, R: Wait + Abort>(
+fn one_entry<J: Family, R: Wait + Abort>(
     rt: &R,
     alloc: Global,
     opened: Opened,

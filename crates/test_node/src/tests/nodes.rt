@@ -6,7 +6,7 @@ use crate::tests::checks::same;
 use bank::{Applied, Bank};
 use bver::Accepted;
 use node_parts::{BankConfig, NodeFault, Served, Stop};
-use publish::{Opened, ProgramFamily};
+use publish::{Family, Opened};
 use rmap::{Discard, Status};
 use spw::Packet;
 use std::alloc::Global;
@@ -17,7 +17,7 @@ use std::test::Fail;
 use test_kit::{PLAIN_READ, PLAIN_REPLY, PlainNode, bank, packet, program};
 
 /// What becomes of a packet at port 0 of a fresh node whose program always gives that verdict, and the reply.
-fn served_afresh<J: ProgramFamily, R: Wait>(
+fn served_afresh<J: Family, R: Wait>(
     rt: &R,
     alloc: Global,
     opened: Opened,
@@ -116,7 +116,7 @@ fn numbers_of_three_ports_at_three_banks(rt: HostRuntime) -> Result<(), Fail> {
     numbers_of_three_ports::<Brand, _>(&rt, rt.alloc(), Opened::new())
 }
 
-fn numbers_of_three_ports<J: ProgramFamily, R: Wait + Abort>(
+fn numbers_of_three_ports<J: Family, R: Wait + Abort>(
     rt: &R,
     alloc: Global,
     opened: Opened,
@@ -195,7 +195,7 @@ fn nodes_outside_their_limits(rt: HostRuntime) -> Result<(), Fail> {
 }
 
 /// How many banks and passes a node has that is made with so many ports and those banks.
-fn made<J: ProgramFamily, R: Wait>(
+fn made<J: Family, R: Wait>(
     rt: &R,
     alloc: Global,
     opened: Opened,

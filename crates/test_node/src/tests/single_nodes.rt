@@ -6,7 +6,7 @@ use crate::tests::checks::same;
 use bank::{Bank, Journal};
 use bver::{Accepted, MapSizes, verify};
 use node_parts::{BankConfig, NodeConfig, NodeFault};
-use publish::{Opened, ProgramFamily};
+use publish::{Family, Opened};
 use rmap::ReplyBuf;
 use single_node::{SingleNode, Told};
 use spw::Packet;
@@ -160,7 +160,7 @@ fn packets(alloc: Global) -> Result<Vec<Packet>, Fail> {
 }
 
 /// What becomes of packets in turn at port 0 of a node of threads, and the reply to each, a line each.
-fn served_in_threads<J: ProgramFamily, R: Wait>(
+fn served_in_threads<J: Family, R: Wait>(
     rt: &R,
     alloc: Global,
     opened: Opened,

@@ -1,6 +1,6 @@
 //! `target`: a node as threads share it. What a lock hides no clause can say.
 
-ghost use Rattle.target.specs.Nodes.{AreOpened};
+ghost use Rattle.std.specs.Prelude.{◌≡◌};
 
 use crate::tests::checks::same;
 use bank::{Applied, Judged};
@@ -13,7 +13,7 @@ use std::marker::Brand;
 use std::process::Abort;
 use std::sync::Wait;
 use std::test::Fail;
-use target::{BankLock, Node, NodeFamily, Opened, Pass, Step, finish, judge, load, stage};
+use target::{BankLock, Family, Node, Opened, Pass, Step, finish, judge, load, stage};
 use test_kit::{
     BASE, LOAD, PLAIN_READ, PLAIN_WRITE, Random, STAGE, SpareBank, bank, packet, program,
 };
@@ -21,7 +21,7 @@ use test_kit::{
 /// A node of two ports and two banks behind their locks, the second of 300 bytes from the address 0x1000 on, the passes
 /// of its ports, a spare bank for commands to no bank of the node, and the reply to the packet that came last.
 #[derive(Drop)]
-struct LockedNode<J: NodeFamily, R: Wait + Drop> {
+struct LockedNode<J: Family, R: Wait + Drop> {
     alloc: Global,
     node: Node<J, R>,
     passes: Vec<Pass<J>>,
@@ -30,7 +30,7 @@ struct LockedNode<J: NodeFamily, R: Wait + Drop> {
 }
 
 /// The command of a packet, judged at the pass's port.
-fn judged_at<J: NodeFamily>(
+fn judged_at<J: Family>(
     pass: &mut Pass<J>,
     packet: Packet,
     reply: &mut ReplyBuf,
@@ -43,10 +43,10 @@ fn judged_at<J: NodeFamily>(
     }
 }
 
-impl<J: NodeFamily, R: Wait + Drop> LockedNode<J, R> {
+impl<J: Family, R: Wait + Drop> LockedNode<J, R> {
     /// A fresh one, whose program says yes.
     fn new(rt: R, alloc: Global, opened: Opened) -> Result<LockedNode<J, R>, Fail>
-        requires { AreOpened J.ProgramFamily.book J.Family.book opened }
+        requires { opened ≡ J.book }
     {
         let factory = program(alloc, 0)?;
         let small = BankConfig {
@@ -146,12 +146,12 @@ fn fresh_banks_behind_their_locks(rt: HostRuntime) -> Result<(), Fail> {
     fresh_banks::<Brand, _>(&rt, rt.alloc(), Opened::new())
 }
 
-fn fresh_banks<J: NodeFamily, R: Wait + Abort>(
+fn fresh_banks<J: Family, R: Wait + Abort>(
     rt: &R,
     alloc: Global,
     opened: Opened,
 ) -> Result<(), Fail>
-    requires { AreOpened J.ProgramFamily.book J.Family.book opened }
+    requires { opened ≡ J.book }
 {
     let shared = LockedNode::<J, _>::new(rt, alloc, opened)?;
     let found = (shared.node.banks(), shared.passes.len());
@@ -178,12 +178,12 @@ fn a_command_of_another_port_sees_the_bank(rt: HostRuntime) -> Result<(), Fail> 
     one_writes_and_one_reads::<Brand, _>(&rt, rt.alloc(), Opened::new())
 }
 
-fn one_writes_and_one_reads<J: NodeFamily, R: Wait + Abort>(
+fn one_writes_and_one_reads<J: Family, R: Wait + Abort>(
     rt: &R,
     alloc: Global,
     opened: Opened,
 ) -> Result<(), Fail>
-    requires { AreOpened J.ProgramFamily.book J.Family.book opened }
+    requires { opened ≡ J.book }
 {
     let mut shared = LockedNode::<J, _>::new(rt, alloc, opened)?;
     for (port, line) in [(0, PLAIN_WRITE), (1, PLAIN_READ)] {
@@ -205,12 +205,12 @@ fn a_load_under_the_lock_judges_at_every_port(rt: HostRuntime) -> Result<(), Fai
     load_under_the_lock::<Brand, _>(&rt, rt.alloc(), Opened::new())
 }
 
-fn load_under_the_lock<J: NodeFamily, R: Wait + Abort>(
+fn load_under_the_lock<J: Family, R: Wait + Abort>(
     rt: &R,
     alloc: Global,
     opened: Opened,
 ) -> Result<(), Fail>
-    requires { AreOpened J.ProgramFamily.book J.Family.book opened }
+    requires { opened ≡ J.book }
 {
     let mut shared = LockedNode::<J, _>::new(rt, alloc, opened)?;
     for line in [STAGE, LOAD] {
@@ -258,12 +258,12 @@ fn generated_commands_fit(rt: HostRuntime) -> Result<(), Fail> {
     generated_commands::<Brand, _>(&rt, rt.alloc(), Opened::new())
 }
 
-fn generated_commands<J: NodeFamily, R: Wait + Abort>(
+fn generated_commands<J: Family, R: Wait + Abort>(
     rt: &R,
     alloc: Global,
     opened: Opened,
 ) -> Result<(), Fail>
-    requires { AreOpened J.ProgramFamily.book J.Family.book opened }
+    requires { opened ≡ J.book }
 {
     let mut shared = LockedNode::<J, _>::new(rt, alloc, opened)?;
     let mut random = Random::new(23);

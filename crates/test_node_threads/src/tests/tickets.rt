@@ -4,7 +4,6 @@
 ghost use Rattle.std.specs.Prelude.{◌≡◌, map, All, IfOk};
 ghost use Rattle.target.specs.Passes.{seat_of};
 ghost use Rattle.test_node_threads.specs.Seats.{IsAt, maps_of};
-ghost use Rattle.target.specs.Nodes.{AreOpened};
 
 use crate::tests::checks::same;
 use bver::{Accepted, MapSizes, verify};
@@ -18,7 +17,7 @@ use std::process::Abort;
 use std::sync::Wait;
 use std::test::Fail;
 use std::thread::{Threads, map_vec};
-use target::{Node, NodeFamily, Opened, Pass, Step, finish, judge};
+use target::{Family, Node, Opened, Pass, Step, finish, judge};
 use test_kit::{PLAIN_READ, SpareBank, bank, counts, image_of_text};
 
 /// Draws a ticket for each command, and says yes to the first five.
@@ -38,7 +37,7 @@ struct Replies {
 
 /// A port that reads.
 #[derive(Drop)]
-struct CountedPort<J: NodeFamily> {
+struct CountedPort<J: Family> {
     pass: Pass<J>,
     spare: SpareBank,
     replies: Replies,
@@ -59,7 +58,7 @@ fn quota(alloc: Global) -> Result<Accepted, Fail> {
 
 /// Sends the plain read at the pass's port, to the first bank under its lock: the status of the reply. The spare bank
 /// is for a command to no bank of the node.
-fn status_of_read<J: NodeFamily, R: Wait + Drop>(
+fn status_of_read<J: Family, R: Wait + Drop>(
     rt: &impl Wait,
     alloc: Global,
     node: &Node<J, R>,
@@ -108,7 +107,7 @@ impl Replies {
     }
 }
 
-impl<J: NodeFamily> CountedPort<J> {
+impl<J: Family> CountedPort<J> {
     /// The port of a pass, of which nothing was read yet.
     fn new(alloc: Global, pass: Pass<J>) -> Result<CountedPort<J>, Fail>
         ensures { IfOk result (λ port. port.pass ≡ pass) }
@@ -149,7 +148,7 @@ impl<J: NodeFamily> CountedPort<J> {
 }
 
 /// What a port leaves that sent all its reads.
-fn read_all<J: NodeFamily, R: Wait + Drop>(
+fn read_all<J: Family, R: Wait + Drop>(
     rt: &impl Wait,
     alloc: Global,
     node: &Node<J, R>,
@@ -164,7 +163,7 @@ fn read_all<J: NodeFamily, R: Wait + Drop>(
 }
 
 /// What two ports leave once they took turns. The cells are lent for the condition alone.
-fn read_in_turn<J: NodeFamily, R: Wait + Drop>(
+fn read_in_turn<J: Family, R: Wait + Drop>(
     rt: &impl Wait,
     alloc: Global,
     node: &Node<J, R>,
@@ -187,7 +186,7 @@ fn read_in_turn<J: NodeFamily, R: Wait + Drop>(
 }
 
 /// Of all reads five were answered with status 0, fifteen with status 10, and each left its entry.
-fn compare<J: NodeFamily, R: Wait + Drop>(
+fn compare<J: Family, R: Wait + Drop>(
     rt: &(impl Wait + Abort),
     node: &Node<J, R>,
     all: &[Left],
@@ -224,7 +223,7 @@ fn drawn(mut cells: Cells, sizes: &MapSizes, mut all: Vec<Left>) -> Option<u64>
 }
 
 /// The ports of passes.
-fn counted_ports<J: NodeFamily>(
+fn counted_ports<J: Family>(
     alloc: Global,
     passes: Vec<Pass<J>>,
 ) -> Result<Vec<CountedPort<J>>, Fail>
@@ -238,13 +237,13 @@ fn counted_ports<J: NodeFamily>(
 }
 
 /// A node of two ports that is judged by the program, its cells, and its ports.
-fn made<J: NodeFamily, R: Wait + Drop>(
+fn made<J: Family, R: Wait + Drop>(
     rt: R,
     alloc: Global,
     opened: Opened,
     factory: Accepted,
 ) -> Result<(Node<J, R>, Cells, Vec<CountedPort<J>>), Fail>
-    requires { AreOpened J.ProgramFamily.book J.Family.book opened }
+    requires { opened ≡ J.book }
     ensures cells { IfOk result (λ made. made.1.sizes ≡ factory.sizes) }
     ensures ports { IfOk result (λ made. All (λ port. IsAt made.1 port.pass.seat) made.2.items) }
 {
@@ -259,12 +258,12 @@ fn made<J: NodeFamily, R: Wait + Drop>(
 }
 
 /// Each port sends its reads in a thread of its own.
-fn draw_in_threads<J: NodeFamily + Send + Sync, R: Threads + Wait + Abort + Sync>(
+fn draw_in_threads<J: Family + Send + Sync, R: Threads + Wait + Abort + Sync>(
     rt: &R,
     alloc: Global,
     opened: Opened,
 ) -> Result<(), Fail>
-    requires { AreOpened J.ProgramFamily.book J.Family.book opened }
+    requires { opened ≡ J.book }
 {
     let factory = quota(alloc)?;
     let sizes = factory.sizes();
@@ -276,12 +275,12 @@ fn draw_in_threads<J: NodeFamily + Send + Sync, R: Threads + Wait + Abort + Sync
 }
 
 /// The ports take turns in one thread.
-fn draw_in_turn<J: NodeFamily, R: Wait + Abort>(
+fn draw_in_turn<J: Family, R: Wait + Abort>(
     rt: &R,
     alloc: Global,
     opened: Opened,
 ) -> Result<(), Fail>
-    requires { AreOpened J.ProgramFamily.book J.Family.book opened }
+    requires { opened ≡ J.book }
 {
     let factory = quota(alloc)?;
     let sizes = factory.sizes();

@@ -7,7 +7,7 @@ ghost use Rattle.initiator.specs.Writing.{AreFields};
 use crate::tests::checks::{check, same};
 use initiator::{CommandFields, Reply, body_with_crc, write_command};
 use node_parts::{Served, Stop};
-use publish::{Opened, ProgramFamily};
+use publish::{Family, Opened};
 use rmap::{Command, Instruction, Kind, Status, body_fault};
 use spw::{End, Packet};
 use std::alloc::{AllocError, Global};
@@ -139,7 +139,7 @@ fn compare_reply(
 }
 
 /// Gives a packet to a fresh node, and compares its reply, where the command wants one.
-fn serve_afresh<J: ProgramFamily, R: Wait + Abort>(
+fn serve_afresh<J: Family, R: Wait + Abort>(
     rt: &R,
     alloc: Global,
     opened: Opened,

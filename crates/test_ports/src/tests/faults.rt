@@ -1,7 +1,7 @@
 //! Sinks that fail.
 
+ghost use Rattle.std.specs.Prelude.{◌≡◌};
 ghost use Rattle.ports.specs.Serves.{IsWorkerOf};
-ghost use Rattle.target.specs.Nodes.{AreOpened};
 
 use super::checks::same;
 use bank::Bank;
@@ -12,7 +12,7 @@ use std::process::Abort;
 use std::sync::Wait;
 use std::test::Fail;
 use std::thread::Threads;
-use target::{Node, NodeFamily, Opened};
+use target::{Family, Node, Opened};
 use test_kit::{BASE, PLAIN_READ, PLAIN_WRITE, bank, program};
 use test_kit_ports::{filled, served_port, shared_node, text_of, worker};
 
@@ -110,14 +110,14 @@ fn compare_bank(rt: &impl Abort, bank: &Bank) {
 }
 
 /// Serves the packets at a port whose sink fails so: those replies alone are lost, and the commands are done as ever.
-fn serve_failing<J: NodeFamily, R: Wait + Abort>(
+fn serve_failing<J: Family, R: Wait + Abort>(
     rt: &R,
     alloc: Global,
     opened: Opened,
     failure: Failure,
     lost: u64,
 ) -> Result<(), Fail>
-    requires { AreOpened J.ProgramFamily.book J.Family.book opened }
+    requires { opened ≡ J.book }
 {
     let (lines, wanted) = packets(alloc, failure)?;
     let sink = Failing::new(alloc, 0, failure);
@@ -154,12 +154,12 @@ fn all_replies_lost(rt: HostRuntime) -> Result<(), Fail> {
 }
 
 /// Serves a write at a port whose sink always fails, in a thread: the worker comes back, and its one reply is lost.
-fn serve_always_failing<J: NodeFamily + Send + Sync + 'static, R: Threads + Wait + Abort + Sync>(
+fn serve_always_failing<J: Family + Send + Sync + 'static, R: Threads + Wait + Abort + Sync>(
     rt: &R,
     alloc: Global,
     opened: Opened,
 ) -> Result<(), Fail>
-    requires { AreOpened J.ProgramFamily.book J.Family.book opened }
+    requires { opened ≡ J.book }
 {
     let factory = program(alloc, 0)?;
     let (node, mut passes) = shared_node::<J, _>(rt, alloc, opened, 1, &[bank(1024)], factory)?;
@@ -177,11 +177,7 @@ fn serve_always_failing<J: NodeFamily + Send + Sync + 'static, R: Threads + Wait
 }
 
 /// `serve` of one port.
-fn serve_one<
-    J: NodeFamily + Send + Sync + 'static,
-    R: Threads + Wait + Sync,
-    Q: Wait + Drop + Send,
->(
+fn serve_one<J: Family + Send + Sync + 'static, R: Threads + Wait + Sync, Q: Wait + Drop + Send>(
     rt: &R,
     alloc: Global,
     node: &Node<J, Q>,

@@ -1,7 +1,7 @@
 //! Two ports that meet in each call round a packet, and take each lock of the node there.
 
+ghost use Rattle.std.specs.Prelude.{◌≡◌};
 ghost use Rattle.ports.specs.Serves.{IsWorkerOf};
-ghost use Rattle.target.specs.Nodes.{AreOpened};
 
 use super::checks::same;
 use super::queues::worked;
@@ -14,7 +14,7 @@ use std::sync::atomic::{AtomicU64, Ordering};
 use std::sync::{Mutex, Wait};
 use std::test::Fail;
 use std::thread::{Threads, join, yield_now};
-use target::{Node, NodeFamily, Opened};
+use target::{Family, Node, Opened};
 use test_kit::{LOAD, PLAIN_WRITE, STAGE, bank, program};
 use test_kit_ports::{filled, shared_node, worker};
 
@@ -75,12 +75,12 @@ impl Calls {
 /// each lock of the node. A port that waited in vain, or found a lock taken, lets every later call go. Each reference has a
 /// lifetime of its own, and no reference leads to another: so what lends them is covered.
 #[derive(Drop)]
-struct Together<'n, 'c, J: NodeFamily, Q: Wait + Drop> {
+struct Together<'n, 'c, J: Family, Q: Wait + Drop> {
     node: &'n Node<J, Q>,
     calls: &'c Calls,
 }
 
-impl<J: NodeFamily, Q: Wait + Drop> Together<'_, '_, J, Q> {
+impl<J: Family, Q: Wait + Drop> Together<'_, '_, J, Q> {
     /// Whether each lock of the node can be taken.
     fn are_free(&self) -> bool {
         for k in 0..4u8 {
@@ -109,7 +109,7 @@ impl<J: NodeFamily, Q: Wait + Drop> Together<'_, '_, J, Q> {
     }
 }
 
-impl<J: NodeFamily, Q: Wait + Drop> Gate for Together<'_, '_, J, Q> {
+impl<J: Family, Q: Wait + Drop> Gate for Together<'_, '_, J, Q> {
     fn before(&self, port: u8, _number: u64) {
         self.meet(port);
     }
@@ -121,12 +121,12 @@ impl<J: NodeFamily, Q: Wait + Drop> Gate for Together<'_, '_, J, Q> {
 
 /// A sink that keeps replies, and in whose sends the ports meet.
 #[derive(Drop)]
-struct Meets<'n, 'c, J: NodeFamily, Q: Wait + Drop> {
+struct Meets<'n, 'c, J: Family, Q: Wait + Drop> {
     kept: Replies,
     place: Together<'n, 'c, J, Q>,
 }
 
-impl<J: NodeFamily, Q: Wait + Drop> Sink for Meets<'_, '_, J, Q> {
+impl<J: Family, Q: Wait + Drop> Sink for Meets<'_, '_, J, Q> {
     ghost sent = { λ s. s.kept.sent };
 
     ghost failed = { λ s. s.kept.failed };
@@ -146,7 +146,7 @@ type Worked<J, S> = (Worker<J, S>, Report);
 
 /// Works at two ports, each in a thread.
 fn worked_beside<
-    J: NodeFamily + Send + Sync,
+    J: Family + Send + Sync,
     R: Threads + Wait + Sync,
     Q: Wait + Drop + Send,
     S: Sink + Drop + Send,
@@ -188,12 +188,12 @@ fn two_ports_meet_round_each_packet(rt: HostRuntime) -> Result<(), Fail> {
     meet_round_each_packet::<Brand, _>(&rt, rt.alloc(), Opened::new())
 }
 
-fn meet_round_each_packet<J: NodeFamily + Send + Sync, R: Threads + Wait + Abort + Sync>(
+fn meet_round_each_packet<J: Family + Send + Sync, R: Threads + Wait + Abort + Sync>(
     rt: &R,
     alloc: Global,
     opened: Opened,
 ) -> Result<(), Fail>
-    requires { AreOpened J.ProgramFamily.book J.Family.book opened }
+    requires { opened ≡ J.book }
 {
     let factory = program(alloc, 0)?;
     let banks = [bank(16), bank(16)];

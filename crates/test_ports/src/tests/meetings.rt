@@ -1,6 +1,6 @@
 //! Two ports whose programs run at the same time.
 
-ghost use Rattle.target.specs.Nodes.{AreOpened};
+ghost use Rattle.std.specs.Prelude.{◌≡◌};
 
 use super::checks::{check, same};
 use super::gates::Meeting;
@@ -11,7 +11,7 @@ use std::process::Abort;
 use std::sync::Wait;
 use std::test::Fail;
 use std::thread::Threads;
-use target::{NodeFamily, Opened};
+use target::{Family, Opened};
 use test_kit::{PLAIN_READ, bank};
 use test_kit_ports::{accepted, served_ports, status_of};
 
@@ -45,12 +45,12 @@ fn two_ports_meet(rt: HostRuntime) -> Result<(), Fail> {
 }
 
 /// Of how many numbers the packets of both ports were answered with success, in one run of 500 packets at each.
-fn packets_that_met<J: NodeFamily + Send + Sync + 'static, R: Threads + Wait + Abort + Sync>(
+fn packets_that_met<J: Family + Send + Sync + 'static, R: Threads + Wait + Abort + Sync>(
     rt: &R,
     alloc: Global,
     opened: Opened,
 ) -> Result<usize, Fail>
-    requires { AreOpened J.ProgramFamily.book J.Family.book opened }
+    requires { opened ≡ J.book }
 {
     let factory = accepted(alloc, MEETING, 24_589, "2")?;
     let reads = [PLAIN_READ; PACKETS];

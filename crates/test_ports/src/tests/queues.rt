@@ -1,9 +1,8 @@
 //! A port with room for one packet.
 
-ghost use Rattle.std.specs.Prelude.{IfOk};
+ghost use Rattle.std.specs.Prelude.{◌≡◌, IfOk};
 ghost use Rattle.ports.specs.Queue.{IsPutPassOf, IsServePassOf};
 ghost use Rattle.ports.specs.Serves.{IsWorkerOf};
-ghost use Rattle.target.specs.Nodes.{AreOpened};
 
 use super::checks::same;
 use super::workers::CLEAN;
@@ -17,7 +16,7 @@ use std::process::Abort;
 use std::sync::Wait;
 use std::test::Fail;
 use std::thread::{Threads, join, yield_now};
-use target::{Node, NodeFamily, Opened};
+use target::{Family, Node, Opened};
 use test_kit::{PLAIN_READ, PLAIN_WRITE, bank, packet, program};
 use test_kit_ports::{shared_node, text_of, worker};
 
@@ -44,7 +43,7 @@ fn put_at_last(rt: &impl Wait, port: &Port, mut pass: PutPass, packet: Packet) -
 }
 
 /// Works until the end mark.
-pub fn worked<J: NodeFamily, R: Wait, Q: Wait + Drop, S: Sink + Drop, G: Gate>(
+pub fn worked<J: Family, R: Wait, Q: Wait + Drop, S: Sink + Drop, G: Gate>(
     rt: &R,
     alloc: Global,
     node: &Node<J, Q>,
@@ -81,7 +80,7 @@ fn full_port(
 }
 
 /// Works in one thread, and puts the packet and the end mark in another.
-fn worked_beside<J: NodeFamily + Send + Sync, R: Threads + Wait + Sync, Q: Wait + Drop + Send>(
+fn worked_beside<J: Family + Send + Sync, R: Threads + Wait + Sync, Q: Wait + Drop + Send>(
     rt: &R,
     alloc: Global,
     node: &Node<J, Q>,
@@ -101,12 +100,12 @@ fn worked_beside<J: NodeFamily + Send + Sync, R: Threads + Wait + Sync, Q: Wait 
     )
 }
 
-fn full_until_taken<J: NodeFamily + Send + Sync, R: Threads + Wait + Abort + Sync>(
+fn full_until_taken<J: Family + Send + Sync, R: Threads + Wait + Abort + Sync>(
     rt: &R,
     alloc: Global,
     opened: Opened,
 ) -> Result<(), Fail>
-    requires { AreOpened J.ProgramFamily.book J.Family.book opened }
+    requires { opened ≡ J.book }
 {
     let factory = program(alloc, 0)?;
     let (node, mut passes) = shared_node::<J, _>(rt, alloc, opened, 1, &[bank(1024)], factory)?;

@@ -1,6 +1,6 @@
 //! Ports that share counters and programs.
 
-ghost use Rattle.target.specs.Nodes.{AreOpened};
+ghost use Rattle.std.specs.Prelude.{◌≡◌};
 
 use super::checks::{check, same};
 use super::workers::CLEAN;
@@ -12,7 +12,7 @@ use std::process::Abort;
 use std::sync::Wait;
 use std::test::Fail;
 use std::thread::Threads;
-use target::{NodeFamily, Opened};
+use target::{Family, Opened};
 use test_kit::{PLAIN_WRITE, bank, program};
 use test_kit_ports::{accepted, served_ports, text_of, with_status};
 
@@ -21,7 +21,7 @@ const QUOTA: &str =
     "ldmap r1, 0; mov r2, 0; call 2; jlt r0, 5, +2; mov r0, 10; exit; mov r0, 0; exit";
 
 /// How many tickets were drawn from the only cell of a worker's node.
-fn drawn<J: NodeFamily>(worker: Worker<J, Replies>) -> Option<u64> {
+fn drawn<J: Family>(worker: Worker<J, Replies>) -> Option<u64> {
     let Worker { pass, .. } = worker;
     let mut seat = pass.into_seat();
     if !seat.sizes().contains(0, 0) {
@@ -32,12 +32,12 @@ fn drawn<J: NodeFamily>(worker: Worker<J, Replies>) -> Option<u64> {
 
 /// Ten writes at each of two ports under the quota of five: five are done and fifteen denied, each left its entry, and
 /// the counter was drawn from twenty times.
-fn quota<J: NodeFamily + Send + Sync + 'static, R: Threads + Wait + Abort + Sync>(
+fn quota<J: Family + Send + Sync + 'static, R: Threads + Wait + Abort + Sync>(
     rt: &R,
     alloc: Global,
     opened: Opened,
 ) -> Result<(), Fail>
-    requires { AreOpened J.ProgramFamily.book J.Family.book opened }
+    requires { opened ≡ J.book }
 {
     let factory = accepted(alloc, QUOTA, 8, "1")?;
     let ten = [PLAIN_WRITE; 10];
@@ -90,12 +90,12 @@ fn a_load_beside_a_write(rt: HostRuntime) -> Result<(), Fail> {
     load_beside::<Brand, _>(&rt, rt.alloc(), Opened::new())
 }
 
-fn load_beside<J: NodeFamily + Send + Sync + 'static, R: Threads + Wait + Abort + Sync>(
+fn load_beside<J: Family + Send + Sync + 'static, R: Threads + Wait + Abort + Sync>(
     rt: &R,
     alloc: Global,
     opened: Opened,
 ) -> Result<(), Fail>
-    requires { AreOpened J.ProgramFamily.book J.Family.book opened }
+    requires { opened ≡ J.book }
 {
     let factory = program(alloc, 0)?;
     let lines: [&[&str]; 2] = [&[STAGE, LOAD, PLAIN_WRITE], &[PLAIN_WRITE]];

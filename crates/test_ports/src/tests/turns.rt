@@ -1,8 +1,8 @@
 //! A producer and a worker that take turns, and what stands at each call of a gate.
 
+ghost use Rattle.std.specs.Prelude.{◌≡◌};
 ghost use Rattle.ports.specs.Queue.{IsPutPassOf};
 ghost use Rattle.ports.specs.Serves.{IsWorkerOf};
-ghost use Rattle.target.specs.Nodes.{AreOpened};
 
 use super::checks::same;
 use super::queues::worked;
@@ -19,7 +19,7 @@ use std::sync::atomic::{AtomicU64, Ordering};
 use std::test::Fail;
 use std::thread::{Threads, join, sleep, yield_now};
 use std::time::Duration;
-use target::{Node, NodeFamily, Opened};
+use target::{Family, Node, Opened};
 use test_kit::{PLAIN_READ, PLAIN_WRITE, bank, packet, program};
 use test_kit_ports::{served_at, shared_node, worker};
 
@@ -69,7 +69,7 @@ fn put_in_turn(
 
 /// Works in one thread, and puts the packets in another.
 fn worked_in_turn<
-    J: NodeFamily + Send + Sync,
+    J: Family + Send + Sync,
     R: Threads + Wait + Clock + Sync,
     Q: Wait + Drop + Send,
     S: Sink + Drop + Send,
@@ -100,12 +100,12 @@ fn a_producer_that_waits_for_each_reply(rt: HostRuntime) -> Result<(), Fail> {
     in_turn::<Brand, _>(&rt, rt.alloc(), Opened::new())
 }
 
-fn in_turn<J: NodeFamily + Send + Sync, R: Threads + Wait + Abort + Clock + Sync>(
+fn in_turn<J: Family + Send + Sync, R: Threads + Wait + Abort + Clock + Sync>(
     rt: &R,
     alloc: Global,
     opened: Opened,
 ) -> Result<(), Fail>
-    requires { AreOpened J.ProgramFamily.book J.Family.book opened }
+    requires { opened ≡ J.book }
 {
     let factory = program(alloc, 0)?;
     let (node, mut passes) = shared_node::<J, _>(rt, alloc, opened, 1, &[bank(1024)], factory)?;
@@ -131,7 +131,7 @@ fn in_turn<J: NodeFamily + Send + Sync, R: Threads + Wait + Abort + Clock + Sync
 /// A gate that looks, at each of its calls, at the journal of the node's first bank and at what the sink took: before the
 /// packet k of the port 1 there are k entries and k replies, behind it k + 1.
 #[derive(Drop)]
-struct Looking<'a, J: NodeFamily, Q: Wait + Drop, R: Wait> {
+struct Looking<'a, J: Family, Q: Wait + Drop, R: Wait> {
     rt: &'a R,
     node: &'a Node<J, Q>,
     taken: &'a AtomicU64,
@@ -139,7 +139,7 @@ struct Looking<'a, J: NodeFamily, Q: Wait + Drop, R: Wait> {
     others: AtomicU64,
 }
 
-impl<J: NodeFamily, Q: Wait + Drop, R: Wait> Looking<'_, J, Q, R> {
+impl<J: Family, Q: Wait + Drop, R: Wait> Looking<'_, J, Q, R> {
     /// Counts a call, and whether something else stands than so many entries and replies at the port 1.
     fn look(&self, port: u8, count: u64) {
         self.calls.fetch_add(1, Ordering::SeqCst);
@@ -154,7 +154,7 @@ impl<J: NodeFamily, Q: Wait + Drop, R: Wait> Looking<'_, J, Q, R> {
     }
 }
 
-impl<J: NodeFamily, Q: Wait + Drop, R: Wait> Gate for Looking<'_, J, Q, R> {
+impl<J: Family, Q: Wait + Drop, R: Wait> Gate for Looking<'_, J, Q, R> {
     fn before(&self, port: u8, number: u64) {
         self.look(port, number);
     }
@@ -170,12 +170,12 @@ fn a_gate_is_called_round_each_packet(rt: HostRuntime) -> Result<(), Fail> {
     round_each_packet::<Brand, _>(&rt, rt.alloc(), Opened::new())
 }
 
-fn round_each_packet<J: NodeFamily, R: Wait + Abort>(
+fn round_each_packet<J: Family, R: Wait + Abort>(
     rt: &R,
     alloc: Global,
     opened: Opened,
 ) -> Result<(), Fail>
-    requires { AreOpened J.ProgramFamily.book J.Family.book opened }
+    requires { opened ≡ J.book }
 {
     let factory = program(alloc, 0)?;
     let taken = AtomicU64::new(0);

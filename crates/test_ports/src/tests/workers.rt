@@ -1,6 +1,6 @@
 //! One worker, and none.
 
-ghost use Rattle.target.specs.Nodes.{AreOpened};
+ghost use Rattle.std.specs.Prelude.{◌≡◌};
 
 use super::checks::same;
 use super::gates::InTurn;
@@ -11,7 +11,7 @@ use std::process::Abort;
 use std::sync::Wait;
 use std::test::Fail;
 use std::thread::Threads;
-use target::{NodeFamily, Opened};
+use target::{Family, Opened};
 use test_kit::{BASE, PLAIN_READ, PLAIN_WRITE, bank, program};
 use test_kit_ports::{served_port, served_ports, text_of};
 
@@ -41,12 +41,8 @@ fn an_end_mark_alone(rt: HostRuntime) -> Result<(), Fail> {
     end_mark::<Brand, _>(&rt, rt.alloc(), Opened::new())
 }
 
-fn end_mark<J: NodeFamily, R: Wait + Abort>(
-    rt: &R,
-    alloc: Global,
-    opened: Opened,
-) -> Result<(), Fail>
-    requires { AreOpened J.ProgramFamily.book J.Family.book opened }
+fn end_mark<J: Family, R: Wait + Abort>(rt: &R, alloc: Global, opened: Opened) -> Result<(), Fail>
+    requires { opened ≡ J.book }
 {
     let gate = InTurn::new();
     let sink = Replies::new(alloc, 0);
@@ -63,12 +59,12 @@ fn no_ports_and_no_workers(rt: HostRuntime) -> Result<(), Fail> {
     nobody::<Brand, _>(&rt, rt.alloc(), Opened::new())
 }
 
-fn nobody<J: NodeFamily + Send + Sync + 'static, R: Threads + Wait + Abort + Sync>(
+fn nobody<J: Family + Send + Sync + 'static, R: Threads + Wait + Abort + Sync>(
     rt: &R,
     alloc: Global,
     opened: Opened,
 ) -> Result<(), Fail>
-    requires { AreOpened J.ProgramFamily.book J.Family.book opened }
+    requires { opened ≡ J.book }
 {
     let factory = program(alloc, 0)?;
     let one = [bank(1024)];
@@ -83,12 +79,8 @@ fn packets_of_each_kind_in_order(rt: HostRuntime) -> Result<(), Fail> {
     each_kind::<Brand, _>(&rt, rt.alloc(), Opened::new())
 }
 
-fn each_kind<J: NodeFamily, R: Wait + Abort>(
-    rt: &R,
-    alloc: Global,
-    opened: Opened,
-) -> Result<(), Fail>
-    requires { AreOpened J.ProgramFamily.book J.Family.book opened }
+fn each_kind<J: Family, R: Wait + Abort>(rt: &R, alloc: Global, opened: Opened) -> Result<(), Fail>
+    requires { opened ≡ J.book }
 {
     let lines = [
         PLAIN_WRITE,
@@ -123,12 +115,12 @@ fn a_write_beside_another_bank(rt: HostRuntime) -> Result<(), Fail> {
     write_beside::<Brand, _>(&rt, rt.alloc(), Opened::new())
 }
 
-fn write_beside<J: NodeFamily, R: Wait + Abort>(
+fn write_beside<J: Family, R: Wait + Abort>(
     rt: &R,
     alloc: Global,
     opened: Opened,
 ) -> Result<(), Fail>
-    requires { AreOpened J.ProgramFamily.book J.Family.book opened }
+    requires { opened ≡ J.book }
 {
     let banks = [bank(1024), bank(1024)];
     let lines = [WRITE_BESIDE];
@@ -156,12 +148,12 @@ fn a_write_to_a_full_journal(rt: HostRuntime) -> Result<(), Fail> {
 const WRITE_ZEROS: &str =
     "0 FE016C0067000000A00000000000109F 0000000000000000000000000000000000 EOP";
 
-fn full_journal<J: NodeFamily + Send + Sync + 'static, R: Threads + Wait + Abort + Sync>(
+fn full_journal<J: Family + Send + Sync + 'static, R: Threads + Wait + Abort + Sync>(
     rt: &R,
     alloc: Global,
     opened: Opened,
 ) -> Result<(), Fail>
-    requires { AreOpened J.ProgramFamily.book J.Family.book opened }
+    requires { opened ≡ J.book }
 {
     let factory = program(alloc, 0)?;
     let one = [bank(1)];

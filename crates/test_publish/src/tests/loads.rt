@@ -5,7 +5,7 @@ ghost use mathlib.Core.List.{IsPrefix};
 
 use crate::tests::{program, same};
 use bver::MapSizes;
-use publish::{Opened, ProgramFamily, Programs, Publisher, Reader, Told};
+use publish::{Family, Opened, Programs, Publisher, Reader, Told};
 use std::alloc::Global;
 use std::marker::Brand;
 use std::process::Abort;
@@ -36,7 +36,7 @@ fn four_threads_load(rt: HostRuntime) -> Result<(), Fail> {
 }
 
 /// Publishes a program of that budget under the lock, and lets the reader learn of it.
-fn load<J: ProgramFamily, R: Wait + Drop>(
+fn load<J: Family, R: Wait + Drop>(
     rt: &impl Wait,
     alloc: Global,
     publisher: &Mutex<Publisher<J, R>>,
@@ -53,7 +53,7 @@ fn load<J: ProgramFamily, R: Wait + Drop>(
 }
 
 /// Loads and takes in turn.
-fn loads<J: ProgramFamily, R: Wait + Drop>(
+fn loads<J: Family, R: Wait + Drop>(
     rt: &impl Wait,
     alloc: Global,
     publisher: &Mutex<Publisher<J, R>>,
@@ -107,7 +107,7 @@ fn check(rt: &impl Abort, loads: u32, met: &[Met]) -> Result<(), Fail> {
     Ok(())
 }
 
-fn two_load<J: ProgramFamily + Send + Sync, R: Threads + Wait + Abort + Sync>(
+fn two_load<J: Family + Send + Sync, R: Threads + Wait + Abort + Sync>(
     rt: &R,
     alloc: Global,
     opened: Opened,
@@ -127,7 +127,7 @@ fn two_load<J: ProgramFamily + Send + Sync, R: Threads + Wait + Abort + Sync>(
     check(rt, 2 * LOADS, &[a, b])
 }
 
-fn four_load<J: ProgramFamily + Send + Sync, R: Threads + Wait + Abort + Sync>(
+fn four_load<J: Family + Send + Sync, R: Threads + Wait + Abort + Sync>(
     rt: &R,
     alloc: Global,
     opened: Opened,

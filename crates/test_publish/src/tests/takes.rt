@@ -7,7 +7,7 @@ ghost use Rattle.node_programs.specs.Published.{generation_at};
 use crate::tests::{program, same};
 use bver::MapSizes;
 use node_programs::PublishFault;
-use publish::{Opened, ProgramFamily, Programs, Reader};
+use publish::{Family, Opened, Programs, Reader};
 use std::alloc::Global;
 use std::marker::Brand;
 use std::mem;
@@ -34,7 +34,7 @@ fn a_program_is_never_let_go(rt: HostRuntime) -> Result<(), Fail> {
 }
 
 /// The budget and the generation of the program at a slot.
-fn shown<J: ProgramFamily>(reader: &mut Reader<J>, slot: u8) -> Option<(u32, u32)>
+fn shown<J: Family>(reader: &mut Reader<J>, slot: u8) -> Option<(u32, u32)>
     requires { slot < 4 }
     ensures seen { IsPrefix reader.old.programs reader.new.programs }
     ensures generation { IfSome result (λ shown. generation_at reader.new.programs slot ≡ Some shown.1) }
@@ -43,7 +43,7 @@ fn shown<J: ProgramFamily>(reader: &mut Reader<J>, slot: u8) -> Option<(u32, u32
     Some((taken.accepted().budget(), taken.generation()))
 }
 
-fn a_program_is_shown<J: ProgramFamily, R: Wait + Abort>(
+fn a_program_is_shown<J: Family, R: Wait + Abort>(
     rt: &R,
     alloc: Global,
     opened: Opened,
@@ -82,7 +82,7 @@ fn a_program_is_shown<J: ProgramFamily, R: Wait + Abort>(
     Ok(())
 }
 
-fn another_publish_is_shown<J: ProgramFamily, R: Wait + Abort>(
+fn another_publish_is_shown<J: Family, R: Wait + Abort>(
     rt: &R,
     alloc: Global,
     opened: Opened,
@@ -115,7 +115,7 @@ fn another_publish_is_shown<J: ProgramFamily, R: Wait + Abort>(
     Ok(())
 }
 
-fn nothing_more_is_shown<J: ProgramFamily, R: Wait + Abort>(
+fn nothing_more_is_shown<J: Family, R: Wait + Abort>(
     rt: &R,
     alloc: Global,
     opened: Opened,

@@ -6,7 +6,7 @@ use super::checks::{check, same};
 use super::marks::{begin, end, tell};
 use brun::Counters;
 use node_parts::Served;
-use publish::{Opened, ProgramFamily};
+use publish::{Family, Opened};
 use rmap::{ReplyBuf, Status};
 use std::alloc::Global;
 use std::marker::Brand;
@@ -45,13 +45,13 @@ struct Parts {
 
 /// A node of one port, and a spare bank, where commands end that are judged and not carried out.
 #[derive(Drop)]
-struct Loading<J: ProgramFamily, R: Wait + Drop> {
+struct Loading<J: Family, R: Wait + Drop> {
     alloc: Global,
     node: PlainNode<J, R>,
     spare: SpareBank,
 }
 
-impl<J: ProgramFamily, R: Wait + Drop> Loading<J, R> {
+impl<J: Family, R: Wait + Drop> Loading<J, R> {
     /// A fresh node with a map of two cells and one of one, whose program says yes.
     fn new(rt: R, alloc: Global, opened: Opened) -> Result<Loading<J, R>, Fail>
         requires { opened ≡ J.book }
@@ -148,7 +148,7 @@ fn compare_refused(
 
 /// A load behind a write, a ticket and a publish. Where memory was refused to it everything is as before, and the next
 /// load has the generation that it would have had.
-fn load_behind<J: ProgramFamily, R: Wait + Abort + Print>(
+fn load_behind<J: Family, R: Wait + Abort + Print>(
     rt: &R,
     alloc: Global,
     opened: Opened,

@@ -1,7 +1,6 @@
 //! Memory that is refused to what makes a node and its parts: two ports, two banks, and maps of two cells and of one.
 
 ghost use Rattle.std.specs.Prelude.{◌≡◌};
-ghost use Rattle.target.specs.Nodes.{AreOpened};
 
 use super::checks::{check, same};
 use super::marks::{begin, end, tell};
@@ -12,14 +11,14 @@ use cells::{CellSeat, Cells};
 use node_parts::{BankConfig, NodeConfig, NodeFault};
 use node_programs::{STAGING_BYTES, Staging};
 use ports::{NoGate, Port, Replies};
-use publish::{Opened, ProgramFamily, Programs};
+use publish::{Family, Opened, Programs};
 use spw::read_line;
 use std::alloc::Global;
 use std::marker::Brand;
 use std::process::Abort;
 use std::sync::Wait;
 use std::test::Fail;
-use target::{Node, NodeFamily, Pass};
+use target::{Family, Node, Pass};
 use test_kit::{BASE, PLAIN_READ, bank, counts, sizes};
 use test_kit_ports::{accepted, served_at, text_of};
 
@@ -121,7 +120,7 @@ fn memory_refused_to_bank(rt: HostRuntime) -> Result<(), Fail> {
 }
 
 /// Whether the programs of two ports were made; then each slot shows the factory program.
-fn programs_are_made<J: ProgramFamily, R: Wait + Abort>(
+fn programs_are_made<J: Family, R: Wait + Abort>(
     rt: &R,
     alloc: Global,
     opened: Opened,
@@ -183,7 +182,7 @@ fn memory_refused_to_staging(rt: HostRuntime) -> Result<(), Fail> {
 }
 
 /// What a port of the node replies to a read of the first bank, as text.
-fn served_read<J: NodeFamily, R: Wait + Drop>(
+fn served_read<J: Family, R: Wait + Drop>(
     rt: &impl Wait,
     alloc: Global,
     node: &Node<J, R>,
@@ -195,12 +194,12 @@ fn served_read<J: NodeFamily, R: Wait + Drop>(
 }
 
 /// Whether a node of two ports and two banks was made; then a port is served a read of the first bank.
-fn node_is_made<J: NodeFamily, R: Wait + Abort>(
+fn node_is_made<J: Family, R: Wait + Abort>(
     rt: &R,
     alloc: Global,
     opened: target::Opened,
 ) -> Result<bool, Fail>
-    requires { AreOpened J.ProgramFamily.book J.Family.book opened }
+    requires { opened ≡ J.book }
 {
     let factory = accepted(alloc, "mov r0, 0; exit", 2, MAPS)?;
     let small = BankConfig {

@@ -8,7 +8,7 @@ use super::marks::{begin, end, tell};
 use bpf::Image;
 use bver::{Accepted, MapSizes, verify};
 use node_programs::PublishFault;
-use publish::{Opened, ProgramFamily, Programs, Reader};
+use publish::{Family, Opened, Programs, Reader};
 use std::alloc::{AllocError, Global};
 use std::marker::Brand;
 use std::process::Abort;
@@ -116,7 +116,7 @@ fn memory_refused_to_copy_program(rt: HostRuntime) -> Result<(), Fail> {
 }
 
 /// The generation and the operations of the program of each slot, as a text.
-fn shown<J: ProgramFamily>(alloc: Global, reader: &mut Reader<J>) -> Result<String, Fail> {
+fn shown<J: Family>(alloc: Global, reader: &mut Reader<J>) -> Result<String, Fail> {
     let mut text = String::new(alloc);
     for slot in 0..4u8 {
         let taken = reader.take(slot).ok_or("no program")?;
@@ -136,7 +136,7 @@ fn of_budget(alloc: Global, sizes: &MapSizes, budget: u32) -> Result<Accepted, F
 
 /// Four programs are published for writes, one after the other. Memory is refused to one of them at most: what is
 /// shown is then as before, and that program is published once more.
-fn installed<J: ProgramFamily, R: Wait + Abort + Print>(
+fn installed<J: Family, R: Wait + Abort + Print>(
     rt: &R,
     alloc: Global,
     opened: Opened,

@@ -2,20 +2,19 @@
 
 ghost use Rattle.std.specs.Prelude.{◌≡◌, IfOk, length};
 ghost use Rattle.ports.specs.Queue.{IsPutPassOf};
-ghost use Rattle.target.specs.Nodes.{AreOpened};
 ghost use Rattle.test_kit_ports.specs.Desks.{ArePutPasses};
 
 use super::checks::same;
 use super::marks::{begin, end, tell};
 use ports::{NoGate, Port, PutPass, Replies, Report, ServeFault, Worker, serve};
-use publish::{Opened, ProgramFamily};
+use publish::{Family, Opened};
 use std::alloc::Global;
 use std::marker::Brand;
 use std::process::Abort;
 use std::sync::Wait;
 use std::test::Fail;
 use std::thread::Threads;
-use target::{Node, NodeFamily};
+use target::{Family, Node};
 use test_kit::{PLAIN_READ, PLAIN_WRITE, PlainNode, bank, packet, program};
 use test_kit_ports::{filled_desks, shared_node, text_of};
 
@@ -40,7 +39,7 @@ fn are_full(rt: &impl Wait, ports: &[Port], passes: &mut Vec<PutPass>) -> Result
 }
 
 /// How many entries the journal of the first bank has.
-fn entries<J: NodeFamily, R: Wait + Drop>(
+fn entries<J: Family, R: Wait + Drop>(
     rt: &impl Wait,
     node: &Node<J, R>,
 ) -> Result<usize, Fail> {
@@ -51,7 +50,7 @@ fn entries<J: NodeFamily, R: Wait + Drop>(
 }
 
 /// How many replies the workers' sinks took.
-fn taken<J: NodeFamily>(workers: &[Worker<J, Replies>]) -> u64 {
+fn taken<J: Family>(workers: &[Worker<J, Replies>]) -> u64 {
     let mut taken = 0u64;
     for worker in workers {
         taken = taken.wrapping_add(worker.sink.replies().len() as u64);
@@ -68,7 +67,7 @@ const REPLIES: &str = "67012C00FE0000ED\n\
     67010C00FE0001000000106D0123456789ABCDEF101112131415161756\n";
 
 /// Compares what two workers did. A sink that was refused memory lost a reply.
-fn compare<J: NodeFamily>(
+fn compare<J: Family>(
     rt: &impl Abort,
     alloc: Global,
     workers: &[Worker<J, Replies>],
@@ -94,12 +93,12 @@ fn compare<J: NodeFamily>(
 
 /// Serves two ports. Where it is refused no packet was taken and none is gone; where both workers came back they serve
 /// then.
-fn two_served<J: NodeFamily + Send + Sync + 'static, R: Threads + Wait + Abort + Print + Sync>(
+fn two_served<J: Family + Send + Sync + 'static, R: Threads + Wait + Abort + Print + Sync>(
     rt: &R,
     alloc: Global,
     opened: target::Opened,
 ) -> Result<(), Fail>
-    requires { AreOpened J.ProgramFamily.book J.Family.book opened }
+    requires { opened ≡ J.book }
 {
     let factory = program(alloc, 0)?;
     let (node, passes) = shared_node::<J, _>(rt, alloc, opened, 2, &[bank(1024)], factory)?;
@@ -164,7 +163,7 @@ const EXCHANGES: [(&str, &[u8]); 4] = [
 ];
 
 /// Serves packets whose memory was made before: from then on no request is needed.
-fn four_served<J: ProgramFamily, R: Wait + Abort>(
+fn four_served<J: Family, R: Wait + Abort>(
     rt: &R,
     alloc: Global,
     opened: Opened,

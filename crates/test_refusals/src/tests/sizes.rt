@@ -23,7 +23,7 @@ a packet without its bytes: 32
 an item of a queue: 40
 a bank: 128
 a share of a bank: 16
-a pass: 800
+a pass: 816
 its context: 640
 its seat at the counters: 40
 its reader of programs: 104

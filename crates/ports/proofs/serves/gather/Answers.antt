@@ -1,21 +1,29 @@
-use Rattle.std.specs.Prelude.{◌++◌, ◌∷◌, [], IfNone, IfSome, map}
+use Rattle.std.specs.Prelude.{◌≡◌, ◌++◌, ◌∷◌, [], IfNone, IfSome, map}
 use Rattle.std.proofs.Common.{arith, rules, sym, subst, ap, ◌∙◌}
 use Rattle.std.proofs.lemmas.List.{map_push}
+use Rattle.std.proofs.lemmas.List.Elements.{All-head, All-tail}
 use Rattle.std.specs.List.{All}
 use mathlib.Core.List.{IsPrefix}
+use Rattle.target.specs.Lines.{CountsAllOf}
 use Rattle.ports.specs.Serves.{IsOneMissing, IsTotalOf}
 use Rattle.ports.proofs.Reports.{one_missing, one_more}
-use Rattle.ports.proofs.Served.{begin_more}
+use Rattle.ports.proofs.Served.{all_more}
 use Rattle.ports.proofs.serves.gather.Goals as goal
 
 pub loop-one-preserved : goal.loop-one-preserved
 loop-one-preserved g c =
     let was = c.loop-one.invariant in let one = c.in-Some.one in let done = c.loop-one.yielded in
+    let known = c.loop-one.known in
     let step = c.in-Some.ensures.steps in
-    let begin : All (λ w. IsPrefix w.front c.learn.new.self) (map (λ e. e.worker) (done ++ one ∷ []))
-    = subst (All (λ w. IsPrefix w.front c.learn.new.self)) (sym (map_push (λ e. e.worker) done one))
-    (begin_more _ _ (map (λ e. e.worker) done) one.worker c.learn.ensures.this c.learn.ensures.that was.5) in (
-      c.in-Ok.ensures.items ∙ ap (λ l. l ++ one.worker ∷ []) was.0 ∙ sym (map_push (λ e. e.worker) done one),
+    let ahead = subst (All (λ e. IsPrefix e.worker.front known)) step.0 was.7 in
+    let begin : All (λ w. IsPrefix w.front known) (map (λ e. e.worker) (done ++ one ∷ []))
+    = subst (All (λ w. IsPrefix w.front known)) (sym (map_push (λ e. e.worker) done one))
+    (all_more (λ w. IsPrefix w.front known) (map (λ e. e.worker) done) one.worker (All-head (λ e. IsPrefix e.worker.front known) one _ ahead) was.5) in
+    let counted : All (λ w. CountsAllOf w.pass known) (map (λ e. e.worker) (done ++ one ∷ []))
+    = subst (All (λ w. CountsAllOf w.pass known)) (sym (map_push (λ e. e.worker) done one))
+    (all_more (λ w. CountsAllOf w.pass known) (map (λ e. e.worker) done) one.worker c.knows_entries.ensures.entries was.6) in
+    let same = ap (λ p. record { pass = p; front = one.worker.front; serve_pass = one.worker.serve_pass; sink = one.worker.sink }) c.knows_entries.ensures.same in (
+      c.in-Ok.ensures.items ∙ ap (λ l. l ++ _ ∷ []) was.0 ∙ ap (λ w. map (λ e. e.worker) done ++ w ∷ []) same ∙ sym (map_push (λ e. e.worker) done one),
       subst (λ told. IfSome c.both-total.result (IsTotalOf told)) (sym (map_push (λ e. e.report) done one))
           (one_more (map (λ e. e.report) done) one.report _ c.both-total.result was.1 (search rules)),
       subst (λ told. IfNone c.both-total.result (IsOneMissing told)) (sym (map_push (λ e. e.report) done one))
@@ -23,5 +31,7 @@ loop-one-preserved g c =
       omega (arith, was.3, step.1, c.in-Ok.ensures.len, c.push.ensures.capacity),
       omega (arith, was.4, c.push.ensures.capacity),
       begin,
-      record { whole = c.learn.new.self; begin = begin },
+      counted,
+      All-tail (λ e. IsPrefix e.worker.front known) one _ ahead,
+      record { whole = known; begin = begin; counted = counted },
     )

@@ -1,8 +1,9 @@
 use Rattle.std.specs.Prelude.{◌≡◌, ◌+◌, ◌≤◌, IfNone, IfSome, map, vec_len, vec_capacity}
-use Rattle.std.specs.Vec.Iter.{into_iter_len}
+use Rattle.std.specs.Vec.Iter.{into_iter_items, into_iter_len}
 use Rattle.std.specs.List.{All}
 use mathlib.Core.List.{IsPrefix}
 use Rattle.ports.specs.Serves.{IsOneMissing, IsTotalOf, ShareOneHistory}
+use Rattle.target.specs.Lines.{CountsAllOf}
 use Rattle.ports.proofs.serves.gather.Given as goal
 
 abbrev pub invariant-loop-one : goal.invariant-loop-one
@@ -13,4 +14,6 @@ invariant-loop-one g l =
     × (vec_len l.workers + into_iter_len l.one-iterator ≤ vec_capacity l.workers)
     × (vec_capacity l.initial.workers ≤ vec_capacity l.workers)
     × All (λ w. IsPrefix w.front l.known) (map (λ e. e.worker) l.yielded)
+    × All (λ w. CountsAllOf w.pass l.known) (map (λ e. e.worker) l.yielded)
+    × All (λ e. IsPrefix e.worker.front l.known) (into_iter_items l.one-iterator)
     × ShareOneHistory (map (λ e. e.worker) l.yielded)

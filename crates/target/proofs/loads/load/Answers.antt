@@ -9,8 +9,10 @@ use Rattle.target.proofs.loads.load.Goals as goal
 pub invariant_of-pass : goal.invariant_of-pass
 invariant_of-pass g c =
     let end = c.load.ensures c.pass.inside.context c.pass.inside.shares.items in
-    let is = c.pass.invariant in
-    record { port = is.port; sizes = is.sizes ∙ sym (sizes_kept _ _ _ _ _ _ _ c.sizes-sizes.ensures.some end.ended); shares = is.shares }
+    let is = c.pass.invariant.0 in (
+      record { port = is.port; sizes = is.sizes ∙ sym (sizes_kept _ _ _ _ _ _ _ c.sizes-sizes.ensures.some end.ended); shares = is.shares },
+      c.pass.invariant.1,
+    )
 
 pub returns-clause-begins : goal.returns-clause-begins
 returns-clause-begins g c = subst (λ (h : PassValue). IsPrefix h.programs c.args.publisher.now) c.pass.view_is c.readers_know_a_beginning.ensures.begins

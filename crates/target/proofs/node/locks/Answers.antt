@@ -28,5 +28,6 @@ loop-bank-preserved g c =
       numbers = subst AreNumbered (sym c.in_ok-push.ensures.items) (numbered_more c.loop-bank.locks.items c.new-in-loop-bank.result c.loop-bank.invariant.numbers next);
       family = search rules;
       chains = search rules;
+      book = search rules;
       fresh = All-tail IsFresh c.in-Some.bank _ (subst (All IsFresh) c.in-Some.ensures.steps.0 c.loop-bank.invariant.fresh);
     }

@@ -41,12 +41,14 @@ invariant_of-pass g c =
     let made = c.requires.made in
     let first = c.loop-port.invariant.parts made.0 made.1 made.2 in
     let seat = last_of ports port _ c.in-Some-Some.seat c.loop-port.seats.items _ c.loop-port-test.true first.seats_are c.in-Some-Some.ensures.items in
-    let reader = last_of ports port _ c.in-Some-Some.reader c.loop-port.readers.items _ c.loop-port-test.true first.readers_are c.in-Some-Some.ensures'.items in
-    record {
-      sizes = ap (λ (b : RunContextValue). b.seat.sizes) c.new.ensures ∙ ap (λ (s : CellSeatValue). s.sizes) seat.1 ∙ sym (ap (λ (r : Known). sizes_of r.programs) reader.1);
-      port = rw (c.new.ensures) (omega (arith, c.requires.ports, c.loop-port-test.true));
-      shares = rw (shares, c.new.ensures, c.windows.ensures, length-map banks range_of) (length-replicate (length banks) (first_share port));
-    }
+    let reader = last_of ports port _ c.in-Some-Some.reader c.loop-port.readers.items _ c.loop-port-test.true first.readers_are c.in-Some-Some.ensures'.items in (
+      record {
+        sizes = ap (λ (b : RunContextValue). b.seat.sizes) c.new.ensures ∙ ap (λ (s : CellSeatValue). s.sizes) seat.1 ∙ sym (ap (λ (r : Known). sizes_of r.programs) reader.1);
+        port = rw (c.new.ensures) (omega (arith, c.requires.ports, c.loop-port-test.true));
+        shares = rw (shares, c.new.ensures, c.windows.ensures, length-map banks range_of) (length-replicate (length banks) (first_share port));
+      },
+      tt,
+    )
 
 pub loop-port-preserved : goal.loop-port-preserved
 loop-port-preserved g c =

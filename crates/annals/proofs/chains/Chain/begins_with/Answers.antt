@@ -1,9 +1,10 @@
 use Rattle.std.proofs.Common.{◌≡◌, sym, refl, ◌∙◌, ap, subst, arith, List, length}
 use mathlib.Core.List.{IsPrefix}
 use Rattle.annals.specs.declared.deed.Link.{Link}
-use Rattle.annals.specs.Chains.{chain_of}
+use Rattle.annals.specs.Chains.{IsWhole, chain_of}
 use Rattle.annals.proofs.Fronts.{prefix_trans, prefix_whole}
-use Rattle.annals.proofs.Turns.{looks_moves, chain_prefix}
+use Rattle.annals.proofs.Dues.{chain_prefix}
+use Rattle.annals.proofs.Turns.{looks_moves}
 use Rattle.annals.proofs.chains.Chain.begins_with.Goals as goal
 
 pub compare_exchange-one-requires : goal.compare_exchange-one-requires
@@ -21,8 +22,8 @@ compare_exchange-one-requires g c =
       rw (offer.3) (looks_moves c.self.inside.word.key c.self.inside.seen.log c.learn.new.self.log c.plain-offer.result.ask c.self.inside.pen.nib h.few own h.some h.right h.key (ap (λ (l : Link). l.chain) offer.1) (ap (λ (l : Link). l.place) offer.1)),
     )
 
-pub returns-clause-begins : goal.returns-clause-begins
-returns-clause-begins g c =
+pub returns-clause-whole : goal.returns-clause-whole
+returns-clause-whole g c =
     let key = c.self.inside.word.key in
     let mine = c.self.inside.seen.log in
     let both = c.learn.new.self.log in
@@ -35,5 +36,6 @@ returns-clause-begins g c =
     let size : length (chain_of key all) ≡ length (chain_of key mine) = ap (λ k. length (chain_of k all)) (sym chain) ∙ (step.7.0 ∙ place) in
     let pre = chain_prefix key mine all (prefix_trans mine both all own step.6) in
     let whole : chain_of key mine ≡ chain_of key all = prefix_whole (chain_of key mine) (chain_of key all) pre (omega (arith, size)) in
-    let front = chain_prefix key c.front.inside.seen.log all (prefix_trans c.front.inside.seen.log both all c.learn.ensures.3 step.6) in
-    rw (← c.self.view_is, ← c.front.view_is) (subst (λ (l : List Link). IsPrefix (chain_of key c.front.inside.seen.log) l) (sym whole) front)
+    let front : IsPrefix c.front.inside.seen.log all = prefix_trans c.front.inside.seen.log both all c.learn.ensures.3 step.6 in
+    let is : IsWhole (record { number = key; log = mine }) c.front.inside.seen.log = record { log = all; seen = front; whole = sym whole; asked = step.7.2 } in
+    rw (← c.self.view_is, ← c.front.view_is) is

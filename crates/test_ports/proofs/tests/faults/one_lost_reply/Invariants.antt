@@ -1,8 +1,5 @@
 use Rattle.test_ports.proofs.tests.faults.one_lost_reply.Given as goal
 
 -- the history that was just opened
-abbrev pub ghosts-serve_failing-J-ProgramFamily : goal.ghosts-serve_failing-J-ProgramFamily
-ghosts-serve_failing-J-ProgramFamily g a = record { book = a.opened.programs }
-
-abbrev pub ghosts-serve_failing-J-Family : goal.ghosts-serve_failing-J-Family
-ghosts-serve_failing-J-Family g a = record { book = a.opened.banks }
+abbrev pub ghosts-serve_failing : goal.ghosts-serve_failing
+ghosts-serve_failing g a = record { book = a.opened }

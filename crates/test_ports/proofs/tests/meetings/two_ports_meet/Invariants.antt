@@ -1,8 +1,5 @@
 use Rattle.test_ports.proofs.tests.meetings.two_ports_meet.Given as goal
 
 -- the history that was just opened
-abbrev pub ghosts-packets_that_met-J-ProgramFamily : goal.ghosts-packets_that_met-J-ProgramFamily
-ghosts-packets_that_met-J-ProgramFamily g a = record { book = a.opened.programs }
-
-abbrev pub ghosts-packets_that_met-J-Family : goal.ghosts-packets_that_met-J-Family
-ghosts-packets_that_met-J-Family g a = record { book = a.opened.banks }
+abbrev pub ghosts-packets_that_met : goal.ghosts-packets_that_met
+ghosts-packets_that_met g a = record { book = a.opened }

@@ -1,0 +1,61 @@
+//! The chain of a node's publishes.
+
+ghost use Rattle.std.specs.Prelude.{◌≡◌, ◌+◌, [], IfSome};
+ghost use Rattle.std.specs.Arc.{arc_value};
+ghost use mathlib.Core.List.{IsPrefix};
+ghost use Rattle.node_programs.specs.Histories.{entry, longer_history};
+ghost use Rattle.annals.specs.declared.deed.Deed.TheVariants.{Publishes};
+ghost use Rattle.annals.specs.Chains.{IsLast};
+ghost use Rattle.annals.specs.Publishes.{publishes_chain, publishes_of};
+
+use crate::beginning::Beginning;
+use crate::chains::{Chain, Family, Opened};
+use bver::Accepted;
+use std::sync::Arc;
+
+/// How many chains of a history stand before that of the publishes: those of banks ([`MAX_BANKS`](rmap::MAX_BANKS)).
+pub const BANK_CHAINS: u8 = 8;
+
+impl Opened {
+    /// The chain of the publishes, in which nothing was published yet. `None` where it has begun already (no test met that).
+    /// The condition is a history of which the chains of banks are taken or left out.
+    pub fn publishes<J: Family>(&mut self) -> Option<Chain<J>>
+        requires family { self.old.0 ≡ J.book }
+        requires next { self.old.1 + publishes_chain ≡ 41 }
+        ensures left { self.new.1 + 1 ≡ self.old.1 }
+        ensures family { self.new.0 ≡ self.old.0 }
+        ensures number { IfSome result (λ c. c.number ≡ publishes_chain) }
+        ensures none { IfSome result (λ c. publishes_of c.log ≡ []) }
+    {
+        let chain = self.chain((0, 0))?;
+        Some(chain)
+    }
+}
+
+impl<J: Family> Chain<J> {
+    /// Adds the publish of a program for a slot, behind all that is known of the history. The condition is the chain of the
+    /// publishes.
+    pub fn publish(&mut self, publish: &(u8, Arc<Accepted>))
+        requires { self.old.number ≡ publishes_chain }
+        ensures number { self.new.number ≡ self.old.number }
+        ensures last { IsLast publishes_chain self.old.log self.new.log
+            (Publishes (entry publish.now.0 (arc_value publish.now.1))) }
+        ensures published { publishes_of self.new.log
+            ≡ longer_history (publishes_of self.old.log) publish.now.0 (arc_value publish.now.1) }
+    {
+        let mut front = self.beginning().front();
+        self.add(&mut front, publish);
+    }
+
+    /// The publishes that were seen begin all that the chain has. The condition is the chain of the publishes, and what was
+    /// seen of its history.
+    pub fn has_published(&mut self, seen: &Beginning)
+        requires number { self.old.number ≡ publishes_chain }
+        requires book { seen.now.book ≡ J.book }
+        ensures begins { IsPrefix (publishes_of seen.now.log) (publishes_of self.old.log) }
+        ensures same { self.new ≡ self.old }
+    {
+        let known = seen.front();
+        self.begins_with(&known);
+    }
+}
