@@ -7,6 +7,7 @@ use Rattle.std.specs.List.{All}
 use Rattle.std.proofs.lemmas.List.Elements.{All-append, All-cons, All-nil}
 use mathlib.Core.List.{IsPrefix}
 use Rattle.annals.specs.declared.deed.Link.{Link}
+use Rattle.node_parts.specs.Passes.{PassValue}
 use Rattle.ports.proofs.Keeping.{prefix_trans}
 use Rattle.ports.proofs.Whole.{entries_are_all}
 use Rattle.ports.specs.Worked.{standing_of}
@@ -149,6 +150,10 @@ module _ {J S : Type 0} (sent : S → List SentReply) (failed : S → ℕ) (bank
 -- One worker more.
 pub all_more : {J S : Type 0} (P : Worker J S → Type 0) (workers : List (Worker J S)) (one : Worker J S) → P one → All P workers → All P (workers ++ one ∷ [])
 all_more P workers one here all = All-append P workers (one ∷ []) all (All-cons P one [] here (All-nil P))
+
+-- A worker whose pass was asked is as it was.
+pub same_worker : {J S : Type 0} (w : Worker J S) (pass : PassValue) → pass ≡ w.pass → record w { pass = pass } ≡ w
+same_worker {J} {S} w pass same = ap (λ (x : PassValue). record w { pass = x }) same
 
 -- Of the first threads, what their workers know of the history begins what is known.
 abbrev pub AreKnownTo : {J S : Type 0} → ℕ → List (Ended J S) → List Link → Type 0

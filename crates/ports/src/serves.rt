@@ -90,11 +90,11 @@ fn gather<J: Family, S: Sink + Drop>(
         discarded: 0,
         lost: 0,
     });
-    let known = all_known(ended.as_slice(), known);
+    let whole = all_known(ended.as_slice(), known);
     for one in ended {
         total = both(total, one.report);
         let mut worker = one.worker;
-        worker.pass.knows_entries(&known);
+        worker.pass.knows_entries(&whole);
         let Ok(()) = workers.push(worker) else {
             unreachable!()
         };

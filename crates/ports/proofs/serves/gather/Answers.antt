@@ -7,13 +7,13 @@ use mathlib.Core.List.{IsPrefix}
 use Rattle.target.specs.Lines.{CountsAllOf}
 use Rattle.ports.specs.Serves.{IsOneMissing, IsTotalOf}
 use Rattle.ports.proofs.Reports.{one_missing, one_more}
-use Rattle.ports.proofs.Served.{all_more}
+use Rattle.ports.proofs.Served.{all_more, same_worker}
 use Rattle.ports.proofs.serves.gather.Goals as goal
 
 pub loop-one-preserved : goal.loop-one-preserved
 loop-one-preserved g c =
     let was = c.loop-one.invariant in let one = c.in-Some.one in let done = c.loop-one.yielded in
-    let known = c.loop-one.known in
+    let known = c.all_known-whole.result in
     let step = c.in-Some.ensures.steps in
     let ahead = subst (All (λ e. IsPrefix e.worker.front known)) step.0 was.7 in
     let begin : All (λ w. IsPrefix w.front known) (map (λ e. e.worker) (done ++ one ∷ []))
@@ -22,7 +22,7 @@ loop-one-preserved g c =
     let counted : All (λ w. CountsAllOf w.pass known) (map (λ e. e.worker) (done ++ one ∷ []))
     = subst (All (λ w. CountsAllOf w.pass known)) (sym (map_push (λ e. e.worker) done one))
     (all_more (λ w. CountsAllOf w.pass known) (map (λ e. e.worker) done) one.worker c.knows_entries.ensures.entries was.6) in
-    let same = ap (λ p. record { pass = p; front = one.worker.front; serve_pass = one.worker.serve_pass; sink = one.worker.sink }) c.knows_entries.ensures.same in (
+    let same = same_worker one.worker c.knows_entries.new.self c.knows_entries.ensures.same in (
       c.in-Ok.ensures.items ∙ ap (λ l. l ++ _ ∷ []) was.0 ∙ ap (λ w. map (λ e. e.worker) done ++ w ∷ []) same ∙ sym (map_push (λ e. e.worker) done one),
       subst (λ told. IfSome c.both-total.result (IsTotalOf told)) (sym (map_push (λ e. e.report) done one))
           (one_more (map (λ e. e.report) done) one.report _ c.both-total.result was.1 (search rules)),
