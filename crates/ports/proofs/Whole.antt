@@ -18,6 +18,7 @@ use Rattle.annals.specs.declared.deed.Deed.TheVariants as deeds
 use Rattle.annals.specs.declared.deed.Link.{Link}
 use Rattle.annals.specs.Chains.{chain_of, link}
 use Rattle.annals.specs.Banks.{IsDone, entries_by, entries_in, entries_of, takes, with_entry}
+use Rattle.target.specs.Finished.{IsDoneBehind}
 use Rattle.ports.specs.Due.{Judging, Deed, Standing, standing, Worked, IsBanked, IsWindowed, IsJudged, judgings}
 use Rattle.ports.specs.Due.Deed.{Dropped, Answered, Judged}
 use Rattle.ports.specs.Laws.{AreEntriesOf, EntriesFollow, HasEntered, IsEntryOf, WorkersEntriesAreAll, is_bank_of, is_entry_at, number_at}
@@ -53,6 +54,7 @@ with_joined (deeds.Opens x) xs ys = refl
 with_joined (deeds.Does e) xs ys = refl
 with_joined (deeds.Sets x) xs ys = refl
 with_joined (deeds.Asks x) xs ys = refl
+with_joined (deeds.Publishes x) xs ys = refl
 
 entries_append : (ls ms : List Link) → entries_in (ls ++ ms) ≡ entries_in ls ++ entries_in ms
 entries_append [] ms = refl
@@ -74,11 +76,11 @@ by_one port k place next e is =
 
 -- ---- fronts
 
-follow_prefix : (known : List Link) (js : List Judging) (reached : List Link) → EntriesFollow known js reached → IsPrefix known reached
-follow_prefix known [] reached is = prefix_same known reached is
-follow_prefix known (j ∷ js) reached is = by j.entered is (λ from rest. follow_prefix from js reached rest) where
-  by : (b : Bool) → MatchBool b ((between : List Link) × HasEntered known between j × EntriesFollow between js reached) (EntriesFollow known js reached)
-      → ((from : List Link) → EntriesFollow from js reached → IsPrefix from reached) → IsPrefix known reached
+follow_prefix : (port : ℕ) (known : List Link) (js : List Judging) (reached : List Link) → EntriesFollow port known js reached → IsPrefix known reached
+follow_prefix port known [] reached is = prefix_same known reached is
+follow_prefix port known (j ∷ js) reached is = by j.entered is (λ from rest. follow_prefix port from js reached rest) where
+  by : (b : Bool) → MatchBool b ((between : List Link) × HasEntered port known between j × EntriesFollow port between js reached) (EntriesFollow port known js reached)
+      → ((from : List Link) → EntriesFollow port from js reached → IsPrefix from reached) → IsPrefix known reached
   by true here later =
       let last = here.1.done.last in
       let begins : IsPrefix last.before here.0 = (_, sym last.log) in
@@ -94,7 +96,9 @@ done_at j h after is left =
     let share = share_of h.pass j.judged.place in let before = is.ended.before in let end = is.ended.finished in
     let parts = both_are (takes before share j.judged) (has_room before.bank j.judged.port) (sym is.entered ∙ left) in
     let number = (end.applied parts.0).number ∙ left_some before.bank share j.judged parts.1 in
-    subst (λ (o : Option ℕ). IfSome o (λ n. IsDone before.chain.number h.front after.front share j.judged is.ended.result j.reply)) number end.done
+    let behind : IsDoneBehind h.pass.programs before.chain.number h.front after.front share j.judged is.ended.result j.reply
+    = subst (λ (o : Option ℕ). IfSome o (λ n. IsDoneBehind h.pass.programs before.chain.number h.front after.front share j.judged is.ended.result j.reply)) number end.done in
+    behind.done
 
 -- what a command left at a bank: its entry, behind as many of its port as the share counted
 record HasLeft (k : ℕ) (j : Judging) (h after : Standing) : Type 0 where
@@ -223,7 +227,7 @@ all_entries k log h after (p ∷ ps) (Judged j ∷ ds) w begins below counted =
     let within : k < length w.0.pass.shares = subst (λ (i : ℕ). k < i) (sym stays.count) below in
     let rest = all_entries k log w.0 after ps ds w.2 begins within
     (subst (λ (i : ℕ). IsPrefix (numbers_of i (entries_of k log)) (range_with_len 0 (number_at after.pass k))) (sym stays.port) counted) in
-    let front : IsPrefix w.0.front log = prefix_trans w.0.front after.front log (follow_prefix w.0.front (judgings ds) after.front (entries_follow w.0 after ps ds w.2)) begins in
+    let front : IsPrefix w.0.front log = prefix_trans w.0.front after.front log (follow_prefix w.0.pass.port w.0.front (judgings ds) after.front (entries_follow w.0 after ps ds w.2)) begins in
     one_before k log j p h w.0 (judgings ds) w.1 front below
     (subst (λ (i : ℕ). AreEntriesOf (number_at w.0.pass k) (filter (is_entry_at k) (judgings ds)) (drop (number_at w.0.pass k) (entries_by i k log))) stays.port rest)
 
