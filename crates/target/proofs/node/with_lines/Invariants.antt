@@ -8,6 +8,6 @@ abbrev pub invariant-loop-pass : goal.invariant-loop-pass
 invariant-loop-pass g l = record {
   same : l.passes.items ≡ l.yielded;
   new : AreNew (length l.passes.items) (into_iter_items l.pass-iterator);
-  family : l.history.0 ≡ g.J.book;
+  family : l.history.0 ≡ g.J.Family.book;
   chains : length l.passes.items + l.history.1 ≡ 32;
 }
