@@ -30,7 +30,7 @@ use Rattle.ports.proofs.Keeping.{prefix_trans, prefix_same}
 
 range_length : (start n : ℕ) → length (range_with_len start n) ≡ n
 range_length start zero = refl
-range_length start (suc n) = ap suc (range_length (suc start) n)
+range_length start (suc n) = ap suc (range_length (start + 1) n)
 
 drop_past : {A : Type 0} (n : ℕ) (xs : List A) → length xs ≤ n → drop n xs ≡ []
 drop_past zero [] few = refl

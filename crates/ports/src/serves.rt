@@ -84,7 +84,7 @@ fn gather<J: Family, S: Sink + Drop>(
     ensures total { IfSome result.1 (IsTotalOf (map (λ e. e.report) ended.items)) }
     ensures missing { IfNone result.1 (IsOneMissing (map (λ e. e.report) ended.items)) }
     ensures space { vec_capacity workers ≤ vec_capacity result.0 }
-    ensures history { ShareOneHistory (map (λ e. e.worker) ended.items) }
+    ensures history { ShareOneHistory result.0.items }
 {
     let mut total = Some(Report {
         discarded: 0,

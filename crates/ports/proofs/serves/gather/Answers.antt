@@ -16,12 +16,9 @@ loop-one-preserved g c =
     let known = c.all_known-whole.result in
     let step = c.in-Some.ensures.steps in
     let ahead = subst (All (λ e. IsPrefix e.worker.front known)) step.0 was.7 in
-    let begin : All (λ w. IsPrefix w.front known) (map (λ e. e.worker) (done ++ one ∷ []))
-    = subst (All (λ w. IsPrefix w.front known)) (sym (map_push (λ e. e.worker) done one))
-    (all_more (λ w. IsPrefix w.front known) (map (λ e. e.worker) done) one.worker (All-head (λ e. IsPrefix e.worker.front known) one _ ahead) was.5) in
-    let counted : All (λ w. CountsAllOf w.pass known) (map (λ e. e.worker) (done ++ one ∷ []))
-    = subst (All (λ w. CountsAllOf w.pass known)) (sym (map_push (λ e. e.worker) done one))
-    (all_more (λ w. CountsAllOf w.pass known) (map (λ e. e.worker) done) one.worker c.knows_entries.ensures.entries was.6) in
+    let items = c.in-Ok.ensures.items in
+    let front = All-head (λ e. IsPrefix e.worker.front known) one _ ahead in
+    let counted = subst (λ p. CountsAllOf p known) (sym c.knows_entries.ensures.same) c.knows_entries.ensures.entries in
     let same = same_worker one.worker c.knows_entries.new.self c.knows_entries.ensures.same in (
       c.in-Ok.ensures.items ∙ ap (λ l. l ++ _ ∷ []) was.0 ∙ ap (λ w. map (λ e. e.worker) done ++ w ∷ []) same ∙ sym (map_push (λ e. e.worker) done one),
       subst (λ told. IfSome c.both-total.result (IsTotalOf told)) (sym (map_push (λ e. e.report) done one))
@@ -30,8 +27,10 @@ loop-one-preserved g c =
           (one_missing (map (λ e. e.report) done) one.report _ c.both-total.result was.2 (search rules)),
       omega (arith, was.3, step.1, c.in-Ok.ensures.len, c.push.ensures.capacity),
       omega (arith, was.4, c.push.ensures.capacity),
-      begin,
-      counted,
+      subst (All (λ w. IsPrefix w.front known)) (sym items) (all_more (λ w. IsPrefix w.front known) c.loop-one.workers.items _ front was.5),
+      subst (All (λ w. CountsAllOf w.pass known)) (sym items) (all_more (λ w. CountsAllOf w.pass known) c.loop-one.workers.items _ counted was.6),
       All-tail (λ e. IsPrefix e.worker.front known) one _ ahead,
-      record { whole = known; begin = begin; counted = counted },
     )
+
+pub returns-clause-history : goal.returns-clause-history
+returns-clause-history g c = record { whole = c.all_known-whole.result; begin = c.loop-one.invariant.5; counted = c.loop-one.invariant.6 }

@@ -2,7 +2,7 @@ use Rattle.std.specs.Prelude.{◌≡◌, ◌+◌, ◌≤◌, IfNone, IfSome, map
 use Rattle.std.specs.Vec.Iter.{into_iter_items, into_iter_len}
 use Rattle.std.specs.List.{All}
 use mathlib.Core.List.{IsPrefix}
-use Rattle.ports.specs.Serves.{IsOneMissing, IsTotalOf, ShareOneHistory}
+use Rattle.ports.specs.Serves.{IsOneMissing, IsTotalOf}
 use Rattle.target.specs.Lines.{CountsAllOf}
 use Rattle.ports.proofs.serves.gather.Given as goal
 
@@ -13,7 +13,6 @@ invariant-loop-one g l =
     × IfNone l.total (IsOneMissing (map (λ e. e.report) l.yielded))
     × (vec_len l.workers + into_iter_len l.one-iterator ≤ vec_capacity l.workers)
     × (vec_capacity l.initial.workers ≤ vec_capacity l.workers)
-    × All (λ w. IsPrefix w.front l.whole) (map (λ e. e.worker) l.yielded)
-    × All (λ w. CountsAllOf w.pass l.whole) (map (λ e. e.worker) l.yielded)
+    × All (λ w. IsPrefix w.front l.whole) l.workers.items
+    × All (λ w. CountsAllOf w.pass l.whole) l.workers.items
     × All (λ e. IsPrefix e.worker.front l.whole) (into_iter_items l.one-iterator)
-    × ShareOneHistory (map (λ e. e.worker) l.yielded)

@@ -1,7 +1,7 @@
 use Rattle.std.proofs.Common.{◌≡◌, ◌<◌, ◌⊎◌, ◌++◌, ◌∙◌, true, false, Some, None, ap, arith, inl, inr, sym, subst}
 use Rattle.std.specs.Prelude.{length, map, slice_index_or, vec_len, IfSome, IfNone}
 use Rattle.std.proofs.lemmas.Bool.{cases_Bool}
-use Rattle.ports.specs.Serves.{AreServed, HaveComeBack, HaveServed, IsBack, IsOneMissing, IsShort, IsTotalOf}
+use Rattle.ports.specs.Serves.{AreServed, HaveComeBack, HaveServed, IsBack, IsOneMissing, IsShort, IsTotalOf, ShareOneHistory}
 use Rattle.ports.proofs.Served.{AreBack, can_serve, have_come_back, have_served, none_served, one_is_gone, one_is_same}
 use Rattle.ports.proofs.serves.serve.Goals as goal
 
@@ -24,7 +24,7 @@ returns-in-Some-clause-served g c =
     let long : length ended ≡ length old
     = sym c.join_each.result.ok.0 ∙ c.join_each.ensures.len ∙ started.ensures.len sum.0 ∙ c.args.workers.ok.0 in
     subst (λ new. HaveServed sent failed banks ports old new c.in-Some.report) (sym c.gather-workers.ensures.workers)
-    (have_served sent failed banks ports old ended started.result.rest.items served back long c.in-Some.report told c.gather-workers.ensures.history)
+    (have_served sent failed banks ports old ended started.result.rest.items served back long c.in-Some.report told (subst ShareOneHistory c.gather-workers.ensures.workers c.gather-workers.ensures.history))
 
 pub returns-in-Some-clause-back : goal.returns-in-Some-clause-back
 returns-in-Some-clause-back g c = λ _. (returns-in-Some-clause-served g c).served
