@@ -1,6 +1,5 @@
 //! Nodes behind their locks, and programs to judge there.
 
-
 ghost use Rattle.std.specs.Prelude.{◌≡◌};
 
 use bver::{Accepted, verify};

@@ -1,6 +1,5 @@
 //! Ports that were served until their end marks.
 
-
 ghost use Rattle.std.specs.Prelude.{◌≡◌};
 
 use crate::filling::{filled, filled_desks, worker};

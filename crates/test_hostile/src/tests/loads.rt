@@ -1,6 +1,5 @@
 //! Four ports, each in a thread of its own, that load programs for writes and write, at one node.
 
-
 ghost use Rattle.std.specs.Prelude.{◌≡◌};
 
 use super::remainders::slow_crc;

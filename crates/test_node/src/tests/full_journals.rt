@@ -29,11 +29,7 @@ fn journal_with_room_for_one(rt: HostRuntime) -> Result<(), Fail> {
     one_entry::<Brand, _>(&rt, rt.alloc(), Opened::new())
 }
 
-fn one_entry<J: Family, R: Wait + Abort>(
-    rt: &R,
-    alloc: Global,
-    opened: Opened,
-) -> Result<(), Fail>
+fn one_entry<J: Family, R: Wait + Abort>(rt: &R, alloc: Global, opened: Opened) -> Result<(), Fail>
     requires { opened ≡ J.book }
 {
     let factory = program(alloc, 0)?;

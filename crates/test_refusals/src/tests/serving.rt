@@ -39,10 +39,7 @@ fn are_full(rt: &impl Wait, ports: &[Port], passes: &mut Vec<PutPass>) -> Result
 }
 
 /// How many entries the journal of the first bank has.
-fn entries<J: Family, R: Wait + Drop>(
-    rt: &impl Wait,
-    node: &Node<J, R>,
-) -> Result<usize, Fail> {
+fn entries<J: Family, R: Wait + Drop>(rt: &impl Wait, node: &Node<J, R>) -> Result<usize, Fail> {
     if node.banks() == 0 {
         return Err("no bank".into());
     }
