@@ -151,6 +151,10 @@ module _ {J S : Type 0} (sent : S → List SentReply) (failed : S → ℕ) (bank
 pub all_more : {J S : Type 0} (P : Worker J S → Type 0) (workers : List (Worker J S)) (one : Worker J S) → P one → All P workers → All P (workers ++ one ∷ [])
 all_more P workers one here all = All-append P workers (one ∷ []) all (All-cons P one [] here (All-nil P))
 
+pub empty_is : {A : Type 0} (xs : List A) → length xs ≡ 0 → xs ≡ []
+empty_is [] none = refl
+empty_is (x ∷ xs) none = absurd (omega (arith, none))
+
 -- A worker whose pass was asked is as it was.
 pub same_worker : {J S : Type 0} (w : Worker J S) (pass : PassValue) → pass ≡ w.pass → record w { pass = pass } ≡ w
 same_worker {J} {S} w pass same = ap (λ (x : PassValue). record w { pass = x }) same
