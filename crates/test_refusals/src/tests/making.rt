@@ -18,7 +18,7 @@ use std::marker::Brand;
 use std::process::Abort;
 use std::sync::Wait;
 use std::test::Fail;
-use target::{Family, Node, Pass};
+use target::{Node, Pass};
 use test_kit::{BASE, PLAIN_READ, bank, counts, sizes};
 use test_kit_ports::{accepted, served_at, text_of};
 

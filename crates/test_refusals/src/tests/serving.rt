@@ -14,7 +14,7 @@ use std::process::Abort;
 use std::sync::Wait;
 use std::test::Fail;
 use std::thread::Threads;
-use target::{Family, Node};
+use target::Node;
 use test_kit::{PLAIN_READ, PLAIN_WRITE, PlainNode, bank, packet, program};
 use test_kit_ports::{filled_desks, shared_node, text_of};
 
