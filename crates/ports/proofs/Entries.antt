@@ -18,7 +18,7 @@ use Rattle.ports.specs.Laws.{HasEntered, IsByPublished, EntriesFollow}
 use Rattle.ports.proofs.Following.{dealt_stays, judged_by}
 
 -- whatever the publishes are that those begin which the port had seen, the command was judged by one of them
-abbrev IsJudgedBehind : ℕ → Judging → PassValue → Type 0
+abbrev pub IsJudgedBehind : ℕ → Judging → PassValue → Type 0
 IsJudgedBehind port j h = (published : List Publish) → IsPrefix h.programs published → IsByPublished published port j
 
 pub both_are : (a b : Bool) → (a && b) ≡ true → (a ≡ true) × (b ≡ true)
@@ -35,20 +35,24 @@ not_both : (a b : Bool) → a ≡ true → (a && b) ≡ false → b ≡ false
 not_both true b e no_both = no_both
 not_both false b e no_both = absurd cc
 
--- a command that left an entry was done
-entered : (port : ℕ) (j : Judging) (h after : Standing) → IsJudgedBehind port j h.pass → IsBanked j h after → j.entered ≡ true → HasEntered port h.front after.front j
-entered port j h after by is left =
+-- a command that left an entry was done, with the port's share of its place
+pub done_behind : (j : Judging) (h after : Standing) (is : IsBanked j h after) → j.entered ≡ true
+    → IsDoneBehind h.pass.programs is.ended.before.chain.number h.front after.front (share_of h.pass j.judged.place) j.judged is.ended.result j.reply
+done_behind j h after is left =
     let share = share_of h.pass j.judged.place in let before = is.ended.before in let end = is.ended.finished in
     let parts = both_are (takes before share j.judged) (has_room before.bank j.judged.port) (sym is.entered ∙ left) in
     let number = (end.applied parts.0).number ∙ left_some before.bank share j.judged parts.1 in
-    let behind : IsDoneBehind h.pass.programs before.chain.number h.front after.front share j.judged is.ended.result j.reply
-    = subst (λ (o : Option ℕ). IfSome o (λ n. IsDoneBehind h.pass.programs before.chain.number h.front after.front share j.judged is.ended.result j.reply)) number end.done in record {
-      bank = before.chain.number;
-      share = share;
-      result = is.ended.result;
-      done = behind.done;
-      by = by (publishes_of behind.done.last.before) behind.published;
-    }
+    subst (λ (o : Option ℕ). IfSome o (λ n. IsDoneBehind h.pass.programs before.chain.number h.front after.front share j.judged is.ended.result j.reply)) number end.done
+
+-- so it stands in the history behind the program that judged it
+entered : (port : ℕ) (j : Judging) (h after : Standing) → IsJudgedBehind port j h.pass → IsBanked j h after → j.entered ≡ true → HasEntered port h.front after.front j
+entered port j h after by is left = let behind = done_behind j h after is left in record {
+  bank = is.ended.before.chain.number;
+  share = share_of h.pass j.judged.place;
+  result = is.ended.result;
+  done = behind.done;
+  by = by (publishes_of behind.done.last.before) behind.published;
+}
 
 -- one that left none added nothing
 not_entered : (j : Judging) (h after : Standing) → IsBanked j h after → j.entered ≡ false → after.front ≡ h.front

@@ -1,6 +1,6 @@
 -- The entries of a port in a whole history are those of its worker's commands.
 use Rattle.std.proofs.Common.{◌≡◌, ◌⊎◌, ℕ, zero, suc, ◌+◌, ◌<◌, ◌≤◌, ◌==◌, ◌&&◌, Bool, true, false, cond, List, [], ◌∷◌, ◌++◌, Option, Some, length, drop, sym, refl, ap, ◌∙◌, subst, arith, append_assoc, length-append, inl, inr}
-use Rattle.std.specs.Prelude.{IfSome, MatchBool, if◌then◌else◌, filter, map}
+use Rattle.std.specs.Prelude.{MatchBool, filter, map}
 use Rattle.std.specs.List.{range_with_len}
 use Rattle.std.proofs.lemmas.List.{length-map}
 use Rattle.std.proofs.lemmas.List.Elements.{filter-append}
@@ -10,20 +10,20 @@ use Rattle.spw.specs.Cargo.{Cargo}
 use Rattle.rmap.specs.declared.places.Place.{Place}
 use Rattle.rmap.specs.declared.places.Place.TheVariants.{Bank, Staging, LoadResult, Control}
 use Rattle.bank.specs.declared.bank.Applied.{Applied}
-use Rattle.bank.specs.Records.{BankValue, EntryValue, ShareValue, JudgedValue, has_room, numbers_of, entry_of, numbered_entry, number_left}
+use Rattle.bank.specs.Records.{EntryValue, numbers_of, entry_of, numbered_entry}
 use Rattle.node_parts.specs.Passes.{PassValue}
 use Rattle.node_parts.specs.Applied.{share_of}
 use Rattle.annals.specs.declared.deed.Deed.{Deed as BankDeed}
 use Rattle.annals.specs.declared.deed.Deed.TheVariants as deeds
 use Rattle.annals.specs.declared.deed.Link.{Link}
 use Rattle.annals.specs.Chains.{chain_of, link}
-use Rattle.annals.specs.Banks.{IsDone, entries_by, entries_in, entries_of, takes, with_entry}
-use Rattle.target.specs.Finished.{IsDoneBehind}
+use Rattle.annals.specs.Banks.{entries_by, entries_in, entries_of, with_entry}
+use Rattle.annals.specs.Publishes.{publishes_of}
 use Rattle.ports.specs.Due.{Judging, Deed, Standing, standing, Worked, IsBanked, IsWindowed, IsJudged, judgings}
 use Rattle.ports.specs.Due.Deed.{Dropped, Answered, Judged}
 use Rattle.ports.specs.Laws.{AreEntriesOf, EntriesFollow, HasEntered, IsEntryOf, WorkersEntriesAreAll, is_bank_of, is_entry_at, number_at}
-use Rattle.ports.proofs.Entries.{both_are, entries_follow, left_some}
-use Rattle.ports.proofs.Following.{bit, dealt_stays, judged_number, one_at, shares_count}
+use Rattle.ports.proofs.Entries.{IsJudgedBehind, both_are, done_behind, entries_follow}
+use Rattle.ports.proofs.Following.{bit, dealt_stays, judged_by, judged_number, one_at, shares_count}
 use Rattle.ports.proofs.Keeping.{prefix_trans, prefix_same}
 
 -- ---- lists
@@ -89,34 +89,24 @@ follow_prefix port known (j ∷ js) reached is = by j.entered is (λ from rest. 
 
 -- ---- one command
 
--- a command that left an entry was done, with the port's share of its place
-done_at : (j : Judging) (h after : Standing) (is : IsBanked j h after) → j.entered ≡ true
-    → IsDone is.ended.before.chain.number h.front after.front (share_of h.pass j.judged.place) j.judged is.ended.result j.reply
-done_at j h after is left =
-    let share = share_of h.pass j.judged.place in let before = is.ended.before in let end = is.ended.finished in
-    let parts = both_are (takes before share j.judged) (has_room before.bank j.judged.port) (sym is.entered ∙ left) in
-    let number = (end.applied parts.0).number ∙ left_some before.bank share j.judged parts.1 in
-    let behind : IsDoneBehind h.pass.programs before.chain.number h.front after.front share j.judged is.ended.result j.reply
-    = subst (λ (o : Option ℕ). IfSome o (λ n. IsDoneBehind h.pass.programs before.chain.number h.front after.front share j.judged is.ended.result j.reply)) number end.done in
-    behind.done
-
 -- what a command left at a bank: its entry, behind as many of its port as the share counted
-record HasLeft (k : ℕ) (j : Judging) (h after : Standing) : Type 0 where
+record HasLeft (port k : ℕ) (j : Judging) (h after : Standing) : Type 0 where
   before : List EntryValue
   entry : EntryValue
-  all : entries_by h.pass.port k after.front ≡ before ++ entry ∷ []
+  all : entries_by port k after.front ≡ before ++ entry ∷ []
   count : length before ≡ number_at h.pass k
-  is : IsEntryOf (number_at h.pass k) j entry
+  is : IsEntryOf port after.front (number_at h.pass k) j entry
 
 place_is : (k n : ℕ) (place : Place) → place ≡ Bank n → is_bank_of k place ≡ true → n ≡ k
 place_is k n place at here =
     let same : (n == k) ≡ true = subst (λ (p : Place). is_bank_of k p ≡ true) at here in
     grind (arith, nat_tests, same)
 
-left_at : (k : ℕ) (j : Judging) (h after : Standing) → j.judged.port ≡ h.pass.port → IsBanked j h after → is_entry_at k j ≡ true → HasLeft k j h after
-left_at k j h after port is here =
+left_at : (port k : ℕ) (j : Judging) (h after : Standing) → j.judged.port ≡ port → IsJudgedBehind port j h.pass → IsBanked j h after → is_entry_at k j ≡ true → HasLeft port k j h after
+left_at port k j h after own by is here =
     let parts = both_are j.entered (is_bank_of k j.judged.place) here in
-    let done = done_at j h after is parts.0 in
+    let behind = done_behind j h after is parts.0 in
+    let done = behind.done in
     let n = is.ended.before.chain.number in
     let same : n ≡ k = place_is k n j.judged.place done.place parts.1 in
     let share = share_of h.pass j.judged.place in
@@ -124,59 +114,80 @@ left_at k j h after port is here =
     let before = done.last.before in
     let e = entry_of share j.judged is.ended.result.status in
     let place = length (chain_of n before) in
-    let one : entries_by h.pass.port k (link n place (deeds.Does e) done.last.next ∷ []) ≡ e ∷ [] =
-    ap (λ (i : ℕ). entries_by h.pass.port k (link i place (deeds.Does e) done.last.next ∷ [])) same ∙ by_one h.pass.port k place done.last.next e port in
-    let numbers : numbers_of h.pass.port (entries_of k before) ≡ range_with_len 0 share.number =
-    subst (λ (p : ℕ). numbers_of p (entries_of k before) ≡ range_with_len 0 share.number) port
+    let one : entries_by port k (link n place (deeds.Does e) done.last.next ∷ []) ≡ e ∷ [] =
+    ap (λ (i : ℕ). entries_by port k (link i place (deeds.Does e) done.last.next ∷ [])) same ∙ by_one port k place done.last.next e own in
+    let numbers : numbers_of port (entries_of k before) ≡ range_with_len 0 share.number =
+    subst (λ (p : ℕ). numbers_of p (entries_of k before) ≡ range_with_len 0 share.number) own
     (subst (λ (i : ℕ). numbers_of j.judged.port (entries_of i before) ≡ range_with_len 0 share.number) same done.numbers) in
     record {
-      before = entries_by h.pass.port k before;
+      before = entries_by port k before;
       entry = e;
-      all = ap (entries_by h.pass.port k) done.last.log ∙ (by_append h.pass.port k before (link n place (deeds.Does e) done.last.next ∷ []) ∙ ap (λ (es : List EntryValue). entries_by h.pass.port k before ++ es) one);
-      count = sym (length-map (entries_by h.pass.port k before) (λ (x : EntryValue). x.number)) ∙ (ap length numbers ∙ (range_length 0 share.number ∙ number));
-      is = record { status = is.ended.result.status; entry_is = ap (λ (i : ℕ). numbered_entry i j.judged is.ended.result.status) number };
+      all = ap (entries_by port k) done.last.log ∙ (by_append port k before (link n place (deeds.Does e) done.last.next ∷ []) ∙ ap (λ (es : List EntryValue). entries_by port k before ++ es) one);
+      count = sym (length-map (entries_by port k before) (λ (x : EntryValue). x.number)) ∙ (ap length numbers ∙ (range_length 0 share.number ∙ number));
+      is = record {
+        known = h.front;
+        reached = after.front;
+        entered = record {
+          bank = n;
+          share = share;
+          result = is.ended.result;
+          done = done;
+          by = by (publishes_of done.last.before) behind.published;
+        };
+        stands = prefix_same after.front after.front refl;
+        entry_is = ap (λ (i : ℕ). numbered_entry i j.judged is.ended.result.status) number;
+      };
     }
 
 windowed_none : (k : ℕ) (j : Judging) → j.entered ≡ false → is_entry_at k j ≡ true → ⊥
 windowed_none k j none here = cc (none, (both_are j.entered (is_bank_of k j.judged.place) here).0)
 
 -- a judged command that left an entry at the bank
-judged_left : (k : ℕ) (j : Judging) (p : Cargo) (h after : Standing) → IsJudged j p h after → is_entry_at k j ≡ true → HasLeft k j h after
+judged_left : (k : ℕ) (j : Judging) (p : Cargo) (h after : Standing) → IsJudged j p h after → is_entry_at k j ≡ true → HasLeft h.pass.port k j h after
 judged_left k j p h after is here =
-    let asked = is.judgement.asked in
-    let port : j.judged.port ≡ h.pass.port = is.judgement.judged_for.port_of in
+    let port = h.pass.port in
+    let own : j.judged.port ≡ port = is.judgement.judged_for.port_of in
     let middle = standing is.between h.front in
-    let own : is.between.port ≡ h.pass.port = ap (λ (x : PassValue). x.port) asked in
-    let number : number_at is.between k ≡ number_at h.pass k = ap (λ (x : PassValue). number_at x k) asked in
+    let number : number_at is.between k ≡ number_at h.pass k = ap (λ (x : PassValue). number_at x k) is.judgement.asked in
     elim is.ended [
       | inl banked ↦
-          let left = left_at k j middle after (port ∙ sym own) banked here in record {
+          let left = left_at port k j middle after own (λ published begins. judged_by j p h after published is begins) banked here in record {
             before = left.before;
             entry = left.entry;
-            all = subst (λ (i : ℕ). entries_by i k after.front ≡ left.before ++ left.entry ∷ []) own left.all;
+            all = left.all;
             count = left.count ∙ number;
-            is = subst (λ (i : ℕ). IsEntryOf i j left.entry) number left.is;
+            is = subst (λ (i : ℕ). IsEntryOf port after.front i j left.entry) number left.is;
           }
       | inr windowed ↦ absurd (windowed_none k j windowed.entered here)
     ]
 
 -- ---- all commands
 
+-- an entry that stands in a history stands in one that goes on from it
+entry_in_longer : (port : ℕ) (front log : List Link) (n : ℕ) (j : Judging) (e : EntryValue) → IsPrefix front log → IsEntryOf port front n j e → IsEntryOf port log n j e
+entry_in_longer port front log n j e begins is = record {
+  known = is.known;
+  reached = is.reached;
+  entered = is.entered;
+  stands = prefix_trans is.reached front log is.stands begins;
+  entry_is = is.entry_is;
+}
+
 -- the commands at a bank, with one more before them
-more_entries : (k n : ℕ) (j : Judging) (js : List Judging) (before rest all : List EntryValue) (e : EntryValue) → is_entry_at k j ≡ true → length before ≡ n → IsEntryOf n j e → all ≡ (before ++ e ∷ []) ++ rest
-    → AreEntriesOf (n + 1) (filter (is_entry_at k) js) (drop (n + 1) all) → AreEntriesOf n (filter (is_entry_at k) (j ∷ js)) (drop n all)
-more_entries k n j js before rest all e here count is whole others =
+more_entries : (port : ℕ) (log : List Link) (k n : ℕ) (j : Judging) (js : List Judging) (before rest all : List EntryValue) (e : EntryValue) → is_entry_at k j ≡ true → length before ≡ n → IsEntryOf port log n j e → all ≡ (before ++ e ∷ []) ++ rest
+    → AreEntriesOf port log (n + 1) (filter (is_entry_at k) js) (drop (n + 1) all) → AreEntriesOf port log n (filter (is_entry_at k) (j ∷ js)) (drop n all)
+more_entries port log k n j js before rest all e here count is whole others =
     let first : drop n all ≡ e ∷ rest = ap (drop n) (whole ∙ append_assoc before (e ∷ []) rest) ∙ drop_at n before (e ∷ rest) count in
     let size : length (before ++ e ∷ []) ≡ n + 1 = length-append before (e ∷ []) ∙ ap (λ (i : ℕ). i + 1) count in
     let later : drop (n + 1) all ≡ rest = ap (drop (n + 1)) whole ∙ drop_at (n + 1) (before ++ e ∷ []) rest size in
-    let both : AreEntriesOf n (j ∷ filter (is_entry_at k) js) (e ∷ rest) = (is, subst (AreEntriesOf (n + 1) (filter (is_entry_at k) js)) later others) in
-    subst (λ (es : List EntryValue). AreEntriesOf n (filter (is_entry_at k) (j ∷ js)) es) (sym first)
-    (subst (λ (b : Bool). AreEntriesOf n (cond b (j ∷ filter (is_entry_at k) js) (filter (is_entry_at k) js)) (e ∷ rest)) (sym here) both)
+    let both : AreEntriesOf port log n (j ∷ filter (is_entry_at k) js) (e ∷ rest) = (is, subst (AreEntriesOf port log (n + 1) (filter (is_entry_at k) js)) later others) in
+    subst (λ (es : List EntryValue). AreEntriesOf port log n (filter (is_entry_at k) (j ∷ js)) es) (sym first)
+    (subst (λ (b : Bool). AreEntriesOf port log n (cond b (j ∷ filter (is_entry_at k) js) (filter (is_entry_at k) js)) (e ∷ rest)) (sym here) both)
 
 -- one judged command before the others
 one_before : (k : ℕ) (log : List Link) (j : Judging) (p : Cargo) (h between : Standing) (js : List Judging) → IsJudged j p h between → IsPrefix between.front log → k < length h.pass.shares
-    → AreEntriesOf (number_at between.pass k) (filter (is_entry_at k) js) (drop (number_at between.pass k) (entries_by h.pass.port k log))
-    → AreEntriesOf (number_at h.pass k) (filter (is_entry_at k) (j ∷ js)) (drop (number_at h.pass k) (entries_by h.pass.port k log))
+    → AreEntriesOf h.pass.port log (number_at between.pass k) (filter (is_entry_at k) js) (drop (number_at between.pass k) (entries_by h.pass.port k log))
+    → AreEntriesOf h.pass.port log (number_at h.pass k) (filter (is_entry_at k) (j ∷ js)) (drop (number_at h.pass k) (entries_by h.pass.port k log))
 one_before k log j p h between js is front below rest = by (is_entry_at k j) refl where
   n : ℕ
   n = number_at h.pass k
@@ -187,39 +198,40 @@ one_before k log j p h between js is front below rest = by (is_entry_at k j) ref
   number : number_at between.pass k ≡ n + one_at k j
   number = judged_number k j p h between is below
 
-  by : (b : Bool) → is_entry_at k j ≡ b → AreEntriesOf n (filter (is_entry_at k) (j ∷ js)) (drop n all)
+  by : (b : Bool) → is_entry_at k j ≡ b → AreEntriesOf h.pass.port log n (filter (is_entry_at k) (j ∷ js)) (drop n all)
   by true here =
       let left = judged_left k j p h between is here in
       let next : number_at between.pass k ≡ n + 1 = number ∙ ap (λ (b : Bool). n + bit b) here in
       let whole : all ≡ (left.before ++ left.entry ∷ []) ++ entries_by h.pass.port k front.0 =
       ap (entries_by h.pass.port k) (sym front.1) ∙ (by_append h.pass.port k between.front front.0 ∙ ap (λ (es : List EntryValue). es ++ entries_by h.pass.port k front.0) left.all) in
-      more_entries k n j js left.before (entries_by h.pass.port k front.0) all left.entry here left.count left.is whole
-      (subst (λ (i : ℕ). AreEntriesOf i (filter (is_entry_at k) js) (drop i all)) next rest)
+      more_entries h.pass.port log k n j js left.before (entries_by h.pass.port k front.0) all left.entry here left.count
+      (entry_in_longer h.pass.port between.front log n j left.entry front left.is) whole
+      (subst (λ (i : ℕ). AreEntriesOf h.pass.port log i (filter (is_entry_at k) js) (drop i all)) next rest)
   by false here =
       let next : number_at between.pass k ≡ n = number ∙ (ap (λ (b : Bool). n + bit b) here ∙ omega arith) in
-      subst (λ (b : Bool). AreEntriesOf n (cond b (j ∷ filter (is_entry_at k) js) (filter (is_entry_at k) js)) (drop n all)) (sym here)
-      (subst (λ (i : ℕ). AreEntriesOf i (filter (is_entry_at k) js) (drop i all)) next rest)
+      subst (λ (b : Bool). AreEntriesOf h.pass.port log n (cond b (j ∷ filter (is_entry_at k) js) (filter (is_entry_at k) js)) (drop n all)) (sym here)
+      (subst (λ (i : ℕ). AreEntriesOf h.pass.port log i (filter (is_entry_at k) js) (drop i all)) next rest)
 
 all_entries : (k : ℕ) (log : List Link) (h after : Standing) (ps : List Cargo) (ds : List Deed) → Worked h ps ds after → IsPrefix after.front log → k < length h.pass.shares
     → IsPrefix (numbers_of h.pass.port (entries_of k log)) (range_with_len 0 (number_at after.pass k))
-    → AreEntriesOf (number_at h.pass k) (filter (is_entry_at k) (judgings ds)) (drop (number_at h.pass k) (entries_by h.pass.port k log))
+    → AreEntriesOf h.pass.port log (number_at h.pass k) (filter (is_entry_at k) (judgings ds)) (drop (number_at h.pass k) (entries_by h.pass.port k log))
 all_entries k log h after [] [] w begins below counted =
     let n = number_at h.pass k in
     let few : length (numbers_of h.pass.port (entries_of k log)) ≤ length (range_with_len 0 (number_at after.pass k)) = prefix_length _ _ counted in
     let size = length-map (entries_by h.pass.port k log) (λ (x : EntryValue). x.number) in
     let range = range_length 0 (number_at after.pass k) in
     let same : number_at after.pass k ≡ n = ap (λ (x : Standing). number_at x.pass k) w in
-    subst (AreEntriesOf n []) (sym (drop_past n (entries_by h.pass.port k log) (omega (arith, few, size, range, same)))) tt
+    subst (AreEntriesOf h.pass.port log n []) (sym (drop_past n (entries_by h.pass.port k log) (omega (arith, few, size, range, same)))) tt
 all_entries k log h after [] (d ∷ ds) w begins below counted = absurd w
 all_entries k log h after (p ∷ ps) [] w begins below counted = absurd w
 all_entries k log h after (p ∷ ps) (Dropped ∷ ds) w begins below counted =
     let same = w.1.same in
-    subst (λ (x : Standing). AreEntriesOf (number_at x.pass k) (filter (is_entry_at k) (judgings ds)) (drop (number_at x.pass k) (entries_by x.pass.port k log))) same
+    subst (λ (x : Standing). AreEntriesOf x.pass.port log (number_at x.pass k) (filter (is_entry_at k) (judgings ds)) (drop (number_at x.pass k) (entries_by x.pass.port k log))) same
     (all_entries k log w.0 after ps ds w.2 begins (subst (λ (x : Standing). k < length x.pass.shares) (sym same) below)
     (subst (λ (x : Standing). IsPrefix (numbers_of x.pass.port (entries_of k log)) (range_with_len 0 (number_at after.pass k))) (sym same) counted))
 all_entries k log h after (p ∷ ps) (Answered reply ∷ ds) w begins below counted =
     let same = w.1.same in
-    subst (λ (x : Standing). AreEntriesOf (number_at x.pass k) (filter (is_entry_at k) (judgings ds)) (drop (number_at x.pass k) (entries_by x.pass.port k log))) same
+    subst (λ (x : Standing). AreEntriesOf x.pass.port log (number_at x.pass k) (filter (is_entry_at k) (judgings ds)) (drop (number_at x.pass k) (entries_by x.pass.port k log))) same
     (all_entries k log w.0 after ps ds w.2 begins (subst (λ (x : Standing). k < length x.pass.shares) (sym same) below)
     (subst (λ (x : Standing). IsPrefix (numbers_of x.pass.port (entries_of k log)) (range_with_len 0 (number_at after.pass k))) (sym same) counted))
 all_entries k log h after (p ∷ ps) (Judged j ∷ ds) w begins below counted =
@@ -229,7 +241,7 @@ all_entries k log h after (p ∷ ps) (Judged j ∷ ds) w begins below counted =
     (subst (λ (i : ℕ). IsPrefix (numbers_of i (entries_of k log)) (range_with_len 0 (number_at after.pass k))) (sym stays.port) counted) in
     let front : IsPrefix w.0.front log = prefix_trans w.0.front after.front log (follow_prefix w.0.pass.port w.0.front (judgings ds) after.front (entries_follow w.0 after ps ds w.2)) begins in
     one_before k log j p h w.0 (judgings ds) w.1 front below
-    (subst (λ (i : ℕ). AreEntriesOf (number_at w.0.pass k) (filter (is_entry_at k) (judgings ds)) (drop (number_at w.0.pass k) (entries_by i k log))) stays.port rest)
+    (subst (λ (i : ℕ). AreEntriesOf i log (number_at w.0.pass k) (filter (is_entry_at k) (judgings ds)) (drop (number_at w.0.pass k) (entries_by i k log))) stays.port rest)
 
 pub entries_are_all : WorkersEntriesAreAll
 entries_are_all = λ h after ps ds log w begins counted k below.

@@ -14,7 +14,6 @@ use Rattle.node_parts.specs.Passes.{PassValue}
 use Rattle.node_parts.specs.Steps.{IsVerdict}
 use Rattle.node_parts.specs.Applied.{share_of}
 use Rattle.bank.specs.declared.bank.Applied.{Applied}
-use Rattle.rmap.specs.declared.status.Status.{Status}
 use Rattle.bank.specs.Records.{EntryValue, ShareValue, numbered_entry}
 use Rattle.annals.specs.declared.deed.Link.{Link}
 use Rattle.annals.specs.Banks.{IsDone, entries_by}
@@ -99,25 +98,29 @@ EntriesFollow port known (judging ∷ judgings) reached =
     ((between : List Link) × HasEntered port known between judging × EntriesFollow port between judgings reached)
     (EntriesFollow port known judgings reached)
 
--- the entry is that of the command, which is the one of that number of its port at its bank
-pub record IsEntryOf (number : ℕ) (judging : Judging) (entry : EntryValue) : Type 0 where
-  pub status : Status
-  pub entry_is : entry ≡ numbered_entry number judging.judged status
+-- the entry is that of the command, which is the one of that number of its port at its bank, and stands in the history with the
+-- status that the command was answered there
+pub record IsEntryOf (port : ℕ) (log : List Link) (number : ℕ) (judging : Judging) (entry : EntryValue) : Type 0 where
+  pub known : List Link
+  pub reached : List Link
+  pub entered : HasEntered port known reached judging
+  pub stands : IsPrefix reached log
+  pub entry_is : entry ≡ numbered_entry number judging.judged entered.result.status
 
 -- the entries are those of the commands, in order and each once, numbered from that number on
-abbrev pub AreEntriesOf : ℕ → List Judging → List EntryValue → Type 0
-AreEntriesOf number [] [] = Unit {0}
-AreEntriesOf number [] (entry ∷ entries) = ⊥
-AreEntriesOf number (judging ∷ judgings) [] = ⊥
-AreEntriesOf number (judging ∷ judgings) (entry ∷ entries) =
-    IsEntryOf number judging entry × AreEntriesOf (number + 1) judgings entries
+abbrev pub AreEntriesOf : (port : ℕ) → (log : List Link) → ℕ → List Judging → List EntryValue → Type 0
+AreEntriesOf port log number [] [] = Unit {0}
+AreEntriesOf port log number [] (entry ∷ entries) = ⊥
+AreEntriesOf port log number (judging ∷ judgings) [] = ⊥
+AreEntriesOf port log number (judging ∷ judgings) (entry ∷ entries) =
+    IsEntryOf port log number judging entry × AreEntriesOf port log (number + 1) judgings entries
 
 -- at each bank, the entries of the port in that history, but for those that its share counted at first, are those of its
 -- commands that left one there, in order and each once
 abbrev pub AreAllEntries : List Link → PassValue → List Deed → Type 0
 AreAllEntries log h deeds =
     (k : ℕ) → k < length h.shares
-    → AreEntriesOf (number_at h k) (filter (is_entry_at k) (judgings deeds))
+    → AreEntriesOf h.port log (number_at h k) (filter (is_entry_at k) (judgings deeds))
     (drop (number_at h k) (entries_by h.port k log))
 
 -- a history that goes on from what a worker knows in the end, and has no entries of its port but those that its shares count,
