@@ -17,7 +17,7 @@ use Rattle.job_codes.specs.ExplainJob.{explain_app, NamesExplain, SpoilsExplain}
 use Rattle.job_texts.specs.Images.{NamesImage, SpoilsImage}
 use Rattle.job_packets.specs.PacketJob.{packet_app, NamesPacket, SpoilsPacket}
 use Rattle.job_texts.specs.PolicyJob.{policy_app, NamesPolicy, SpoilsPolicy}
-use Rattle.job_packets.specs.ShowJob.{show_app, NamesShow}
+use Rattle.job_show.specs.ShowJob.{show_app, NamesShow}
 use Rattle.job_texts.specs.VerifyJob.{verify_app}
 use Rattle.job_codes.specs.WhyJob.{why_app}
 use Rattle.job_nodes.specs.JudgeJob.{judge_app}

@@ -18,7 +18,7 @@ use Rattle.job_parts.specs.Statuses.{IsDoneWith}
 use Rattle.job_ports.specs.ServedFile.{IsNotServed, ServesFile}
 use Rattle.job_nodes.specs.Simulated.{IsNotSimulated, SimulatesFile}
 use Rattle.job_packets.specs.MadePackets.{IsNotMade, MakesFile}
-use Rattle.job_packets.specs.Shown.{IsNotShown, ShowsFile}
+use Rattle.job_show.specs.Shown.{IsNotShown, ShowsFile}
 use Rattle.job_texts.specs.Verified.{Verifies}
 use Rattle.job_trace.specs.Traced.{IsNotTraced, TracesFile}
 use Rattle.job_weigh.specs.Weighed.{Weighs}

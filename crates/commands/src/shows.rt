@@ -5,11 +5,11 @@ ghost use Rattle.job_parts.specs.Printed.{fault_line};
 ghost use Rattle.commands.specs.ShownTalk.{BreaksShow, IsShown, IsUnsent, IsUntold, ShowsTalk, ShowsOne};
 
 use job_live::talk::Talk;
-use job_packets::shown_lines::shown_line;
 use job_parts::bad_lines::BadLine;
 use job_parts::faults::Fault;
 use job_parts::status::Status;
 use job_parts::stops::{Halt, WriteFault};
+use job_show::shown_lines::shown_line;
 use std::alloc::Global;
 use std::io::Write;
 

@@ -5,7 +5,5 @@ pub mod Orders
 pub mod PacketJob
 pub mod PacketOptions
 pub mod Requests
-pub mod ShowJob
-pub mod Shown
 pub mod Slips
 pub mod Slots

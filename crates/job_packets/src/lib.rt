@@ -1,8 +1,7 @@
-//! The jobs of `rmapctl` on packets in words: what makes packet lines, and what tells what they say.
+//! The job of `rmapctl` that makes packet lines of words.
 #![tactic(auto)]
 
 pub mod hex_words;
-pub mod load_results;
 pub mod loads;
 pub mod made_packets;
 pub mod numbers;
@@ -10,7 +9,4 @@ pub mod orders;
 pub mod packet;
 pub mod packet_options;
 pub mod requests;
-pub mod show;
-mod shown;
-pub mod shown_lines;
 pub mod slips;

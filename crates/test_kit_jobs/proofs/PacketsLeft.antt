@@ -4,7 +4,7 @@ use Rattle.job_parts.specs.declared.faults.Fault.{Fault}
 use Rattle.job_parts.specs.declared.status.Status.{Status}
 use Rattle.job_parts.specs.declared.status.Status.TheVariants.{Done, Failed, Misused}
 use Rattle.job_packets.specs.MadePackets.{IsContentOf, IsMade, IsNotMade, MakesFile, file_of, own_data}
-use Rattle.job_packets.specs.Shown.{IsNotShown}
+use Rattle.job_show.specs.Shown.{IsNotShown}
 use Rattle.job_packets.specs.declared.packet.PacketWords.{PacketWords}
 use Rattle.test_kit_jobs.specs.Folders.{FolderReads, FolderValue}
 

@@ -3,7 +3,7 @@ use Rattle.std.specs.Prelude.{◌≡◌, List, Some, codes, string_bytes}
 use Rattle.clap.specs.Walk.{Row, first_of}
 use Rattle.clap.specs.Simple.{App, new_app, with_rule}
 use Rattle.job_parts.specs.Arguments.{file_rule}
-use Rattle.job_packets.specs.declared.show.ShowWords.{ShowWords}
+use Rattle.job_show.specs.declared.show.ShowWords.{ShowWords}
 
 -- `show LINES`
 abbrev pub show_app : App

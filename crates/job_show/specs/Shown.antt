@@ -10,7 +10,7 @@ use Rattle.job_parts.specs.Turns.{AreTaken, Sees, SeesEnd, StopsIn}
 use Rattle.job_parts.specs.declared.bad_lines.BadLine.TheVariants.{Line}
 use Rattle.job_parts.specs.declared.faults.Fault.{Fault}
 use Rattle.job_parts.specs.declared.stops.LineEnd.TheVariants.{Bad}
-use Rattle.job_packets.specs.declared.show.Showing.{Showing}
+use Rattle.job_show.specs.declared.show.Showing.{Showing}
 
 -- something was printed of the line
 abbrev pub ShowsLine : List ℕ → Sees Showing

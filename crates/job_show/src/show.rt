@@ -8,8 +8,8 @@ ghost use Rattle.clap.specs.Matches.{found_of};
 ghost use Rattle.job_parts.specs.Arguments.{Lacks};
 ghost use Rattle.job_parts.specs.Statuses.{IsDoneWith};
 ghost use Rattle.job_parts.specs.Stops.{StopsBy};
-ghost use Rattle.job_packets.specs.ShowJob.{NamesShow, show_app};
-ghost use Rattle.job_packets.specs.Shown.{IsNotShown, ShowsFile};
+ghost use Rattle.job_show.specs.ShowJob.{NamesShow, show_app};
+ghost use Rattle.job_show.specs.Shown.{IsNotShown, ShowsFile};
 
 use crate::shown_lines::shown_line;
 use clap::{ArgMatches, Command};
@@ -57,7 +57,7 @@ pub fn show_job(alloc: Global, found: &ArgMatches) -> Result<ShowWords, UsageFau
 struct Showing;
 
 impl TakesLines for Showing {
-    ghost use Rattle.job_packets.specs.Shown.{IsUnshown, ShowsLine};
+    ghost use Rattle.job_show.specs.Shown.{IsUnshown, ShowsLine};
 
     ghost takes = { ShowsLine };
 

@@ -1,0 +1,2 @@
+pub mod ShowJob
+pub mod Shown
