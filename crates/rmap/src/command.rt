@@ -91,8 +91,14 @@ impl<'a> Command<'a> {
         requires { discard_of packet.now.bytes ≡ None }
         ensures { result ≡ command_of packet.now }
     {
-        let end = packet.end();
-        let bytes = packet.bytes();
+        Command::of_bytes(packet.bytes(), packet.end())
+    }
+
+    /// The same of the bytes of a packet that ended so, where the packet itself is not at hand.
+    pub fn of_bytes(bytes: &'a [u8], end: End) -> Command<'a>
+        requires { discard_of bytes.now ≡ None }
+        ensures { result ≡ command_of (record { bytes = bytes.now; end = end }) }
+    {
         let address = Instruction(bytes[field::INSTRUCTION]).reply_address_len();
         let (front, rest) = bytes.split_first_chunk::<4>().unwrap();
         let (reply_address, rest) = rest.split_at(address);

@@ -78,6 +78,27 @@ fn fields_of_a_header(rt: HostRuntime) -> Result<(), Fail> {
     Ok(())
 }
 
+#[test]
+fn bytes_known_to_be_a_command(rt: HostRuntime) -> Result<(), Fail> {
+    let line = "0 20014E33 0000000000000506 674455 11 89ABCDEF 123456 74 AABB EEP";
+    let sent = packet(rt.alloc(), line)?;
+    let command = Command::view(&sent)?;
+    let known = Command::of_bytes(sent.bytes(), sent.end());
+    same(
+        &rt,
+        "the command of known bytes",
+        numbers(&known),
+        numbers(&command),
+    );
+    same(
+        &rt,
+        "the command of known bytes",
+        (known.reply_path(), known.body(), known.end()),
+        (command.reply_path(), [0xAA, 0xBB].as_slice(), End::Eep),
+    );
+    Ok(())
+}
+
 /// The kinds of the command codes 0 to 15, bits 5 to 2 of the instruction.
 const KINDS: &str =
     "Unused Unused Read Read Unused Unused Unused Rmw Write Write Write Write Write Write Write Write";
