@@ -12,7 +12,7 @@ ghost use Rattle.bank.specs.Pages.{ArePages, after_page};
 
 use crate::effect::{change, reply_read};
 use crate::reading::Bytes;
-use rmap::{Command, ReplyBuf};
+use rmap::{Command, Kind, ReplyBuf};
 use std::alloc::{AllocError, Global};
 use std::marker::Model;
 
@@ -100,8 +100,23 @@ impl Pages {
     }
 
     /// Does what the command does to its bytes, which lie in the memory that begins at the address
-    /// `first`: in one page, or in one and the next.
+    /// `first`. A read looks for no page.
     pub(crate) fn change(&mut self, first: u32, command: &Command)
+        requires admitted { IsAdmissible command.now }
+        requires body { body_line command.now ≡ None }
+        requires inside { lies_inside first (length self.old) command.now ≡ true }
+        requires range { first + length self.old ≤ 2 ^ 32 }
+        ensures { memory_at first self.new
+            ≡ (effect (memory_at first self.old) command.now).memory }
+    {
+        match command.kind() {
+            Kind::Write | Kind::Rmw => self.change_pages(first, command),
+            Kind::Read | Kind::Unused => {}
+        }
+    }
+
+    /// Does what the command does to its bytes: in one page, or in one and the next.
+    fn change_pages(&mut self, first: u32, command: &Command)
         requires admitted { IsAdmissible command.now }
         requires body { body_line command.now ≡ None }
         requires inside { lies_inside first (length self.old) command.now ≡ true }

@@ -7,9 +7,8 @@ use Rattle.std.proofs.lemmas.List.{length-map, length-set}
 use Rattle.rmap.specs.Windows.{lies_inside}
 use Rattle.bank.specs.Effect.{memory_at, effect}
 use Rattle.bank.proofs.Paging.{in_page, one_is_changed, two_are_changed, paged, within_all, page_some}
-use Rattle.bank.proofs.pages.Pages.change.Goals as goal
+use Rattle.bank.proofs.pages.Pages.change_pages.Goals as goal
 
--- src/pages.rt:123:9
 pub change_page-requires-clause-below : goal.change_page-requires-clause-below
 change_page-requires-clause-below c =
     let items = c.self.inside.pages.items in
