@@ -1,4 +1,5 @@
 pub mod Fitting
+pub mod Entries
 pub mod Left
 pub mod Steps
 pub mod Sums

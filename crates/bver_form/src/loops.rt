@@ -6,7 +6,7 @@ ghost use Rattle.bpf.specs.Program.{IsLoop, Program, insn_at};
 ghost use Rattle.bver_form.specs.Facts.{AreFacts, AreFactsOf};
 ghost use Rattle.bver_form.specs.Form.{IsLoopFault};
 ghost use Rattle.bver_form.specs.Jumps.{jump_distance, target};
-ghost use Rattle.bver_form.specs.Loops.{EntersAtHead, IsAmongOthers, IsBackJump, IsEnteredAtHead, IsLoopFormed, IsNestedOrApart, IsStep, EntersAtHeadFrom, LeavesCounter, LeavesCounterAt, back_jump, holds, step_down};
+ghost use Rattle.bver_form.specs.Loops.{AreEnteredAtHead, EntersAllAtHead, EntersAllAtHeadFrom, EntersAtHead, EntersAtHeadFrom, IsAmongOthers, IsBackJump, IsEnteredAtHead, IsLoopFormed, IsNestedOrApart, IsStep, LeavesCounter, LeavesCounterAt, back_jump, holds, step_down};
 
 use crate::facts::{SLOTS, SlotFacts};
 use crate::jumps::target;
@@ -126,6 +126,43 @@ fn check_entry(image: &Image, facts: &[SlotFacts; SLOTS], declared: &Loop) -> bo
     true
 }
 
+/// Whether a jump from the slot to that place does so for each declared loop.
+fn enters_all_at_head(image: &Image, slot: u16, landing: i64) -> bool
+    ensures { IsTrue result ↔ EntersAllAtHead image.now slot landing }
+{
+    for declared in image.loops() {
+        if !enters_at_head(declared, slot, landing) {
+            return false;
+        }
+    }
+    true
+}
+
+/// The same of the instruction at the slot, where it jumps.
+fn enters_all_at_head_from(image: &Image, facts: &SlotFacts, slot: u16) -> bool
+    requires { AreFactsOf (insn_at image.now slot) facts.now }
+    ensures { IsTrue result ↔ EntersAllAtHeadFrom image.now slot }
+{
+    match facts.distance() {
+        Some(distance) => enters_all_at_head(image, slot, target(slot, distance)),
+        None => true,
+    }
+}
+
+/// Whether no jump leads to the back of a declared loop, and none from outside into one but to its head: one walk
+/// over the slots for all loops.
+fn check_entries(image: &Image, facts: &[SlotFacts; SLOTS]) -> bool
+    requires { AreFacts image.now facts.now }
+    ensures { IsTrue result ↔ AreEnteredAtHead image.now }
+{
+    for slot in 0..image.slots() {
+        if !enters_all_at_head_from(image, &facts[usize::from(slot)], slot) {
+            return false;
+        }
+    }
+    true
+}
+
 /// Whether one of the loops is nested in the other, or they are apart.
 fn are_nested_or_apart(declared: &Loop, other: &Loop) -> bool
     ensures { IsTrue result ↔ IsNestedOrApart declared.now other.now }
@@ -148,17 +185,23 @@ fn check_others(image: &Image, declared: &Loop) -> bool
     true
 }
 
-/// Whether the declared loop has its form.
-fn is_loop_formed(image: &Image, facts: &[SlotFacts; SLOTS], declared: &Loop) -> bool
+/// Whether the declared loop has its form. Where it is known that it is entered at its head, that is not tested.
+fn is_loop_formed(
+    image: &Image,
+    facts: &[SlotFacts; SLOTS],
+    declared: &Loop,
+    is_entered: bool,
+) -> bool
     requires limits { IsLoop MAX_SLOTS declared.now }
     requires within { declared.now.back < length image.now.slots }
     requires facts { AreFacts image.now facts.now }
+    requires entered { IsTrue is_entered → IsEnteredAtHead image.now declared.now }
     ensures { IsTrue result ↔ IsLoopFormed image.now declared.now }
 {
     check_back(image, declared)
         && check_step(image, declared)
         && check_counter(facts, declared)
-        && check_entry(image, facts, declared)
+        && (is_entered || check_entry(image, facts, declared))
         && check_others(image, declared)
 }
 
@@ -174,14 +217,15 @@ fn unformed(declared: &Loop) -> Refused
 }
 
 /// Tests that each declared loop has its form, by the facts of its slots. The first that has not, by rising head, is
-/// refused.
+/// refused. Only where a jump enters one elsewhere than at its head it is asked which one.
 pub(crate) fn check_loops(image: &Image, facts: &[SlotFacts; SLOTS]) -> Result<(), Refused>
     requires { AreFacts image.now facts.now }
     ensures { MatchResult result (λ _. All (IsLoopFormed image.now) image.now.loops)
         (IsLoopFault image.now) }
 {
+    let are_entered = check_entries(image, facts);
     for declared in image.loops() {
-        if !is_loop_formed(image, facts, declared) {
+        if !is_loop_formed(image, facts, declared, are_entered) {
             return Err(unformed(declared));
         }
     }

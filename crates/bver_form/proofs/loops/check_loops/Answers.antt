@@ -2,6 +2,8 @@ use Rattle.std.proofs.Common.{rules, ◌<◌, length, subst, sym}
 use Rattle.bpf.specs.declared.header.TheConstants.{MAX_SLOTS}
 use Rattle.bpf.specs.declared.loops.Loop.{Loop}
 use Rattle.bpf.specs.Program.{IsLoop}
+use Rattle.bver_form.specs.Loops.{IsEnteredAtHead}
+use Rattle.bver_form.proofs.Entries.{each_is_entered}
 use Rattle.bver_form.proofs.Fitting.{formed_next, item_is, loop_at, small_loop}
 use Rattle.bver_form.proofs.loops.check_loops.Goals as goal
 
@@ -18,6 +20,13 @@ is_loop_formed-requires-clause-within c =
     let k = c.loop-declared.declared-index in
     let is = item_is p c.loops-declared-items.result.now k c.declared-item.result c.loops-declared-items.ensures.value c.declared-item.is in
     subst (λ (l : Loop). l.back < length p.slots) (sym is) (loop_at p k c.declared-item.result c.loops-declared-items.ensures.program (search rules)).within
+
+pub is_loop_formed-requires-clause-entered : goal.is_loop_formed-requires-clause-entered
+is_loop_formed-requires-clause-entered c =
+    let p = c.args.image.now in
+    let k = c.loop-declared.declared-index in
+    let is = item_is p c.loops-declared-items.result.now k c.declared-item.result c.loops-declared-items.ensures.value c.declared-item.is in
+    λ entered. subst (IsEnteredAtHead p) (sym is) (each_is_entered p k c.declared-item.result (search rules) (c.check_entries.ensures.0 entered))
 
 pub loop-declared-preserved : goal.loop-declared-preserved
 loop-declared-preserved c =
