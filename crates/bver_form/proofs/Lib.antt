@@ -1,5 +1,4 @@
 pub mod Fitting
-pub mod Entries
 pub mod Left
 pub mod Steps
 pub mod Sums

@@ -99,15 +99,9 @@ pub record IsLoopFormed (p : Program) (l : Loop) : Type 0 where
 
 -- ---- all loops at once
 
--- a jump from the slot to that place enters none of the declared loops elsewhere than at its head
-abbrev pub EntersAllAtHead : Program → (slot : ℕ) → ℤ → Type 0
-EntersAllAtHead p slot next = All (λ l. EntersAtHead l slot next) p.loops
-
--- an instruction at the slot does so, if it jumps
+-- an instruction at the slot enters each declared loop so, if it jumps
 abbrev pub EntersAllAtHeadFrom : Program → (slot : ℕ) → Type 0
-EntersAllAtHeadFrom p slot =
-    IfSome (insn_at p slot)
-    (λ insn. IfSome (jump_distance insn) (λ distance. EntersAllAtHead p slot (target slot distance)))
+EntersAllAtHeadFrom p slot = All (λ l. EntersAtHeadFrom p l slot) p.loops
 
 -- each declared loop is entered at its head alone
 abbrev pub AreEnteredAtHead : Program → Type 0

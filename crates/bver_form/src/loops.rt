@@ -6,7 +6,7 @@ ghost use Rattle.bpf.specs.Program.{IsLoop, Program, insn_at};
 ghost use Rattle.bver_form.specs.Facts.{AreFacts, AreFactsOf};
 ghost use Rattle.bver_form.specs.Form.{IsLoopFault};
 ghost use Rattle.bver_form.specs.Jumps.{jump_distance, target};
-ghost use Rattle.bver_form.specs.Loops.{AreEnteredAtHead, EntersAllAtHead, EntersAllAtHeadFrom, EntersAtHead, EntersAtHeadFrom, IsAmongOthers, IsBackJump, IsEnteredAtHead, IsLoopFormed, IsNestedOrApart, IsStep, LeavesCounter, LeavesCounterAt, back_jump, holds, step_down};
+ghost use Rattle.bver_form.specs.Loops.{AreEnteredAtHead, EntersAllAtHeadFrom, EntersAtHead, EntersAtHeadFrom, IsAmongOthers, IsBackJump, IsEnteredAtHead, IsLoopFormed, IsNestedOrApart, IsStep, LeavesCounter, LeavesCounterAt, back_jump, holds, step_down};
 
 use crate::facts::{SLOTS, SlotFacts};
 use crate::jumps::target;
@@ -126,25 +126,26 @@ fn check_entry(image: &Image, facts: &[SlotFacts; SLOTS], declared: &Loop) -> bo
     true
 }
 
-/// Whether a jump from the slot to that place does so for each declared loop.
-fn enters_all_at_head(image: &Image, slot: u16, landing: i64) -> bool
-    ensures { IsTrue result ↔ EntersAllAtHead image.now slot landing }
+/// Whether the instruction at the slot enters each declared loop so, where it jumps.
+fn enters_each_at_head(image: &Image, facts: &SlotFacts, slot: u16) -> bool
+    requires { AreFactsOf (insn_at image.now slot) facts.now }
+    ensures { IsTrue result ↔ EntersAllAtHeadFrom image.now slot }
 {
     for declared in image.loops() {
-        if !enters_at_head(declared, slot, landing) {
+        if !enters_at_head_from(facts, declared, slot) {
             return false;
         }
     }
     true
 }
 
-/// The same of the instruction at the slot, where it jumps.
-fn enters_all_at_head_from(image: &Image, facts: &SlotFacts, slot: u16) -> bool
+/// The same. The loops are asked only where the instruction jumps.
+fn enters_all_at_head(image: &Image, facts: &SlotFacts, slot: u16) -> bool
     requires { AreFactsOf (insn_at image.now slot) facts.now }
     ensures { IsTrue result ↔ EntersAllAtHeadFrom image.now slot }
 {
     match facts.distance() {
-        Some(distance) => enters_all_at_head(image, slot, target(slot, distance)),
+        Some(_) => enters_each_at_head(image, facts, slot),
         None => true,
     }
 }
@@ -156,7 +157,7 @@ fn check_entries(image: &Image, facts: &[SlotFacts; SLOTS]) -> bool
     ensures { IsTrue result ↔ AreEnteredAtHead image.now }
 {
     for slot in 0..image.slots() {
-        if !enters_all_at_head_from(image, &facts[usize::from(slot)], slot) {
+        if !enters_all_at_head(image, &facts[usize::from(slot)], slot) {
             return false;
         }
     }

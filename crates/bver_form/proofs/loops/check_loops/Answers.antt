@@ -3,7 +3,6 @@ use Rattle.bpf.specs.declared.header.TheConstants.{MAX_SLOTS}
 use Rattle.bpf.specs.declared.loops.Loop.{Loop}
 use Rattle.bpf.specs.Program.{IsLoop}
 use Rattle.bver_form.specs.Loops.{IsEnteredAtHead}
-use Rattle.bver_form.proofs.Entries.{each_is_entered}
 use Rattle.bver_form.proofs.Fitting.{formed_next, item_is, loop_at, small_loop}
 use Rattle.bver_form.proofs.loops.check_loops.Goals as goal
 
@@ -26,7 +25,7 @@ is_loop_formed-requires-clause-entered c =
     let p = c.args.image.now in
     let k = c.loop-declared.declared-index in
     let is = item_is p c.loops-declared-items.result.now k c.declared-item.result c.loops-declared-items.ensures.value c.declared-item.is in
-    λ entered. subst (IsEnteredAtHead p) (sym is) (each_is_entered p k c.declared-item.result (search rules) (c.check_entries.ensures.0 entered))
+    λ entered. subst (IsEnteredAtHead p) (sym is) (λ slot. c.check_entries-are_entered.ensures.0 entered slot k c.declared-item.result (search rules))
 
 pub loop-declared-preserved : goal.loop-declared-preserved
 loop-declared-preserved c =

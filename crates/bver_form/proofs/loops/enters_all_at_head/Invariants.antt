@@ -1,8 +1,0 @@
-use Rattle.std.proofs.Common.{ℕ, ◌<◌}
-use Rattle.std.specs.Prelude.{slice_index_or}
-use Rattle.bpf.specs.declared.loops.Loop.{Loop}
-use Rattle.bver_form.specs.Loops.{EntersAtHead}
-use Rattle.bver_form.proofs.loops.enters_all_at_head.Given as goal
-
-abbrev pub invariant-loop-declared : goal.invariant-loop-declared
-invariant-loop-declared l = (k : ℕ) (m : Loop) → k < l.declared-index → EntersAtHead (slice_index_or l.image.loops k m) l.slot l.landing
