@@ -1,5 +1,9 @@
 -- What a packet asks for, in numbers.
 use Rattle.std.specs.Prelude.{ℕ, Option, Some, None}
+use Rattle.node_parts.specs.declared.served.Served.{Served}
+use Rattle.node_parts.specs.declared.served.Served.TheVariants.{Stopped, Unread, Done, Window}
+use Rattle.node_parts.specs.declared.stop.Stop.{Stop}
+use Rattle.node_parts.specs.declared.stop.Stop.TheVariants.{Discarded, Answered}
 use Rattle.rmap.specs.Command.{CommandValue, address_of, command_kind, command_of, discard_of, extended_of, length_of}
 use Rattle.rmap.specs.declared.discard.Discard.{Discard}
 use Rattle.rmap.specs.declared.kind.Kind.{Kind}
@@ -27,6 +31,18 @@ parts_of c = record {
 -- what is told where there is no command
 abbrev pub no_parts : ServedParts
 no_parts = record { command = NO_COMMAND; extended = 0; address = 0; length = 0 }
+
+-- why the header of a packet stopped it without a reply, if it did
+abbrev pub discard_in_stop : Stop → Option Discard
+discard_in_stop (Discarded discard) = Some discard
+discard_in_stop (Answered status) = None
+
+-- why a packet was discarded, by what became of it, if it was
+abbrev pub discard_in : Served → Option Discard
+discard_in (Stopped stop) = discard_in_stop stop
+discard_in Unread = None
+discard_in (Done applied) = None
+discard_in (Window status) = None
 
 -- what a packet asks for, by why it is no command, if it is none
 abbrev pub parts_unless : Option Discard → CommandValue → ServedParts

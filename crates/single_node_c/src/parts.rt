@@ -1,10 +1,12 @@
 //! What a packet asks for, in numbers.
 
 ghost use Rattle.std.specs.Prelude.{◌≡◌};
-ghost use Rattle.single_node_c.specs.Parts.{command_number, parts_of, served_parts};
+ghost use Rattle.rmap.specs.Command.{discard_of};
+ghost use Rattle.single_node_c.specs.Parts.{command_number, discard_in, parts_of, served_parts};
 
+use node_parts::{Served, Stop};
 use rmap::{Command, Kind};
-use spw::Packet;
+use spw::End;
 
 /// The number of a packet that is no command, and of one with an unused command code.
 pub const NO_COMMAND: u8 = 0;
@@ -52,18 +54,22 @@ fn parts_of(command: &Command) -> ServedParts
 }
 
 impl ServedParts {
-    /// What a packet asks for: zeros where it is no command.
-    pub fn of(packet: &Packet) -> ServedParts
-        ensures { result ≡ served_parts packet.now }
+    /// What the packet of these bytes asked for, of which that became: zeros where it was discarded.
+    pub fn of(served: Served, bytes: &[u8], end: End) -> ServedParts
+        requires { discard_of bytes.now ≡ discard_in served }
+        ensures { result ≡ served_parts (record { bytes = bytes.now; end = end }) }
     {
-        match Command::view(packet) {
-            Ok(command) => parts_of(&command),
-            Err(_discard) => ServedParts {
+        match served {
+            Served::Stopped(Stop::Discarded(_)) => ServedParts {
                 command: NO_COMMAND,
                 extended: 0,
                 address: 0,
                 length: 0,
             },
+            Served::Stopped(Stop::Answered(_))
+            | Served::Unread
+            | Served::Done(_)
+            | Served::Window(_) => parts_of(&Command::of_bytes(bytes, end)),
         }
     }
 }

@@ -53,20 +53,23 @@ fn room_behind(node: &SingleNode, served: Served, number: u8) -> u32
     }
 }
 
-/// Serves a packet, and puts its reply at the front of the room for it.
+/// Serves a packet of these bytes, and puts its reply at the front of the room for it.
 fn serve_packet(
     alloc: Global,
     node: &mut SingleNode,
     port: u8,
     packet: Packet,
+    bytes: &[u8],
     room: &mut [u8],
 ) -> ServedNumbers
     requires port { port < length node.old.passes }
+    requires bytes { packet.bytes ≡ bytes.now }
     requires room { MAX_REPLY ≤ length room.old }
     ensures { ServesPacket port packet node.old node.new room.old room.new result }
 {
-    let parts = ServedParts::of(&packet);
+    let end = packet.end();
     let (told, size) = node.serve_into(alloc, port, packet, room);
+    let parts = ServedParts::of(told.served, bytes, end);
     let left = room_behind(node, told.served, parts.extended);
     ServedNumbers::of(told, parts, left, size as u32)
 }
@@ -103,7 +106,7 @@ fn serve(
     let Ok(packet) = packet_of(alloc, bytes, end) else {
         return NO_MEMORY;
     };
-    *served = serve_packet(alloc, node, port, packet, room);
+    *served = serve_packet(alloc, node, port, packet, bytes, room);
     OK
 }
 
