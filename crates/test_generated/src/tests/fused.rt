@@ -11,7 +11,7 @@ use test_kit::{FRONT, TAIL, image_of_text, verdict};
 
 /// What is fused, with how many instructions it has, and so many others that are not for each a reason: another
 /// register, another width, and what stands between.
-const PARTS: [(&str, u64); 22] = [
+const PARTS: [(&str, u64); 36] = [
     ("ldxb r4, [r1+2]; jeq r4, 76, +1", 2),
     ("ldxb r4, [r1+2]; jne r4, 76, +1", 2),
     ("ldxb r4, [r2+0]; jeq r4, 104, +1", 2),
@@ -27,6 +27,15 @@ const PARTS: [(&str, u64); 22] = [
     ("mov32 r4, -1; jgt r5, r4, +1", 2),
     ("mov32 r4, 0; jgt r5, r4, +1", 2),
     ("mov r0, 9; exit", 2),
+    ("rsh r4, 2; jeq r4, 1, +1", 2),
+    ("rsh r4, 3; jeq r4, 0, +1", 2),
+    ("and r4, 5; jeq r4, 5, +1", 2),
+    ("and r4, 5; jne r4, 5, +1", 2),
+    ("ldxw r4, [r2+4]; be32 r4", 2),
+    ("ldxw r4, [r2+4]; be32 r4; jlt32 r4, 256, +1", 3),
+    ("ldxw r4, [r2+4]; be32 r4; jgt32 r4, 256, +1", 3),
+    ("add r4, r5; sub r4, 1", 2),
+    ("mov r4, r5; mov r5, r0", 2),
     ("ldxb r4, [r1+2]; jne r5, 76, +1", 2),
     ("ldxb r4, [r1+2]; jne32 r4, 76, +1", 2),
     ("ldxb r4, [r1+2]; and r5, 12; jne r4, 76, +1", 3),
@@ -34,6 +43,11 @@ const PARTS: [(&str, u64); 22] = [
     ("mov32 r4, 5; jlt r4, r4, +1", 2),
     ("mov32 r4, 5; jgt r4, r5, +1", 2),
     ("mov r4, 9; exit", 2),
+    ("ldxw r4, [r2+4]; be32 r5", 2),
+    ("ldxw r4, [r2+4]; be32 r4; jlt r4, 256, +1", 3),
+    ("ldxw r4, [r2+4]; be32 r4; jgt32 r5, 2, +1", 3),
+    ("add r4, r5; sub r5, 1", 2),
+    ("mov r4, r5; mov r5, r4", 2),
 ];
 
 /// The text of a program with the parts behind so many instructions, which at port 0 jumps over so many.
