@@ -325,6 +325,14 @@ static void told(void) {
   packet[15] ^= 1;
   served = serve(&node, 0, packet, length, reply);
   holds(served.kind == SANDBAR_DISCARDED && asks(&served, 0, 0, 0, 0, 0, 0), "no command");
+  served = serve(&node, 0, packet, 15, reply);
+  holds(served.kind == SANDBAR_DISCARDED && asks(&served, 0, 0, 0, 0, 0, 0), "a header that is cut");
+  /* a read with a reply address of four bytes */
+  const uint8_t routed[19] = {0xFE, 1, 0x4D, 0, 0, 0, 0, 5, 0x67, 0, 8, 0, 0xA0, 0, 0, 0x10, 0, 0, 1};
+  memcpy(packet, routed, sizeof routed);
+  packet[sizeof routed] = sandbar_crc(routed, sizeof routed);
+  served = serve(&node, 0, packet, sizeof routed + 1, reply);
+  holds(served.status == 0 && asks(&served, SANDBAR_READ, SANDBAR_AT_BANK, 0, 0xA0000010u, 1, 1), "fields behind a reply address");
   answers(sandbar_rotate(&node, 1, 9), SANDBAR_OK, "rotate");
   served = serve(&node, 0, packet, put_read(packet, 7, 1, 0x8000u, 1), reply);
   holds(served.room == 8, "the new journal's room");
