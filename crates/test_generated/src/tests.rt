@@ -7,6 +7,8 @@ mod checks;
 mod fused;
 mod generated;
 mod generator;
+mod sequences;
+mod slow;
 mod spills;
 mod tables;
 mod waiting;
