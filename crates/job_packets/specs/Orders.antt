@@ -122,16 +122,19 @@ pub record OrdersLoad (rows : List Row) (image : List ℕ) (slots : List ℕ) : 
   pub file : first_of (codes "address") rows ≡ Some image
   pub list : Gives WritesSlots (first_of (codes "slot") rows) slots
 
--- there are such words
+-- there are the words of some read
 abbrev pub HasRead : List Row → Type 0
 HasRead rows = (code : ℕ) × (address : ℕ) × (count : ℕ) × OrdersRead rows code address count
 
+-- there are the words of some write
 abbrev pub HasWrite : List Row → Type 0
 HasWrite rows = (code : ℕ) × (address : ℕ) × (source : Source) × OrdersWrite rows code address source
 
+-- there are the words of some read-modify-write
 abbrev pub HasRmw : List Row → Type 0
 HasRmw rows = (address : ℕ) × (bytes : List ℕ) × OrdersRmw rows address bytes
 
+-- there are the words of some loads
 abbrev pub HasLoad : List Row → Type 0
 HasLoad rows = (image : List ℕ) × (slots : List ℕ) × OrdersLoad rows image slots
 
