@@ -248,8 +248,8 @@ fn fused_operations_agree_with_the_slow_machine(rt: HostRuntime) -> Result<(), F
         }
     }
     let wanted = Count {
-        programs: 3357,
-        accepted: 3300,
+        programs: 3393,
+        accepted: 3336,
     };
     same(&rt, "the programs", count, wanted);
     Ok(())

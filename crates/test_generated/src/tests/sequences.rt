@@ -128,7 +128,9 @@ stb [r10-1], 9|stb [r10-1], 76; ldxb A, [r10-1]; jeq A, 76, +1
 |add A, -4; jne A, B, +1
 |add32 C, -1; jne C, 4, +1
 |sub A, 1; jne A, 6, +1
-|mov32 A, 5; jlt A, A, +1
+|mov32 A, 9; jlt A, A, +1
+|mov32 A, 2; jlt B, C, +1
+|mov32 A, 2; jgt B, C, +1
 |mov32 A, 2; jgt A, B, +1
 |mov A, -1; jlt C, A, +1
 |mov32 A, -1; jlt32 C, A, +1
