@@ -6,7 +6,6 @@ mod codes;
 mod decides;
 mod links;
 mod needs;
-mod printing;
 mod reports;
 mod schedules;
 mod serves;
