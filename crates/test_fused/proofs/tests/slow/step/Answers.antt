@@ -7,7 +7,7 @@ use Rattle.machine.specs.declared.calls.Question.{Question}
 use Rattle.machine.specs.Step.{Outcome, Next, Ask, Verdict, Trap, step_with}
 use Rattle.stepper.specs.declared.outcomes.Outcome.TheVariants as told
 use Rattle.stepper.specs.Machine.{MachineValue, state_of, step_of, IsOutcome, IsAsk, IsSameRun}
-use Rattle.test_generated.proofs.tests.slow.step.Goals as goal
+use Rattle.test_fused.proofs.tests.slow.step.Goals as goal
 
 -- an outcome of which a question is told is one, and it leaves the state
 asks : (outcome : Outcome) (asked : Question) (before after : State) → IsOutcome outcome (told.Ask asked) before after → IsAsk outcome × (after ≡ before)
