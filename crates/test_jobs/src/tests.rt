@@ -6,6 +6,7 @@ mod codes;
 mod decides;
 mod links;
 mod needs;
+mod printing;
 mod reports;
 mod schedules;
 mod serves;

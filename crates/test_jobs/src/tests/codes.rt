@@ -1,11 +1,11 @@
 //! Codes: what `explain` says of each, and what `why` says where memory is refused.
 
+use super::printing::{printed, tried};
 use crate::tests::checks::{check, same};
 use basm::AsmCode;
 use bpf::ImageFault;
 use bpf_insn::BadInsn;
 use bver::Refusal;
-use commands::perform;
 use frames::FrameFault;
 use policy::PolicyFault;
 use rmap::{Discard, Status};
@@ -15,7 +15,7 @@ use std::process::Abort;
 use std::sync::Wait;
 use std::test::Fail;
 use std::thread::Threads;
-use test_kit_jobs::{folder_of, job_named, perform_in};
+use test_kit_jobs::folder_of;
 
 /// The letters of codes, in the order in which they are listed.
 const KINDS: [&str; 10] = [
@@ -51,16 +51,10 @@ fn explained(
     alloc: Global,
     code: Option<&str>,
 ) -> Result<String, Fail> {
-    let job = match code {
-        Some(code) => job_named(alloc, &["explain", code])?,
-        None => job_named(alloc, &["explain"])?,
-    };
     let mut folder = folder_of(alloc, &[]).map_err(|_| "no folder")?;
-    let (out, status) = perform_in(rt, alloc, &job, &mut folder)?;
-    if status == 0 {
-        Ok(String::from_utf8(out)?)
-    } else {
-        Err("a fault".into())
+    match code {
+        Some(code) => printed(rt, alloc, &["explain", code], &mut folder),
+        None => printed(rt, alloc, &["explain"], &mut folder),
     }
 }
 
@@ -142,11 +136,7 @@ fn is_named(text: &str) -> bool {
 /// What `why` prints of it, and the exit status; `None` where memory was refused to the words, to the folder or to the
 /// writer.
 fn told(rt: &(impl Threads + Wait + Sync), alloc: Global) -> Option<(String, u8)> {
-    let job = job_named(alloc, &["why", "unset"]).ok()?;
-    let mut folder = folder_of(alloc, &[("unset", UNSET)]).ok()?;
-    let mut out = Vec::new(alloc);
-    let status = perform(rt, alloc, &job, &mut folder, &mut out).ok()?;
-    Some((String::from_utf8(out).ok()?, status.code()))
+    tried(rt, alloc, &["why", "unset"], &[("unset", UNSET)])
 }
 
 #[test]

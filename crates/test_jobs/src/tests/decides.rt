@@ -1,5 +1,6 @@
 //! Random tables: the verdict that `decide` tells of a packet is the status of its reply under the table's image.
 
+use super::printing::printed;
 use crate::tests::checks::{check, same};
 use rcrc::crc;
 use std::alloc::{AllocError, Global};
@@ -8,7 +9,7 @@ use std::sync::Wait;
 use std::test::Fail;
 use std::thread::Threads;
 use test_kit::Random;
-use test_kit_jobs::{Folder, folder_of, job_named, perform_in};
+use test_kit_jobs::folder_of;
 
 /// How many tables are made.
 const TABLES: u64 = 300;
@@ -112,21 +113,6 @@ fn lines_text(alloc: Global, random: &mut Random) -> Result<String, AllocError> 
         push_packet(&mut text, random)?;
     }
     Ok(text)
-}
-
-/// What a job of these words prints, which ends with status 0.
-fn printed(
-    rt: &(impl Threads + Wait + Sync),
-    alloc: Global,
-    given: &[&str],
-    folder: &mut Folder,
-) -> Result<String, Fail> {
-    let (out, status) = perform_in(rt, alloc, &job_named(alloc, given)?, folder)?;
-    if status == 0 {
-        Ok(String::from_utf8(out)?)
-    } else {
-        Err("a job ends otherwise")?
-    }
 }
 
 /// The number in a line of `decide`: the verdict, or the status of the check that answers.

@@ -1,7 +1,8 @@
 //! Links of frames: what is sent and told, however the bytes are cut, and where the link fails.
 
+use super::printing::node_named;
 use crate::tests::checks::{check, same};
-use commands::{LiveWords, Status, Work, WriteFault, live_frames, words};
+use commands::{Status, WriteFault, live_frames};
 use std::alloc::Global;
 use std::test::Fail;
 use test_kit_jobs::{RECEIVED, Wire, folder_of};
@@ -54,9 +55,7 @@ fn held<'a>(
     most: u64,
     failing: usize,
 ) -> Option<(Wire<'a>, Result<Status, WriteFault>)> {
-    let Ok(Work::Live(LiveWords { node, .. })) = words(alloc, &["live", "--frames"]) else {
-        return None;
-    };
+    let node = node_named(alloc, &["live", "--frames"])?;
     let mut folder = folder_of(alloc, &[]).ok()?;
     let mut wire = Wire::new(alloc, input, most, failing);
     let done = live_frames(alloc, &node, &mut folder, &mut wire);

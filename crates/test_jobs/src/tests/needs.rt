@@ -1,13 +1,12 @@
 //! The maps that a program needs, and what it weighs, where memory is refused.
 
+use super::printing::tried;
 use crate::tests::checks::{check, same};
-use commands::perform;
 use std::alloc::Global;
 use std::process::Abort;
 use std::sync::Wait;
 use std::test::Fail;
 use std::thread::Threads;
-use test_kit_jobs::{folder_of, job_named};
 
 /// A program that draws a ticket of the first cell of map 0.
 const DRAWS: &[u8] = b"BPFA\x01\x00\x05\x00\x04\x00\x00\x00\x00\x00\x00\x00\
@@ -27,11 +26,7 @@ const WEIGHED: &str = "division 0\ncall 1\njump 0\nrest 3\nweight 4\nat most 20 
 /// What a job prints of that image, and the exit status; `None` where memory was refused to the words, to the folder or
 /// to the writer.
 fn told(rt: &(impl Threads + Wait + Sync), alloc: Global, words: &[&str]) -> Option<(String, u8)> {
-    let job = job_named(alloc, words).ok()?;
-    let mut folder = folder_of(alloc, &[("draws", DRAWS)]).ok()?;
-    let mut out = Vec::new(alloc);
-    let status = perform(rt, alloc, &job, &mut folder, &mut out).ok()?;
-    Some((String::from_utf8(out).ok()?, status.code()))
+    tried(rt, alloc, words, &[("draws", DRAWS)])
 }
 
 /// Whether this may be printed where memory is refused to the image or to its verification.

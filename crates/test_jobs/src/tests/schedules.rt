@@ -1,7 +1,7 @@
 //! Schedules: `sim` and `trace` beside `judge`, and memory that is refused to both.
 
+use super::printing::{printed, tried};
 use crate::tests::checks::{check, same};
-use commands::{Files, perform};
 use rcrc::crc;
 use std::alloc::{AllocError, Global};
 use std::process::Abort;
@@ -9,7 +9,7 @@ use std::sync::Wait;
 use std::test::Fail;
 use std::thread::Threads;
 use test_kit::Random;
-use test_kit_jobs::{Folder, folder_of, job_named, perform_in};
+use test_kit_jobs::{Folder, folder_of};
 
 /// A program that lets the first hundred commands pass.
 const QUOTA: &str =
@@ -173,17 +173,12 @@ fn folder<'a>(
         ("text", program.as_bytes()),
     ];
     let mut folder = folder_of(alloc, &files).map_err(|_| "no folder")?;
-    let job = job_named(alloc, &["asm", "text", "image"])?;
-    let (_, status) = perform_in(rt, alloc, &job, &mut folder)?;
-    if status == 0 {
-        Ok(folder)
-    } else {
-        Err("no image".into())
-    }
+    printed(rt, alloc, &["asm", "text", "image"], &mut folder)?;
+    Ok(folder)
 }
 
 /// What the job of these first words prints with these options.
-fn printed<'a>(
+fn printed_with<'a>(
     rt: &(impl Threads + Wait + Sync),
     alloc: Global,
     folder: &mut Folder,
@@ -192,13 +187,7 @@ fn printed<'a>(
 ) -> Result<String, Fail> {
     let mut line = Vec::from_slice(alloc, first)?;
     line.extend_from_slice(options)?;
-    let job = job_named(alloc, &line)?;
-    let (out, status) = perform_in(rt, alloc, &job, folder)?;
-    if status == 0 {
-        Ok(String::from_utf8(out)?)
-    } else {
-        Err("a fault".into())
-    }
+    printed(rt, alloc, &line, folder)
 }
 
 /// What `judge` prints of what a line of `sim` says of a packet at port 0; `None` where it says nothing of one.
@@ -272,8 +261,8 @@ fn trace_agrees_with_judge(rt: HostRuntime) -> Result<(), Fail> {
     let mut all = String::new(alloc);
     for (program, options) in PROGRAMS {
         let mut folder = folder(&rt, alloc, &lines, &events, program)?;
-        let judged = printed(&rt, alloc, &mut folder, &["judge", "lines"], options)?;
-        let traced = printed(&rt, alloc, &mut folder, &["trace", "lines"], options)?;
+        let judged = printed_with(&rt, alloc, &mut folder, &["judge", "lines"], options)?;
+        let traced = printed_with(&rt, alloc, &mut folder, &["trace", "lines"], options)?;
         let replies = without_runs(&rt, alloc, &traced)?;
         same(&rt, "the replies", replies.as_str(), judged.as_str());
         all.push_str(&traced)?;
@@ -293,8 +282,8 @@ fn sim_agrees_with_judge(rt: HostRuntime) -> Result<(), Fail> {
     let mut all = String::new(alloc);
     for (program, options) in PROGRAMS {
         let mut folder = folder(&rt, alloc, &lines, &events, program)?;
-        let judged = printed(&rt, alloc, &mut folder, &["judge", "lines"], options)?;
-        let told = printed(&rt, alloc, &mut folder, &["sim", "events"], options)?;
+        let judged = printed_with(&rt, alloc, &mut folder, &["judge", "lines"], options)?;
+        let told = printed_with(&rt, alloc, &mut folder, &["sim", "events"], options)?;
         let replies = replies(alloc, &told)?;
         same(&rt, "the replies", replies.as_str(), judged.as_str());
         all.push_str(&told)?;
@@ -344,21 +333,6 @@ const TRACED: [&str; 2] = [
 ",
 ];
 
-/// What the job of these words prints of lines, and the exit status; `None` where memory was refused to the words, to the
-/// folder or to the writer.
-fn tried(
-    rt: &(impl Threads + Wait + Sync),
-    alloc: Global,
-    words: &[&str],
-    lines: &str,
-) -> Option<(String, u8)> {
-    let job = job_named(alloc, words).ok()?;
-    let mut folder = folder_of(alloc, &[("lines", lines.as_bytes())]).ok()?;
-    let mut out = Vec::new(alloc);
-    let status = perform(rt, alloc, &job, &mut folder, &mut out).ok()?;
-    Some((String::from_utf8(out).ok()?, status.code()))
-}
-
 /// How many of these parts a text begins with, and what stands behind them.
 fn parts_of<'a>(text: &'a str, parts: &[&str]) -> (usize, &'a str) {
     let (mut count, mut behind) = (0usize, text);
@@ -398,7 +372,8 @@ fn refuse(
     parts: &[&str],
 ) {
     let all = (parts.len(), "");
-    if let Some((printed, status)) = tried(rt, alloc, words, lines) {
+    let files = [("lines", lines.as_bytes())];
+    if let Some((printed, status)) = tried(rt, alloc, words, &files) {
         let (count, behind) = parts_of(printed.as_str(), parts);
         if status == 0 {
             same(rt, "the answer", (count, behind), all);
@@ -407,7 +382,7 @@ fn refuse(
             check(rt, &printed, is_fault(behind, count.saturating_add(1)));
         }
     }
-    let again = tried(rt, alloc, words, lines);
+    let again = tried(rt, alloc, words, &files);
     let told = again.as_ref().map(|(printed, status)| (parts_of(printed.as_str(), parts), *status));
     same(rt, "again", told, Some((all, 0)));
 }

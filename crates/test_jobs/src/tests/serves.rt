@@ -1,12 +1,13 @@
 //! The job `serve`, where ports meet: what it prints is compared as a set, or with each that is right.
 
 use super::checks::{check, same};
+use super::printing::printed;
 use std::alloc::{AllocError, Global};
 use std::sync::Wait;
 use std::test::Fail;
 use std::thread::Threads;
 use test_kit::Random;
-use test_kit_jobs::{Folder, folder_of, job_named, perform_in};
+use test_kit_jobs::{Folder, folder_of};
 
 /// The lines of the plain write and the plain read of a port 0.
 const WRITE: &str = "0 FE016C0067000000A00000000000109F0123456789ABCDEF101112131415161756 EOP\n";
@@ -26,21 +27,6 @@ const DENIED: &str = "67012C0AFE0000D2 EOP";
 
 /// The last line, where no packet was discarded and no reply lost.
 const CLEAN: &str = "discarded 0 lost 0\n";
-
-/// What a job prints over these files, where it does not end with a fault.
-fn printed<R: Threads + Wait + Sync>(
-    rt: &R,
-    alloc: Global,
-    command: &[&str],
-    folder: &mut Folder,
-) -> Result<String, Fail> {
-    let job = job_named(alloc, command)?;
-    let (out, status) = perform_in(rt, alloc, &job, folder)?;
-    if status != 0 {
-        return Err("a fault".into());
-    }
-    Ok(String::from_utf8(out)?)
-}
 
 /// A folder with these lines, and with the text of a program.
 fn folder(alloc: Global, lines: &str, program: &str) -> Result<Folder, Fail> {

@@ -2,8 +2,9 @@
 
 ghost use Rattle.std.specs.Prelude.{⊤};
 
+use super::printing::node_named;
 use crate::tests::checks::{check, same};
-use commands::{Cannot, HostTalk, LiveWords, Status, Talk, Work, WriteFault, live, words};
+use commands::{Cannot, HostTalk, Status, Talk, WriteFault, live};
 use std::alloc::Global;
 use std::io::{self, Write};
 use std::test::Fail;
@@ -102,9 +103,7 @@ fn held<'a>(
     lines: &'a [(&'a str, &'a str)],
     failing: usize,
 ) -> Option<(Script<'a>, Result<Status, WriteFault>)> {
-    let Ok(Work::Live(LiveWords { node, .. })) = words(alloc, &["live", "--maps", "2"]) else {
-        return None;
-    };
+    let node = node_named(alloc, &["live", "--maps", "2"])?;
     let mut folder = folder_of(alloc, &[]).ok()?;
     let mut talk = Script::new(alloc, lines, failing);
     let done = live(alloc, &node, &mut folder, &mut talk);
@@ -176,9 +175,7 @@ fn each_answer_is_flushed(rt: HostRuntime) -> Result<(), Fail> {
         written: Vec::new(alloc),
         held: Vec::new(alloc),
     };
-    let Work::Live(LiveWords { node, .. }) = words(alloc, &["live", "--maps", "2"])? else {
-        return Err("no talk".into());
-    };
+    let node = node_named(alloc, &["live", "--maps", "2"]).ok_or("no talk")?;
     let mut folder = folder_of(alloc, &[]).map_err(|_| "no folder")?;
     let mut talk = HostTalk::new(alloc, lines.as_bytes(), output);
     let done = live(alloc, &node, &mut folder, &mut talk);

@@ -1,5 +1,6 @@
 //! Writers that fail, and memory that is refused.
 
+use super::printing::{performed, tried};
 use crate::tests::checks::{check, same};
 use commands::{Job, PolicyWords, Status, UsageFault, WriteFault, perform};
 use machine::MapSizes;
@@ -88,13 +89,17 @@ fn writers_that_fail_at_each_write(rt: HostRuntime) -> Result<(), Fail> {
 
 /// What `judge` prints of these lines, and the exit status; `None` where memory was refused to the
 /// words, to the folder or to the writer.
-fn tried(rt: &(impl Threads + Wait + Sync), alloc: Global, lines: &str) -> Option<(String, u8)> {
-    let job = job_named(alloc, &["judge", "lines"]).ok()?;
-    let files = [("lines", lines.as_bytes())];
-    let mut out = Vec::new(alloc);
-    let mut folder = folder_of(alloc, &files).ok()?;
-    let status = perform(rt, alloc, &job, &mut folder, &mut out).ok()?;
-    Some((String::from_utf8(out).ok()?, status.code()))
+fn judged_at_last(
+    rt: &(impl Threads + Wait + Sync),
+    alloc: Global,
+    lines: &str,
+) -> Option<(String, u8)> {
+    tried(
+        rt,
+        alloc,
+        &["judge", "lines"],
+        &[("lines", lines.as_bytes())],
+    )
 }
 
 /// Whether a job that was refused memory may print this: a part of the whole, and then a fault.
@@ -114,7 +119,7 @@ fn judge_twice(
     alloc: Global,
     lines: &str,
 ) -> Result<(), Fail> {
-    if let Some((printed, status)) = tried(rt, alloc, lines) {
+    if let Some((printed, status)) = judged_at_last(rt, alloc, lines) {
         let (whole, wanted) = judged(rt, alloc, lines)?;
         if status == wanted {
             same(rt, "the answer", printed.as_str(), whole.as_str());
@@ -162,10 +167,8 @@ fn compiled(rt: &(impl Threads + Wait + Sync), alloc: Global) -> Option<(String,
         image: String::from_str(alloc, "image").ok()?,
         sizes: MapSizes::new(&[1]).ok()?,
     });
-    let mut out = Vec::new(alloc);
     let mut folder = folder_of(alloc, &[("table", TABLE.as_bytes())]).ok()?;
-    let status = perform(rt, alloc, &job, &mut folder, &mut out).ok()?;
-    Some((String::from_utf8(out).ok()?, status.code()))
+    performed(rt, alloc, &job, &mut folder)
 }
 
 /// Whether `policy` that was refused memory may print this.
