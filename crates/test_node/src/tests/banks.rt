@@ -3,6 +3,7 @@
 use crate::tests::checks::same;
 use bank::{Applied, Bank, BankFault, Journal, Judged, Share};
 use rmap::{Command, ReplyBuf, Status, Windows, header_fault};
+use spw::Packet;
 use std::alloc::Global;
 use std::test::Fail;
 use test_kit::{BASE, PLAIN_READ, PLAIN_WRITE, packet};
@@ -12,31 +13,29 @@ const READ_MODIFY_WRITE: &str = "0 FE015C0067000400A000000000000297 F03CEE EOP";
 /// A write of 11 22 to the bank's first address, without increment, as a packet line.
 pub const WRITE_TO_ONE_ADDRESS: &str = "0 FE01680067000800A0000000000002BE 1122A3 EOP";
 
-/// Applies the command of the line at the share's port with a verdict; `None` where the header stops it
+/// Applies the command of a packet at the share's port with a verdict; `None` where the header stops it
 /// or it does not fit.
 pub fn applied(
-    alloc: Global,
     bank: &mut Bank,
     share: &mut Share,
-    line: &str,
+    packet: Packet,
     verdict: u64,
     reply: &mut ReplyBuf,
-) -> Result<Option<Applied>, Fail> {
-    let packet = packet(alloc, line)?;
+) -> Option<Applied> {
     let windows = Windows::new(0xFE, &[(BASE, 65_536)]);
     let is_judged = match Command::view(&packet) {
         Ok(command) => header_fault(&command, &windows).is_none(),
         Err(_) => false,
     };
     if !is_judged {
-        return Ok(None);
+        return None;
     }
     let judged = Judged::new(packet, &windows, share.port(), 7, verdict);
     if !bank.fits(share, &judged) {
         judged.answer_error(bank, share, reply);
-        return Ok(None);
+        return None;
     }
-    Ok(Some(bank.apply(share, judged, reply)))
+    Some(bank.apply(share, judged, reply))
 }
 
 fn success(number: u64) -> Option<Applied> {
@@ -57,71 +56,111 @@ pub fn fresh(
     Bank::new(alloc, BASE, size, journal, ports)
 }
 
+/// A bank, its shares, and the reply to the command that came last. Each call that is lent them is a method of one call: a
+/// test that makes several of them in a row is dear to prove.
+#[derive(Drop)]
+pub struct Applying {
+    alloc: Global,
+    pub bank: Bank,
+    shares: Vec<Share>,
+    reply: ReplyBuf,
+}
+
+impl Applying {
+    /// A fresh bank of that size whose journal has that room, and the shares of so many ports.
+    pub fn new(alloc: Global, size: u32, room: u32, ports: u8) -> Result<Applying, BankFault> {
+        let (bank, shares) = fresh(alloc, size, room, ports)?;
+        Ok(Applying {
+            alloc,
+            bank,
+            shares,
+            reply: ReplyBuf::new(),
+        })
+    }
+
+    /// Applies the command of a packet at the first port with a verdict; `None` where it does not fit.
+    pub fn apply(&mut self, packet: Packet, verdict: u64) -> Result<Option<Applied>, Fail> {
+        let share = self.shares.first_mut().ok_or("no share")?;
+        Ok(applied(&mut self.bank, share, packet, verdict, &mut self.reply))
+    }
+
+    /// The same of the packet of a line.
+    pub fn apply_line(&mut self, line: &str, verdict: u64) -> Result<Option<Applied>, Fail> {
+        let packet = packet(self.alloc, line)?;
+        self.apply(packet, verdict)
+    }
+
+    /// The reply.
+    pub fn reply(&self) -> &[u8] {
+        self.reply.bytes()
+    }
+}
+
 #[test]
 fn plain_write_then_read(rt: HostRuntime) -> Result<(), Fail> {
     let alloc = rt.alloc();
-    let (mut bank, mut shares) = fresh(alloc, 65_536, 4, 2)?;
-    same(&rt, "how many shares", shares.len(), 2);
-    let share = shares.first_mut().ok_or("no share")?;
-    let mut reply = ReplyBuf::new();
-    let done = applied(alloc, &mut bank, share, PLAIN_WRITE, 0, &mut reply)?;
+    let mut applying = Applying::new(alloc, 65_536, 4, 2)?;
+    same(&rt, "how many shares", applying.shares.len(), 2);
+    let done = applying.apply_line(PLAIN_WRITE, 0)?;
     same(&rt, "the write", done, success(0));
     let wanted = [0x67, 0x01, 0x2C, 0x00, 0xFE, 0x00, 0x00, 0xED].as_slice();
-    same(&rt, "its reply", reply.bytes(), wanted);
+    same(&rt, "its reply", applying.reply(), wanted);
+    let bank = &applying.bank;
     let second = (bank.memory(BASE + 1), bank.base(BASE + 1));
     same(&rt, "the second byte", second, (Some(0x23), Some(0)));
     same(&rt, "the byte before", bank.memory(BASE - 1), None);
-    let done = applied(alloc, &mut bank, share, PLAIN_READ, 0, &mut reply)?;
+    let done = applying.apply_line(PLAIN_READ, 0)?;
     same(&rt, "the read", done, success(1));
-    let ends = (reply.bytes().len(), reply.bytes().last());
+    let ends = (applying.reply().len(), applying.reply().last());
     same(&rt, "its reply", ends, (29, Some(&0x56)));
-    same(&rt, "how many entries", bank.entries().len(), 2);
+    same(&rt, "how many entries", applying.bank.entries().len(), 2);
     Ok(())
 }
 
 #[test]
 fn read_modify_write_and_one_address(rt: HostRuntime) -> Result<(), Fail> {
     let alloc = rt.alloc();
-    let (mut bank, mut shares) = fresh(alloc, 65_536, 4, 1)?;
-    same(&rt, "how many shares", shares.len(), 1);
-    let share = shares.first_mut().ok_or("no share")?;
-    let mut reply = ReplyBuf::new();
+    let mut applying = Applying::new(alloc, 65_536, 4, 1)?;
+    same(&rt, "how many shares", applying.shares.len(), 1);
     for (number, line, first) in [
         (0, PLAIN_WRITE, 0x01),
         (1, READ_MODIFY_WRITE, 0x31),
         (2, WRITE_TO_ONE_ADDRESS, 0x22),
     ] {
-        let done = applied(alloc, &mut bank, share, line, 0, &mut reply)?;
+        let done = applying.apply_line(line, 0)?;
         same(
             &rt,
             line,
-            (done, bank.memory(BASE)),
+            (done, applying.bank.memory(BASE)),
             (success(number), Some(first)),
         );
     }
-    same(&rt, "the second byte", bank.memory(BASE + 1), Some(0x23));
+    same(
+        &rt,
+        "the second byte",
+        applying.bank.memory(BASE + 1),
+        Some(0x23),
+    );
     Ok(())
 }
 
 #[test]
 fn refused_commands_leave_memory_and_an_entry(rt: HostRuntime) -> Result<(), Fail> {
     let alloc = rt.alloc();
-    let (mut bank, mut shares) = fresh(alloc, 65_536, 2, 1)?;
-    same(&rt, "how many shares", shares.len(), 1);
-    let share = shares.first_mut().ok_or("no share")?;
-    let mut reply = ReplyBuf::new();
+    let mut applying = Applying::new(alloc, 65_536, 2, 1)?;
+    same(&rt, "how many shares", applying.shares.len(), 1);
     for (verdict, status, number) in [
         (3, Status::InvalidKey, Some(0)),
         (10, Status::NotAuthorised, Some(1)),
         (12, Status::InvalidLogicalAddress, None),
         (0, Status::GeneralError, None),
     ] {
-        let done = applied(alloc, &mut bank, share, PLAIN_WRITE, verdict, &mut reply)?;
+        let done = applying.apply_line(PLAIN_WRITE, verdict)?;
         let wanted = Some(Applied { status, number });
-        let found = (verdict, done, bank.memory(BASE));
+        let found = (verdict, done, applying.bank.memory(BASE));
         same(&rt, "a verdict", found, (verdict, wanted, Some(0)));
     }
-    same(&rt, "how many entries", bank.entries().len(), 2);
+    same(&rt, "how many entries", applying.bank.entries().len(), 2);
     Ok(())
 }
 

@@ -1,6 +1,6 @@
 //! `bank`: journals that turn over, and their replay.
 
-use super::banks::{WRITE_TO_ONE_ADDRESS, applied, fresh};
+use super::banks::{Applying, WRITE_TO_ONE_ADDRESS, applied, fresh};
 use crate::tests::checks::same;
 use bank::{Bank, Entry, Journal, Share, extents_stay, parts_replay, replay};
 use hex::{decode, encode_upper};
@@ -89,12 +89,13 @@ fn replay_row(rt: &impl Abort, alloc: Global, line: &str) -> Result<(), Fail> {
     let shows = row.part()?;
     let words = row.part()?;
     let verdict = row.hexadecimal()?;
-    let (mut bank, mut shares) = fresh(alloc, SIZE, 4, 1)?;
-    let share = shares.first_mut().ok_or("no share")?;
-    let mut reply = ReplyBuf::new();
+    let mut applying = Applying::new(alloc, SIZE, 4, 1)?;
     for word in words.split(' ') {
-        applied(alloc, &mut bank, share, line_of(word)?, verdict, &mut reply)?.ok_or("no entry")?;
+        applying
+            .apply_line(line_of(word)?, verdict)?
+            .ok_or("no entry")?;
     }
+    let bank = &applying.bank;
     let found = statuses(alloc, bank.entries())?;
     let wanted = row.part()?;
     let base = u32::from_str_radix(row.part()?, 16)?;
@@ -173,7 +174,8 @@ impl Turning {
         let share = self.shares.get_mut(port).ok_or("no share")?;
         let mut reply = ReplyBuf::new();
         let line = line_of(word)?;
-        let done = applied(alloc, &mut self.bank, share, line, 0, &mut reply)?;
+        let sent = packet(alloc, line)?;
+        let done = applied(&mut self.bank, share, sent, 0, &mut reply);
         let bytes = encode_upper(alloc, reply.bytes())?;
         match done.ok_or("the command does not fit")?.number {
             Some(number) => Ok(format!(in alloc; "{bytes} {number}")?),

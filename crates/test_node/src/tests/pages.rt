@@ -1,10 +1,10 @@
 //! `bank`: memory in pages, and commands over their ends.
 
-use super::banks::fresh;
+use super::banks::{Applying, fresh};
 use crate::tests::checks::{check, same};
-use bank::{Bank, Entry, Journal, Judged, Share, replay};
+use bank::{Entry, Journal, replay};
 use rcrc::crc;
-use rmap::{Command, ReplyBuf, Status, Windows, header_fault};
+use rmap::Status;
 use spw::{End, Packet};
 use std::alloc::Global;
 use std::process::Abort;
@@ -47,26 +47,11 @@ fn command(
 }
 
 /// Applies the command of a packet to the bank.
-fn applied(
-    bank: &mut Bank,
-    share: &mut Share,
-    packet: Packet,
-    reply: &mut ReplyBuf,
-) -> Result<Status, Fail> {
-    let windows = Windows::new(0xFE, &[bank.range()]);
-    let is_judged = match Command::view(&packet) {
-        Ok(command) => header_fault(&command, &windows).is_none(),
-        Err(_) => false,
-    };
-    if !is_judged {
-        return Err("a bad header".into());
-    }
-    let judged = Judged::new(packet, &windows, share.port(), 7, 0);
-    if !bank.fits(share, &judged) {
-        judged.answer_error(bank, share, reply);
-        return Err("a command outside the bank".into());
-    }
-    Ok(bank.apply(share, judged, reply).status)
+fn status_of(applying: &mut Applying, packet: Packet) -> Result<Status, Fail> {
+    let done = applying
+        .apply(packet, 0)?
+        .ok_or("a bad header, or a command outside the bank")?;
+    Ok(done.status)
 }
 
 /// So many random bytes.
@@ -108,18 +93,16 @@ fn banks_have_pages(rt: HostRuntime) -> Result<(), Fail> {
 /// Writes these bytes that many bytes behind the bank's first, and reads them back.
 fn read_back(
     alloc: Global,
-    bank: &mut Bank,
-    share: &mut Share,
+    applying: &mut Applying,
     offset: u32,
     data: &[u8],
 ) -> Result<bool, Fail> {
-    let mut reply = ReplyBuf::new();
     let address = BASE + offset.min(8191);
     let write = command(alloc, WRITE, address, data.len(), data)?;
-    let written = applied(bank, share, write, &mut reply)?;
+    let written = status_of(applying, write)?;
     let read = command(alloc, READ, address, data.len(), &[])?;
-    let status = applied(bank, share, read, &mut reply)?;
-    let Some((_header, rest)) = reply.bytes().split_at_checked(12) else {
+    let status = status_of(applying, read)?;
+    let Some((_header, rest)) = applying.reply().split_at_checked(12) else {
         return Ok(false);
     };
     let Some((_sum, found)) = rest.split_last() else {
@@ -132,17 +115,16 @@ fn read_back(
 #[test]
 fn writes_over_a_page_end_are_read_back(rt: HostRuntime) -> Result<(), Fail> {
     let alloc = rt.alloc();
-    let (mut bank, mut shares) = fresh(alloc, 8192, 8, 1)?;
-    let share = shares.first_mut().ok_or("no share")?;
+    let mut applying = Applying::new(alloc, 8192, 8, 1)?;
     let mut random = Random::new(53);
     for (offset, count) in [(0, 4096), (1, 4096), (4095, 4096), (8191, 1)] {
         let data = bytes_of(alloc, &mut random, count)?;
-        let is_same = read_back(alloc, &mut bank, share, offset, &data)?;
+        let is_same = read_back(alloc, &mut applying, offset, &data)?;
         check(&rt, "a write that is read back", is_same);
         same(
             &rt,
             "its first byte",
-            bank.memory(BASE + offset),
+            applying.bank.memory(BASE + offset),
             data.first().copied(),
         );
     }
@@ -153,16 +135,15 @@ fn writes_over_a_page_end_are_read_back(rt: HostRuntime) -> Result<(), Fail> {
 #[test]
 fn every_page_turns_over(rt: HostRuntime) -> Result<(), Fail> {
     let alloc = rt.alloc();
-    let (mut bank, mut shares) = fresh(alloc, 10_000, 8, 1)?;
-    let share = shares.first_mut().ok_or("no share")?;
+    let mut applying = Applying::new(alloc, 10_000, 8, 1)?;
     let mut random = Random::new(54);
-    let mut reply = ReplyBuf::new();
     for (offset, count) in [(10, 4096), (4106, 4096), (8202, 1798)] {
         let data = bytes_of(alloc, &mut random, count)?;
         let write = command(alloc, WRITE, BASE + offset, data.len(), &data)?;
-        applied(&mut bank, share, write, &mut reply)?;
+        status_of(&mut applying, write)?;
     }
-    let entries = bank.rotate(Journal::new(alloc, 8)?);
+    let entries = applying.bank.rotate(Journal::new(alloc, 8)?);
+    let bank = &applying.bank;
     same(&rt, "the entries", entries.entries().len(), 3);
     let differing = (0..10_000).filter(|offset| {
         bank.base(BASE + offset) != bank.memory(BASE + offset)
@@ -200,15 +181,14 @@ fn replay_on(rt: &impl Abort, entries: &[Entry], memory: &mut Vec<u8>) {
 #[test]
 fn replay_in_one_piece_is_the_pages_joined(rt: HostRuntime) -> Result<(), Fail> {
     let alloc = rt.alloc();
-    let (mut bank, mut shares) = fresh(alloc, 20_000, 300, 1)?;
-    let share = shares.first_mut().ok_or("no share")?;
+    let mut applying = Applying::new(alloc, 20_000, 300, 1)?;
     let mut random = Random::new(55);
-    let mut reply = ReplyBuf::new();
     for _round in 0..300 {
         let packet = generated(alloc, &mut random)?;
-        let status = applied(&mut bank, share, packet, &mut reply)?;
+        let status = status_of(&mut applying, packet)?;
         same(&rt, "a generated command", status, Status::Success);
     }
+    let bank = &applying.bank;
     let mut memory = vec![in alloc; 0; 20_000]?;
     replay_on(&rt, bank.entries(), &mut memory);
     same(&rt, "how many pages", bank.pages().len(), 5);
