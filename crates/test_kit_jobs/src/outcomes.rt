@@ -29,3 +29,18 @@ pub fn judged<R: Threads + Wait + Sync>(
     let (out, status) = perform_in(rt, alloc, &job, &mut folder)?;
     Ok((String::from_utf8(out)?, status))
 }
+
+/// What the job of these words prints over these files, where it does not end with a fault.
+pub fn printed<R: Threads + Wait + Sync>(
+    rt: &R,
+    alloc: Global,
+    named: &[&str],
+    folder: &mut Folder,
+) -> Result<String, Fail> {
+    let job = job_named(alloc, named)?;
+    let (out, status) = perform_in(rt, alloc, &job, folder)?;
+    if status != 0 {
+        return Err("a fault".into());
+    }
+    Ok(String::from_utf8(out)?)
+}

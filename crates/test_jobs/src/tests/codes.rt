@@ -1,6 +1,6 @@
 //! Codes: what `explain` says of each, and what `why` says where memory is refused.
 
-use super::printing::{printed, tried};
+use super::printing::tried;
 use crate::tests::checks::{check, same};
 use basm::AsmCode;
 use bpf::ImageFault;
@@ -15,7 +15,7 @@ use std::process::Abort;
 use std::sync::Wait;
 use std::test::Fail;
 use std::thread::Threads;
-use test_kit_jobs::folder_of;
+use test_kit_jobs::{folder_of, printed};
 
 /// The letters of codes, in the order in which they are listed.
 const KINDS: [&str; 10] = [

@@ -4,24 +4,8 @@
 use commands::{Job, LiveWords, NodeWords, Work, perform, words};
 use std::alloc::Global;
 use std::sync::Wait;
-use std::test::Fail;
 use std::thread::Threads;
-use test_kit_jobs::{Folder, folder_of, job_named, perform_in};
-
-/// What the job of these words prints over these files, where it does not end with a fault.
-pub fn printed<R: Threads + Wait + Sync>(
-    rt: &R,
-    alloc: Global,
-    named: &[&str],
-    folder: &mut Folder,
-) -> Result<String, Fail> {
-    let job = job_named(alloc, named)?;
-    let (out, status) = perform_in(rt, alloc, &job, folder)?;
-    if status != 0 {
-        return Err("a fault".into());
-    }
-    Ok(String::from_utf8(out)?)
-}
+use test_kit_jobs::{Folder, folder_of, job_named};
 
 /// What a job prints over these files, and the exit status; `None` where memory was refused to the writer.
 pub fn performed<R: Threads + Wait + Sync>(

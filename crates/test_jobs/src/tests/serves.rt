@@ -1,13 +1,12 @@
 //! The job `serve`, where ports meet: what it prints is compared as a set, or with each that is right.
 
 use super::checks::{check, same};
-use super::printing::printed;
 use std::alloc::{AllocError, Global};
 use std::sync::Wait;
 use std::test::Fail;
 use std::thread::Threads;
 use test_kit::Random;
-use test_kit_jobs::{Folder, folder_of};
+use test_kit_jobs::{Folder, folder_of, printed};
 
 /// The lines of the plain write and the plain read of a port 0.
 const WRITE: &str = "0 FE016C0067000000A00000000000109F0123456789ABCDEF101112131415161756 EOP\n";

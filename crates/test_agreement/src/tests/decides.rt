@@ -1,6 +1,5 @@
 //! Random tables: the verdict that `decide` tells of a packet is the status of its reply under the table's image.
 
-use super::printing::printed;
 use crate::tests::checks::{check, same};
 use rcrc::crc;
 use std::alloc::{AllocError, Global};
@@ -9,7 +8,7 @@ use std::sync::Wait;
 use std::test::Fail;
 use std::thread::Threads;
 use test_kit::Random;
-use test_kit_jobs::folder_of;
+use test_kit_jobs::{folder_of, printed};
 
 /// How many tables are made.
 const TABLES: u64 = 300;

@@ -1,0 +1,5 @@
+//! Tests of jobs that tell the same of the same packets.
+#![tactic(auto)]
+
+#[cfg(test)]
+mod tests;

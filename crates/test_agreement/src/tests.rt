@@ -1,0 +1,5 @@
+//! `decide`, `sim` and `trace` beside `judge`, on random tables and packets.
+
+mod checks;
+mod decides;
+mod schedules;
