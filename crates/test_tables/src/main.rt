@@ -25,35 +25,41 @@ mod verifier;
 mod versions;
 
 use crate::tables::{compare, compare_lines};
-use std::io;
+use std::io::{self, Write};
+use std::rt::Files;
 use std::test::Fail;
+
+/// Compares what the libraries answer of one row alone.
+fn compare_answers<R: Files + AllocGlobal, W: Write>(rt: &R, out: &mut W) -> Result<(), Fail> {
+    compare(rt, out, "crcs.txt", packets::crc_of)?;
+    compare(rt, out, "lines.txt", packets::reading)?;
+    compare(rt, out, "discards.txt", packets::discard)?;
+    compare(rt, out, "headers.txt", packets::header)?;
+    compare(rt, out, "exchanges.txt", packets::exchange)?;
+    compare(rt, out, "insns.txt", insns::bytes)?;
+    compare(rt, out, "slots.txt", insns::fault)?;
+    compare(rt, out, "images.txt", images::parts)?;
+    compare(rt, out, "texts.txt", texts::image)?;
+    compare(rt, out, "parts.txt", texts::parts)?;
+    compare(rt, out, "printed.txt", texts::printed)?;
+    compare(rt, out, "corners.txt", corners::results)?;
+    compare(rt, out, "ranges.txt", ranges::result)?;
+    compare(rt, out, "edges.txt", ranges::edges)?;
+    compare(rt, out, "forms.txt", verifier::form)?;
+    compare(rt, out, "programs.txt", verifier::program)?;
+    compare(rt, out, "neighbours.txt", verifier::weighed)?;
+    compare(rt, out, "operations.txt", verifier::operations)?;
+    compare(rt, out, "endings.txt", runs::ending)?;
+    compare(rt, out, "runs.txt", runs::of_text)?;
+    compare(rt, out, "loops.txt", runs::of_image)?;
+    compare(rt, out, "calls.txt", runs::of_image)?;
+    compare(rt, out, "rules.txt", policies::rule)?;
+    compare(rt, out, "policies.txt", policies::decision)
+}
 
 fn main(rt: HostRuntime) -> Result<(), Fail> {
     let mut out = io::writer(&rt);
-    compare(&rt, &mut out, "crcs.txt", packets::crc_of)?;
-    compare(&rt, &mut out, "lines.txt", packets::reading)?;
-    compare(&rt, &mut out, "discards.txt", packets::discard)?;
-    compare(&rt, &mut out, "headers.txt", packets::header)?;
-    compare(&rt, &mut out, "exchanges.txt", packets::exchange)?;
-    compare(&rt, &mut out, "insns.txt", insns::bytes)?;
-    compare(&rt, &mut out, "slots.txt", insns::fault)?;
-    compare(&rt, &mut out, "images.txt", images::parts)?;
-    compare(&rt, &mut out, "texts.txt", texts::image)?;
-    compare(&rt, &mut out, "parts.txt", texts::parts)?;
-    compare(&rt, &mut out, "printed.txt", texts::printed)?;
-    compare(&rt, &mut out, "corners.txt", corners::results)?;
-    compare(&rt, &mut out, "ranges.txt", ranges::result)?;
-    compare(&rt, &mut out, "edges.txt", ranges::edges)?;
-    compare(&rt, &mut out, "forms.txt", verifier::form)?;
-    compare(&rt, &mut out, "programs.txt", verifier::program)?;
-    compare(&rt, &mut out, "neighbours.txt", verifier::weighed)?;
-    compare(&rt, &mut out, "operations.txt", verifier::operations)?;
-    compare(&rt, &mut out, "endings.txt", runs::ending)?;
-    compare(&rt, &mut out, "runs.txt", runs::of_text)?;
-    compare(&rt, &mut out, "loops.txt", runs::of_image)?;
-    compare(&rt, &mut out, "calls.txt", runs::of_image)?;
-    compare(&rt, &mut out, "rules.txt", policies::rule)?;
-    compare(&rt, &mut out, "policies.txt", policies::decision)?;
+    compare_answers(&rt, &mut out)?;
     compare(&rt, &mut out, "pieces.txt", |alloc, given| {
         pieces::printed(&rt, alloc, given)
     })?;
