@@ -2,7 +2,7 @@
 
 use super::banks::{Applying, fresh};
 use crate::tests::checks::{check, same};
-use bank::{Entry, Journal, replay};
+use bank::{Bank, Entry, Journal, replay};
 use rcrc::crc;
 use rmap::Status;
 use spw::{End, Packet};
@@ -131,6 +131,13 @@ fn writes_over_a_page_end_are_read_back(rt: HostRuntime) -> Result<(), Fail> {
     Ok(())
 }
 
+/// How many of a bank's first 10,000 bytes are not those before its journal.
+fn differing(bank: &Bank) -> usize {
+    (0..10_000)
+        .filter(|offset| bank.base(BASE + offset) != bank.memory(BASE + offset))
+        .count()
+}
+
 /// A bank of three pages that turns over: what was before the journal is in pages too.
 #[test]
 fn every_page_turns_over(rt: HostRuntime) -> Result<(), Fail> {
@@ -145,10 +152,7 @@ fn every_page_turns_over(rt: HostRuntime) -> Result<(), Fail> {
     let entries = applying.bank.rotate(Journal::new(alloc, 8)?);
     let bank = &applying.bank;
     same(&rt, "the entries", entries.entries().len(), 3);
-    let differing = (0..10_000).filter(|offset| {
-        bank.base(BASE + offset) != bank.memory(BASE + offset)
-    });
-    same(&rt, "how many bytes differ", differing.count(), 0);
+    same(&rt, "how many bytes differ", differing(bank), 0);
     same(
         &rt,
         "a byte of the last page",
