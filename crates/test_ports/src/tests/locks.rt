@@ -1,6 +1,6 @@
 //! Two ports that meet in each call round a packet, and take each lock of the node there.
 
-ghost use Rattle.std.specs.Prelude.{◌≡◌};
+ghost use Rattle.std.specs.Prelude.{◌≡◌, IfOk};
 ghost use Rattle.ports.specs.Serves.{IsWorkerOf};
 
 use super::checks::same;
@@ -14,7 +14,7 @@ use std::sync::atomic::{AtomicU64, Ordering};
 use std::sync::{Mutex, Wait};
 use std::test::Fail;
 use std::thread::{Threads, join, yield_now};
-use target::{Family, Node, Opened};
+use target::{Family, Node, Opened, Pass};
 use test_kit::{LOAD, PLAIN_WRITE, STAGE, bank, program};
 use test_kit_ports::{filled, shared_node, worker};
 
@@ -182,6 +182,24 @@ const SECOND: [&str; 3] = [
     PLAIN_WRITE,
 ];
 
+/// A port with the packets of these lines, and its worker, in whose sends the ports meet.
+fn meeting<'n, 'c, J: Family, Q: Wait + Drop>(
+    rt: &impl Wait,
+    alloc: Global,
+    node: &'n Node<J, Q>,
+    calls: &'c Calls,
+    pass: Pass<J>,
+    lines: &[&str],
+) -> Result<(Port, Worker<J, Meets<'n, 'c, J, Q>>), Fail>
+    ensures { IfOk result (λ made. IsWorkerOf node.now made.0 made.1) }
+{
+    let (port, _put_pass, serve_pass) = filled(rt, alloc, 4, lines)?;
+    let kept = Replies::new(alloc, pass.port());
+    let place = Together { node, calls };
+    let worker = worker(node, &port, pass, serve_pass, Meets { kept, place })?;
+    Ok((port, worker))
+}
+
 /// No lock is held while a gate is called or a reply is sent.
 #[test]
 fn two_ports_meet_round_each_packet(rt: HostRuntime) -> Result<(), Fail> {
@@ -198,30 +216,28 @@ fn meet_round_each_packet<J: Family + Send + Sync, R: Threads + Wait + Abort + S
     let factory = program(alloc, 0)?;
     let banks = [bank(16), bank(16)];
     let (node, mut passes) = shared_node::<J, _>(rt, alloc, opened, 2, &banks, factory)?;
+    let second = passes.pop().ok_or("no pass")?;
+    let first = passes.pop().ok_or("no pass")?;
     let calls = Calls::new();
-    let pass = passes.pop().ok_or("no pass")?;
-    let (two, _put_pass, serve_pass) = filled(rt, alloc, 4, &SECOND)?;
-    let kept = Replies::new(alloc, pass.port());
-    let place = Together {
-        node: &node,
-        calls: &calls,
-    };
-    let second = worker(&node, &two, pass, serve_pass, Meets { kept, place })?;
-    let pass = passes.pop().ok_or("no pass")?;
-    let (one, _put_pass, serve_pass) = filled(rt, alloc, 4, &FIRST)?;
-    let kept = Replies::new(alloc, pass.port());
-    let place = Together {
-        node: &node,
-        calls: &calls,
-    };
-    let first = worker(&node, &one, pass, serve_pass, Meets { kept, place })?;
-    let ports = (&one, &two);
-    let gate = Together {
-        node: &node,
-        calls: &calls,
-    };
-    let (first, second) = worked_beside(rt, alloc, &node, ports, first, second, &gate);
-    same(rt, "the reports", (first.1, second.1), (CLEAN, CLEAN));
+    let reports = met(rt, alloc, &node, &calls, first, second)?;
+    same(rt, "the reports", reports, (CLEAN, CLEAN));
     same(rt, "the calls", calls.counts(), (9, 9, 0));
     Ok(())
+}
+
+/// What both workers say of the packets.
+fn met<J: Family + Send + Sync, R: Threads + Wait + Sync, Q: Wait + Drop + Send + Sync>(
+    rt: &R,
+    alloc: Global,
+    node: &Node<J, Q>,
+    calls: &Calls,
+    first: Pass<J>,
+    second: Pass<J>,
+) -> Result<(Report, Report), Fail> {
+    let (one, first) = meeting(rt, alloc, node, calls, first, &FIRST)?;
+    let (two, second) = meeting(rt, alloc, node, calls, second, &SECOND)?;
+    let gate = Together { node, calls };
+    let ports = (&one, &two);
+    let (first, second) = worked_beside(rt, alloc, node, ports, first, second, &gate);
+    Ok((first.1, second.1))
 }
