@@ -21,7 +21,7 @@
 #include <stdint.h>
 
 /** The number of this header: it rises with each change of a call, a struct or a number here. */
-#define SANDBAR_VERSION 3
+#define SANDBAR_VERSION 4
 
 /** What compilers that know of it are told of a call: its pointers are not null, and its code is looked at. */
 #ifndef SANDBAR_CALL
@@ -29,6 +29,15 @@
 #define SANDBAR_CALL __attribute__((nonnull, warn_unused_result))
 #else
 #define SANDBAR_CALL
+#endif
+#endif
+
+/** The same of a call whose code need not be looked at. */
+#ifndef SANDBAR_LAST_CALL
+#if defined(__GNUC__)
+#define SANDBAR_LAST_CALL __attribute__((nonnull))
+#else
+#define SANDBAR_LAST_CALL
 #endif
 #endif
 
@@ -156,6 +165,9 @@ typedef struct sandbar_journal {
  * Tells whether the program of @p image may judge in a node with these maps: ::SANDBAR_BAD_MAPS, ::SANDBAR_BAD_IMAGE,
  * ::SANDBAR_REFUSED; ::SANDBAR_NO_MEMORY where the image cannot be looked at. Writes @p why at all codes: zeros but at
  * ::SANDBAR_BAD_IMAGE and ::SANDBAR_REFUSED.
+ *
+ * Of the C source this and ::sandbar_open of a node that is not open begin with the memory of an instance: where that is
+ * refused the code is ::SANDBAR_NO_MEMORY, whatever else is wrong.
  */
 SANDBAR_CALL
 uint32_t sandbar_verify(const sandbar_map *maps, size_t map_count, const uint8_t *image, size_t image_length,
@@ -178,6 +190,7 @@ uint32_t sandbar_open(sandbar_node *node, uint8_t address, uint8_t ports, const 
                       sandbar_why *why);
 
 /** Ends a node, and gives back all its memory. Code: ::SANDBAR_NO_NODE. */
+SANDBAR_LAST_CALL
 uint32_t sandbar_close(sandbar_node *node);
 
 /**
@@ -211,6 +224,9 @@ uint32_t sandbar_entry_at(sandbar_node *node, uint8_t bank, uint32_t place, uint
  * Begins a new journal with that room at a bank: the entries of the old one are gone. Numbers go on. A bank whose journal
  * is full carries no command out (status 1), so this is called when ::sandbar_served tells of no more @c room. Codes:
  * ::SANDBAR_NO_NODE, ::SANDBAR_NO_BANK, ::SANDBAR_BAD_CONFIG, ::SANDBAR_NO_MEMORY.
+ *
+ * Where the room is at most that of the old journal it asks for no memory, so its code is never ::SANDBAR_NO_MEMORY, and it
+ * gives back the packets of the entries. For more room it asks while the old journal is there still.
  */
 SANDBAR_CALL
 uint32_t sandbar_rotate(sandbar_node *node, uint8_t bank, uint32_t room);
@@ -225,7 +241,8 @@ uint32_t sandbar_peek(sandbar_node *node, uint8_t bank, uint32_t address, uint8_
 /**
  * Puts bytes at an address of a bank without a command, as the instrument does. No entry tells of it, so it begins a
  * new journal with that room: read the old entries first. Codes: ::SANDBAR_NO_NODE, ::SANDBAR_NO_BANK,
- * ::SANDBAR_NO_ROOM as of ::sandbar_peek, ::SANDBAR_BAD_CONFIG, ::SANDBAR_NO_MEMORY.
+ * ::SANDBAR_NO_ROOM as of ::sandbar_peek, ::SANDBAR_BAD_CONFIG, ::SANDBAR_NO_MEMORY. It asks for memory only where
+ * ::sandbar_rotate does.
  */
 SANDBAR_CALL
 uint32_t sandbar_poke(sandbar_node *node, uint8_t bank, uint32_t address, const uint8_t *bytes, size_t length,

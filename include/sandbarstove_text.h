@@ -7,8 +7,17 @@
 
 #include "sandbarstove.h"
 
+/** `inline`, which C89 has not. */
+#ifndef SANDBAR_INLINE
+#if defined(__GNUC__)
+#define SANDBAR_INLINE __inline__
+#else
+#define SANDBAR_INLINE inline
+#endif
+#endif
+
 /** What a code means, in a few words. */
-static inline const char *sandbar_text(uint32_t code) {
+static SANDBAR_INLINE const char *sandbar_text(uint32_t code) {
   switch (code) {
     case SANDBAR_OK: return "it was done";
     case SANDBAR_NO_MEMORY: return "memory was refused";

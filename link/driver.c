@@ -2,6 +2,7 @@
    and output; a packet is its port, its end (0 EOP, 1 EEP), its length in two bytes, the first the highest, and its bytes. */
 #include "packets.h"
 
+#include <inttypes.h>
 #include <stdio.h>
 
 static const uint8_t yes[] = IMAGE_OF(0);
@@ -26,14 +27,14 @@ static int send_reply(uint8_t port, const uint8_t *reply, uint32_t length) {
 /* What the instrument does when a command was carried out. This one says on standard error what was written. */
 static void act(const sandbar_served *served) {
   if (served->place == SANDBAR_AT_BANK && served->command != SANDBAR_READ)
-    fprintf(stderr, "%lu bytes at %08lX of bank %u\n", (unsigned long)served->length, (unsigned long)served->address,
-            served->extended);
+    fprintf(stderr, "%" PRIu32 " bytes at %08" PRIX32 " of bank %u\n", served->length, served->address, served->extended);
 }
 
-/* Turns the journal of a bank: what is wanted of its entries is kept first, and is given back then. */
+/* Turns the journal of a bank: what is wanted of its entries is kept first, and its memory is given back then. A turn with
+   no more room than before asks for none, so it is done also when all is taken. */
 static void turn(sandbar_node *node, uint8_t number) {
   uint32_t code = sandbar_rotate(node, number, bank.room);
-  if (code != SANDBAR_OK) fprintf(stderr, "the journal of bank %u is not turned: code %lu\n", number, (unsigned long)code);
+  if (code != SANDBAR_OK) fprintf(stderr, "the journal of bank %u is not turned: code %" PRIu32 "\n", number, code);
 }
 
 int main(void) {
@@ -49,8 +50,11 @@ int main(void) {
   while ((length = receive(&port, &end, packet)) >= 0) {
     sandbar_served served;
     uint32_t code = sandbar_serve(&node, port, packet, (size_t)length, end, reply, sizeof reply, &served);
-    if (code == SANDBAR_NO_MEMORY) turn(&node, 0); /* the packet is lost, as on a busy link */
-    else if (code != SANDBAR_OK) fprintf(stderr, "a packet at port %u: code %u\n", port, code);
+    if (code == SANDBAR_NO_MEMORY) { /* the packet was not served: it is served again when the entries are gone */
+      turn(&node, 0);
+      code = sandbar_serve(&node, port, packet, (size_t)length, end, reply, sizeof reply, &served);
+    }
+    if (code != SANDBAR_OK) fprintf(stderr, "a packet at port %u is lost: code %" PRIu32 "\n", port, code);
     else {
       if (served.reply_length > 0 && !send_reply(port, reply, served.reply_length)) status = 1;
       if (served.kind == SANDBAR_JUDGED && served.status == 0) act(&served);

@@ -142,6 +142,32 @@ static long load(long n) {
   return asked;
 }
 
+/* A journal is turned with no request, also by a poke. With more room it is refused, and then its entry is there still. */
+static void turns(void) {
+  const uint8_t four[4] = {1, 2, 3, 4};
+  uint8_t packet[16];
+  sandbar_node node = {0};
+  sandbar_journal journal;
+  holds(open_node(&node, 1, 16) == SANDBAR_OK, "open", 0);
+  size_t length = put_read(packet, 1, 0, 0xA0000000u, 16);
+  for (int k = 0; k < 16; k += 1) serve(&node, packet, length);
+  requests = 0;
+  refuse_at = 1;
+  holds(sandbar_rotate(&node, 0, 16) == SANDBAR_OK && sandbar_poke(&node, 0, 0xA0000000u, four, 4, 16) == SANDBAR_OK &&
+            sandbar_rotate(&node, 0, 1) == SANDBAR_OK && requests == 0, "a turn asks for nothing", requests);
+  refuse_at = 0;
+  serve(&node, packet, length);
+  requests = 0;
+  refuse_at = 1;
+  uint32_t turned = sandbar_rotate(&node, 0, 1024);
+  long asked = requests;
+  refuse_at = 0;
+  holds(turned == (asked > 0 ? SANDBAR_NO_MEMORY : SANDBAR_OK), "a turn with more room", asked);
+  holds(sandbar_journal_of(&node, 0, &journal) == SANDBAR_OK && journal.entries == (asked > 0), "the entries then", asked);
+  sandbar_close(&node);
+  holds(blocks == 0, "all is given back", 0);
+}
+
 int main(void) {
   sizes(1);
   sizes(32);
@@ -149,6 +175,7 @@ int main(void) {
   long n = 1;
   while (load(n) >= n) n += 1;
   printf("loads: %ld requests refused in turn\n", n - 1);
+  turns();
   printf("%s\n", failures == 0 ? "all held" : "failed");
   return failures == 0 ? EXIT_SUCCESS : EXIT_FAILURE;
 }

@@ -2,6 +2,7 @@
    The node judges by the old program until the load succeeds, and by the new one from then on. */
 #include "packets.h"
 
+#include <inttypes.h>
 #include <stdio.h>
 
 static const uint8_t yes[] = IMAGE_OF(0), locked[] = IMAGE_OF(10);
@@ -36,7 +37,7 @@ int main(void) {
   memcpy(wrong, yes, sizeof yes);
   wrong[8] = 1; /* a budget of 1, one step too few */
   uint32_t code = sandbar_verify(maps, 1, wrong, sizeof wrong, &why);
-  printf("verify %u: V%u at slot %u\n", code, why.code, why.slot);
+  printf("verify %" PRIu32 ": V%u at slot %u\n", code, why.code, why.slot);
   if (sandbar_verify(maps, 1, locked, sizeof locked, &why) != SANDBAR_OK) return 1;
 
   /* in flight */
@@ -46,7 +47,7 @@ int main(void) {
   printf("still: status %u\n", write_byte().status);
   printf("a load of the locked one: %s\n", load(locked, sizeof locked, 1) ? "done" : "refused");
   sandbar_served after = write_byte();
-  printf("after: status %u by generation %u\n", after.status, after.generation);
+  printf("after: status %u by generation %" PRIu32 "\n", after.status, after.generation);
   sandbar_close(&node);
   return after.status == 10 ? 0 : 1;
 }

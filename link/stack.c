@@ -1,4 +1,5 @@
-/* How much stack calls take: each runs in a thread whose stack was painted, and what is no more painted was used. */
+/* How much stack calls take: each runs in a thread whose stack was painted, and what is no more painted was used. With the word
+ * `calls` each of the twelve has a line, with its name; a serving is the one that took most. */
 #include "packets.h"
 
 #include <pthread.h>
@@ -29,6 +30,63 @@ static void *serving(void *unused) {
   return unused;
 }
 
+static void *verifying(void *unused) {
+  const sandbar_map map = {1, 0};
+  sandbar_why why;
+  if (sandbar_verify(&map, 1, yes, sizeof yes, &why) != SANDBAR_OK) exit(EXIT_FAILURE);
+  return unused;
+}
+
+static void *telling(void *unused) {
+  sandbar_journal journal;
+  if (sandbar_journal_of(&node, 0, &journal) != SANDBAR_OK || journal.entries == 0) exit(EXIT_FAILURE);
+  return unused;
+}
+
+static void *reading(void *unused) {
+  sandbar_entry entry;
+  uint8_t room[64];
+  if (sandbar_entry_at(&node, 0, 0, room, sizeof room, &entry) != SANDBAR_OK) exit(EXIT_FAILURE);
+  return unused;
+}
+
+static void *turning(void *unused) {
+  if (sandbar_rotate(&node, 0, 1024) != SANDBAR_OK) exit(EXIT_FAILURE);
+  return unused;
+}
+
+static void *peeking(void *unused) {
+  uint8_t bytes[16];
+  if (sandbar_peek(&node, 0, 0xA0000000u, bytes, sizeof bytes) != SANDBAR_OK) exit(EXIT_FAILURE);
+  return unused;
+}
+
+static void *poking(void *unused) {
+  if (sandbar_poke(&node, 0, 0xA0000000u, no, 16, 1024) != SANDBAR_OK) exit(EXIT_FAILURE);
+  return unused;
+}
+
+static void *counting(void *unused) {
+  uint64_t word;
+  if (sandbar_word(&node, 0, 0, &word) != SANDBAR_OK) exit(EXIT_FAILURE);
+  return unused;
+}
+
+static void *summing(void *unused) {
+  packet[0] = sandbar_crc(packet, length);
+  return unused;
+}
+
+static void *naming(void *unused) {
+  if (sandbar_version() != SANDBAR_VERSION) exit(EXIT_FAILURE);
+  return unused;
+}
+
+static void *closing(void *unused) {
+  if (sandbar_close(&node) != SANDBAR_OK) exit(EXIT_FAILURE);
+  return unused;
+}
+
 static size_t used(void *(*work)(void *)) {
   pthread_attr_t attributes;
   pthread_t thread;
@@ -45,15 +103,48 @@ static size_t used(void *(*work)(void *)) {
   return STACK - clean;
 }
 
-int main(void) {
-  size_t thread = used(nothing);
-  printf("opening %zu\n", used(opening) - thread);
-  length = put_read(packet, 1, 0, 0xA0000000u, 16);
-  printf("a read %zu\n", used(serving) - thread);
-  length = put_write(packet, 2, 0xFF, 0, no, sizeof no);
-  used(serving);
+static void put_control(void) {
   const uint8_t control[4] = {0, 0, 0, sizeof no};
   length = put_write(packet, 3, 0xFF, 0x10000, control, 4);
+}
+
+static void put_image(void) { length = put_write(packet, 2, 0xFF, 0, no, sizeof no); }
+
+static void put_reading(void) { length = put_read(packet, 1, 0, 0xA0000000u, 16); }
+
+/* The calls in an order in which each succeeds, and what is put into `packet` before. */
+static int print_calls(size_t thread) {
+  static const struct {
+    const char *name;
+    void *(*work)(void *);
+    void (*before)(void);
+  } calls[] = {
+      {"sandbar_version", naming, NULL},         {"sandbar_verify", verifying, NULL},   {"sandbar_open", opening, NULL},
+      {"sandbar_serve", serving, put_reading},   {"sandbar_serve", serving, put_image}, {"sandbar_serve", serving, put_control},
+      {"sandbar_journal_of", telling, NULL},     {"sandbar_entry_at", reading, NULL},   {"sandbar_peek", peeking, NULL},
+      {"sandbar_rotate", turning, NULL},         {"sandbar_poke", poking, NULL},        {"sandbar_word", counting, NULL},
+      {"sandbar_crc", summing, NULL},            {"sandbar_close", closing, NULL},
+  };
+  size_t serving_most = 0;
+  for (size_t i = 0; i < sizeof calls / sizeof calls[0]; i += 1) {
+    if (calls[i].before != NULL) calls[i].before();
+    size_t found = used(calls[i].work) - thread;
+    if (calls[i].work != serving) printf("%s %zu\n", calls[i].name, found);
+    if (calls[i].work == serving && found > serving_most) serving_most = found;
+  }
+  printf("sandbar_serve %zu\n", serving_most);
+  return EXIT_SUCCESS;
+}
+
+int main(int count, char **words) {
+  size_t thread = used(nothing);
+  if (count == 2 && strcmp(words[1], "calls") == 0) return print_calls(thread);
+  printf("opening %zu\n", used(opening) - thread);
+  put_reading();
+  printf("a read %zu\n", used(serving) - thread);
+  put_image();
+  used(serving);
+  put_control();
   printf("a load %zu\n", used(serving) - thread);
   return sandbar_close(&node) == SANDBAR_OK ? EXIT_SUCCESS : EXIT_FAILURE;
 }

@@ -1,7 +1,9 @@
-/* What the library does, call by call: test PACKETS REPLIES, the two files of crates/test_tables/data. */
+/* What the library does, call by call: test PACKETS REPLIES, the two files of crates/test_tables/data; or test order, the order
+ * of the codes alone. */
 #include "packets.h"
 
 #include <ctype.h>
+#include <inttypes.h>
 #include <stdio.h>
 #include <stdlib.h>
 
@@ -46,7 +48,7 @@ static void answers(uint32_t code, uint32_t wanted, const char *what) {
   codes_seen |= 1u << code;
   if (code != wanted) {
     failures += 1;
-    printf("FAILED: %s: code %u, not %u\n", what, code, wanted);
+    printf("FAILED: %s: code %" PRIu32 ", not %" PRIu32 "\n", what, code, wanted);
   }
 }
 
@@ -414,7 +416,101 @@ static void refusals(void) {
   holds(room[0] == 0xEE && room[4119] == 0xEE, "no reply was written");
 }
 
+/* ---- The first code: calls with one fault at least, by chance, and more lent than any node takes. No call is without fault, so
+ * memory is asked for by none that passes its tests. */
+
+static uint8_t lent[1000000];
+
+static uint32_t below(uint32_t limit) {
+  static uint32_t state = 1;
+  state = state * 1664525u + 1013904223u;
+  return (state >> 8) % limit;
+}
+
+/* So many bytes of the bank, or bytes that lie outside it in part. */
+static size_t bytes_at(int outside, uint32_t *address) {
+  static const size_t lengths[4] = {0, 1, 60000, 65536};
+  size_t length = lengths[below(4)];
+  *address = 0xA0000000u + 65536u - (uint32_t)length;
+  if (!outside) return length;
+  if (below(2)) return sizeof lent;
+  *address += 1;
+  return length;
+}
+
+static int peek_or_poke(sandbar_node *node) {
+  int pokes = below(2) == 1, no_bank = below(2) == 1, no_room = pokes && below(2) == 1;
+  int outside = below(2) == 1 || !(no_bank || no_room);
+  uint32_t address, wanted = no_bank ? SANDBAR_NO_BANK : outside ? SANDBAR_NO_ROOM : SANDBAR_BAD_CONFIG;
+  size_t length = bytes_at(outside, &address);
+  uint8_t number = no_bank ? 9 : 0;
+  if (!pokes) return sandbar_peek(node, number, address, lent, length) == wanted;
+  return sandbar_poke(node, number, address, lent, length, no_room ? below(2) * 65537u : 16) == wanted;
+}
+
+/* Verifies an image, or opens a node with it. */
+static int verify_or_open(void) {
+  const sandbar_map bad = {0, 0};
+  int opens = below(2) == 1, bad_maps = below(2) == 1, bad_image = below(2) == 1, bad_config = opens && below(2) == 1;
+  int refused = below(2) == 1 || !(bad_maps || bad_image || bad_config);
+  uint32_t wanted = bad_maps ? SANDBAR_BAD_MAPS : bad_image ? SANDBAR_BAD_IMAGE : refused ? SANDBAR_REFUSED : SANDBAR_BAD_CONFIG;
+  uint16_t told = bad_maps ? 0 : bad_image ? 3 : refused ? 15 : 0;
+  sandbar_node node = {0};
+  sandbar_why why = {9, 9};
+  memcpy(lent, yes, sizeof yes);
+  if (refused) lent[8] = 1;
+  const sandbar_map *maps = bad_maps ? &bad : &map;
+  size_t length = bad_image ? sizeof lent : sizeof yes;
+  uint32_t code = opens ? sandbar_open(&node, 0xFE, bad_config ? 33 : 1, &bank, 1, maps, 1, lent, length, &why)
+                        : sandbar_verify(maps, 1, lent, length, &why);
+  return code == wanted && why.code == told && why.slot == 0 && node.live == 0;
+}
+
+static int serve_it(sandbar_node *node) {
+  int no_port = below(2) == 1, bad_end = below(2) == 1, no_room = below(2) == 1;
+  int too_long = below(2) == 1 || !(no_port || bad_end || no_room);
+  uint32_t wanted = no_port ? SANDBAR_NO_PORT : bad_end ? SANDBAR_BAD_END : too_long ? SANDBAR_TOO_LONG : SANDBAR_NO_ROOM;
+  uint8_t reply[SANDBAR_MAX_REPLY];
+  sandbar_served served;
+  return sandbar_serve(node, no_port ? 1 : 0, lent, too_long ? sizeof lent : 16, bad_end ? 2 : SANDBAR_EOP, reply,
+                       no_room ? SANDBAR_MAX_REPLY - 1 : sizeof reply, &served) == wanted;
+}
+
+static int look(sandbar_node *node) {
+  sandbar_entry entry;
+  sandbar_journal journal;
+  uint64_t word;
+  int no_bank = below(2) == 1;
+  switch (below(4)) {
+  case 0: return sandbar_entry_at(node, no_bank ? 1 : 0, 0, lent, 0, &entry) == (no_bank ? SANDBAR_NO_BANK : SANDBAR_NO_ENTRY);
+  case 1: return sandbar_rotate(node, no_bank ? 1 : 0, 65537) == (no_bank ? SANDBAR_NO_BANK : SANDBAR_BAD_CONFIG);
+  case 2: return sandbar_journal_of(node, 1, &journal) == SANDBAR_NO_BANK;
+  default: return sandbar_word(node, no_bank ? 1 : 0, no_bank ? 0 : 1, &word) == SANDBAR_NO_CELL;
+  }
+}
+
+static void order(void) {
+  const sandbar_bank small = {0xA0000000u, 65536, 16};
+  sandbar_node node = {0};
+  sandbar_why why;
+  int first = 0;
+  answers(sandbar_open(&node, 0xFE, 1, &small, 1, &map, 1, yes, sizeof yes, &why), SANDBAR_OK, "open");
+  for (int call = 0; call < 2000; call += 1) switch (below(4)) {
+    case 0: first += peek_or_poke(&node); break;
+    case 1: first += verify_or_open(); break;
+    case 2: first += serve_it(&node); break;
+    default: first += look(&node);
+    }
+  holds(first == 2000, "2,000 calls with faults, each with the code of its first");
+  answers(sandbar_close(&node), SANDBAR_OK, "close");
+}
+
 int main(int count, char **words) {
+  if (count == 2 && strcmp(words[1], "order") == 0) {
+    order();
+    printf("order: %d checks, %d failed\n", checks, failures);
+    return failures == 0 ? EXIT_SUCCESS : EXIT_FAILURE;
+  }
   if (count != 3) return EXIT_FAILURE;
   holds(sandbar_crc((const uint8_t *)"123456789", 9) == 0x20, "the CRC of 123456789");
   holds(sandbar_version() == SANDBAR_VERSION, "the library of this header");
@@ -428,6 +524,7 @@ int main(int count, char **words) {
   openings();
   words_of_cells();
   refusals();
+  order();
   /* NO_MEMORY alone is left to memory.c */
   holds(codes_seen == 0x7FFD, "every code but one");
   printf("%d checks, %d failed\n", checks, failures);

@@ -58,11 +58,6 @@ fn image(slots: &[Slot]) -> Vec<u8> {
     image_with(slots.len() as u32, &[], slots)
 }
 
-/// How many slots an image has.
-pub fn slots(image: &[u8]) -> f64 {
-    f64::from(u16::from_le_bytes([image[6], image[7]]))
-}
-
 /// Yes to every command.
 pub fn yes() -> Vec<u8> {
     image(&[insn(MOV, 0, 0, 0, 0), insn(EXIT, 0, 0, 0, 0)])
@@ -123,11 +118,6 @@ pub fn straight_of(count: usize) -> Vec<u8> {
     image(&slots)
 }
 
-/// 4,096 rounds of a loop of three slots: 12,291 steps.
-pub fn counting() -> Vec<u8> {
-    counting_of(4096)
-}
-
 /// So many rounds of a loop of three slots: three steps a round, and three.
 pub fn counting_of(rounds: u16) -> Vec<u8> {
     let mut slots = vec![
@@ -140,13 +130,60 @@ pub fn counting_of(rounds: u16) -> Vec<u8> {
     image_with(3 * u32::from(rounds) + 3, &[declared(2, 4, rounds, 6)], &slots)
 }
 
-/// A thousand rounds of a loop of ten instructions with loads, a store and a call: 10,005 steps.
-pub fn asking() -> Vec<u8> {
+/// The weight that a program may have at most.
+const BUDGET: u32 = 65_536;
+
+/// How often a loop is passed at most.
+const MOST_ROUNDS: u32 = 4_096;
+
+/// A program of loops that fill the greatest budget, and how many parts a run of it takes.
+pub struct Full {
+    pub image: Vec<u8>,
+    pub parts: u32,
+}
+
+/// The program that begins with these slots and goes through a body, in loops of that counter one after the other, as often as
+/// the budget allows. A round takes so many parts: instructions that are done, or what else is counted.
+fn full(front: &[Slot], body: &[Slot], counter: u8, parts: u32) -> Full {
+    let wide = body.iter().filter(|slot| slot[0] == LOAD_MAP.0).count();
+    let weight = (body.len() - wide + 2) as u32;
+    let all = (BUDGET - front.len() as u32 - 16) / weight;
+    let count = all.div_ceil(MOST_ROUNDS);
+    let rounds = all / count;
+    let mut slots = front.to_vec();
+    let mut loops = Vec::new();
+    for _ in 0..count {
+        slots.push(insn(MOV, counter, 0, 0, rounds));
+        let head = slots.len() as u16;
+        slots.extend(body);
+        slots.extend(again(counter, -2 - body.len() as i16));
+        loops.push(declared(head, slots.len() as u16 - 1, rounds as u16, counter));
+    }
+    slots.extend([insn(MOV, 0, 0, 0, 0), insn(EXIT, 0, 0, 0, 0)]);
+    Full { image: image_with(BUDGET, &loops, &slots), parts: count * rounds * parts }
+}
+
+/// A loop of three slots.
+pub fn full_of_counting() -> Full {
+    full(&[insn(MOV, 0, 0, 0, 0)], &[insn(MOV, 7, 0, 0, 0)], 6, 3)
+}
+
+/// A loop of 480 slots of work.
+pub fn full_of_work() -> Full {
+    let body: Vec<Slot> = (0..60).flat_map(|k| work(k % 12)).collect();
+    full(&[insn(MOV, 0, 0, 0, 1), insn(STXDW, 10, 0, -8, 0)], &body, 8, 482)
+}
+
+/// A loop of thirteen rules on initiator and address that do not match, five steps each.
+pub fn full_of_rules() -> Full {
+    let body: Vec<Slot> = (0..13).flat_map(|k| field_rule(0x9000_0000 + k)).collect();
+    full(&[], &body, 8, 13 * 5 + 2)
+}
+
+/// A loop of ten instructions with loads, a store and a call.
+pub fn full_of_asking() -> Full {
     let (opcode, subtype) = LOAD_MAP;
-    let mut slots = vec![
-        insn(MOV_REGISTER, 8, 2, 0, 0),
-        insn(MOV, 6, 0, 0, 1000),
-        insn(MOV, 7, 0, 0, 0),
+    let body = [
         insn(LDXB, 5, 8, 0, 0),
         insn(ADD_REGISTER, 7, 5, 0, 0),
         insn(STXDW, 10, 7, -8, 0),
@@ -157,24 +194,19 @@ pub fn asking() -> Vec<u8> {
         insn(CALL, 0, 0, 0, 2),
         insn(ADD_REGISTER, 7, 0, 0, 0),
     ];
-    slots.extend(again(6, -11));
-    slots.extend([insn(MOV, 0, 0, 0, 0), insn(EXIT, 0, 0, 0, 0)]);
-    image_with(10_005, &[declared(3, 13, 1000, 6)], &slots)
+    full(&[insn(MOV_REGISTER, 8, 2, 0, 0), insn(MOV, 7, 0, 0, 0)], &body, 6, 10)
 }
 
-/// 4,096 rounds of a loop of five instructions, of which one is a call: 20,483 steps.
-pub fn calling() -> Vec<u8> {
+/// A loop of five instructions, of which one is a call; a call is a part.
+pub fn full_of_calls() -> Full {
     let (opcode, subtype) = LOAD_MAP;
-    let mut slots = vec![
-        insn(MOV, 6, 0, 0, 4096),
+    let body = [
         insn(opcode, 1, subtype, 0, 0),
         insn(0, 0, 0, 0, 0),
         insn(MOV, 2, 0, 0, 0),
         insn(CALL, 0, 0, 0, 2),
     ];
-    slots.extend(again(6, -6));
-    slots.extend([insn(MOV, 0, 0, 0, 0), insn(EXIT, 0, 0, 0, 0)]);
-    image_with(20_483, &[declared(1, 6, 4096, 6)], &slots)
+    full(&[], &body, 6, 1)
 }
 
 /// Eight loops of two rounds in one another.
@@ -223,25 +255,23 @@ pub fn joins(version: u8, spills: bool) -> Vec<u8> {
     bytes
 }
 
+/// A rule on initiator and address that says yes up to that address.
+fn field_rule(high: u32) -> [Slot; 7] {
+    [
+        insn(LDXB, 4, 2, 0, 0),
+        insn(JNE, 4, 0, 5, 0x67),
+        insn(LDXW, 5, 2, 4, 0),
+        insn(BE, 5, 0, 0, 32),
+        insn(JGT32, 5, 0, 2, high),
+        insn(MOV, 0, 0, 0, 0),
+        insn(EXIT, 0, 0, 0, 0),
+    ]
+}
+
 /// Fourteen rules on initiator and address, of which the last one says yes.
 pub fn fields() -> Vec<u8> {
-    let mut slots = Vec::new();
-    for rule in 0..14 {
-        let high = if rule == 13 {
-            0xB000_0000
-        } else {
-            0x9000_0000 + rule
-        };
-        slots.extend([
-            insn(LDXB, 4, 2, 0, 0),
-            insn(JNE, 4, 0, 5, 0x67),
-            insn(LDXW, 5, 2, 4, 0),
-            insn(BE, 5, 0, 0, 32),
-            insn(JGT32, 5, 0, 2, high),
-            insn(MOV, 0, 0, 0, 0),
-            insn(EXIT, 0, 0, 0, 0),
-        ]);
-    }
+    let highs = (0..13).map(|k| 0x9000_0000 + k).chain([0xB000_0000]);
+    let mut slots: Vec<Slot> = highs.flat_map(field_rule).collect();
     slots.extend([insn(MOV, 0, 0, 0, 10), insn(EXIT, 0, 0, 0, 0)]);
     image(&slots)
 }

@@ -8,9 +8,20 @@
 
 typedef Z_sandbar_instance_t module;
 
+/* How many pages a node begins with. */
+#ifdef PORTABLE_PAGES_AT_OPENING
+#define NODE_PAGES PORTABLE_PAGES_AT_OPENING
+#if NODE_PAGES < SANDBAR_PAGES
+#error PORTABLE_PAGES_AT_OPENING is less than the module begins with
+#endif
+#else
+#define NODE_PAGES SANDBAR_PAGES
+#endif
+
 enum {
   LIVE = 0x3A9,
   ROOM = SANDBAR_MAX_PACKET + 1, /* a packet that is too long is seen to be */
+  IMAGE_ROOM = 4177,             /* the longest image, and one byte more: a longer one has the same fault */
   SMALL = 128,                   /* room for the banks, or for what a call tells */
   MAPS = 0, WHY = 48, IMAGE = 64 /* places in what is lent to be verified: nine maps, why, the image */
 };
@@ -69,13 +80,13 @@ static size_t at_most(size_t a, size_t b) { return a < b ? a : b; }
 
 /* ---- instances */
 
-/* A fresh instance; NULL where memory was refused. */
-static struct inside *instance(void) {
+/* A fresh instance with so many pages; NULL where memory was refused. */
+static struct inside *instance(uint32_t pages) {
   rattle_block block = rattle_alloc(sizeof(struct inside), 16);
   if (!block.ok) return NULL;
   struct inside *inside = block.at;
   memset(inside, 0, sizeof *inside);
-  if (!rt_take_memory(Z_sandbarZ_memory(&inside->it), SANDBAR_PAGES)) {
+  if (!rt_take_memory(Z_sandbarZ_memory(&inside->it), pages)) {
     rattle_dealloc(inside);
     return NULL;
   }
@@ -96,7 +107,7 @@ static struct inside *inside_of(const sandbar_node *node) {
 
 /* Maps and an image in the module's memory: the place of both, 0 where memory was refused. */
 static uint64_t lend(module *it, const sandbar_map *maps, size_t map_count, const uint8_t *image, size_t image_length) {
-  uint64_t block = image_length > 0xFFFFFF ? 0 : Z_sandbarZ_malloc(it, IMAGE + image_length);
+  uint64_t block = Z_sandbarZ_malloc(it, IMAGE + IMAGE_ROOM);
   if (block == 0) return 0;
   for (size_t k = 0; k < map_count; k += 1) {
     put_number(it, block + MAPS + 4 * k, maps[k].cells, 2);
@@ -116,14 +127,14 @@ static void give_back(module *it, uint64_t block, sandbar_why *why) {
 uint32_t sandbar_verify(const sandbar_map *maps, size_t map_count, const uint8_t *image, size_t image_length,
                         sandbar_why *why) {
   uint32_t code = SANDBAR_NO_MEMORY;
-  size_t count = at_most(map_count, 9);
+  size_t count = at_most(map_count, 9), length = at_most(image_length, IMAGE_ROOM);
   why->code = why->slot = 0;
-  struct inside *inside = instance();
+  struct inside *inside = instance(SANDBAR_PAGES);
   if (inside == NULL) return code;
   module *it = &inside->it;
-  uint64_t block = lend(it, maps, count, image, image_length);
+  uint64_t block = lend(it, maps, count, image, length);
   if (block != 0) {
-    code = Z_sandbarZ_sandbar_verify(it, block + MAPS, count, block + IMAGE, image_length, block + WHY);
+    code = Z_sandbarZ_sandbar_verify(it, block + MAPS, count, block + IMAGE, length, block + WHY);
     give_back(it, block, why);
   }
   end(inside);
@@ -159,15 +170,16 @@ uint32_t sandbar_open(sandbar_node *node, uint8_t address, uint8_t ports, const 
   if (inside_of(node) != NULL) return SANDBAR_IS_OPEN;
   uint32_t code = SANDBAR_NO_MEMORY;
   size_t bank_some = at_most(bank_count, 9), map_some = at_most(map_count, 9);
+  size_t length = at_most(image_length, IMAGE_ROOM);
   why->code = why->slot = 0;
-  struct inside *inside = instance();
+  struct inside *inside = instance(NODE_PAGES);
   if (inside == NULL) return code;
   module *it = &inside->it;
-  uint64_t block = has_rooms(inside) ? lend(it, maps, map_some, image, image_length) : 0;
+  uint64_t block = has_rooms(inside) ? lend(it, maps, map_some, image, length) : 0;
   if (block != 0) {
     put_banks(inside, banks, bank_some);
     code = Z_sandbarZ_sandbar_open(it, inside->node, address, ports, inside->small, bank_some, block + MAPS, map_some,
-                                   block + IMAGE, image_length, block + WHY);
+                                   block + IMAGE, length, block + WHY);
     give_back(it, block, why);
   }
   if (code != SANDBAR_OK) {
@@ -261,20 +273,27 @@ uint32_t sandbar_rotate(sandbar_node *node, uint8_t bank, uint32_t room) {
 
 /* ---- the memory of banks */
 
-enum { BANK = 1048576 /* the most bytes of a bank: a longer request lies outside each, and none of it is looked at */ };
+enum { BANK = 1048576 }; /* the most bytes of a bank: a longer request lies outside each, and none of it is looked at */
 
-/* Reads through the room for a packet, piece by piece, so that no memory is asked for. A bank has all between two of its
- * bytes: where the first and the last piece lie in it nothing is refused behind them. */
-uint32_t sandbar_peek(sandbar_node *node, uint8_t bank, uint32_t address, uint8_t *bytes, size_t length) {
-  struct inside *inside = inside_of(node);
-  if (inside == NULL) return SANDBAR_NO_NODE;
+/* What `peek` of these bytes comes to. A bank has all between two of its bytes: where the first and the last piece of them lie
+ * in it, all do. No memory is asked for. */
+static uint32_t looked_at(struct inside *inside, uint8_t bank, uint32_t address, size_t length) {
   module *it = &inside->it;
   size_t piece = at_most(length, SANDBAR_MAX_PACKET);
   uint32_t code = Z_sandbarZ_sandbar_peek(it, inside->node, bank, address, inside->packet, piece);
   if (code != SANDBAR_OK) return code;
   if (length > BANK || length - piece > UINT32_MAX - address) return SANDBAR_NO_ROOM;
   uint32_t last = address + (uint32_t)(length - piece);
-  code = Z_sandbarZ_sandbar_peek(it, inside->node, bank, last, inside->packet, piece);
+  return Z_sandbarZ_sandbar_peek(it, inside->node, bank, last, inside->packet, piece);
+}
+
+/* Reads through the room for a packet, piece by piece, so that no memory is asked for. */
+uint32_t sandbar_peek(sandbar_node *node, uint8_t bank, uint32_t address, uint8_t *bytes, size_t length) {
+  struct inside *inside = inside_of(node);
+  if (inside == NULL) return SANDBAR_NO_NODE;
+  module *it = &inside->it;
+  uint32_t code = looked_at(inside, bank, address, length);
+  size_t piece = 0;
   for (size_t done = 0; code == SANDBAR_OK && done < length; done += piece) {
     piece = at_most(length - done, SANDBAR_MAX_PACKET);
     code = Z_sandbarZ_sandbar_peek(it, inside->node, bank, address + (uint32_t)done, inside->packet, piece);
@@ -283,17 +302,22 @@ uint32_t sandbar_peek(sandbar_node *node, uint8_t bank, uint32_t address, uint8_
   return code;
 }
 
+/* Pokes through the room for a packet, piece by piece, so that no memory is asked for but for a larger journal, which the first
+ * piece begins, if there is memory: each further one turns it in place. */
 uint32_t sandbar_poke(sandbar_node *node, uint8_t bank, uint32_t address, const uint8_t *bytes, size_t length,
                       uint32_t room) {
   struct inside *inside = inside_of(node);
   if (inside == NULL) return SANDBAR_NO_NODE;
   module *it = &inside->it;
-  size_t some = at_most(length, BANK + 1);
-  uint64_t block = Z_sandbarZ_malloc(it, some + 1);
-  if (block == 0) return SANDBAR_NO_MEMORY;
-  put(it, block, bytes, some);
-  uint32_t code = Z_sandbarZ_sandbar_poke(it, inside->node, bank, address, block, some, room);
-  Z_sandbarZ_free(it, block);
+  uint32_t code = looked_at(inside, bank, address, length);
+  if (code != SANDBAR_OK) return code;
+  size_t done = 0, piece = 0;
+  do {
+    piece = at_most(length - done, SANDBAR_MAX_PACKET);
+    put(it, inside->packet, bytes + done, piece);
+    code = Z_sandbarZ_sandbar_poke(it, inside->node, bank, address + (uint32_t)done, inside->packet, piece, room);
+    done += piece;
+  } while (code == SANDBAR_OK && done < length);
   return code;
 }
 

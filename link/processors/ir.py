@@ -22,6 +22,8 @@ for line in ("datalayout", "triple"):
         sys.exit(f"portable: the module has {changed} lines `target {line}`, not one: another toolchain's")
 for attribute in ("target-cpu", "target-features", "probe-stack", "stack-probe-size", "frame-pointer"):
     text = re.sub(rf' "{attribute}"="[^"]*"', "", text)
+# A group of attributes may not be empty: one that says nothing stays.
+text = re.sub(r"^(attributes #\d+ = \{) *\}$", r'\1 "nothing" }', text, flags=re.M)
 # What each convention for C promises of the upper bits of a returned number.
 word = "signext " if triple.startswith("riscv64") else ""
 text = re.sub(r"^define (noundef )?i8 (@\w+\()", r"define \1zeroext i8 \2", text, flags=re.M)

@@ -28,9 +28,9 @@ bool rt_take_memory(wasm_rt_memory_t *memory, uint32_t pages) {
   return true;
 }
 
-/* The module's memory was taken before: this is where a refusal could not be told. */
+/* The module's memory was taken before, maybe with more pages: this is where a refusal could not be told. */
 void wasm_rt_allocate_memory(wasm_rt_memory_t *memory, uint32_t pages, uint32_t most) {
-  if (memory->pages != pages) sandbar_trap(WASM_RT_TRAP_OOB);
+  if (memory->pages < pages) sandbar_trap(WASM_RT_TRAP_OOB);
   if (most < memory->max_pages) memory->max_pages = most;
 }
 

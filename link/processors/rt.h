@@ -21,9 +21,14 @@
 #define WASM_RT_MEMCHECK_SIGNAL_HANDLER 0
 #endif
 
-/* The most pages of 65,536 bytes that a module's memory may have. */
+/* The most pages of 65,536 bytes that a module's memory may have. With PORTABLE_PAGES_AT_OPENING a node has that many from its
+ * opening on, and no more where nothing else is said: then its memory is one block, and never asked for anew. */
 #ifndef PORTABLE_PAGES
+#ifdef PORTABLE_PAGES_AT_OPENING
+#define PORTABLE_PAGES PORTABLE_PAGES_AT_OPENING
+#else
 #define PORTABLE_PAGES 1024u
+#endif
 #endif
 
 #ifdef __GNUC__

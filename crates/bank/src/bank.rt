@@ -9,7 +9,7 @@ ghost use Rattle.rmap.specs.Windows.{lies_inside};
 ghost use Rattle.bank.specs.Answer.{status_of};
 ghost use Rattle.bank.specs.Effect.{memory_at, with_bytes};
 ghost use Rattle.bank.specs.Limits.{is_bank_size, is_range, is_bank};
-ghost use Rattle.bank.specs.Records.{first_share, fresh_bank, byte_in, fits, is_next, has_room, IsBank, IsExecutable, memory_of, memory_from, reply_from, base_of, replay, answer_of, after_command, after_rotation, after_setting, covers, number_left, next_share, room_left};
+ghost use Rattle.bank.specs.Records.{first_share, fresh_bank, byte_in, fits, is_next, has_room, IsBank, IsExecutable, memory_of, memory_from, reply_from, base_of, replay, answer_of, after_command, after_rotation, after_setting, covers, empty_journal, number_left, next_share, room_left};
 
 use crate::answers::reply_to;
 use crate::entry::Entry;
@@ -145,6 +145,13 @@ impl Bank {
         self.journal.entries()
     }
 
+    /// How many entries the journal has room for in all.
+    pub fn room(&self) -> u32
+        ensures { result ≡ self.now.journal.room }
+    {
+        self.journal.room()
+    }
+
     /// How many more entries the journal has room for.
     pub fn room_left(&self) -> u32
         ensures { result ≡ room_left self.now.journal }
@@ -256,6 +263,20 @@ impl Bank {
         mem::replace(&mut self.journal, fresh)
     }
 
+    /// Begins a new journal of that room in the memory of the old one, whose entries are gone: memory and counts are as
+    /// after [`Bank::rotate`] with a fresh journal of that room. So it takes no memory. The condition is a room of 1 to
+    /// that of the journal ([`Bank::room`]).
+    pub fn turn(&mut self, room: u32)
+        requires some { 1 ≤ room }
+        requires room { room ≤ self.old.journal.room }
+        ensures bank { self.new ≡ after_rotation self.old (empty_journal room) }
+        ensures replayed { base_of self.new ≡ replay (base_of self.old) self.old.journal.entries }
+    {
+        let memory = &self.bytes;
+        self.base.copy_from(memory);
+        self.journal.turn(room);
+    }
+
     /// Whether so many bytes from the address on lie in the bank.
     pub fn covers(&self, address: u32, count: usize) -> bool
         ensures { result ≡ covers self.now address count }
@@ -281,10 +302,34 @@ impl Bank {
         ensures replayed { memory_of self.old ≡ replay (base_of self.old) result.entries }
     {
         let journal = self.rotate(fresh);
+        self.put(address, bytes);
+        journal
+    }
+
+    /// Puts bytes at an address, in memory and in what the journal begins with. Conditions: there is no entry, and the
+    /// bytes lie inside.
+    fn put(&mut self, address: u32, bytes: &[u8])
+        requires empty { self.old.journal.entries ≡ [] }
+        requires inside { covers self.old address (length bytes.now) ≡ true }
+        ensures { self.new ≡ after_setting self.old address bytes.now self.old.journal }
+    {
         let offset = (address - self.first) as usize;
         self.bytes.put(offset, bytes);
         self.base.put(offset, bytes);
-        journal
+    }
+
+    /// Puts bytes at an address without a command, as [`Bank::set`] does, and begins a new journal of that room in the
+    /// memory of the old one, as [`Bank::turn`] does. Conditions: those of both.
+    pub fn turn_and_set(&mut self, address: u32, bytes: &[u8], room: u32)
+        requires some { 1 ≤ room }
+        requires room { room ≤ self.old.journal.room }
+        requires inside { covers self.old address (length bytes.now) ≡ true }
+        ensures memory { memory_of self.new ≡ with_bytes (memory_of self.old) address bytes.now }
+        ensures bank { self.new ≡ after_setting self.old address bytes.now (empty_journal room) }
+        ensures replayed { memory_of self.old ≡ replay (base_of self.old) self.old.journal.entries }
+    {
+        self.turn(room);
+        self.put(address, bytes);
     }
 }
 

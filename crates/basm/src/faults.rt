@@ -131,7 +131,7 @@ impl AsmCode {
         }
     }
 
-    /// What to say of the fault beside its name: when it comes, and what to do, in lines of at most 113 columns.
+    /// What to say of the fault beside its name: when it comes, and what to do, in lines of at most 114 columns.
     pub fn advice(self) -> &'static str {
         match self {
             AsmCode::BadWord => BAD_WORD,

@@ -211,7 +211,7 @@ impl Refusal {
         }
     }
 
-    /// What to say of the refusal beside its name: when it comes, and what to do, in lines of at most 113 columns.
+    /// What to say of the refusal beside its name: when it comes, and what to do, in lines of at most 114 columns.
     pub fn advice(self) -> &'static str {
         match self {
             Refusal::Target => TARGET,

@@ -3,8 +3,8 @@
 //! A [`Table`] holds what is known at the slots to which a program jumps, a [`Visit`] is of one slot, [`flow`] follows
 //! the edges of its instruction, and a [`Body`] is a loop, at whose head what is known is widened by what the loop
 //! writes ([`Written`]). The definitions are in `specs/`: `Justified` says when a program may judge, `Heads` what stands
-//! for every pass of a loop, `Visit` and `Leading` what a visit does to the table, `Refusals`, `Told` and `Unjustified`
-//! what a refusal is worth.
+//! for every pass of a loop, `Visit` and `Leading` what a visit does to the table, `Refusals` and `Unjustified` what a
+//! refusal is worth.
 #![tactic(auto)]
 
 mod body;

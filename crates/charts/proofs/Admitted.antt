@@ -15,10 +15,8 @@ use Rattle.regions.specs.Points.{IsSpan, is_distance, is_rmw_distance}
 use Rattle.rmap.specs.Command.{CommandValue, IsHeader, address_of, command_kind, extended_of, increments, length_of, target_of, verifies}
 use Rattle.rmap.specs.Instruction.{is_used}
 use Rattle.rmap.specs.Windows.{WindowsValue, bank_place, boot_place, is_register, is_staged, lies_inside, place_of, load_register_of}
-use Rattle.charts.specs.Same.{AreSame, MayBeJudged}
-use Rattle.charts.specs.Judged.{EndsInTime, HasBytesAlone}
-use Rattle.policy_table.specs.Meaning.{decision}
-use Rattle.policy_table.specs.declared.rules.Rule.{Rule}
+use Rattle.charts.specs.Same.{MayBeJudged}
+use Rattle.charts.specs.Judged.{EndsInTime, HasBytesAlone, NodesDecideAlike}
 
 both_parts : (s t : Bool) → (s && t) ≡ true → (s ≡ true) × (t ≡ true)
 both_parts true t e = (refl, e)
@@ -159,6 +157,5 @@ admitted c w is_header bytes ends none =
     not_more : (n : ℕ) → nat_lt MAX_DATA n ≡ false → n ≤ 4096
     not_more n t = grind (arith, nat_tests)
 
-pub decide_alike : (old new : List Rule) → AreSame old new → (c : CommandValue) (w : WindowsValue) → IsHeader c → HasBytesAlone c → All EndsInTime w.banks → header_line c w ≡ None → (told : ℕ → ℕ)
-    → decision old (header c.front c.tail) told ≡ decision new (header c.front c.tail) told
-decide_alike old new same c w is_header bytes ends none told = same (header c.front c.tail) (admitted c w is_header bytes ends none) told
+pub decide_alike : NodesDecideAlike
+decide_alike old new same c w is_header bytes ends none told one = same (header c.front c.tail) (admitted c w is_header bytes ends none) told one

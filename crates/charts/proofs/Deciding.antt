@@ -1,79 +1,136 @@
 -- Which rule may decide at a point.
-use Rattle.std.proofs.Common.{◌≡◌, ◌≤◌, ◌<◌, ◌+◌, ◌^◌, ◌&&◌, ◌||◌, ℕ, zero, suc, Bool, true, false, not, List, [], ◌∷◌, Option, Some, None, refl, ap, sym, ◌∙◌, arith}
+use Rattle.std.proofs.Common.{◌≡◌, ◌≤◌, ◌<◌, ◌+◌, ◌^◌, ◌&&◌, ◌||◌, ℕ, zero, suc, max, Bool, true, false, not, List, [], ◌∷◌, ◌++◌, length, Option, Some, None, refl, ap, sym, subst, ◌∙◌, arith}
 use Rattle.std.specs.Prelude.{All, MatchBool, MatchOption, if◌then◌else◌, is_none, nat_lt}
 use Rattle.std.proofs.lemmas.Bool.Decides.{nat_tests}
+use Rattle.std.proofs.lemmas.List.{append-nil}
 use Rattle.std.proofs.lemmas.List.Elements.{All-head, All-tail}
+use Rattle.machine.specs.declared.calls.Call.{Call}
+use Rattle.rmap.specs.Verdict.{verdict_number}
 use Rattle.policy_table.specs.Limits.{IsLimited}
+use Rattle.policy_table.specs.Meaning.{AreWords, draw, ruled}
 use Rattle.policy_table.specs.declared.rules.Quota.{Quota}
 use Rattle.policy_table.specs.declared.rules.Rule.{Rule}
 use Rattle.regions.specs.Questions.{IsSettledBy}
 use Rattle.regions.specs.declared.points.Point.{Point}
-use Rattle.charts.specs.Alike.{HasLimit}
+use Rattle.charts.specs.Alike.{AreLimited, HasLimit, held}
 use Rattle.charts.specs.Deciders.{DecidesWithinLimits, NeverDecides, by_quota, decider_from, has_room, lets_pass, may_decide}
-use Rattle.charts.specs.Points.{holds_at, tests_of}
+use Rattle.charts.specs.Points.{decision_at, holds_at, tests_of}
+use Rattle.charts.specs.Tickets.{AreTickets, AreTicketsFrom, after, is_of, least_from, raised}
+use Rattle.charts.proofs.Least.{ahead, ahead_words, drawn_first, drawn_rest, drawn_told, from_start, least_more, least_there, none_told, weaker}
 use Rattle.charts.proofs.RuleShapes.{alike_of}
-use Rattle.charts.proofs.Sameness.{HoldsAlike}
+use Rattle.charts.proofs.Sameness.{HoldsAlike, same_decision}
 
--- ---- the answers by which each rule before lets pass
-
-ahead : (t : Bool) → Option Quota → (ℕ → ℕ) → ℕ → ℕ
-ahead false quota rest k = rest k
-ahead true None rest k = rest k
-ahead true (Some quota) rest zero = 2147483647
-ahead true (Some quota) rest (suc k) = rest k
-
-answers : (places : ℕ) → List Rule → Point → ℕ → ℕ
-answers zero rules p k = 0
-answers (suc places) [] p k = 0
-answers (suc places) (rule ∷ rules) p k = ahead (holds_at rule p) rule.quota (answers places rules p) k
-
-ahead_fits : (t : Bool) (quota : Option Quota) (rest : ℕ → ℕ) → ((k : ℕ) → rest k < 2 ^ 64) → (k : ℕ) → ahead t quota rest k < 2 ^ 64
-unfolding ahead
-ahead_fits false quota rest fits k = fits k
-ahead_fits true None rest fits k = fits k
-ahead_fits true (Some quota) rest fits zero = omega arith
-ahead_fits true (Some quota) rest fits (suc k) = fits k
-
-answers_fit : (places : ℕ) (rules : List Rule) (p : Point) (k : ℕ) → answers places rules p k < 2 ^ 64
-unfolding answers
-answers_fit zero rules p k = omega arith
-answers_fit (suc places) [] p k = omega arith
-answers_fit (suc places) (rule ∷ rules) p k = ahead_fits (holds_at rule p) rule.quota (answers places rules p) (answers_fit places rules p) k
-
--- ---- the rule may decide
+-- ---- one rule and those behind it
 
 both_parts : (s t : Bool) → (s && t) ≡ true → (s ≡ true) × (t ≡ true)
 both_parts true t e = (refl, e)
 both_parts false t e = absurd (cc)
 
-here : (t : Bool) (quota : Option Quota) (n : ℕ) (told : ℕ → ℕ) (a b : Option ℕ) → told 0 ≡ 0 → t ≡ true → has_room quota ≡ true → (if t then by_quota quota n told a else b) ≡ Some n
-here true None n told a b zero_is e room = refl
-here true (Some quota) n told a b zero_is e room = rw (zero_is, room) refl
-here false quota n told a b zero_is e room = absurd (cc)
+-- the least tickets behind a rule, where it holds
+abbrev IsLeastNext : (t : Bool) → Option Quota → (least next : ℕ → ℕ → ℕ) → Type 0
+IsLeastNext t quota least next = (map cell : ℕ) → next map cell ≡ (if t then raised quota map cell (least map cell) else least map cell)
 
-passed : (t : Bool) (quota : Option Quota) (n m : ℕ) (rest : ℕ → ℕ) (go : (ℕ → ℕ) → Option ℕ) → IsLimited quota → (not t || lets_pass quota) ≡ true → go rest ≡ Some m
-    → (if t then by_quota quota n (λ k. ahead t quota rest k) (go (λ k. ahead t quota rest (suc k))) else go (λ k. ahead t quota rest k)) ≡ Some m
-unfolding ahead
-passed false quota n m rest go limit e h = h
-passed true None n m rest go limit e h = absurd (cc)
-passed true (Some quota) n m rest go limit e h =
-    let over : nat_lt 2147483647 quota.limit ≡ false = not_below quota.limit limit.2 in
-    rw over h
+least_next_of : (passed : List Rule) (rule : Rule) (p : Point) → IsLeastNext (holds_at rule p) rule.quota (least_from 0 passed) (least_from 0 (passed ++ held p (rule ∷ [])))
+least_next_of passed rule p map cell = by_test (holds_at rule p)
   where
-    not_below : (limit : ℕ) → limit ≤ 2147483647 → nat_lt 2147483647 limit ≡ false
-    not_below limit h = grind (arith, nat_tests)
+    by_test : (t : Bool) → least_from 0 (passed ++ (if t then rule ∷ [] else [])) map cell ≡ (if t then raised rule.quota map cell (least_from 0 passed map cell) else least_from 0 passed map cell)
+    by_test true = least_more 0 passed rule map cell
+    by_test false = ap (λ (rs : List Rule). least_from 0 rs map cell) (append-nil passed)
 
-decides_so : (places : ℕ) (rules : List Rule) (p : Point) (n : ℕ) → All HasLimit rules → may_decide places rules p ≡ true → decider_from n rules p (λ k. answers places rules p k) ≡ Some (n + places)
-unfolding answers
-decides_so zero [] p n limits e = absurd (cc)
-decides_so (suc places) [] p n limits e = absurd (cc)
-decides_so zero (rule ∷ rules) p n limits e =
-    let parts = both_parts (holds_at rule p) (has_room rule.quota) e in
-    here (holds_at rule p) rule.quota n (λ k. 0) (decider_from (suc n) rules p (λ k. 0)) (decider_from (suc n) rules p (λ k. 0)) refl parts.0 parts.1 ∙ ap Some (omega arith)
-decides_so (suc places) (rule ∷ rules) p n limits e =
-    let parts = both_parts (not (holds_at rule p) || lets_pass rule.quota) (may_decide places rules p) e in
-    passed (holds_at rule p) rule.quota n (n + suc places) (λ k. answers places rules p k) (λ told. decider_from (suc n) rules p told) (All-head HasLimit rule rules limits) parts.0
-    (decides_so places rules p (suc n) (All-tail HasLimit rule rules limits) parts.1 ∙ ap Some (omega arith))
+-- a decision by a rule that may hold, and by those behind it
+abbrev run_by : (t : Bool) → Option Quota → (code : ℕ) → (rest : (ℕ → ℕ) → List Call × ℕ) → (ℕ → ℕ) → List Call × ℕ
+run_by t quota code rest told = if t then ruled quota code told (rest (λ k. told (suc k))) else rest told
+
+-- the rule by which it is
+abbrev decider_by : (t : Bool) → Option Quota → (n : ℕ) → (rest : (ℕ → ℕ) → Option ℕ) → (ℕ → ℕ) → Option ℕ
+decider_by t quota n rest told = if t then by_quota quota n told (rest (λ k. told (suc k))) else rest told
+
+is_below : (a b : ℕ) → nat_lt a b ≡ true → a < b
+is_below a b h = grind (arith, nat_tests)
+
+is_not_below : (a b : ℕ) → nat_lt a b ≡ false → b ≤ a
+is_not_below a b h = grind (arith, nat_tests)
+
+not_below : (a b : ℕ) → b ≤ a → nat_lt a b ≡ false
+not_below a b h = grind (arith, nat_tests)
+
+-- ---- the rule may decide
+
+-- for some tickets that are not below the least it does
+record DecidesFrom (least : ℕ → ℕ → ℕ) (run : (ℕ → ℕ) → List Call × ℕ) (decider : (ℕ → ℕ) → Option ℕ) (place : ℕ) : Type 0 where
+  told : ℕ → ℕ
+  words : AreWords told
+  run_told : AreTicketsFrom least (run told).0
+  decides : decider told ≡ Some place
+
+abbrev always : ℕ → ℕ → ℕ
+always ticket k = ticket
+
+here : (t : Bool) (quota : Option Quota) (passed : List Rule) (n code : ℕ) (rest : (ℕ → ℕ) → List Call × ℕ) (more : (ℕ → ℕ) → Option ℕ) → IsLimited quota → (t && has_room quota passed) ≡ true
+    → DecidesFrom (least_from 0 passed) (run_by t quota code rest) (decider_by t quota n more) n
+here false quota passed n code rest more limited e = absurd (cc)
+here true None passed n code rest more limited e = record { told = always 0; words = λ k. omega arith; run_told = none_told (least_from 0 passed); decides = refl }
+here true (Some q) passed n code rest more limited e =
+    let t : ℕ = least_from 0 passed q.map q.cell in
+    let lt : t < q.limit = is_below t q.limit e in
+    record {
+      told = always t;
+      words = λ k. omega (arith, lt, limited.2);
+      run_told = drawn_told (least_from 0 passed) q code (always t) (rest (always t)) (omega arith) (λ none. absurd (not_both (nat_lt t q.limit) e none));
+      decides = ap (λ (b : Bool). if b then Some n else more (always t)) e;
+    }
+  where
+    not_both : (b : Bool) → b ≡ true → b ≡ false → ⊥
+    not_both true e f = absurd (cc)
+    not_both false e f = absurd (cc)
+
+module _ (least next : ℕ → ℕ → ℕ) (n code place bound : ℕ) (rest : (ℕ → ℕ) → List Call × ℕ) (more : (ℕ → ℕ) → Option ℕ) where
+  passed_on : (t : Bool) (quota : Option Quota) → IsLeastNext t quota least next → IsLimited quota → 2147483647 ≤ bound → ((map cell : ℕ) → least map cell ≤ bound) → bound < 2 ^ 64 → (not t || lets_pass quota) ≡ true
+      → DecidesFrom next rest more place → DecidesFrom least (run_by t quota code rest) (decider_by t quota n more) place
+  passed_on false quota is limited limits below fits e h = record { told = h.told; words = h.words; run_told = weaker least next (rest h.told).0 (λ map cell. omega (arith, is map cell)) h.run_told; decides = h.decides }
+  passed_on true None is limited limits below fits e h = absurd (cc)
+  passed_on true (Some q) is limited limits below fits e h = record {
+    told = ahead t h.told;
+    words = ahead_words t h.told (omega (arith, limited.2, limits, below q.map q.cell, fits)) h.words;
+    run_told = drawn_told least q code (ahead t h.told) (rest h.told) (omega arith) (λ _. weaker (after least q t) next (rest h.told).0 above h.run_told);
+    decides = ap (λ (b : Bool). if b then Some n else more h.told) (not_below t q.limit (omega arith)) ∙ h.decides;
+  }
+    where
+      t : ℕ
+      t = max (least q.map q.cell) q.limit
+
+      above : (map cell : ℕ) → after least q t map cell ≤ next map cell
+      above map cell = by_cell (is_of q map cell) refl (is map cell)
+        where
+          by_cell : (b : Bool) → is_of q map cell ≡ b → next map cell ≡ (if b then suc (max (least map cell) q.limit) else least map cell) → (if b then suc t else least map cell) ≤ next map cell
+          by_cell true c f = let there = least_there least q map cell c in omega (arith, there, f)
+          by_cell false c f = omega (arith, f)
+
+-- a bound of the least, behind a rule
+bound_next : (t : Bool) (quota : Option Quota) (least next : ℕ → ℕ → ℕ) (bound : ℕ) → IsLeastNext t quota least next → IsLimited quota → 2147483647 ≤ bound → ((map cell : ℕ) → least map cell ≤ bound) → (map cell : ℕ) → next map cell ≤ suc bound
+bound_next false quota least next bound is limited limits below map cell = omega (arith, is map cell, below map cell)
+bound_next true None least next bound is limited limits below map cell = omega (arith, is map cell, below map cell)
+bound_next true (Some q) least next bound is limited limits below map cell = by_cell (is_of q map cell) (is map cell)
+  where
+    by_cell : (b : Bool) → next map cell ≡ (if b then suc (max (least map cell) q.limit) else least map cell) → next map cell ≤ suc bound
+    by_cell true f = omega (arith, f, limited.2, limits, below map cell)
+    by_cell false f = omega (arith, f, below map cell)
+
+decides_so : (places : ℕ) (passed rules : List Rule) (p : Point) (n bound : ℕ) → All HasLimit rules → 2147483647 ≤ bound → ((map cell : ℕ) → least_from 0 passed map cell ≤ bound) → bound + length rules < 2 ^ 64
+    → may_decide passed places rules p ≡ true → DecidesFrom (least_from 0 passed) (decision_at rules p) (decider_from n rules p) (n + places)
+decides_so zero passed [] p n bound limits high below few e = absurd (cc)
+decides_so (suc places) passed [] p n bound limits high below few e = absurd (cc)
+decides_so zero passed (rule ∷ rules) p n bound limits high below few e =
+    let own = here (holds_at rule p) rule.quota passed n (verdict_number rule.verdict) (decision_at rules p) (decider_from (suc n) rules p) (All-head HasLimit rule rules limits) e in
+    record { told = own.told; words = own.words; run_told = own.run_told; decides = own.decides ∙ ap Some (omega arith) }
+decides_so (suc places) passed (rule ∷ rules) p n bound limits high below few e =
+    let parts = both_parts (not (holds_at rule p) || lets_pass rule.quota) (may_decide (passed ++ held p (rule ∷ [])) places rules p) e in
+    let limited : HasLimit rule = All-head HasLimit rule rules limits in
+    let more = decides_so places (passed ++ held p (rule ∷ [])) rules p (suc n) (suc bound) (All-tail HasLimit rule rules limits) (omega (arith, high))
+    (bound_next (holds_at rule p) rule.quota (least_from 0 passed) _ bound (least_next_of passed rule p) limited high below) (omega (arith, few)) parts.1 in
+    let own = passed_on (least_from 0 passed) (least_from 0 (passed ++ held p (rule ∷ []))) n (verdict_number rule.verdict) (suc n + places) bound (decision_at rules p) (decider_from (suc n) rules p)
+    (holds_at rule p) rule.quota (least_next_of passed rule p) limited high below (omega (arith, few)) parts.0 more in
+    record { told = own.told; words = own.words; run_told = own.run_told; decides = own.decides ∙ ap Some (omega arith) }
 
 -- ---- it may not
 
@@ -99,41 +156,64 @@ least n (rule ∷ rules) p told m e =
     least_by (holds_at rule p) rule.quota n m told (decider_from (suc n) rules p (λ k. told (suc k))) (decider_from (suc n) rules p told)
     (λ h. omega (arith, least (suc n) rules p (λ k. told (suc k)) m h)) (λ h. omega (arith, least (suc n) rules p told m h)) e
 
-not_here : (t : Bool) (quota : Option Quota) (n : ℕ) (told : ℕ → ℕ) (a b : Option ℕ) → (t && has_room quota) ≡ false → ¬ (a ≡ Some n) → ¬ (b ≡ Some n) → ¬ ((if t then by_quota quota n told a else b) ≡ Some n)
-not_here false quota n told a b e f g h = g h
-not_here true None n told a b e f g h = absurd (cc)
-not_here true (Some quota) n told a b e f g h =
-    let none : nat_lt (told 0) quota.limit ≡ false = no_room (told 0) quota.limit e in
+not_here : (t : Bool) (quota : Option Quota) (passed : List Rule) (n code : ℕ) (told : ℕ → ℕ) (rest : List Call × ℕ) (a b : Option ℕ) → (t && has_room quota passed) ≡ false
+    → AreTicketsFrom (least_from 0 passed) (if t then ruled quota code told rest else rest).0 → ¬ (a ≡ Some n) → ¬ (b ≡ Some n) → ¬ ((if t then by_quota quota n told a else b) ≡ Some n)
+not_here false quota passed n code told rest a b e run f g h = g h
+not_here true None passed n code told rest a b e run f g h = absurd (cc)
+not_here true (Some q) passed n code told rest a b e run f g h =
+    let least : least_from 0 passed q.map q.cell ≤ told 0 = drawn_first (least_from 0 passed) q code told rest run in
+    let none : nat_lt (told 0) q.limit ≡ false = not_below (told 0) q.limit (omega (arith, least, is_not_below (least_from 0 passed q.map q.cell) q.limit e)) in
     f (sym (ap (λ (t : Bool). if t then Some n else a) none) ∙ h)
-  where
-    no_room : (answer limit : ℕ) → nat_lt 0 limit ≡ false → nat_lt answer limit ≡ false
-    no_room answer limit e = grind (arith, nat_tests)
 
-not_behind : (t : Bool) (quota : Option Quota) (n m : ℕ) (told : ℕ → ℕ) (a b : Option ℕ) (may : Bool) → n < m → ((not t || lets_pass quota) && may) ≡ false → (may ≡ false → ¬ (a ≡ Some m)) → (may ≡ false → ¬ (b ≡ Some m))
-    → ¬ ((if t then by_quota quota n told a else b) ≡ Some m)
-not_behind false quota n m told a b may lt e f g h = g e h
-not_behind true None n m told a b may lt e f g h = other_place n m (λ same. absurd (omega (arith, same, lt))) h
-not_behind true (Some quota) n m told a b may lt e f g h = by_test (nat_lt (told 0) quota.limit) h
-  where
-    by_test : (t : Bool) → (if t then Some n else a) ≡ Some m → ⊥
-    by_test true k = other_place n m (λ same. absurd (omega (arith, same, lt))) k
-    by_test false k = f e k
+module _ (least next : ℕ → ℕ → ℕ) (n m code : ℕ) (told : ℕ → ℕ) (may : Bool) (rest : (ℕ → ℕ) → List Call × ℕ) (more : (ℕ → ℕ) → Option ℕ) (lt : n < m)
+    (never : may ≡ false → (t : ℕ → ℕ) → AreTicketsFrom next (rest t).0 → ¬ (more t ≡ Some m)) where
+  not_behind : (t : Bool) (quota : Option Quota) → IsLeastNext t quota least next → ((not t || lets_pass quota) && may) ≡ false → AreTicketsFrom least (run_by t quota code rest told).0 → ¬ (decider_by t quota n more told ≡ Some m)
+  not_behind false quota is e run h = never e told (weaker next least (rest told).0 (λ map cell. omega (arith, is map cell)) run) h
+  not_behind true None is e run h = other_place n m (λ same. absurd (omega (arith, same, lt))) h
+  not_behind true (Some q) is e run h = by_test (nat_lt (told 0) q.limit) refl h
+    where
+      on : ℕ → ℕ
+      on k = told (suc k)
 
-decides_not : (places : ℕ) (rules : List Rule) (p : Point) (n m : ℕ) → m ≡ n + places → may_decide places rules p ≡ false → (told : ℕ → ℕ) → ¬ (decider_from n rules p told ≡ Some m)
-decides_not zero [] p n m is e told h = absurd (cc)
-decides_not (suc places) [] p n m is e told h = absurd (cc)
-decides_not zero (rule ∷ rules) p n m is e told h =
+      le : least q.map q.cell ≤ told 0
+      le = drawn_first least q code told (rest on) run
+
+      below : q.limit ≤ told 0 → (map cell : ℕ) → next map cell ≤ after least q (told 0) map cell
+      below high map cell = by_cell (is_of q map cell) refl (is map cell)
+        where
+          by_cell : (b : Bool) → is_of q map cell ≡ b → next map cell ≡ (if b then suc (max (least map cell) q.limit) else least map cell) → next map cell ≤ (if b then suc (told 0) else least map cell)
+          by_cell true c f = let there = least_there least q map cell c in omega (arith, there, f, le, high)
+          by_cell false c f = omega (arith, f)
+
+      by_test : (b : Bool) → nat_lt (told 0) q.limit ≡ b → (if b then Some n else more on) ≡ Some m → ⊥
+      by_test true f k = other_place n m (λ same. absurd (omega (arith, same, lt))) k
+      by_test false f k = never e on (weaker next (after least q (told 0)) (rest on).0 (below (is_not_below (told 0) q.limit f)) (drawn_rest least q code told (rest on) f run)) k
+
+decides_not : (places : ℕ) (passed rules : List Rule) (p : Point) (n m : ℕ) → m ≡ n + places → may_decide passed places rules p ≡ false → (told : ℕ → ℕ) → AreTicketsFrom (least_from 0 passed) (decision_at rules p told).0 → ¬ (decider_from n rules p told ≡ Some m)
+decides_not zero passed [] p n m is e told run h = absurd (cc)
+decides_not (suc places) passed [] p n m is e told run h = absurd (cc)
+decides_not zero passed (rule ∷ rules) p n m is e told run h =
     let same : m ≡ n = omega (arith, is) in
-    not_here (holds_at rule p) rule.quota n told (decider_from (suc n) rules p (λ k. told (suc k))) (decider_from (suc n) rules p told) e
-    (λ k. absurd (omega (arith, least (suc n) rules p (λ k. told (suc k)) n k))) (λ k. absurd (omega (arith, least (suc n) rules p told n k))) (h ∙ ap Some same)
-decides_not (suc places) (rule ∷ rules) p n m is e told h =
-    not_behind (holds_at rule p) rule.quota n m told (decider_from (suc n) rules p (λ k. told (suc k))) (decider_from (suc n) rules p told) (may_decide places rules p) (omega (arith, is)) e
-    (λ none. decides_not places rules p (suc n) m (omega (arith, is)) none (λ k. told (suc k))) (λ none. decides_not places rules p (suc n) m (omega (arith, is)) none told) h
+    by_holds (holds_at rule p) e run (h ∙ ap Some same)
+  where
+    by_holds : (t : Bool) → (t && has_room rule.quota passed) ≡ false → AreTicketsFrom (least_from 0 passed) (run_by t rule.quota (verdict_number rule.verdict) (decision_at rules p) told).0
+        → decider_by t rule.quota n (decider_from (suc n) rules p) told ≡ Some n → ⊥
+    by_holds true e run k =
+        not_here true rule.quota passed n (verdict_number rule.verdict) told (decision_at rules p (λ k. told (suc k))) (decider_from (suc n) rules p (λ k. told (suc k))) (decider_from (suc n) rules p told) e run
+        (λ k. absurd (omega (arith, least (suc n) rules p (λ k. told (suc k)) n k))) (λ k. absurd (omega (arith, least (suc n) rules p told n k))) k
+    by_holds false e run k = absurd (omega (arith, least (suc n) rules p told n k))
+decides_not (suc places) passed (rule ∷ rules) p n m is e told run h =
+    not_behind (least_from 0 passed) (least_from 0 (passed ++ held p (rule ∷ []))) n m (verdict_number rule.verdict) told (may_decide (passed ++ held p (rule ∷ [])) places rules p) (decision_at rules p) (decider_from (suc n) rules p) (omega (arith, is))
+    (λ none t there. decides_not places (passed ++ held p (rule ∷ [])) rules p (suc n) m (omega (arith, is)) none t there)
+    (holds_at rule p) rule.quota (least_next_of passed rule p) e run h
 
 -- the answer of the test, turned
-pub never_by_test : (t : Bool) (rules : List Rule) (place : ℕ) (p : Point) → t ≡ may_decide place rules p → MatchBool (not t) (NeverDecides rules place p) (DecidesWithinLimits rules place p)
-never_by_test true rules place p e = λ limits. ((λ k. answers place rules p k), answers_fit place rules p, decides_so place rules p 0 limits (sym e) ∙ ap Some (omega arith))
-never_by_test false rules place p e = λ told h. decides_not place rules p 0 place (omega arith) (sym e) told h
+pub never_by_test : (t : Bool) (rules : List Rule) (place : ℕ) (p : Point) → t ≡ may_decide [] place rules p → MatchBool (not t) (NeverDecides rules place p) (DecidesWithinLimits rules place p)
+never_by_test true rules place p e = λ limited.
+    let d = decides_so place [] rules p 0 2147483647 limited.limits (omega arith) (λ map cell. omega arith) (omega (arith, limited.few)) (sym e) in
+    record { told = d.told; words = d.words; tickets = d.run_told.tickets; decider = d.decides ∙ ap Some (omega arith) }
+never_by_test false rules place p e = λ told tickets h.
+    decides_not place [] rules p 0 place (omega arith) (sym e) told (from_start (least_from 0 []) (decision_at rules p told).0 (λ map cell. refl) tickets) h
 
 -- ---- two points alike
 
@@ -148,7 +228,9 @@ same_decider n (rule ∷ rules) p q told same =
     (ap (λ (d : Option ℕ). by_quota rule.quota n told d) (same_decider (suc n) rules p q (λ k. told (suc k)) rest)) (same_decider (suc n) rules p q told rest)
 
 pub never_settled : (rules : List Rule) (place : ℕ) → IsSettledBy (tests_of rules) (NeverDecides rules place)
-never_settled rules place p q _ _ same never told h = never told (sym (same_decider 0 rules p q told (alike_of rules p q same)) ∙ h)
+never_settled rules place p q _ _ same never told tickets h =
+    never told (subst (λ (d : List Call × ℕ). AreTickets d.0) (same_decision rules p q (alike_of rules p q same) told) tickets)
+    (sym (same_decider 0 rules p q told (alike_of rules p q same)) ∙ h)
 
 pub none_by : (o : Option Point) (P R : Type 0) (Q : Point → Type 0) → MatchOption o P Q → ((p : Point) → Q p → R) → MatchBool (is_none o) P R
 none_by None P R Q h f = h

@@ -1,5 +1,6 @@
 pub mod Sameness
 pub mod Whole
+pub mod Least
 pub mod Tickets
 pub mod Witnesses
 pub mod Admitted
@@ -11,3 +12,4 @@ pub mod LineShapes
 pub mod Deciding
 pub mod Meeting
 pub mod Resting
+pub mod Plainness

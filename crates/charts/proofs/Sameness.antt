@@ -1,11 +1,12 @@
 -- Where rules hold alike, tables decide alike.
-use Rattle.std.proofs.Common.{◌≡◌, ℕ, suc, Bool, List, [], ◌∷◌, refl, ap, sym, ◌∙◌}
+use Rattle.std.proofs.Common.{◌≡◌, ◌⊎◌, inl, inr, ℕ, suc, Bool, List, [], ◌∷◌, refl, ap, sym, ◌∙◌, subst}
 use Rattle.std.specs.Prelude.{All, if◌then◌else◌}
 use Rattle.std.proofs.lemmas.List.Elements.{All-head, All-tail}
 use Rattle.machine.specs.declared.calls.Call.{Call}
 use Rattle.rmap.specs.Verdict.{verdict_number}
 use Rattle.policy_table.specs.Meaning.{ruled}
 use Rattle.charts.specs.Points.{AreAlike, decision_at, holds_at}
+use Rattle.charts.specs.Tickets.{AreTickets, AreTicketsOfOne}
 use Rattle.regions.specs.declared.points.Point.{Point}
 use Rattle.policy_table.specs.declared.rules.Rule.{Rule}
 
@@ -27,5 +28,9 @@ same_decision (rule ∷ rules) p q same told =
     (same_decision rules p q rest told)
 
 pub alike_there : (old new : List Rule) (p q : Point) → All (HoldsAlike p q) old → All (HoldsAlike p q) new → AreAlike old new q → AreAlike old new p
-alike_there old new p q olds news alike told =
-    same_decision old p q olds told ∙ alike told ∙ sym (same_decision new p q news told)
+alike_there old new p q olds news alike told one =
+    same_decision old p q olds told ∙ alike told (by_one one) ∙ sym (same_decision new p q news told)
+  where
+    by_one : AreTicketsOfOne (decision_at old p told).0 (decision_at new p told).0 → AreTicketsOfOne (decision_at old q told).0 (decision_at new q told).0
+    by_one (inl h) = inl (subst (λ (d : List Call × ℕ). AreTickets d.0) (same_decision old p q olds told) h)
+    by_one (inr h) = inr (subst (λ (d : List Call × ℕ). AreTickets d.0) (same_decision new p q news told) h)

@@ -1,19 +1,22 @@
 -- The test whether two courses are the same is exact.
-use Rattle.std.proofs.Common.{◌≡◌, ◌≤◌, ◌<◌, ◌+◌, ◌^◌, ◌⊎◌, ◌==◌, inl, inr, ℕ, suc, zero, get_or, drop, drop-cons, add-one, Bool, true, false, ◌&&◌, ◌||◌, List, [], ◌∷◌, length, Option, Some, None, refl, ap, sym, ◌∙◌, subst, arith}
+use Rattle.std.proofs.Common.{◌≡◌, ◌≤◌, ◌<◌, ◌+◌, ◌^◌, ◌⊎◌, ◌==◌, inl, inr, ℕ, suc, zero, max, get_or, take, drop, drop-cons, add-one, Bool, true, false, ◌&&◌, ◌||◌, List, [], ◌∷◌, ◌++◌, length, Option, Some, None, refl, ap, sym, ◌∙◌, subst, arith}
 use Rattle.std.specs.Prelude.{All, MatchBool, if◌then◌else◌, nat_le, nat_lt}
 use Rattle.std.proofs.lemmas.Bool.{le-ltb, lt-ltb}
 use Rattle.std.proofs.lemmas.Bool.Decides.{nat_tests}
+use Rattle.std.proofs.lemmas.List.{append-nil, append_assoc, take_more}
 use Rattle.std.proofs.lemmas.List.Elements.{All-cons, All-head, All-tail}
 use Rattle.machine.specs.declared.calls.Call.{Call}
 use Rattle.rmap.specs.Verdict.{verdict_number}
 use Rattle.rmap.specs.declared.verdict.Verdict.TheVariants.{NotAuthorised}
-use Rattle.charts.specs.Alike.{DifferSaid, DifferWithinLimits, HasLimit, after_both, after_first, alike_said, held, said, same_steps, stop, stop_of, stops_with}
+use Rattle.charts.specs.Alike.{AreLimited, AreSaidAlike, DifferSaid, DifferWithinLimits, HasLimit, after_both, after_first, alike_behind, alike_said, held, said, same_steps, stop, stop_of, stops_with}
+use Rattle.charts.specs.Tickets.{AreTickets, AreTicketsFrom, AreTicketsOfOne, after, is_of, least_from, least_of}
 use Rattle.policy_table.specs.Limits.{IsLimited}
 use Rattle.policy_table.specs.Meaning.{AreWords, draw, ruled}
-use Rattle.charts.specs.Points.{AreAlike, decision_at, holds_at}
+use Rattle.charts.specs.Points.{AreAlike, Differ, decision_at, holds_at}
 use Rattle.regions.specs.declared.points.Point.{Point}
 use Rattle.policy_table.specs.declared.rules.Quota.{Quota}
 use Rattle.policy_table.specs.declared.rules.Rule.{Rule}
+use Rattle.charts.proofs.Least.{ahead, ahead_told, ahead_words, and_parts, both_above, both_below, cell_of, drawn_first, drawn_rest, drawn_told, from_start, least_next, none_told, rising, rising_is, rising_told, rising_words, same_number, weaker}
 
 -- it ends so, it matches with this draw, it goes on behind this draw
 abbrev ends : ℕ → List Call × ℕ
@@ -38,9 +41,6 @@ held_decide [] p told = refl
 held_decide (rule ∷ rules) p told = said_if (holds_at rule p) rule rules p told (λ other. held_decide rules p other)
 
 -- ---- what stops without a draw
-
-same_number : (a b : ℕ) → (a == b) ≡ true → a ≡ b
-same_number a b e = grind (arith, nat_tests)
 
 ruled_stops : (quota : Option Quota) (code wanted : ℕ) (told : ℕ → ℕ) (rest : List Call × ℕ) → stops_with (stop_of quota code) wanted ≡ true → ruled quota code told rest ≡ ends wanted
 ruled_stops None code wanted told rest e = ap ends (same_number code wanted e)
@@ -70,45 +70,45 @@ undrawn (rule ∷ rules) told e = undrawn_rule rule.quota (verdict_number rule.v
 
 -- ---- two steps
 
-pub record AreSameSteps (q : Quota) (v : ℕ) (p : Quota) (w : ℕ) (behind_q behind_p : Option ℕ) : Type 0 where
+pub record AreSameSteps (least : ℕ) (q : Quota) (v : ℕ) (p : Quota) (w : ℕ) (behind_q behind_p : Option ℕ) : Type 0 where
   pub map : q.map ≡ p.map
   pub cell : q.cell ≡ p.cell
-  pub both : 0 < q.limit → 0 < p.limit → v ≡ w
-  pub first_alone : p.limit < q.limit → stops_with behind_p v ≡ true
-  pub second_alone : q.limit < p.limit → stops_with behind_q w ≡ true
-
-and_parts : (s t : Bool) → (s && t) ≡ true → (s ≡ true) × (t ≡ true)
-and_parts true t e = (refl, e)
-and_parts false t e = absurd (cc)
+  pub both : least < q.limit → least < p.limit → v ≡ w
+  pub first_alone : max least p.limit < q.limit → stops_with behind_p v ≡ true
+  pub second_alone : max least q.limit < p.limit → stops_with behind_q w ≡ true
 
 or_second : (s t : Bool) → (s || t) ≡ true → s ≡ false → t ≡ true
 or_second true t e h = absurd (cc)
 or_second false t e h = e
 
-not_same : (a b : ℕ) → ¬ (a ≡ b) → (a == b) ≡ false
-not_same a b h = grind (arith, nat_tests)
-
 not_le : (a b : ℕ) → b < a → nat_le a b ≡ false
 not_le a b h = grind (arith, nat_tests)
 
-steps_of : (q : Quota) (v : ℕ) (p : Quota) (w : ℕ) (behind_q behind_p : Option ℕ) → same_steps q v p w behind_q behind_p ≡ true → AreSameSteps q v p w behind_q behind_p
-steps_of q v p w behind_q behind_p e =
-    let one = and_parts (q.map == p.map && q.cell == p.cell) ((q.limit == 0 || (p.limit == 0 || v == w)) && ((nat_le q.limit p.limit || stops_with behind_p v) && (nat_le p.limit q.limit || stops_with behind_q w))) e in
-    let cells = and_parts (q.map == p.map) (q.cell == p.cell) one.0 in
-    let two = and_parts (q.limit == 0 || (p.limit == 0 || v == w)) ((nat_le q.limit p.limit || stops_with behind_p v) && (nat_le p.limit q.limit || stops_with behind_q w)) one.1 in
-    let three = and_parts (nat_le q.limit p.limit || stops_with behind_p v) (nat_le p.limit q.limit || stops_with behind_q w) two.1 in
+steps_of : (least : ℕ) (q : Quota) (v : ℕ) (p : Quota) (w : ℕ) (behind_q behind_p : Option ℕ) → same_steps least q v p w behind_q behind_p ≡ true → AreSameSteps least q v p w behind_q behind_p
+steps_of least q v p w behind_q behind_p e =
+    let codes : Bool = nat_le q.limit least || (nat_le p.limit least || v == w) in
+    let first : Bool = nat_le q.limit (max least p.limit) || stops_with behind_p v in
+    let second : Bool = nat_le p.limit (max least q.limit) || stops_with behind_q w in
+    let one = and_parts (is_of q p.map p.cell) (codes && (first && second)) e in
+    let cells = cell_of q p.map p.cell one.0 in
+    let two = and_parts codes (first && second) one.1 in
+    let three = and_parts first second two.1 in
     record {
-      map = same_number q.map p.map cells.0;
-      cell = same_number q.cell p.cell cells.1;
-      both = λ h k. same_number v w (or_second (p.limit == 0) (v == w) (or_second (q.limit == 0) (p.limit == 0 || v == w) two.0 (not_same q.limit 0 (λ z. absurd (omega arith)))) (not_same p.limit 0 (λ z. absurd (omega arith))));
-      first_alone = λ h. or_second (nat_le q.limit p.limit) (stops_with behind_p v) three.0 (not_le q.limit p.limit h);
-      second_alone = λ h. or_second (nat_le p.limit q.limit) (stops_with behind_q w) three.1 (not_le p.limit q.limit h);
+      map = cells.0;
+      cell = cells.1;
+      both = λ h k. same_number v w (or_second (nat_le p.limit least) (v == w) (or_second (nat_le q.limit least) (nat_le p.limit least || v == w) two.0 (not_le q.limit least h)) (not_le p.limit least k));
+      first_alone = λ h. or_second (nat_le q.limit (max least p.limit)) (stops_with behind_p v) three.0 (not_le q.limit (max least p.limit) h);
+      second_alone = λ h. or_second (nat_le p.limit (max least q.limit)) (stops_with behind_q w) three.1 (not_le p.limit (max least q.limit) h);
     }
 
 same_draw : (q p : Quota) (answer : ℕ) → q.map ≡ p.map → q.cell ≡ p.cell → draw q answer ≡ draw p answer
 same_draw q p answer e f = rw (e, f) refl
 
 -- ---- sound
+
+-- one of two runs is told tickets that are not below the least
+abbrev IsOneTold : (least : ℕ → ℕ → ℕ) → (one other : List Call) → Type 0
+IsOneTold least one other = AreTicketsFrom least one ⊎ AreTicketsFrom least other
 
 -- the two draws, by whether each matches
 by_matches : (s t : Bool) (d c : Call) (v w : ℕ) (a b : List Call × ℕ) → d ≡ c → (s ≡ true → t ≡ true → v ≡ w) → (s ≡ true → t ≡ false → b ≡ ends v) → (s ≡ false → t ≡ true → a ≡ ends w) → (s ≡ false → t ≡ false → a ≡ b)
@@ -118,60 +118,97 @@ by_matches true false d c v w a b e vw bv aw ab = rw (e, bv refl refl) refl
 by_matches false true d c v w a b e vw bv aw ab = rw (e, aw refl refl) refl
 by_matches false false d c v w a b e vw bv aw ab = rw (e, ab refl refl) refl
 
-both_sound : (q p : Quota) (v w : ℕ) (rules others : List Rule) → AreSameSteps q v p w (stop rules) (stop others) → ((told : ℕ → ℕ) → said rules told ≡ said others told) → (told : ℕ → ℕ)
-    → ruled (Some q) v told (said rules (λ k. told (suc k))) ≡ ruled (Some p) w told (said others (λ k. told (suc k)))
-both_sound q p v w rules others same rest told =
-    let on : ℕ → ℕ = λ k. told (suc k) in
-    by_matches (nat_lt (told 0) q.limit) (nat_lt (told 0) p.limit) (draw q (told 0)) (draw p (told 0)) v w (said rules on) (said others on)
-    (same_draw q p (told 0) same.map same.cell)
-    (λ s t. same.both (above q.limit s) (above p.limit t))
-    (λ s t. stops others v on (same.first_alone (between q.limit p.limit s t)))
-    (λ s t. stops rules w on (same.second_alone (between p.limit q.limit t s)))
-    (λ s t. rest on)
-  where
-    above : (limit : ℕ) → nat_lt (told 0) limit ≡ true → 0 < limit
-    above limit e = let h : told 0 < limit = grind (arith, nat_tests) in omega arith
+below_limit : (a limit : ℕ) → nat_lt a limit ≡ true → a < limit
+below_limit a limit e = grind (arith, nat_tests)
 
-    between : (more less : ℕ) → nat_lt (told 0) more ≡ true → nat_lt (told 0) less ≡ false → less < more
-    between more less e f =
-        let h : told 0 < more = grind (arith, nat_tests) in
-        let k : less ≤ told 0 = grind (arith, nat_tests) in
-        omega arith
+not_below_limit : (a limit : ℕ) → nat_lt a limit ≡ false → limit ≤ a
+not_below_limit a limit e = grind (arith, nat_tests)
 
-second_sound : (q : Quota) (v : ℕ) (rules : List Rule) (quota : Option Quota) (w : ℕ) (others : List Rule) → ((more : List Rule) → alike_said rules more ≡ true → (told : ℕ → ℕ) → said rules told ≡ said more told)
-    → after_both q v (stop rules) (λ more. alike_said rules more) quota w others ≡ true → (told : ℕ → ℕ)
+module _ (olds news : List Rule) (rule other : Rule) (q p : Quota) (v w : ℕ) (rules others : List Rule) (e : rule.quota ≡ Some q) (f : other.quota ≡ Some p)
+    (same : AreSameSteps (least_of olds news q.map q.cell) q v p w (stop rules) (stop others))
+    (rest : (told : ℕ → ℕ) → IsOneTold (least_of (olds ++ rule ∷ []) (news ++ other ∷ [])) (said rules told).0 (said others told).0 → said rules told ≡ said others told) (told : ℕ → ℕ) where
+  abbrev on : ℕ → ℕ
+  on k = told (suc k)
+
+  abbrev one_run : List Call × ℕ
+  one_run = ruled (Some q) v told (said rules on)
+
+  abbrev other_run : List Call × ℕ
+  other_run = ruled (Some p) w told (said others on)
+
+  not_below_least : IsOneTold (least_of olds news) one_run.0 other_run.0 → least_of olds news q.map q.cell ≤ told 0
+  not_below_least (inl h) = drawn_first (least_of olds news) q v told (said rules on) h
+  not_below_least (inr h) =
+      let there : least_of olds news p.map p.cell ≡ least_of olds news q.map q.cell = ap (λ (n : ℕ). least_of olds news n p.cell) (sym same.map) ∙ ap (λ (n : ℕ). least_of olds news q.map n) (sym same.cell) in
+      omega (arith, there, drawn_first (least_of olds news) p w told (said others on) h)
+
+  rest_told : nat_lt (told 0) q.limit ≡ false → nat_lt (told 0) p.limit ≡ false → IsOneTold (least_of olds news) one_run.0 other_run.0
+      → IsOneTold (least_of (olds ++ rule ∷ []) (news ++ other ∷ [])) (said rules on).0 (said others on).0
+  rest_told s t h = by_one h
+    where
+      lower : (map cell : ℕ) → least_of (olds ++ rule ∷ []) (news ++ other ∷ []) map cell ≤ after (least_of olds news) q (told 0) map cell
+      lower map cell =
+          both_below olds news rule other q p e f same.map same.cell map cell (told 0) (not_below_least h) (not_below_limit (told 0) q.limit s) (not_below_limit (told 0) p.limit t)
+
+      same_after : (map cell : ℕ) → after (least_of olds news) q (told 0) map cell ≡ after (least_of olds news) p (told 0) map cell
+      same_after map cell = ap (λ (n : ℕ). if n == map && q.cell == cell then suc (told 0) else least_of olds news map cell) same.map ∙ ap (λ (n : ℕ). if p.map == map && n == cell then suc (told 0) else least_of olds news map cell) same.cell
+
+      by_one : IsOneTold (least_of olds news) one_run.0 other_run.0 → IsOneTold (least_of (olds ++ rule ∷ []) (news ++ other ∷ [])) (said rules on).0 (said others on).0
+      by_one (inl k) = inl (weaker _ (after (least_of olds news) q (told 0)) (said rules on).0 lower (drawn_rest (least_of olds news) q v told (said rules on) s k))
+      by_one (inr k) = inr (weaker _ (after (least_of olds news) p (told 0)) (said others on).0 (λ map cell. omega (arith, lower map cell, same_after map cell)) (drawn_rest (least_of olds news) p w told (said others on) t k))
+
+  both_sound : IsOneTold (least_of olds news) one_run.0 other_run.0 → one_run ≡ other_run
+  both_sound h =
+      let least : ℕ = least_of olds news q.map q.cell in
+      let le : least ≤ told 0 = not_below_least h in
+      by_matches (nat_lt (told 0) q.limit) (nat_lt (told 0) p.limit) (draw q (told 0)) (draw p (told 0)) v w (said rules on) (said others on)
+      (same_draw q p (told 0) same.map same.cell)
+      (λ s t. same.both (omega (arith, le, below_limit (told 0) q.limit s)) (omega (arith, le, below_limit (told 0) p.limit t)))
+      (λ s t. stops others v on (same.first_alone (omega (arith, le, below_limit (told 0) q.limit s, not_below_limit (told 0) p.limit t))))
+      (λ s t. stops rules w on (same.second_alone (omega (arith, le, not_below_limit (told 0) q.limit s, below_limit (told 0) p.limit t))))
+      (λ s t. rest on (rest_told s t h))
+
+-- the tests of two lists that hold behind others, and what they mean
+abbrev IsSound : (olds news old new : List Rule) → Type 0
+IsSound olds news old new = alike_behind olds news old new ≡ true → (told : ℕ → ℕ) → IsOneTold (least_of olds news) (said old told).0 (said new told).0 → said old told ≡ said new told
+
+second_sound : (olds news : List Rule) (rule : Rule) (q : Quota) (v : ℕ) (rules : List Rule) (other : Rule) (quota : Option Quota) (w : ℕ) (others : List Rule) → rule.quota ≡ Some q → other.quota ≡ quota
+    → IsSound (olds ++ rule ∷ []) (news ++ other ∷ []) rules others
+    → after_both (least_of olds news q.map q.cell) q v (stop rules) (alike_behind (olds ++ rule ∷ []) (news ++ other ∷ []) rules others) quota w (stop others) ≡ true → (told : ℕ → ℕ)
+    → IsOneTold (least_of olds news) (ruled (Some q) v told (said rules (λ k. told (suc k)))).0 (ruled quota w told (said others (λ k. told (suc k)))).0
     → ruled (Some q) v told (said rules (λ k. told (suc k))) ≡ ruled quota w told (said others (λ k. told (suc k)))
-second_sound q v rules None w others rest e told = absurd (cc)
-second_sound q v rules (Some p) w others rest e told =
-    let parts = and_parts (same_steps q v p w (stop rules) (stop others)) (alike_said rules others) e in
-    both_sound q p v w rules others (steps_of q v p w (stop rules) (stop others) parts.0) (rest others parts.1) told
+second_sound olds news rule q v rules other None w others e f rest h told one = absurd (cc)
+second_sound olds news rule q v rules other (Some p) w others e f rest h told one =
+    let parts = and_parts (same_steps (least_of olds news q.map q.cell) q v p w (stop rules) (stop others)) (alike_behind (olds ++ rule ∷ []) (news ++ other ∷ []) rules others) h in
+    both_sound olds news rule other q p v w rules others e f (steps_of (least_of olds news q.map q.cell) q v p w (stop rules) (stop others) parts.0) (rest parts.1) told one
 
-first_sound : (quota : Option Quota) (v : ℕ) (rules : List Rule) (others : List Rule) → ((more : List Rule) → alike_said rules more ≡ true → (told : ℕ → ℕ) → said rules told ≡ said more told)
-    → after_first quota v (stop rules) (λ more. alike_said rules more) others ≡ true → (told : ℕ → ℕ) → ruled quota v told (said rules (λ k. told (suc k))) ≡ said others told
-first_sound None v rules others rest e told = sym (stops others v told e)
-first_sound (Some q) v rules [] rest e told = absurd (cc)
-first_sound (Some q) v rules (other ∷ others) rest e told = second_sound q v rules other.quota (verdict_number other.verdict) others rest e told
+first_sound : (olds news : List Rule) (rule : Rule) (quota : Option Quota) (v : ℕ) (rules others : List Rule) → rule.quota ≡ quota
+    → ((other : Rule) (more : List Rule) → IsSound (olds ++ rule ∷ []) (news ++ other ∷ []) rules more)
+    → after_first (least_of olds news) quota v (stop rules) (λ other more. alike_behind (olds ++ rule ∷ []) (news ++ other ∷ []) rules more) others ≡ true → (told : ℕ → ℕ)
+    → IsOneTold (least_of olds news) (ruled quota v told (said rules (λ k. told (suc k)))).0 (said others told).0
+    → ruled quota v told (said rules (λ k. told (suc k))) ≡ said others told
+first_sound olds news rule None v rules others e rest h told one = sym (stops others v told h)
+first_sound olds news rule (Some q) v rules [] e rest h told one = absurd (cc)
+first_sound olds news rule (Some q) v rules (other ∷ others) e rest h told one =
+    second_sound olds news rule q v rules other other.quota (verdict_number other.verdict) others e refl (rest other others) h told one
 
-pub sound : (old new : List Rule) → alike_said old new ≡ true → (told : ℕ → ℕ) → said old told ≡ said new told
-sound [] new e told = sym (stops new (verdict_number NotAuthorised) told e)
-sound (rule ∷ rules) new e told = first_sound rule.quota (verdict_number rule.verdict) rules new (λ more h other. sound rules more h other) e told
+sound_behind : (olds news old new : List Rule) → IsSound olds news old new
+sound_behind olds news [] new e told one = sym (stops new (verdict_number NotAuthorised) told e)
+sound_behind olds news (rule ∷ rules) new e told one =
+    first_sound olds news rule rule.quota (verdict_number rule.verdict) rules new refl (λ other more. sound_behind (olds ++ rule ∷ []) (news ++ other ∷ []) rules more) e told one
+
+-- at first a cell may give any ticket
+from_none : (map cell : ℕ) → least_of [] [] map cell ≡ 0
+from_none map cell = omega arith
+
+pub sound : (old new : List Rule) → alike_said old new ≡ true → AreSaidAlike old new
+sound old new e told one = sound_behind [] [] old new e told (by_one one)
+  where
+    by_one : AreTicketsOfOne (said old told).0 (said new told).0 → IsOneTold (least_of [] []) (said old told).0 (said new told).0
+    by_one (inl h) = inl (from_start (least_of [] []) (said old told).0 from_none h)
+    by_one (inr h) = inr (from_start (least_of [] []) (said new told).0 from_none h)
 
 -- ---- complete
-
--- a ticket, and others behind it
-abbrev ahead : ℕ → (ℕ → ℕ) → ℕ → ℕ
-ahead ticket rest zero = ticket
-ahead ticket rest (suc k) = rest k
-
-abbrev zeros : ℕ → ℕ
-zeros k = 0
-
-words_ahead : (ticket : ℕ) (rest : ℕ → ℕ) → ticket < 2 ^ 64 → AreWords rest → AreWords (ahead ticket rest)
-words_ahead ticket rest h words zero = h
-words_ahead ticket rest h words (suc k) = words k
-
-zero_words : AreWords zeros
-zero_words k = omega arith
 
 -- the parts of a decision
 abbrev map_of : List Call → ℕ
@@ -223,59 +260,110 @@ alone d c v w others told no_stop e =
     let it_ends : stops_with (stop others) v ≡ true = subst (λ (n : ℕ). stops_with (stop others) n ≡ true) code (undrawn others told none) in
     absurd (cc)
 
-abbrev BothDiffer : (q : Quota) (v : ℕ) (p : Quota) (w : ℕ) → (rules others : List Rule) → Type 0
-BothDiffer q v p w rules others =
-    (told : ℕ → ℕ) × AreWords told × ¬ (ruled (Some q) v told (said rules (λ k. told (suc k))) ≡ ruled (Some p) w told (said others (λ k. told (suc k))))
+-- two decisions differ for tickets that are not below the least
+record DifferFrom (least : ℕ → ℕ → ℕ) (old new : (ℕ → ℕ) → List Call × ℕ) : Type 0 where
+  told : ℕ → ℕ
+  words : AreWords told
+  old_told : AreTicketsFrom least (old told).0
+  new_told : AreTicketsFrom least (new told).0
+  differ : ¬ (old told ≡ new told)
 
-map_differs : (q : Quota) (v : ℕ) (p : Quota) (w : ℕ) (rules others : List Rule) → (q.map == p.map) ≡ false → BothDiffer q v p w rules others
-map_differs q v p w rules others no_map = (
-  zeros,
-  zero_words,
-  λ e. unlike q.map p.map no_map
-      (sym (drawn_map (nat_lt 0 q.limit) (draw q 0) v (said rules zeros)) ∙ ap (λ (x : List Call × ℕ). map_of x.0) e ∙ drawn_map (nat_lt 0 p.limit) (draw p 0) w (said others zeros)),
-)
+-- a rule with what is behind it
+abbrev with_rest : Option Quota → (code : ℕ) → List Rule → (ℕ → ℕ) → List Call × ℕ
+with_rest quota code rules told = ruled quota code told (said rules (λ k. told (suc k)))
 
-cell_differs : (q : Quota) (v : ℕ) (p : Quota) (w : ℕ) (rules others : List Rule) → (q.cell == p.cell) ≡ false → BothDiffer q v p w rules others
-cell_differs q v p w rules others no_cell = (
-  zeros,
-  zero_words,
-  λ e. unlike q.cell p.cell no_cell
-      (sym (drawn_key (nat_lt 0 q.limit) (draw q 0) v (said rules zeros)) ∙ ap (λ (x : List Call × ℕ). key_of x.0) e ∙ drawn_key (nat_lt 0 p.limit) (draw p 0) w (said others zeros)),
-)
+-- a bound of limits and of the least, from which on there are words enough
+record IsBound (bound : ℕ) (least : ℕ → ℕ → ℕ) (rules others : List Rule) : Type 0 where
+  limits : 2147483647 ≤ bound
+  below : (map cell : ℕ) → least map cell ≤ bound
+  fits : suc bound + (length rules + length others) < 2 ^ 64
 
-verdict_differs : (q : Quota) (v : ℕ) (p : Quota) (w : ℕ) (rules others : List Rule) → 0 < q.limit → 0 < p.limit → (v == w) ≡ false → BothDiffer q v p w rules others
-verdict_differs q v p w rules others hq hp no_code = (
-  zeros,
-  zero_words,
-  λ e. unlike v w no_code
-      (sym (ap (λ (x : List Call × ℕ). x.1) (drawn_match (nat_lt 0 q.limit) (draw q 0) v (said rules zeros) (test_lt 0 q.limit hq)))
-      ∙ ap (λ (x : List Call × ℕ). x.1) e ∙ ap (λ (x : List Call × ℕ). x.1) (drawn_match (nat_lt 0 p.limit) (draw p 0) w (said others zeros) (test_lt 0 p.limit hp))),
-)
+module _ (least : ℕ → ℕ → ℕ) (q : Quota) (v : ℕ) (p : Quota) (w : ℕ) (rules others : List Rule) (bound : ℕ) (bounded : IsBound bound least rules others) where
+  abbrev BothDiffer : Type 0
+  BothDiffer = DifferFrom least (with_rest (Some q) v rules) (with_rest (Some p) w others)
 
-first_alone_differs : (q : Quota) (v : ℕ) (p : Quota) (w : ℕ) (rules others : List Rule) → p.limit ≤ 2147483647 → p.limit < q.limit → stops_with (stop others) v ≡ false → BothDiffer q v p w rules others
-first_alone_differs q v p w rules others fits lt no_stop = (
-  ahead p.limit zeros,
-  words_ahead p.limit zeros (omega arith) zero_words,
-  λ e. alone (draw q p.limit) (draw p p.limit) v w others zeros no_stop
-      (sym (drawn_match (nat_lt p.limit q.limit) (draw q p.limit) v (said rules zeros) (test_lt p.limit q.limit lt)) ∙ e ∙ drawn_on (nat_lt p.limit p.limit) (draw p p.limit) w (said others zeros) (test_le p.limit p.limit (omega arith))),
-)
+  -- they differ for a ticket, and such behind it as rise
+  differ_by : (t : ℕ) → least q.map q.cell ≤ t → least p.map p.cell ≤ t → t ≤ bound
+      → ¬ (with_rest (Some q) v rules (ahead t (rising (suc bound))) ≡ with_rest (Some p) w others (ahead t (rising (suc bound)))) → BothDiffer
+  differ_by t one two fits differ = record {
+    told = ahead t (rising (suc bound));
+    words = ahead_words t (rising (suc bound)) (omega (arith, fits, bounded.fits)) (rising_words (suc bound));
+    old_told = ahead_told least q v rules t bound one fits bounded.below (omega (arith, bounded.fits));
+    new_told = ahead_told least p w others t bound two fits bounded.below (omega (arith, bounded.fits));
+    differ = differ;
+  }
 
-second_alone_differs : (q : Quota) (v : ℕ) (p : Quota) (w : ℕ) (rules others : List Rule) → q.limit ≤ 2147483647 → q.limit < p.limit → stops_with (stop rules) w ≡ false → BothDiffer q v p w rules others
-second_alone_differs q v p w rules others fits lt no_stop = (
-  ahead q.limit zeros,
-  words_ahead q.limit zeros (omega arith) zero_words,
-  λ e. alone (draw p q.limit) (draw q q.limit) w v rules zeros no_stop
-      (sym (drawn_match (nat_lt q.limit p.limit) (draw p q.limit) w (said others zeros) (test_lt q.limit p.limit lt)) ∙ sym e ∙ drawn_on (nat_lt q.limit q.limit) (draw q q.limit) v (said rules zeros) (test_le q.limit q.limit (omega arith))),
-)
+  map_differs : (q.map == p.map) ≡ false → BothDiffer
+  map_differs no_map =
+      differ_by bound (bounded.below q.map q.cell) (bounded.below p.map p.cell) (omega arith)
+      (λ e. unlike q.map p.map no_map
+      (sym (drawn_map (nat_lt bound q.limit) (draw q bound) v (said rules (rising (suc bound)))) ∙ ap (λ (x : List Call × ℕ). map_of x.0) e ∙ drawn_map (nat_lt bound p.limit) (draw p bound) w (said others (rising (suc bound)))))
 
-rest_differs : (q : Quota) (v : ℕ) (p : Quota) (w : ℕ) (rules others : List Rule) → q.limit ≤ 2147483647 → p.limit ≤ 2147483647 → DifferSaid rules others → BothDiffer q v p w rules others
-rest_differs q v p w rules others fq fp d = (
-  ahead 2147483647 d.0,
-  words_ahead 2147483647 d.0 (omega arith) d.1,
-  λ e. d.2
+  cell_differs : (q.cell == p.cell) ≡ false → BothDiffer
+  cell_differs no_cell =
+      differ_by bound (bounded.below q.map q.cell) (bounded.below p.map p.cell) (omega arith)
+      (λ e. unlike q.cell p.cell no_cell
+      (sym (drawn_key (nat_lt bound q.limit) (draw q bound) v (said rules (rising (suc bound)))) ∙ ap (λ (x : List Call × ℕ). key_of x.0) e ∙ drawn_key (nat_lt bound p.limit) (draw p bound) w (said others (rising (suc bound)))))
+
+  -- the same cell has the same least
+  same_least : is_of q p.map p.cell ≡ true → least p.map p.cell ≡ least q.map q.cell
+  same_least cell =
+      let same = cell_of q p.map p.cell cell in
+      ap (λ (n : ℕ). least n p.cell) (sym same.0) ∙ ap (λ (n : ℕ). least q.map n) (sym same.1)
+
+  verdict_differs : is_of q p.map p.cell ≡ true → least q.map q.cell < q.limit → least q.map q.cell < p.limit → (v == w) ≡ false → BothDiffer
+  verdict_differs cell hq hp no_code =
+      let t : ℕ = least q.map q.cell in
+      differ_by t (omega arith) (omega (arith, same_least cell)) (bounded.below q.map q.cell)
+      (λ e. unlike v w no_code
+      (sym (ap (λ (x : List Call × ℕ). x.1) (drawn_match (nat_lt t q.limit) (draw q t) v (said rules (rising (suc bound))) (test_lt t q.limit hq)))
+      ∙ ap (λ (x : List Call × ℕ). x.1) e ∙ ap (λ (x : List Call × ℕ). x.1) (drawn_match (nat_lt t p.limit) (draw p t) w (said others (rising (suc bound))) (test_lt t p.limit hp))))
+
+  first_alone_differs : is_of q p.map p.cell ≡ true → p.limit ≤ 2147483647 → max (least q.map q.cell) p.limit < q.limit → stops_with (stop others) v ≡ false → BothDiffer
+  first_alone_differs cell fits lt no_stop =
+      let t : ℕ = max (least q.map q.cell) p.limit in
+      differ_by t (omega arith) (omega (arith, same_least cell)) (omega (arith, fits, bounded.limits, bounded.below q.map q.cell))
+      (λ e. alone (draw q t) (draw p t) v w others (rising (suc bound)) no_stop
+      (sym (drawn_match (nat_lt t q.limit) (draw q t) v (said rules (rising (suc bound))) (test_lt t q.limit lt)) ∙ e ∙ drawn_on (nat_lt t p.limit) (draw p t) w (said others (rising (suc bound))) (test_le t p.limit (omega arith))))
+
+  second_alone_differs : is_of q p.map p.cell ≡ true → q.limit ≤ 2147483647 → max (least q.map q.cell) q.limit < p.limit → stops_with (stop rules) w ≡ false → BothDiffer
+  second_alone_differs cell fits lt no_stop =
+      let t : ℕ = max (least q.map q.cell) q.limit in
+      differ_by t (omega arith) (omega (arith, same_least cell)) (omega (arith, fits, bounded.limits, bounded.below q.map q.cell))
+      (λ e. alone (draw p t) (draw q t) w v rules (rising (suc bound)) no_stop
+      (sym (drawn_match (nat_lt t p.limit) (draw p t) w (said others (rising (suc bound))) (test_lt t p.limit lt)) ∙ sym e ∙ drawn_on (nat_lt t q.limit) (draw q t) v (said rules (rising (suc bound))) (test_le t q.limit (omega arith))))
+
+-- what differs behind two draws of one cell that do not match
+rest_differs : (olds news : List Rule) (rule other : Rule) (q : Quota) (v : ℕ) (p : Quota) (w : ℕ) (rules others : List Rule) (bound : ℕ) → IsBound bound (least_of olds news) rules others → rule.quota ≡ Some q → other.quota ≡ Some p
+    → is_of q p.map p.cell ≡ true → q.limit ≤ 2147483647 → p.limit ≤ 2147483647 → DifferFrom (least_of (olds ++ rule ∷ []) (news ++ other ∷ [])) (said rules) (said others)
+    → DifferFrom (least_of olds news) (with_rest (Some q) v rules) (with_rest (Some p) w others)
+rest_differs olds news rule other q v p w rules others bound bounded e f cell fq fp d = record {
+  told = ahead t d.told;
+  words = ahead_words t d.told (omega (arith, fq, fp, bounded.fits, bounded.below q.map q.cell)) d.words;
+  old_told = drawn_told (least_of olds news) q v (ahead t d.told) (said rules d.told) (omega arith) (λ _. weaker _ _ (said rules d.told).0 above d.old_told);
+  new_told = drawn_told (least_of olds news) p w (ahead t d.told) (said others d.told) (omega (arith, there)) (λ _. weaker _ _ (said others d.told).0 above_other d.new_told);
+  differ = λ h. d.differ
       (ap (λ (x : List Call × ℕ). (later x.0, x.1))
-      (sym (drawn_on (nat_lt 2147483647 q.limit) (draw q 2147483647) v (said rules d.0) (test_le 2147483647 q.limit fq)) ∙ e ∙ drawn_on (nat_lt 2147483647 p.limit) (draw p 2147483647) w (said others d.0) (test_le 2147483647 p.limit fp))),
-)
+      (sym (drawn_on (nat_lt t q.limit) (draw q t) v (said rules d.told) (test_le t q.limit (omega arith))) ∙ h ∙ drawn_on (nat_lt t p.limit) (draw p t) w (said others d.told) (test_le t p.limit (omega arith))));
+}
+  where
+    t : ℕ
+    t = max (least_of olds news q.map q.cell) (max q.limit p.limit)
+
+    same : (q.map ≡ p.map) × (q.cell ≡ p.cell)
+    same = cell_of q p.map p.cell cell
+
+    there : least_of olds news p.map p.cell ≡ least_of olds news q.map q.cell
+    there = ap (λ (n : ℕ). least_of olds news n p.cell) (sym same.0) ∙ ap (λ (n : ℕ). least_of olds news q.map n) (sym same.1)
+
+    above : (map cell : ℕ) → after (least_of olds news) q t map cell ≤ least_of (olds ++ rule ∷ []) (news ++ other ∷ []) map cell
+    above map cell = both_above olds news rule other q p e f same.0 same.1 map cell
+
+    above_other : (map cell : ℕ) → after (least_of olds news) p t map cell ≤ least_of (olds ++ rule ∷ []) (news ++ other ∷ []) map cell
+    above_other map cell =
+        let one : is_of p map cell ≡ is_of q map cell = ap (λ (n : ℕ). n == map && p.cell == cell) (sym same.0) ∙ ap (λ (n : ℕ). q.map == map && n == cell) (sym same.1) in
+        let two : after (least_of olds news) p t map cell ≡ after (least_of olds news) q t map cell = ap (λ (b : Bool). if b then suc t else least_of olds news map cell) one in
+        omega (arith, two, above map cell)
 
 -- ---- which part is not the same
 
@@ -290,69 +378,131 @@ or_false false t e = (refl, e)
 over : (a b : ℕ) → nat_le a b ≡ false → b < a
 over a b e = grind (arith, nat_tests)
 
-some : (a : ℕ) → (a == 0) ≡ false → 0 < a
-some a e = grind (arith, nat_tests)
+module _ (olds news : List Rule) (rule other : Rule) (q : Quota) (v : ℕ) (p : Quota) (w : ℕ) (rules others : List Rule) (bound : ℕ) (bounded : IsBound bound (least_of olds news) rules others) (fq : q.limit ≤ 2147483647) (fp : p.limit ≤ 2147483647) where
+  abbrev first_least : ℕ
+  first_least = least_of olds news q.map q.cell
 
-steps_differ : (q : Quota) (v : ℕ) (p : Quota) (w : ℕ) (rules others : List Rule) → q.limit ≤ 2147483647 → p.limit ≤ 2147483647 → same_steps q v p w (stop rules) (stop others) ≡ false → BothDiffer q v p w rules others
-steps_differ q v p w rules others fq fp e =
-    elim (and_false (q.map == p.map && q.cell == p.cell) ((q.limit == 0 || (p.limit == 0 || v == w)) && ((nat_le q.limit p.limit || stops_with (stop others) v) && (nat_le p.limit q.limit || stops_with (stop rules) w))) e) [
-      | inl cells ↦ elim (and_false (q.map == p.map) (q.cell == p.cell) cells) [
-        | inl h ↦ map_differs q v p w rules others h
-        | inr h ↦ cell_differs q v p w rules others h
-      ]
-      | inr rest ↦ elim (and_false (q.limit == 0 || (p.limit == 0 || v == w)) ((nat_le q.limit p.limit || stops_with (stop others) v) && (nat_le p.limit q.limit || stops_with (stop rules) w)) rest) [
-        | inl codes ↦
-            let one = or_false (q.limit == 0) (p.limit == 0 || v == w) codes in
-            let two = or_false (p.limit == 0) (v == w) one.1 in
-            verdict_differs q v p w rules others (some q.limit one.0) (some p.limit two.0) two.1
-        | inr more ↦ elim (and_false (nat_le q.limit p.limit || stops_with (stop others) v) (nat_le p.limit q.limit || stops_with (stop rules) w) more) [
-          | inl h ↦
-              let parts = or_false (nat_le q.limit p.limit) (stops_with (stop others) v) h in
-              first_alone_differs q v p w rules others fp (over q.limit p.limit parts.0) parts.1
-          | inr h ↦
-              let parts = or_false (nat_le p.limit q.limit) (stops_with (stop rules) w) h in
-              second_alone_differs q v p w rules others fq (over p.limit q.limit parts.0) parts.1
-        ]
-      ]
+  cells_differ : is_of q p.map p.cell ≡ false → DifferFrom (least_of olds news) (with_rest (Some q) v rules) (with_rest (Some p) w others)
+  cells_differ h = elim (and_false (q.map == p.map) (q.cell == p.cell) h) [
+    | inl k ↦ map_differs (least_of olds news) q v p w rules others bound bounded k
+    | inr k ↦ cell_differs (least_of olds news) q v p w rules others bound bounded k
+  ]
+
+  steps_differ : is_of q p.map p.cell ≡ true
+      → ((nat_le q.limit first_least || (nat_le p.limit first_least || v == w)) && ((nat_le q.limit (max first_least p.limit) || stops_with (stop others) v) && (nat_le p.limit (max first_least q.limit) || stops_with (stop rules) w))) ≡ false
+      → DifferFrom (least_of olds news) (with_rest (Some q) v rules) (with_rest (Some p) w others)
+  steps_differ cell e = elim (and_false (nat_le q.limit first_least || (nat_le p.limit first_least || v == w)) _ e) [
+    | inl codes ↦
+        let one = or_false (nat_le q.limit first_least) (nat_le p.limit first_least || v == w) codes in
+        let two = or_false (nat_le p.limit first_least) (v == w) one.1 in
+        verdict_differs (least_of olds news) q v p w rules others bound bounded cell (over q.limit first_least one.0) (over p.limit first_least two.0) two.1
+    | inr more ↦ elim (and_false (nat_le q.limit (max first_least p.limit) || stops_with (stop others) v) (nat_le p.limit (max first_least q.limit) || stops_with (stop rules) w) more) [
+      | inl h ↦
+          let parts = or_false (nat_le q.limit (max first_least p.limit)) (stops_with (stop others) v) h in
+          first_alone_differs (least_of olds news) q v p w rules others bound bounded cell fp (over q.limit (max first_least p.limit) parts.0) parts.1
+      | inr h ↦
+          let parts = or_false (nat_le p.limit (max first_least q.limit)) (stops_with (stop rules) w) h in
+          second_alone_differs (least_of olds news) q v p w rules others bound bounded cell fq (over p.limit (max first_least q.limit) parts.0) parts.1
     ]
+  ]
+
+  both_differ : rule.quota ≡ Some q → other.quota ≡ Some p → (alike_behind (olds ++ rule ∷ []) (news ++ other ∷ []) rules others ≡ false → DifferFrom (least_of (olds ++ rule ∷ []) (news ++ other ∷ [])) (said rules) (said others))
+      → (same_steps first_least q v p w (stop rules) (stop others) && alike_behind (olds ++ rule ∷ []) (news ++ other ∷ []) rules others) ≡ false
+      → DifferFrom (least_of olds news) (with_rest (Some q) v rules) (with_rest (Some p) w others)
+  both_differ e f rest h = by_cell (is_of q p.map p.cell) refl h
+    where
+      by_cell : (b : Bool) → is_of q p.map p.cell ≡ b
+          → ((b && ((nat_le q.limit first_least || (nat_le p.limit first_least || v == w)) && ((nat_le q.limit (max first_least p.limit) || stops_with (stop others) v) && (nat_le p.limit (max first_least q.limit) || stops_with (stop rules) w)))) && alike_behind (olds ++ rule ∷ []) (news ++ other ∷ []) rules others) ≡ false
+          → DifferFrom (least_of olds news) (with_rest (Some q) v rules) (with_rest (Some p) w others)
+      by_cell false c k = cells_differ c
+      by_cell true c k = elim (and_false _ (alike_behind (olds ++ rule ∷ []) (news ++ other ∷ []) rules others) k) [
+        | inl s ↦ steps_differ c s
+        | inr s ↦ rest_differs olds news rule other q v p w rules others bound bounded e f c fq fp (rest s)
+      ]
 
 -- ---- all of two lists
 
-draws_differ : (q : Quota) (v code : ℕ) (rest : List Call × ℕ) → ¬ (ruled (Some q) v zeros rest ≡ ends code)
-draws_differ q v code rest e = absurd (omega (arith, ruled_draws q v zeros rest, ap (λ (x : List Call × ℕ). length x.0) e))
+draws_differ : (q : Quota) (v code : ℕ) (told : ℕ → ℕ) (rest : List Call × ℕ) → ¬ (ruled (Some q) v told rest ≡ ends code)
+draws_differ q v code told rest e = absurd (omega (arith, ruled_draws q v told rest, ap (λ (x : List Call × ℕ). length x.0) e))
 
-stop_differs : (others : List Rule) (code : ℕ) → stops_with (stop others) code ≡ false → ¬ (ends code ≡ said others zeros)
-stop_differs others code no_stop e =
-    let none : length (said others zeros).0 ≡ 0 = sym (ap (λ (x : List Call × ℕ). length x.0) e) in
-    let own : (said others zeros).1 ≡ code = sym (ap (λ (x : List Call × ℕ). x.1) e) in
-    let it_ends : stops_with (stop others) code ≡ true = subst (λ (n : ℕ). stops_with (stop others) n ≡ true) own (undrawn others zeros none) in
+stop_differs : (others : List Rule) (code : ℕ) (told : ℕ → ℕ) → stops_with (stop others) code ≡ false → ¬ (ends code ≡ said others told)
+stop_differs others code told no_stop e =
+    let none : length (said others told).0 ≡ 0 = sym (ap (λ (x : List Call × ℕ). length x.0) e) in
+    let own : (said others told).1 ≡ code = sym (ap (λ (x : List Call × ℕ). x.1) e) in
+    let it_ends : stops_with (stop others) code ≡ true = subst (λ (n : ℕ). stops_with (stop others) n ≡ true) own (undrawn others told none) in
     absurd (cc)
 
-abbrev FirstDiffers : Option Quota → (v : ℕ) → (rules others : List Rule) → Type 0
-FirstDiffers quota v rules others = (told : ℕ → ℕ) × AreWords told × ¬ (ruled quota v told (said rules (λ k. told (suc k))) ≡ said others told)
+-- one that draws nothing differs from others that end otherwise
+ended_differs : (least : ℕ → ℕ → ℕ) (code : ℕ) (others : List Rule) (bound : ℕ) → ((map cell : ℕ) → least map cell ≤ bound) → bound + length others < 2 ^ 64 → stops_with (stop others) code ≡ false → DifferFrom least (λ told. ends code) (said others)
+ended_differs least code others bound below fits no_stop = record {
+  told = rising bound;
+  words = rising_words bound;
+  old_told = none_told least;
+  new_told = rising_told others bound least (rising bound) (rising_is bound (length others) fits) below;
+  differ = stop_differs others code (rising bound) no_stop;
+}
 
-second_differs : (q : Quota) (v : ℕ) (rules : List Rule) (quota : Option Quota) (w : ℕ) (others : List Rule) → q.limit ≤ 2147483647 → IsLimited quota
-    → (alike_said rules others ≡ false → DifferSaid rules others) → after_both q v (stop rules) (λ more. alike_said rules more) quota w others ≡ false
-    → (told : ℕ → ℕ) × AreWords told × ¬ (ruled (Some q) v told (said rules (λ k. told (suc k))) ≡ ruled quota w told (said others (λ k. told (suc k))))
-second_differs q v rules None w others fq limited rest e = (zeros, zero_words, draws_differ q v w (said rules zeros))
-second_differs q v rules (Some p) w others fq limited rest e =
-    elim (and_false (same_steps q v p w (stop rules) (stop others)) (alike_said rules others) e) [
-      | inl h ↦ steps_differ q v p w rules others fq limited.2 h
-      | inr h ↦ rest_differs q v p w rules others fq limited.2 (rest h)
-    ]
+-- one that draws differs from one that does not
+drawn_differs : (least : ℕ → ℕ → ℕ) (q : Quota) (v : ℕ) (rules : List Rule) (code : ℕ) (bound : ℕ) → ((map cell : ℕ) → least map cell ≤ bound) → suc bound + length rules < 2 ^ 64 → DifferFrom least (with_rest (Some q) v rules) (λ told. ends code)
+drawn_differs least q v rules code bound below fits = record {
+  told = ahead bound (rising (suc bound));
+  words = ahead_words bound (rising (suc bound)) (omega (arith, fits)) (rising_words (suc bound));
+  old_told = ahead_told least q v rules bound bound (below q.map q.cell) (omega arith) below fits;
+  new_told = none_told least;
+  differ = draws_differ q v code (ahead bound (rising (suc bound))) (said rules (rising (suc bound)));
+}
 
-first_differs : (quota : Option Quota) (v : ℕ) (rules others : List Rule) → IsLimited quota → All HasLimit others
-    → ((more : List Rule) → All HasLimit more → alike_said rules more ≡ false → DifferSaid rules more) → after_first quota v (stop rules) (λ more. alike_said rules more) others ≡ false → FirstDiffers quota v rules others
-first_differs None v rules others limited limits rest e = (zeros, zero_words, stop_differs others v e)
-first_differs (Some q) v rules [] limited limits rest e = (zeros, zero_words, draws_differ q v (verdict_number NotAuthorised) (said rules zeros))
-first_differs (Some q) v rules (other ∷ others) limited limits rest e =
-    second_differs q v rules other.quota (verdict_number other.verdict) others limited.2 (All-head HasLimit other others limits) (rest others (All-tail HasLimit other others limits)) e
+-- what the tests of two lists that do not hold behind others mean
+abbrev IsComplete : (olds news old new : List Rule) → Type 0
+IsComplete olds news old new =
+    (bound : ℕ) → 2147483647 ≤ bound → ((map cell : ℕ) → least_of olds news map cell ≤ bound) → bound + (length old + length new) < 2 ^ 64
+    → All HasLimit old → All HasLimit new → alike_behind olds news old new ≡ false → DifferFrom (least_of olds news) (said old) (said new)
 
-pub complete : (old new : List Rule) → All HasLimit old → All HasLimit new → alike_said old new ≡ false → DifferSaid old new
-complete [] new olds news e = (zeros, zero_words, stop_differs new (verdict_number NotAuthorised) e)
-complete (rule ∷ rules) new olds news e =
-    first_differs rule.quota (verdict_number rule.verdict) rules new (All-head HasLimit rule rules olds) news
-    (λ more limits h. complete rules more (All-tail HasLimit rule rules olds) limits h) e
+-- the least behind two rules with limits is one more at most
+bound_next : (olds news : List Rule) (rule other : Rule) (q p : Quota) (bound : ℕ) → rule.quota ≡ Some q → other.quota ≡ Some p → q.limit ≤ 2147483647 → p.limit ≤ 2147483647 → 2147483647 ≤ bound
+    → ((map cell : ℕ) → least_of olds news map cell ≤ bound) → (map cell : ℕ) → least_of (olds ++ rule ∷ []) (news ++ other ∷ []) map cell ≤ suc bound
+bound_next olds news rule other q p bound e f fq fp limits below map cell =
+    rw (least_next 0 olds rule q map cell e, least_next 0 news other p map cell f) (by_cells (is_of q map cell) (is_of p map cell))
+  where
+    by_cells : (s t : Bool) → max (if s then suc (max (least_from 0 olds map cell) q.limit) else least_from 0 olds map cell) (if t then suc (max (least_from 0 news map cell) p.limit) else least_from 0 news map cell) ≤ suc bound
+    by_cells true true = omega (arith, below map cell, fq, fp, limits)
+    by_cells true false = omega (arith, below map cell, fq, fp, limits)
+    by_cells false true = omega (arith, below map cell, fq, fp, limits)
+    by_cells false false = omega (arith, below map cell, fq, fp, limits)
+
+second_differs : (olds news : List Rule) (rule : Rule) (q : Quota) (v : ℕ) (rules : List Rule) (other : Rule) (quota : Option Quota) (w : ℕ) (others : List Rule) (bound : ℕ) → rule.quota ≡ Some q → other.quota ≡ quota → q.limit ≤ 2147483647 → IsLimited quota
+    → 2147483647 ≤ bound → ((map cell : ℕ) → least_of olds news map cell ≤ bound) → suc bound + (length rules + length others) < 2 ^ 64
+    → (alike_behind (olds ++ rule ∷ []) (news ++ other ∷ []) rules others ≡ false → ((map cell : ℕ) → least_of (olds ++ rule ∷ []) (news ++ other ∷ []) map cell ≤ suc bound) → DifferFrom (least_of (olds ++ rule ∷ []) (news ++ other ∷ [])) (said rules) (said others))
+    → after_both (least_of olds news q.map q.cell) q v (stop rules) (alike_behind (olds ++ rule ∷ []) (news ++ other ∷ []) rules others) quota w (stop others) ≡ false
+    → DifferFrom (least_of olds news) (with_rest (Some q) v rules) (with_rest quota w others)
+second_differs olds news rule q v rules other None w others bound e f fq limited limits below fits rest h = drawn_differs (least_of olds news) q v rules w bound below (omega (arith, fits))
+second_differs olds news rule q v rules other (Some p) w others bound e f fq limited limits below fits rest h =
+    both_differ olds news rule other q v p w rules others bound (record { limits = limits; below = below; fits = fits }) fq limited.2 e f
+    (λ s. rest s (bound_next olds news rule other q p bound e f fq limited.2 limits below)) h
+
+first_differs : (olds news : List Rule) (rule : Rule) (quota : Option Quota) (v : ℕ) (rules others : List Rule) (bound : ℕ) → rule.quota ≡ quota → IsLimited quota → 2147483647 ≤ bound → ((map cell : ℕ) → least_of olds news map cell ≤ bound)
+    → bound + (suc (length rules) + length others) < 2 ^ 64 → All HasLimit others
+    → ((other : Rule) (more : List Rule) → All HasLimit more → alike_behind (olds ++ rule ∷ []) (news ++ other ∷ []) rules more ≡ false → ((map cell : ℕ) → least_of (olds ++ rule ∷ []) (news ++ other ∷ []) map cell ≤ suc bound)
+    → suc bound + (length rules + length more) < 2 ^ 64 → DifferFrom (least_of (olds ++ rule ∷ []) (news ++ other ∷ [])) (said rules) (said more))
+    → after_first (least_of olds news) quota v (stop rules) (λ other more. alike_behind (olds ++ rule ∷ []) (news ++ other ∷ []) rules more) others ≡ false
+    → DifferFrom (least_of olds news) (with_rest quota v rules) (said others)
+first_differs olds news rule None v rules others bound e limited limits below fits more rest h = ended_differs (least_of olds news) v others bound below (omega (arith, fits)) h
+first_differs olds news rule (Some q) v rules [] bound e limited limits below fits more rest h = drawn_differs (least_of olds news) q v rules (verdict_number NotAuthorised) bound below (omega (arith, fits))
+first_differs olds news rule (Some q) v rules (other ∷ others) bound e limited limits below fits more rest h =
+    let few : suc bound + (length rules + length others) < 2 ^ 64 = omega (arith, fits) in
+    second_differs olds news rule q v rules other other.quota (verdict_number other.verdict) others bound e refl limited.2 (All-head HasLimit other others more) limits below few
+    (λ s le. rest other others (All-tail HasLimit other others more) s le few) h
+
+complete_behind : (olds news old new : List Rule) → IsComplete olds news old new
+complete_behind olds news [] new bound limits below fits one two e = ended_differs (least_of olds news) (verdict_number NotAuthorised) new bound below (omega (arith, fits)) e
+complete_behind olds news (rule ∷ rules) new bound limits below fits one two e =
+    first_differs olds news rule rule.quota (verdict_number rule.verdict) rules new bound refl (All-head HasLimit rule rules one) limits below fits two
+    (λ other more limited h le few. complete_behind (olds ++ rule ∷ []) (news ++ other ∷ []) rules more (suc bound) (omega (arith, limits)) le few (All-tail HasLimit rule rules one) limited h) e
+
+pub complete : (old new : List Rule) → AreLimited old → AreLimited new → alike_said old new ≡ false → DifferSaid old new
+complete old new one two e =
+    let d = complete_behind [] [] old new 2147483647 (omega arith) (λ map cell. omega (arith, from_none map cell)) (omega (arith, one.few, two.few)) one.limits two.limits e in
+    record { told = d.told; words = d.words; old_tickets = d.old_told.tickets; new_tickets = d.new_told.tickets; differ = d.differ }
 
 -- ---- tables
 
@@ -366,11 +516,38 @@ held_limits p (rule ∷ rules) limits =
     by_test true rest one = All-cons HasLimit rule (held p rules) one rest
     by_test false rest one = rest
 
+held_few : (p : Point) (rules : List Rule) → length (held p rules) ≤ length rules
+held_few p [] = omega arith
+held_few p (rule ∷ rules) = by_test (holds_at rule p) (held_few p rules)
+  where
+    by_test : (t : Bool) → length (held p rules) ≤ length rules → length (if t then rule ∷ held p rules else held p rules) ≤ suc (length rules)
+    by_test true le = omega (arith, le)
+    by_test false le = omega (arith, le)
+
+held_limited : (p : Point) (rules : List Rule) → AreLimited rules → AreLimited (held p rules)
+held_limited p rules h = record { limits = held_limits p rules h.limits; few = omega (arith, held_few p rules, h.few) }
+
+tickets_there : (rules : List Rule) (p : Point) (told : ℕ → ℕ) → AreTickets (said (held p rules) told).0 → AreTickets (decision_at rules p told).0
+tickets_there rules p told h = subst (λ (d : List Call × ℕ). AreTickets d.0) (sym (held_decide rules p told)) h
+
+tickets_said : (rules : List Rule) (p : Point) (told : ℕ → ℕ) → AreTickets (decision_at rules p told).0 → AreTickets (said (held p rules) told).0
+tickets_said rules p told h = subst (λ (d : List Call × ℕ). AreTickets d.0) (held_decide rules p told) h
+
 pub alike_by_test : (t : Bool) (old new : List Rule) (p : Point) → t ≡ alike_said (held p old) (held p new) → MatchBool t (AreAlike old new p) (DifferWithinLimits old new p)
-alike_by_test true old new p e = λ told. held_decide old p told ∙ sound (held p old) (held p new) (sym e) told ∙ sym (held_decide new p told)
+alike_by_test true old new p e = λ told one. held_decide old p told ∙ sound (held p old) (held p new) (sym e) told (by_one told one) ∙ sym (held_decide new p told)
+  where
+    by_one : (told : ℕ → ℕ) → AreTicketsOfOne (decision_at old p told).0 (decision_at new p told).0 → AreTicketsOfOne (said (held p old) told).0 (said (held p new) told).0
+    by_one told (inl h) = inl (tickets_said old p told h)
+    by_one told (inr h) = inr (tickets_said new p told h)
 alike_by_test false old new p e = λ olds news.
-    let d : DifferSaid (held p old) (held p new) = complete (held p old) (held p new) (held_limits p old olds) (held_limits p new news) (sym e) in
-    (d.0, d.1, λ same. d.2 (sym (held_decide old p d.0) ∙ same ∙ held_decide new p d.0))
+    let d : DifferSaid (held p old) (held p new) = complete (held p old) (held p new) (held_limited p old olds) (held_limited p new news) (sym e) in
+    record {
+      told = d.told;
+      words = d.words;
+      old_tickets = tickets_there old p d.told d.old_tickets;
+      new_tickets = tickets_there new p d.told d.new_tickets;
+      differ = λ same. d.differ (sym (held_decide old p d.told) ∙ same ∙ held_decide new p d.told);
+    }
 
 -- ---- what the code finds
 
@@ -392,21 +569,47 @@ held_here p rules i d lt one =
     ap (λ (rs : List Rule). held p rs) (drop-cons rules i d lt) ∙ here_first (holds_at (get_or rules i d) p) (get_or rules i d) (held p (drop (suc i) rules)) one
     ∙ ap (λ (k : ℕ). get_or rules i d ∷ held p (drop k rules)) (sym (add-one i))
 
+-- those that hold of one list behind another
+pub held_append : (p : Point) (rules others : List Rule) → held p (rules ++ others) ≡ held p rules ++ held p others
+held_append p [] others = refl
+held_append p (rule ∷ rules) others = by_test (holds_at rule p) (held_append p rules others)
+  where
+    by_test : (t : Bool) → held p (rules ++ others) ≡ held p rules ++ held p others → (if t then rule ∷ held p (rules ++ others) else held p (rules ++ others)) ≡ (if t then rule ∷ held p rules else held p rules) ++ held p others
+    by_test true e = ap (λ (rs : List Rule). rule ∷ rs) e
+    by_test false e = e
+
+-- those that hold of one rule more
+pub held_more : (p : Point) (rules : List Rule) (i : ℕ) (d : Rule) → i < length rules → held p (take (i + 1) rules) ≡ held p (take i rules) ++ held p (get_or rules i d ∷ [])
+held_more p rules i d lt = ap (λ (rs : List Rule). held p rs) (take_more rules i d lt) ∙ held_append p (take i rules) (get_or rules i d ∷ [])
+
+pub held_none_more : (p : Point) (rules : List Rule) (i : ℕ) (d : Rule) → i < length rules → holds_at (get_or rules i d) p ≡ false → held p (take (i + 1) rules) ≡ held p (take i rules)
+held_none_more p rules i d lt none =
+    held_more p rules i d lt ∙ ap (λ (rs : List Rule). held p (take i rules) ++ rs) (none_before (holds_at (get_or rules i d) p) (get_or rules i d) [] none) ∙ append-nil (held p (take i rules))
+
+pub held_one_more : (p : Point) (rules : List Rule) (i : ℕ) (d : Rule) → i < length rules → holds_at (get_or rules i d) p ≡ true → held p (take (i + 1) rules) ≡ held p (take i rules) ++ get_or rules i d ∷ []
+held_one_more p rules i d lt one =
+    held_more p rules i d lt ∙ ap (λ (rs : List Rule). held p (take i rules) ++ rs) (here_first (holds_at (get_or rules i d) p) (get_or rules i d) [] one)
+
 -- each way out of the walk
-pub alike_none : (olds news : List Rule) → olds ≡ [] → alike_said olds news ≡ stops_with (stop news) (verdict_number NotAuthorised)
-alike_none olds news e = ap (λ (rs : List Rule). alike_said rs news) e
+pub alike_none : (bo bn olds news : List Rule) → olds ≡ [] → alike_behind bo bn olds news ≡ stops_with (stop news) (verdict_number NotAuthorised)
+alike_none bo bn olds news e = ap (λ (rs : List Rule). alike_behind bo bn rs news) e
 
-pub alike_stops : (olds news : List Rule) (rule : Rule) (rest : List Rule) → olds ≡ rule ∷ rest → rule.quota ≡ None → alike_said olds news ≡ stops_with (stop news) (verdict_number rule.verdict)
-alike_stops olds news rule rest e none =
-    ap (λ (rs : List Rule). alike_said rs news) e ∙ ap (λ (q : Option Quota). after_first q (verdict_number rule.verdict) (stop rest) (λ more. alike_said rest more) news) none
+pub alike_stops : (bo bn olds news : List Rule) (rule : Rule) (rest : List Rule) → olds ≡ rule ∷ rest → rule.quota ≡ None → alike_behind bo bn olds news ≡ stops_with (stop news) (verdict_number rule.verdict)
+alike_stops bo bn olds news rule rest e none =
+    ap (λ (rs : List Rule). alike_behind bo bn rs news) e
+    ∙ ap (λ (q : Option Quota). after_first (least_of bo bn) q (verdict_number rule.verdict) (stop rest) (λ other more. alike_behind (bo ++ rule ∷ []) (bn ++ other ∷ []) rest more) news) none
 
-pub alike_draws_alone : (olds news : List Rule) (rule : Rule) (rest : List Rule) (q : Quota) → olds ≡ rule ∷ rest → rule.quota ≡ Some q → news ≡ [] → alike_said olds news ≡ false
-alike_draws_alone olds news rule rest q e some none =
-    ap (λ (rs : List Rule). alike_said rs news) e ∙ ap (λ (o : Option Quota). after_first o (verdict_number rule.verdict) (stop rest) (λ more. alike_said rest more) news) some
-    ∙ ap (λ (rs : List Rule). after_first (Some q) (verdict_number rule.verdict) (stop rest) (λ more. alike_said rest more) rs) none
+pub alike_draws_alone : (bo bn olds news : List Rule) (rule : Rule) (rest : List Rule) (q : Quota) → olds ≡ rule ∷ rest → rule.quota ≡ Some q → news ≡ [] → alike_behind bo bn olds news ≡ false
+alike_draws_alone bo bn olds news rule rest q e some none =
+    ap (λ (rs : List Rule). alike_behind bo bn rs news) e
+    ∙ ap (λ (o : Option Quota). after_first (least_of bo bn) o (verdict_number rule.verdict) (stop rest) (λ other more. alike_behind (bo ++ rule ∷ []) (bn ++ other ∷ []) rest more) news) some
+    ∙ ap (λ (rs : List Rule). after_first (least_of bo bn) (Some q) (verdict_number rule.verdict) (stop rest) (λ other more. alike_behind (bo ++ rule ∷ []) (bn ++ other ∷ []) rest more) rs) none
 
-pub alike_both : (olds news : List Rule) (rule : Rule) (rest : List Rule) (q : Quota) (other : Rule) (others : List Rule) → olds ≡ rule ∷ rest → rule.quota ≡ Some q → news ≡ other ∷ others
-    → alike_said olds news ≡ after_both q (verdict_number rule.verdict) (stop rest) (λ more. alike_said rest more) other.quota (verdict_number other.verdict) others
-alike_both olds news rule rest q other others e some f =
-    ap (λ (rs : List Rule). alike_said rs news) e ∙ ap (λ (o : Option Quota). after_first o (verdict_number rule.verdict) (stop rest) (λ more. alike_said rest more) news) some
-    ∙ ap (λ (rs : List Rule). after_first (Some q) (verdict_number rule.verdict) (stop rest) (λ more. alike_said rest more) rs) f
+pub alike_both : (bo bn ao an olds news : List Rule) (rule : Rule) (rest : List Rule) (q : Quota) (other : Rule) (others : List Rule) → ao ≡ bo ++ rule ∷ [] → an ≡ bn ++ other ∷ [] → olds ≡ rule ∷ rest → rule.quota ≡ Some q → news ≡ other ∷ others
+    → alike_behind bo bn olds news ≡ after_both (least_of bo bn q.map q.cell) q (verdict_number rule.verdict) (stop rest) (alike_behind ao an rest others) other.quota (verdict_number other.verdict) (stop others)
+alike_both bo bn ao an olds news rule rest q other others ea eb e some f =
+    ap (λ (rs : List Rule). alike_behind bo bn rs news) e
+    ∙ ap (λ (o : Option Quota). after_first (least_of bo bn) o (verdict_number rule.verdict) (stop rest) (λ other more. alike_behind (bo ++ rule ∷ []) (bn ++ other ∷ []) rest more) news) some
+    ∙ ap (λ (rs : List Rule). after_first (least_of bo bn) (Some q) (verdict_number rule.verdict) (stop rest) (λ other more. alike_behind (bo ++ rule ∷ []) (bn ++ other ∷ []) rest more) rs) f
+    ∙ ap (λ (rs : List Rule). after_both (least_of bo bn q.map q.cell) q (verdict_number rule.verdict) (stop rest) (alike_behind rs (bn ++ other ∷ []) rest others) other.quota (verdict_number other.verdict) (stop others)) (sym ea)
+    ∙ ap (λ (rs : List Rule). after_both (least_of bo bn q.map q.cell) q (verdict_number rule.verdict) (stop rest) (alike_behind ao rs rest others) other.quota (verdict_number other.verdict) (stop others)) (sym eb)

@@ -1,5 +1,5 @@
 -- From all points to all headers.
-use Rattle.std.proofs.Common.{◌≡◌, ◌<◌, ℕ, suc, List, [], ◌∷◌, length, get_or, refl, ap, sym, ◌∙◌, arith}
+use Rattle.std.proofs.Common.{◌≡◌, ◌⊎◌, inl, inr, subst, ◌<◌, ℕ, suc, List, [], ◌∷◌, length, get_or, refl, ap, sym, ◌∙◌, arith}
 use Rattle.std.specs.Prelude.{All, if◌then◌else◌}
 use Rattle.machine.specs.declared.calls.Call.{Call}
 use Rattle.machine.specs.Memory.{Header}
@@ -7,6 +7,7 @@ use Rattle.rmap.specs.Verdict.{verdict_number}
 use Rattle.charts.specs.Same.{AreSame, MayBeJudged}
 use Rattle.policy_table.specs.Meaning.{decision, holds, ruled}
 use Rattle.charts.specs.Points.{AreAlike, decision_at, point_of}
+use Rattle.charts.specs.Tickets.{AreTickets, AreTicketsOfOne}
 use Rattle.regions.specs.Points.{HasCommand}
 use Rattle.regions.specs.Questions.{HoldsAll}
 use Rattle.policy_table.specs.declared.rules.Rule.{Rule}
@@ -20,9 +21,13 @@ byte_at : (xs : List ℕ) (n k : ℕ) → length xs ≡ n → All (λ b. b < 256
 byte_at xs n k len bytes lt = bytes k 0 (omega arith)
 
 pub whole : (old new : List Rule) → HoldsAll (AreAlike old new) → AreSame old new
-whole old new alike h may told =
-    at_point old h told ∙ alike (point_of h) (has_command h may) told ∙ sym (at_point new h told)
+whole old new alike h may told one =
+    at_point old h told ∙ alike (point_of h) (has_command h may) told (by_one one) ∙ sym (at_point new h told)
   where
+    by_one : AreTicketsOfOne (decision old h told).0 (decision new h told).0 → AreTicketsOfOne (decision_at old (point_of h) told).0 (decision_at new (point_of h) told).0
+    by_one (inl k) = inl (subst (λ (d : List Call × ℕ). AreTickets d.0) (at_point old h told) k)
+    by_one (inr k) = inr (subst (λ (d : List Call × ℕ). AreTickets d.0) (at_point new h told) k)
+
     has_command : (h : Header) → MayBeJudged h → HasCommand (point_of h)
     has_command h may = record {
       key = byte_at h.front 4 3 may.header.front may.header.front_bytes (omega arith);

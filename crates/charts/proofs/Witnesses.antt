@@ -12,7 +12,9 @@ use Rattle.rmap.specs.Command.{address_of, increments, length_of}
 use Rattle.rmap.specs.Instruction.{has_increment_bit, is_used, kind_of}
 use Rattle.policy_table.specs.Meaning.{fields_of, last_address_of}
 use Rattle.regions.specs.Points.{HasCommand, IsSpan, is_distance}
+use Rattle.machine.specs.declared.calls.Call.{Call}
 use Rattle.charts.specs.Points.{IsDifference, decision_at, point_of}
+use Rattle.charts.specs.Tickets.{AreTickets}
 use Rattle.charts.specs.Witness.{IsWitness, header_for, instruction_for, length_for}
 use Rattle.regions.specs.declared.points.Point.{Point}
 use Rattle.policy_table.specs.declared.rules.Rule.{Rule}
@@ -134,15 +136,19 @@ tail_bytes p b =
 pub have_headers : (old new : List Rule) (p : Point) → IsDifference old new p → IsWitness old new (header_for p) × (point_of (header_for p) ≡ p)
 have_headers old new p d =
     let back : point_of (header_for p) ≡ p = point_back p d.command.span in
-    let told : ℕ → ℕ = d.differ.0 in
+    let told : ℕ → ℕ = d.differ.told in
     let old_is = at_point old (header_for p) told ∙ ap (λ (q : Point). decision_at old q told) back in
     let new_is = at_point new (header_for p) told ∙ ap (λ (q : Point). decision_at new q told) back in (
-      (
-        record {
+      record {
+        judged = record {
           header = record { front = refl; tail = refl; front_bytes = front_bytes p d.command; tail_bytes = tail_bytes p d.command };
           span = subst (λ (q : Point). IsSpan q.kind q.first q.last) (sym back) d.command.span;
-        },
-        (told, d.differ.1, λ same. d.differ.2 (sym old_is ∙ same ∙ new_is)),
-      ),
+        };
+        told = told;
+        words = d.differ.words;
+        old_tickets = subst (λ (x : List Call × ℕ). AreTickets x.0) (sym old_is) d.differ.old_tickets;
+        new_tickets = subst (λ (x : List Call × ℕ). AreTickets x.0) (sym new_is) d.differ.new_tickets;
+        differ = λ same. d.differ.differ (sym old_is ∙ same ∙ new_is);
+      },
       back,
     )

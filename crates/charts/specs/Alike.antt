@@ -1,5 +1,5 @@
 -- Whether two courses of rules with quotas are the same, whatever the tickets are.
-use Rattle.std.specs.Prelude.{◌≡◌, ◌<◌, ◌==◌, ◌&&◌, ◌||◌, ℕ, suc, Bool, true, false, nat_le, List, [], ◌∷◌, All, length, Option, Some, None}
+use Rattle.std.specs.Prelude.{◌≡◌, ◌≤◌, ◌<◌, ◌==◌, ◌&&◌, ◌||◌, ◌++◌, ◌^◌, ℕ, suc, Bool, true, false, max, nat_le, List, [], ◌∷◌, All, drop, length, take, Option, Some, None}
 use Rattle.std.specs.List.{filter}
 use Rattle.machine.specs.declared.calls.Call.{Call}
 use Rattle.rmap.specs.Verdict.{verdict_number}
@@ -7,9 +7,11 @@ use Rattle.rmap.specs.declared.verdict.Verdict.TheVariants.{NotAuthorised}
 use Rattle.policy_table.specs.Limits.{IsLimited}
 use Rattle.policy_table.specs.Meaning.{AreWords, ruled}
 use Rattle.charts.specs.Points.{Differ, decision_at, holds_at}
+use Rattle.charts.specs.Tickets.{AreTickets, AreTicketsOfOne, is_of, least_of}
 use Rattle.regions.specs.declared.points.Point.{Point}
 use Rattle.policy_table.specs.declared.rules.Quota.{Quota}
 use Rattle.policy_table.specs.declared.rules.Rule.{Rule}
+use Rattle.charts.specs.declared.decisions.NextRule.{NextRule}
 
 -- the rules that hold at a point, in order
 abbrev pub held : Point → List Rule → List Rule
@@ -35,54 +37,76 @@ abbrev pub stops_with : Option ℕ → (code : ℕ) → Bool
 stops_with None code = false
 stops_with (Some own) code = own == code
 
--- whether two draws with their verdicts, before what stops (or not) without a draw, are the same step: of one cell; with
--- the same verdict where both may match; and where one alone matches, the other ends so without a further draw
-abbrev pub same_steps : (q : Quota) (v : ℕ) (p : Quota) (w : ℕ) (behind_q behind_p : Option ℕ) → Bool
-same_steps q v p w behind_q behind_p =
-    (q.map == p.map && q.cell == p.cell) && ((q.limit == 0 || (p.limit == 0 || v == w))
-    && ((nat_le q.limit p.limit || stops_with behind_p v) && (nat_le p.limit q.limit || stops_with behind_q w)))
+-- whether two draws with their verdicts, before what stops (or not) without a draw, are the same step, where the ticket is not
+-- below the least: of one cell; with the same verdict where both may match; and where one alone may match, the other ends so
+-- without a further draw
+abbrev pub same_steps : (least : ℕ) (q : Quota) (v : ℕ) (p : Quota) (w : ℕ) (behind_q behind_p : Option ℕ) → Bool
+same_steps least q v p w behind_q behind_p =
+    is_of q p.map p.cell && ((nat_le q.limit least || (nat_le p.limit least || v == w))
+    && ((nat_le q.limit (max least p.limit) || stops_with behind_p v) && (nat_le p.limit (max least q.limit) || stops_with behind_q w)))
 
--- whether a draw with its verdict is the same step as the first of other rules, and what follows is alike
-abbrev pub after_both : (q : Quota) (v : ℕ) (behind : Option ℕ) → (rest : List Rule → Bool) → Option Quota → (w : ℕ) → List Rule → Bool
-after_both q v behind rest None w others = false
-after_both q v behind rest (Some p) w others = same_steps q v p w behind (stop others) && rest others
+-- whether a draw with its verdict is the same step as another rule, of this quota and verdict, and what follows is alike
+abbrev pub after_both : (least : ℕ) (q : Quota) (v : ℕ) (behind : Option ℕ) (rest : Bool) → Option Quota → (w : ℕ) → (behind_other : Option ℕ) → Bool
+after_both least q v behind rest None w behind_other = false
+after_both least q v behind rest (Some p) w behind_other = same_steps least q v p w behind behind_other && rest
 
 -- whether a rule that holds, of this quota and verdict, and what is behind it decide as other rules do
-abbrev pub after_first : Option Quota → (v : ℕ) → (behind : Option ℕ) → (rest : List Rule → Bool) → List Rule → Bool
-after_first None v behind rest others = stops_with (stop others) v
-after_first (Some q) v behind rest [] = false
-after_first (Some q) v behind rest (other ∷ others) = after_both q v behind rest other.quota (verdict_number other.verdict) others
+abbrev pub after_first : (least : (map cell : ℕ) → ℕ) → Option Quota → (v : ℕ) → (behind : Option ℕ) → (rest : (other : Rule) → List Rule → Bool) → List Rule → Bool
+after_first least None v behind rest others = stops_with (stop others) v
+after_first least (Some q) v behind rest [] = false
+after_first least (Some q) v behind rest (other ∷ others) =
+    after_both (least q.map q.cell) q v behind (rest other others) other.quota (verdict_number other.verdict) (stop others)
+
+-- whether two lists of rules that hold decide alike, behind those that hold, drew of the same cells and did not match
+abbrev pub alike_behind : (olds news : List Rule) → (old new : List Rule) → Bool
+alike_behind olds news [] others = stops_with (stop others) (verdict_number NotAuthorised)
+alike_behind olds news (rule ∷ rules) others =
+    after_first (least_of olds news) rule.quota (verdict_number rule.verdict) (stop rules)
+    (λ other more. alike_behind (olds ++ rule ∷ []) (news ++ other ∷ []) rules more) others
 
 -- whether two lists of rules that hold decide alike
-abbrev pub alike_said : List Rule → List Rule → Bool
-alike_said [] others = stops_with (stop others) (verdict_number NotAuthorised)
-alike_said (rule ∷ rules) others =
-    after_first rule.quota (verdict_number rule.verdict) (stop rules) (λ more. alike_said rules more) others
+abbrev pub alike_said : (old new : List Rule) → Bool
+alike_said old new = alike_behind [] [] old new
 
 -- the limits of a rule's quota are such as a table has
 abbrev pub HasLimit : Rule → Type 0
 HasLimit rule = IsLimited rule.quota
 
+-- the limits of rules are such as a table has, and the rules are no more than a list of the code has
+pub record AreLimited (rules : List Rule) : Type 0 where
+  pub limits : All HasLimit rules
+  pub few : length rules < 2 ^ 62
+
 -- they differ for some tickets
-abbrev pub DifferSaid : (old new : List Rule) → Type 0
-DifferSaid old new = (told : ℕ → ℕ) × AreWords told × ¬ (said old told ≡ said new told)
+pub record DifferSaid (old new : List Rule) : Type 0 where
+  pub told : ℕ → ℕ
+  pub words : AreWords told
+  pub old_tickets : AreTickets (said old told).0
+  pub new_tickets : AreTickets (said new told).0
+  pub differ : ¬ (said old told ≡ said new told)
+
+-- they make the same draws and give the same verdict, whatever the tickets are
+abbrev pub AreSaidAlike : (old new : List Rule) → Type 0
+AreSaidAlike old new =
+    (told : ℕ → ℕ) → AreTicketsOfOne (said old told).0 (said new told).0 → said old told ≡ said new told
 
 -- the test is exact: where it holds the draws and the verdict are the same whatever the tickets are, and else not
 abbrev pub AlikeIsExact : Type 0
 AlikeIsExact =
-    (old new : List Rule) → All HasLimit old → All HasLimit new
-    → (alike_said old new ≡ true → (told : ℕ → ℕ) → said old told ≡ said new told)
-    × (alike_said old new ≡ false → DifferSaid old new)
+    (old new : List Rule) → AreLimited old → AreLimited new
+    → (alike_said old new ≡ true → AreSaidAlike old new) × (alike_said old new ≡ false → DifferSaid old new)
 
 -- the decision of a table at a point is that of its rules that hold there
 abbrev pub HeldDecide : Type 0
 HeldDecide = (rules : List Rule) (p : Point) (told : ℕ → ℕ) → decision_at rules p told ≡ said (held p rules) told
 
--- the first rule that holds, and the rules behind it
-pub record IsNext (p : Point) (rules : List Rule) (rule : Rule) (rest : List Rule) : Type 0 where
-  pub first : held p rules ≡ rule ∷ held p rest
-  pub fewer : length rest < length rules
+-- the first rule from so many on that holds at a point, and how many rules are told up to it
+pub record IsNext (p : Point) (rules : List Rule) (from : ℕ) (next : NextRule) : Type 0 where
+  pub counted : next.behind ≤ length rules
+  pub later : from < next.behind
+  pub first : held p (drop from rules) ≡ next.rule ∷ held p (drop next.behind rules)
+  pub passed : held p (take next.behind rules) ≡ held p (take from rules) ++ next.rule ∷ []
 
 -- they decide differently at the point, where the limits are such as a table has
 abbrev pub DifferWithinLimits : (old new : List Rule) → Point → Type 0
-DifferWithinLimits old new p = All HasLimit old → All HasLimit new → Differ old new p
+DifferWithinLimits old new p = AreLimited old → AreLimited new → Differ old new p

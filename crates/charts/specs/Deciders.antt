@@ -1,12 +1,13 @@
 -- By which rule a table decides at a point.
-use Rattle.std.specs.Prelude.{◌≡◌, ◌&&◌, ◌||◌, ℕ, zero, suc, Bool, false, true, not, nat_lt, if◌then◌else◌, List, [], ◌∷◌, All, Option, Some, None}
+use Rattle.std.specs.Prelude.{◌≡◌, ◌&&◌, ◌||◌, ◌++◌, ℕ, zero, suc, Bool, false, true, not, nat_lt, if◌then◌else◌, List, [], ◌∷◌, Option, Some, None}
 use Rattle.policy_table.specs.Meaning.{AreWords}
 use Rattle.policy_table.specs.declared.rules.Quota.{Quota}
 use Rattle.policy_table.specs.declared.rules.Rule.{Rule}
 use Rattle.regions.specs.Questions.{HoldsAll, IsFound}
 use Rattle.regions.specs.declared.points.Point.{Point}
-use Rattle.charts.specs.Alike.{HasLimit}
-use Rattle.charts.specs.Points.{holds_at}
+use Rattle.charts.specs.Alike.{AreLimited, held}
+use Rattle.charts.specs.Points.{decision_at, holds_at}
+use Rattle.charts.specs.Tickets.{AreTickets, least_from}
 
 -- a rule that holds decides, unless it draws a ticket that is not below its limit
 abbrev pub by_quota : Option Quota → (place : ℕ) → (told : ℕ → ℕ) → (rest : Option ℕ) → Option ℕ
@@ -21,39 +22,45 @@ decider_from place (rule ∷ rules) p told =
     then by_quota rule.quota place told (decider_from (suc place) rules p (λ k. told (suc k)))
     else decider_from (suc place) rules p told
 
--- for some answers the rule of that place, from 0 on, decides at the point
-abbrev pub Decides : List Rule → (place : ℕ) → Point → Type 0
-Decides rules place p = (told : ℕ → ℕ) × AreWords told × (decider_from 0 rules p told ≡ Some place)
+-- for some tickets the rule of that place, from 0 on, decides at the point
+pub record Decides (rules : List Rule) (place : ℕ) (p : Point) : Type 0 where
+  pub told : ℕ → ℕ
+  pub words : AreWords told
+  pub tickets : AreTickets (decision_at rules p told).0
+  pub decider : decider_from 0 rules p told ≡ Some place
 
 -- for none it does
 abbrev pub NeverDecides : List Rule → (place : ℕ) → Point → Type 0
-NeverDecides rules place p = (told : ℕ → ℕ) → ¬ (decider_from 0 rules p told ≡ Some place)
+NeverDecides rules place p =
+    (told : ℕ → ℕ) → AreTickets (decision_at rules p told).0 → ¬ (decider_from 0 rules p told ≡ Some place)
 
 -- whether a rule that holds may let the rules behind it decide
 abbrev pub lets_pass : Option Quota → Bool
 lets_pass None = false
 lets_pass (Some quota) = true
 
--- whether a rule that holds may decide itself
-abbrev pub has_room : Option Quota → Bool
-has_room None = true
-has_room (Some quota) = nat_lt 0 quota.limit
+-- whether a rule that holds may decide itself, behind rules that hold and did not match: some ticket of its cell that they leave
+-- is below its limit
+abbrev pub has_room : Option Quota → (passed : List Rule) → Bool
+has_room None passed = true
+has_room (Some quota) passed = nat_lt (least_from 0 passed quota.map quota.cell) quota.limit
 
--- whether the rule of so many places on may decide
-abbrev pub may_decide : (places : ℕ) → List Rule → Point → Bool
-may_decide places [] p = false
-may_decide zero (rule ∷ rules) p = holds_at rule p && has_room rule.quota
-may_decide (suc places) (rule ∷ rules) p = (not (holds_at rule p) || lets_pass rule.quota) && may_decide places rules p
+-- whether the rule of so many places on may decide, behind rules that hold and did not match
+abbrev pub may_decide : (passed : List Rule) → (places : ℕ) → List Rule → Point → Bool
+may_decide passed places [] p = false
+may_decide passed zero (rule ∷ rules) p = holds_at rule p && has_room rule.quota passed
+may_decide passed (suc places) (rule ∷ rules) p =
+    (not (holds_at rule p) || lets_pass rule.quota) && may_decide (passed ++ held p (rule ∷ [])) places rules p
 
--- no command has a point at which the rule of that place decides, whatever the answers are
+-- no command has a point at which the rule of that place decides, whatever the tickets are
 abbrev pub NeverMatches : List Rule → (place : ℕ) → Type 0
 NeverMatches rules place = HoldsAll (NeverDecides rules place)
 
--- at some point of a command it decides, for some answers
+-- at some point of a command it decides, for some tickets
 pub record Matches (rules : List Rule) (place : ℕ) : Type 0 where
   pub point : Point
   pub found : IsFound (Decides rules place) point
 
 -- at the point it does, where the limits are such as a table has
 abbrev pub DecidesWithinLimits : List Rule → (place : ℕ) → Point → Type 0
-DecidesWithinLimits rules place p = All HasLimit rules → Decides rules place p
+DecidesWithinLimits rules place p = AreLimited rules → Decides rules place p

@@ -5,6 +5,7 @@ use Rattle.rmap.specs.Checks.{header_line}
 use Rattle.rmap.specs.Command.{CommandValue, IsHeader}
 use Rattle.rmap.specs.Windows.{WindowsValue}
 use Rattle.charts.specs.Same.{AreSame, MayBeJudged}
+use Rattle.charts.specs.Tickets.{AreTicketsOfOne}
 use Rattle.policy_table.specs.Meaning.{decision}
 use Rattle.policy_table.specs.declared.rules.Rule.{Rule}
 
@@ -23,8 +24,10 @@ JudgedMayBe =
     (c : CommandValue) (w : WindowsValue) → IsHeader c → HasBytesAlone c → All EndsInTime w.banks → header_line c w ≡ None
     → MayBeJudged (header c.front c.tail)
 
--- under two tables that are the same each node decides each command alike
+-- under two tables that are the same each node decides each command alike, whatever tickets it is told
 abbrev pub NodesDecideAlike : Type 0
 NodesDecideAlike =
     (old new : List Rule) → AreSame old new → (c : CommandValue) (w : WindowsValue) → IsHeader c → HasBytesAlone c → All EndsInTime w.banks
-    → header_line c w ≡ None → (told : ℕ → ℕ) → decision old (header c.front c.tail) told ≡ decision new (header c.front c.tail) told
+    → header_line c w ≡ None → (told : ℕ → ℕ)
+    → AreTicketsOfOne (decision old (header c.front c.tail) told).0 (decision new (header c.front c.tail) told).0
+    → decision old (header c.front c.tail) told ≡ decision new (header c.front c.tail) told

@@ -1,3 +1,4 @@
+pub mod Tickets
 pub mod Points
 pub mod Same
 pub mod Alike
@@ -7,3 +8,4 @@ pub mod Lines
 pub mod Deciders
 pub mod Meetings
 pub mod Rests
+pub mod Plain

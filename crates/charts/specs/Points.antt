@@ -7,6 +7,7 @@ use Rattle.rmap.specs.Verdict.{verdict_number}
 use Rattle.rmap.specs.Command.{address_of, command_kind, extended_of, initiator_of, key_of}
 use Rattle.policy_table.specs.Meaning.{AreWords, agrees, fields_of, has_kind, last_address_of, ruled}
 use Rattle.policy_table.specs.declared.rules.Rule.{Rule}
+use Rattle.charts.specs.Tickets.{AreTickets, AreTicketsOfOne}
 use Rattle.regions.specs.Points.{HasCommand}
 use Rattle.regions.specs.declared.points.Point.{Point}
 
@@ -39,13 +40,19 @@ decision_at (rule ∷ rules) p told =
     then ruled rule.quota (verdict_number rule.verdict) told (decision_at rules p (λ k. told (suc k)))
     else decision_at rules p told
 
--- two tables decide alike at a point: whatever the answers are, they make the same draws and give the same verdict
+-- two tables decide alike at a point: whatever tickets one of them is told, they make the same draws and give the same verdict
 abbrev pub AreAlike : (old new : List Rule) → Point → Type 0
-AreAlike old new p = (told : ℕ → ℕ) → decision_at old p told ≡ decision_at new p told
+AreAlike old new p =
+    (told : ℕ → ℕ) → AreTicketsOfOne (decision_at old p told).0 (decision_at new p told).0
+    → decision_at old p told ≡ decision_at new p told
 
--- they do not, for some answers
-abbrev pub Differ : (old new : List Rule) → Point → Type 0
-Differ old new p = (told : ℕ → ℕ) × AreWords told × ¬ (decision_at old p told ≡ decision_at new p told)
+-- they do not, for some tickets
+pub record Differ (old new : List Rule) (p : Point) : Type 0 where
+  pub told : ℕ → ℕ
+  pub words : AreWords told
+  pub old_tickets : AreTickets (decision_at old p told).0
+  pub new_tickets : AreTickets (decision_at new p told).0
+  pub differ : ¬ (decision_at old p told ≡ decision_at new p told)
 
 -- some command has the point, and there two tables decide differently
 pub record IsDifference (old new : List Rule) (p : Point) : Type 0 where

@@ -5,6 +5,7 @@ use Rattle.policy_table.specs.Meaning.{decision}
 use Rattle.policy_table.specs.declared.rules.Rule.{Rule}
 use Rattle.regions.specs.Points.{IsSpan}
 use Rattle.charts.specs.Points.{point_of}
+use Rattle.charts.specs.Tickets.{AreTicketsOfOne}
 
 -- a header of a command that a node may bring to its table: of a kind that is used, with at most 4,096 bytes of data, and of
 -- a read-modify-write with 0, 2, 4, 6 or 8, none of them past the last address of 32 bits
@@ -12,6 +13,9 @@ pub record MayBeJudged (h : Header) : Type 0 where
   pub header : IsHeader h
   pub span : IsSpan (point_of h).kind (point_of h).first (point_of h).last
 
--- two tables decide each such command alike: whatever the answers are, they make the same draws and give the same verdict
+-- two tables decide each such command alike: whatever tickets one of them is told, they make the same draws and give the same
+-- verdict
 abbrev pub AreSame : (old new : List Rule) → Type 0
-AreSame old new = (h : Header) → MayBeJudged h → (told : ℕ → ℕ) → decision old h told ≡ decision new h told
+AreSame old new =
+    (h : Header) → MayBeJudged h → (told : ℕ → ℕ) → AreTicketsOfOne (decision old h told).0 (decision new h told).0
+    → decision old h told ≡ decision new h told

@@ -7,6 +7,7 @@ use Rattle.rmap.specs.declared.kind.Kind.TheVariants.{Read, Rmw, Unused, Write}
 use Rattle.charts.specs.Same.{MayBeJudged}
 use Rattle.policy_table.specs.Meaning.{AreWords, decision}
 use Rattle.charts.specs.Points.{IsDifference, point_of}
+use Rattle.charts.specs.Tickets.{AreTickets}
 use Rattle.regions.specs.declared.points.Point.{Point}
 use Rattle.policy_table.specs.declared.rules.Rule.{Rule}
 
@@ -30,9 +31,14 @@ abbrev pub header_for : Point → Header
 header_for p = header (254 ∷ 1 ∷ instruction_for p.kind ∷ p.key ∷ [])
     (p.initiator ∷ 0 ∷ 0 ∷ p.extended ∷ [] ++ big_bytes 4 p.first ++ big_bytes 3 (length_for p.kind (p.last + 1 - p.first)) ++ 0 ∷ [])
 
--- a header of a command that may be judged is decided differently, for some answers
-abbrev pub IsWitness : (old new : List Rule) → Header → Type 0
-IsWitness old new h = MayBeJudged h × ((told : ℕ → ℕ) × AreWords told × ¬ (decision old h told ≡ decision new h told))
+-- a header of a command that may be judged is decided differently, for some tickets
+pub record IsWitness (old new : List Rule) (h : Header) : Type 0 where
+  pub judged : MayBeJudged h
+  pub told : ℕ → ℕ
+  pub words : AreWords told
+  pub old_tickets : AreTickets (decision old h told).0
+  pub new_tickets : AreTickets (decision new h told).0
+  pub differ : ¬ (decision old h told ≡ decision new h told)
 
 -- where two tables differ at a point, the header there is a witness, and it has that point
 abbrev pub DifferencesHaveHeaders : Type 0

@@ -1,10 +1,12 @@
 //! Whether two tables decide alike at a point.
 
-ghost use Rattle.std.specs.Prelude.{◌≡◌, ◌≤◌, [], MatchBool, MatchOption, drop, length};
-ghost use Rattle.charts.specs.Alike.{DifferWithinLimits, IsNext, alike_said, held, same_steps, stop, stops_with};
+ghost use Rattle.std.specs.Prelude.{◌≡◌, ◌≤◌, [], MatchBool, MatchOption, drop, length, take};
+ghost use Rattle.charts.specs.Alike.{DifferWithinLimits, IsNext, alike_behind, alike_said, held, same_steps, stop, stops_with};
 ghost use Rattle.charts.specs.Points.{AreAlike, holds_at};
+ghost use Rattle.charts.specs.Tickets.{is_of, least_of};
 ghost use Rattle.policy_table.specs.Meaning.{agrees, has_kind};
 
+use crate::leasts::{is_of_one_cell, least_ticket};
 use policy_table::{Quota, Rule, RuleKind};
 use regions::Point;
 use rmap::{Kind, Verdict};
@@ -39,37 +41,40 @@ pub fn holds_at(rule: &Rule, point: &Point) -> bool
         && (rule.low <= point.first && point.last <= rule.high)
 }
 
-/// The first rule that holds at a point, and the rules behind it.
-fn next_held<'a>(rules: &'a [Rule], point: &Point) -> Option<(Rule, &'a [Rule])>
-    ensures { MatchOption result (held point.now rules.now ≡ [])
-        (λ next. IsNext point.now rules.now next.0 next.1.now) }
+/// A rule that holds at a point, and how many rules are told up to it.
+#[derive(Clone, Copy, Debug, PartialEq, Eq)]
+struct NextRule {
+    rule: Rule,
+    behind: usize,
+}
+
+/// The first rule, from that of a number on, that holds at a point.
+fn next_held(rules: &[Rule], from: usize, point: &Point) -> Option<NextRule>
+    requires { from ≤ length rules.now }
+    ensures { MatchOption result (held point.now (drop from rules.now) ≡ [])
+        (IsNext point.now rules.now from) }
 {
-    let mut number = 0;
-    for rule in rules {
-        number += 1;
-        if holds_at(rule, point) {
-            return Some((*rule, behind(rules, number)));
+    for number in from..rules.len() {
+        let rule = rules[number];
+        if holds_at(&rule, point) {
+            return Some(NextRule {
+                rule,
+                behind: number + 1,
+            });
         }
     }
     None
 }
 
-/// The rules behind so many.
-fn behind(rules: &[Rule], number: usize) -> &[Rule]
-    requires { number ≤ length rules.now }
-    ensures { result.now ≡ drop number rules.now }
+/// The number of the verdict that the rules behind so many give at a point without a draw.
+fn stop_at(rules: &[Rule], from: usize, point: &Point) -> Option<u8>
+    requires { from ≤ length rules.now }
+    ensures { result ≡ stop (held point.now (drop from rules.now)) }
 {
-    &rules[number..]
-}
-
-/// The number of the verdict that rules give at a point without a draw.
-fn stop_at(rules: &[Rule], point: &Point) -> Option<u8>
-    ensures { result ≡ stop (held point.now rules.now) }
-{
-    match next_held(rules, point) {
+    match next_held(rules, from, point) {
         None => Some(Verdict::NotAuthorised.number()),
-        Some((rule, _)) => match rule.quota {
-            None => Some(rule.verdict.number()),
+        Some(next) => match next.rule.quota {
+            None => Some(next.rule.verdict.number()),
             Some(_) => None,
         },
     }
@@ -85,8 +90,10 @@ fn stops_with(stop: Option<u8>, code: u8) -> bool
     }
 }
 
-/// Whether two draws with their verdicts are the same step, before what stops so without a draw.
+/// Whether two draws with their verdicts are the same step, before what stops so without a draw, where the ticket is not below
+/// the least.
 fn same_steps(
+    least: u64,
     one: &Quota,
     code: u8,
     other: &Quota,
@@ -94,39 +101,82 @@ fn same_steps(
     behind_one: Option<u8>,
     behind_other: Option<u8>,
 ) -> bool
-    ensures { result ≡ same_steps one.now code other.now other_code behind_one behind_other }
+    ensures { result ≡ same_steps least one.now code other.now other_code behind_one behind_other }
 {
-    (one.map == other.map && one.cell == other.cell)
-        && ((one.limit == 0 || (other.limit == 0 || code == other_code))
-            && ((one.limit <= other.limit || stops_with(behind_other, code))
-                && (other.limit <= one.limit || stops_with(behind_one, other_code))))
+    let (limit, other_limit) = (u64::from(one.limit), u64::from(other.limit));
+    is_of_one_cell(one, other)
+        && ((limit <= least || (other_limit <= least || code == other_code))
+            && ((limit <= least.max(other_limit) || stops_with(behind_other, code))
+                && (other_limit <= least.max(limit) || stops_with(behind_one, other_code))))
 }
 
-/// Whether two tables decide alike at a point.
-fn alike_from(old: &[Rule], new: &[Rule], point: &Point) -> bool
-    ensures { result ≡ alike_said (held point.now old.now) (held point.now new.now) }
+/// The least ticket of a cell behind so many rules of two tables, of which those that hold at a point drew of the same cells and
+/// did not match.
+fn least_of(
+    old: &[Rule],
+    passed: usize,
+    new: &[Rule],
+    new_passed: usize,
+    point: &Point,
+    quota: &Quota,
+) -> u64
+    requires old { passed ≤ length old.now }
+    requires new { new_passed ≤ length new.now }
+    ensures { result ≡ least_of (held point.now (take passed old.now))
+        (held point.now (take new_passed new.now)) quota.now.map quota.now.cell }
 {
-    let Some((rule, later)) = next_held(old, point) else {
-        return stops_with(stop_at(new, point), Verdict::NotAuthorised.number());
+    let one = least_ticket(&old[..passed], point, quota);
+    let other = least_ticket(&new[..new_passed], point, quota);
+    one.max(other)
+}
+
+/// Whether two tables decide alike at a point behind so many rules of each, of which those that hold there drew of the same cells
+/// and did not match. It calls itself once for each rule with a quota that holds, and a table has at most 12 rules.
+fn alike_from(old: &[Rule], passed: usize, new: &[Rule], new_passed: usize, point: &Point) -> bool
+    requires old { passed ≤ length old.now }
+    requires new { new_passed ≤ length new.now }
+    ensures { result ≡ alike_behind (held point.now (take passed old.now))
+        (held point.now (take new_passed new.now)) (held point.now (drop passed old.now))
+        (held point.now (drop new_passed new.now)) }
+{
+    let Some(next) = next_held(old, passed, point) else {
+        let stop = stop_at(new, new_passed, point);
+        return stops_with(stop, Verdict::NotAuthorised.number());
     };
-    let Some(quota) = rule.quota else {
-        return stops_with(stop_at(new, point), rule.verdict.number());
+    let code = next.rule.verdict.number();
+    let Some(quota) = next.rule.quota else {
+        return stops_with(stop_at(new, new_passed, point), code);
     };
-    let Some((other, others)) = next_held(new, point) else {
+    let Some(other) = next_held(new, new_passed, point) else {
         return false;
     };
-    let Some(limit) = other.quota else {
+    let Some(limit) = other.rule.quota else {
         return false;
     };
-    let code = rule.verdict.number();
-    let other_code = other.verdict.number();
-    let behind_one = stop_at(later, point);
-    let behind_other = stop_at(others, point);
-    if same_steps(&quota, code, &limit, other_code, behind_one, behind_other) {
-        alike_from(later, others, point)
+    let other_code = other.rule.verdict.number();
+    let least = least_of(old, passed, new, new_passed, point, &quota);
+    let behind_one = stop_at(old, next.behind, point);
+    let behind_other = stop_at(new, other.behind, point);
+    if same_steps(
+        least,
+        &quota,
+        code,
+        &limit,
+        other_code,
+        behind_one,
+        behind_other,
+    ) {
+        alike_from(old, next.behind, new, other.behind, point)
     } else {
         false
     }
+}
+
+/// Whether the rules that hold at a point are the same course in both tables, as [`alike`] tests it.
+pub(crate) fn are_alike(old: &[Rule], new: &[Rule], point: &Point) -> bool
+    ensures { result ≡ alike_said (held point.now old.now) (held point.now new.now) }
+{
+    alike_from(old, 0, new, 0, point)
 }
 
 /// Whether two tables decide alike at a point, whatever the tickets are.
@@ -134,12 +184,5 @@ pub fn alike(old: &[Rule], new: &[Rule], point: &Point) -> bool
     ensures { MatchBool result (AreAlike old.now new.now point.now)
         (DifferWithinLimits old.now new.now point.now) }
 {
-    alike_from(old, new, point)
-}
-
-/// Whether the rules that hold at a point are the same course in both tables, as [`alike`] tests it.
-pub(crate) fn are_alike(old: &[Rule], new: &[Rule], point: &Point) -> bool
-    ensures { result ≡ alike_said (held point.now old.now) (held point.now new.now) }
-{
-    alike_from(old, new, point)
+    are_alike(old, new, point)
 }

@@ -9,6 +9,7 @@
 mod comparisons;
 mod decisions;
 mod laws;
+mod leasts;
 mod lines;
 mod matches;
 mod meetings;
@@ -19,7 +20,10 @@ mod walks;
 
 pub use comparisons::first_difference;
 pub use decisions::{alike, has_kind, holds_at};
-pub use laws::{courses, differences_have_headers, nodes_decide_alike};
+pub use laws::{
+    charts_are_read, courses, differences_have_headers, nodes_decide_alike, tickets_follow,
+};
+pub use leasts::{is_of_one_cell, raised};
 pub use lines::{Line, is_comparison, is_map};
 pub use matches::never_matches;
 pub use meetings::{is_asked, is_stopped_by};

@@ -1,39 +1,39 @@
 //! Rules that never match.
 
-ghost use Rattle.std.specs.Prelude.{◌≡◌, ◌<◌, ◌^◌, All, MatchBool, length};
-ghost use Rattle.charts.specs.Alike.{HasLimit};
+ghost use Rattle.std.specs.Prelude.{◌≡◌, ◌<◌, ◌^◌, [], All, MatchBool, length};
+ghost use Rattle.charts.specs.Alike.{HasLimit, held};
 ghost use Rattle.charts.specs.Deciders.{DecidesWithinLimits, Matches, NeverDecides, NeverMatches, has_room, may_decide};
 ghost use Rattle.charts.specs.Points.{tests_of};
 
 use crate::decisions::holds_at;
+use crate::leasts::least_ticket;
 use crate::shapes::region_of;
 use policy_table::{Quota, Rule};
 use regions::{Point, Question, Region, search};
 
-/// Whether a rule that holds may decide.
-fn has_room(quota: Option<Quota>) -> bool
-    ensures { result ≡ has_room quota }
+/// Whether a rule that holds may decide, behind rules of which those that hold did not match.
+fn has_room(quota: Option<Quota>, before: &[Rule], point: &Point) -> bool
+    ensures { result ≡ has_room quota (held point.now before.now) }
 {
     match quota {
         None => true,
-        Some(quota) => quota.limit > 0,
+        Some(quota) => least_ticket(before, point, &quota) < u64::from(quota.limit),
     }
 }
 
-/// Whether the rule of that place, from 0 on, decides at a point for some answers.
+/// Whether the rule of that place, from 0 on, decides at a point for some tickets.
 fn may_decide(rules: &[Rule], place: usize, point: &Point) -> bool
-    ensures { result ≡ may_decide place rules.now point.now }
+    ensures { result ≡ may_decide [] place rules.now point.now }
 {
-    let mut left = place;
-    for rule in rules {
+    for number in 0..rules.len() {
+        let rule = &rules[number];
         let holds = holds_at(rule, point);
-        if left == 0 {
-            return holds && has_room(rule.quota);
+        if number == place {
+            return holds && has_room(rule.quota, &rules[..number], point);
         }
         if holds && rule.quota.is_none() {
             return false;
         }
-        left -= 1;
     }
     false
 }
@@ -64,7 +64,7 @@ impl Question for Deciding<'_> {
     }
 }
 
-/// Whether the rule of that place, from 0 on, decides on no command, whatever the answers to the draws are.
+/// Whether the rule of that place, from 0 on, decides on no command, whatever tickets are drawn.
 pub fn never_matches(rules: &[Rule], place: usize) -> bool
     requires limits { All HasLimit rules.now }
     ensures { MatchBool result (NeverMatches rules.now place) (Matches rules.now place) }

@@ -10,6 +10,7 @@ use Rattle.clap.specs.declared.error.kind.ErrorKind.TheVariants.{OutOfMemory}
 use Rattle.clap.specs.declared.error.Error.{Error}
 use Rattle.commands.specs.CommandLine.{rmapctl_app, subcommand_in, AreTaken, NamesNone, IsIncomplete, LacksWork, TellsRefusal}
 use Rattle.job_packets.specs.PacketJob.{RefusesPacket}
+use Rattle.job_rehearse.specs.RehearseJob.{RefusesRehearse}
 use Rattle.job_parts.specs.declared.usage.UsageFault.{UsageFault}
 use Rattle.job_parts.specs.declared.usage.UsageFault.TheVariants.{Parse, BadOption, Memory}
 
@@ -64,3 +65,29 @@ lacks_packet found rows BadOption is refuses = subst IsIncomplete (sym is) (reco
   rehearse = λ h. absurd (search rules);
 })
 lacks_packet found rows (Parse text) is refuses = refuses
+
+-- the matches of the words of no rehearsal name no work
+pub lacks_rehearse : (found : Option (Text × List Row)) (rows : List Row) (fault : UsageFault)
+    → found ≡ Some (codes "rehearse", rows) → RefusesRehearse rows fault → LacksWork found fault
+lacks_rehearse found rows Memory is refuses = tt
+lacks_rehearse found rows BadOption is refuses = subst IsIncomplete (sym is) (record {
+  asm = λ h. absurd (search rules);
+  dis = λ h. absurd (search rules);
+  verify = λ h. absurd (search rules);
+  judge = λ h. absurd (search rules);
+  policy = λ h. absurd (search rules);
+  serve = λ h. absurd (search rules);
+  sim = λ h. absurd (search rules);
+  live = λ h. absurd (search rules);
+  explain = λ h. absurd (search rules);
+  why = λ h. absurd (search rules);
+  weigh = λ h. absurd (search rules);
+  packet = λ h. absurd (search rules);
+  show = λ h. absurd (search rules);
+  decide = λ h. absurd (search rules);
+  trace = λ h. absurd (search rules);
+  compare = λ h. absurd (search rules);
+  map = λ h. absurd (search rules);
+  rehearse = λ h. refuses;
+})
+lacks_rehearse found rows (Parse text) is refuses = absurd refuses

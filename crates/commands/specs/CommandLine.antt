@@ -25,6 +25,8 @@ use Rattle.job_nodes.specs.SimJob.{sim_app}
 use Rattle.job_ports.specs.ServeJob.{serve_app}
 use Rattle.job_trace.specs.TraceJob.{trace_app}
 use Rattle.job_weigh.specs.WeighJob.{weigh_app, NamesWeigh, SpoilsWeigh}
+use Rattle.commands.specs.declared.asked.Asked.{Asked}
+use Rattle.commands.specs.declared.asked.Asked.TheVariants.{Named, Told}
 use Rattle.commands.specs.declared.jobs.Job.TheVariants.{
   Assemble,
   Disassemble,
@@ -162,3 +164,8 @@ abbrev pub NamesNone : List Text → UsageFault → Type 0
 NamesNone words Memory = Unit {0}
 NamesNone words BadOption = AreTaken words × IsIncomplete (subcommand_in words)
 NamesNone words (Parse text) = ¬ AreTaken words
+
+-- words ask for the work that they name; of a text nothing is said
+abbrev pub AsksFor : List Text → Asked → Type 0
+AsksFor words (Named work) = NamesWork words work
+AsksFor words (Told text) = Unit {0}

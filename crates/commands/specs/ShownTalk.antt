@@ -1,6 +1,7 @@
 -- What `show` tells of lines that come one by one. What it says of a line is not told.
 use Rattle.std.specs.Prelude.{◌≡◌, ◌⊎◌, ℕ, zero, suc, Bool, true, false, List, codes, Some, None}
 use Rattle.std.specs.Borrow.{Bor}
+use Rattle.spw.specs.Line.{words_of}
 use Rattle.spw.specs.declared.faults.LineFault.{LineFault}
 use Rattle.job_live.specs.LiveJob.{most_lines}
 use Rattle.job_live.specs.Talking.{Comes, Misses, Sends}
@@ -13,17 +14,19 @@ use Rattle.job_parts.specs.declared.status.Status.TheVariants.{Done, Failed, Mis
 use Rattle.job_parts.specs.declared.stops.Halt.{Halt}
 use Rattle.job_parts.specs.declared.stops.Halt.TheVariants.{Ended, Unwritten}
 use Rattle.job_parts.specs.declared.stops.WriteFault.{WriteFault}
+use Rattle.job_show.specs.ShownLines.{EndsLine, IsLineFault}
 
 module _ {T : Type 0} (came : Comes T) (sent : Sends T) where
-  -- a line came, and a text was sent of it
+  -- a line came, and a line was sent of it
   pub record ShowsNext (start stop : T) : Type 0 where
     pub line : List ℕ
     pub heard : T
     pub text : List ℕ
+    pub is_line : EndsLine text
     pub line_came : came start (Some line) heard
     pub left : sent heard text stop
 
-  -- so many lines came, and of each a text was sent before the next was asked for
+  -- so many lines came, and of each a line was sent before the next was asked for
   abbrev pub Shows : (count : ℕ) → (start stop : T) → Type 0
   Shows zero start stop = stop ≡ start
   Shows (suc count) start stop = (between : T) × Shows count start between × ShowsNext between stop
@@ -46,14 +49,21 @@ module _ {T : Type 0} (came : Comes T) (sent unsent : Sends T) (missed : Misses 
     pub line : List ℕ
     pub heard : T
     pub text : List ℕ
+    pub is_line : EndsLine text
     pub line_came : came start (Some line) heard
     pub lost : unsent heard text stop
+
+  -- a line came, and has that fault, or memory was refused to it
+  pub record HearsBad (bad : LineFault) (start stop : T) : Type 0 where
+    pub line : List ℕ
+    pub line_came : came start (Some line) stop
+    pub is_bad : IsLineFault line (words_of line) bad
 
   -- why nothing was sent of the line of this number: it could not be read; it came, and is bad; or its text could not be sent
   abbrev pub IsUntold : (number : ℕ) → (start stop : T) → Halt → Type 0
   IsUntold number start stop (Ended fault) =
       ((file : Bor (List ℕ)) × (fault ≡ CannotRead file) × (file.now ≡ codes "-") × missed start stop)
-      ⊎ ((bad : LineFault) × (fault ≡ BadLine number (Line bad)) × (line : List ℕ) × came start (Some line) stop)
+      ⊎ ((bad : LineFault) × (fault ≡ BadLine number (Line bad)) × HearsBad bad start stop)
   IsUntold number start stop (Unwritten refused) = LosesText start stop
 
   -- some lines were told, and then the next was not

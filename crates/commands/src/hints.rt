@@ -2,6 +2,7 @@
 
 use crate::jobs::Job;
 use basm::{AsmCode, AsmFault, assemble};
+use basm_lex::{is_name, read_mnemonic};
 use machine::{MapKind, MapSizes};
 use policy::{RuleWord, Table, TableFault};
 use spw::{lines_of, words_of};
@@ -13,6 +14,15 @@ const TABLE_FORM: &str =
 
 /// How the lines of a program's text end.
 const LINE_FORM: &str = "lines end in a line feed alone";
+
+/// What is told of a table in place of the text of a program.
+const IS_TABLE: &str = "    this is a table of a policy\n";
+
+/// What is told of the text of a program in place of a table.
+const IS_PROGRAM: &str = "    this is the text of a program\n";
+
+/// What is told of a line that is a bare name.
+const LOOSE_NAME: &str = "a label ends in a colon";
 
 /// The words of a rule.
 const RULE_WORDS: &str = "KIND KEY INIT EXT LOW HIGH QUOTA VERDICT";
@@ -173,12 +183,22 @@ fn told_placed(alloc: Global, table: &str, sizes: &MapSizes) -> Result<String, A
     format!(in alloc; "    {fault}\n{more}")
 }
 
-/// Whether a line begins with this name, in upper or lower case, and a colon behind it.
+/// Whether a line is a bare name, as of a label without its colon.
+fn is_bare_name(line: &str) -> bool {
+    let word = line.trim();
+    is_name(word) && read_mnemonic(word).is_none()
+}
+
+/// Whether a line is this name, in upper or lower case, or begins with it and a colon behind it.
 fn looks_like(alloc: Global, line: &str, name: &str) -> Result<bool, AllocError> {
+    let is_bare = is_bare_name(line);
     let line = line.trim_start().to_ascii_lowercase(alloc)?;
     let name = name.to_ascii_lowercase(alloc)?;
     Ok(match line.as_str().strip_prefix(name.as_str()) {
-        Some(rest) => rest.trim_start().starts_with(':'),
+        Some(rest) => {
+            let rest = rest.trim_start();
+            rest.starts_with(':') || (is_bare && rest.is_empty())
+        }
         None => false,
     })
 }
@@ -228,6 +248,8 @@ fn told_text(alloc: Global, source: &str) -> Result<String, AllocError> {
     write!(text, "    line {own} is {spelled}")?;
     if !is_seen(line) {
         write!(text, ": {LINE_FORM}")?;
+    } else if code == AsmCode::BadWord && is_bare_name(line) {
+        write!(text, ": {LOOSE_NAME}")?;
     }
     text.push('\n')?;
     if let AsmCode::BadLabel = code {
@@ -236,23 +258,46 @@ fn told_text(alloc: Global, source: &str) -> Result<String, AllocError> {
     Ok(text)
 }
 
-/// What more is told of a job that failed, of the last text that it read: what the line of its fault holds, and of `policy`
-/// where the fault is. It is empty where that text has no fault.
+/// Whether a job reads tables, with the maps that their rules may name.
+fn table_sizes(job: &Job) -> Option<&MapSizes> {
+    match job {
+        Job::Policy(words) => Some(&words.sizes),
+        Job::Decide(words) => Some(&words.sizes),
+        Job::Compare(words) => Some(&words.sizes),
+        Job::Map(words) => Some(&words.sizes),
+        Job::Rehearse(words) => Some(&words.sizes),
+        _ => None,
+    }
+}
+
+/// Whether a text is a table that has a rule.
+fn is_table(alloc: Global, text: &str) -> bool {
+    match Table::read(alloc, text) {
+        Ok(table) => !table.rules().is_empty(),
+        Err(_) => false,
+    }
+}
+
+/// What more is told of a job that failed, of the last text that it read, if it is one of a program or a table: what the line of
+/// its fault holds, of `policy` where the fault is, and that it is a table where the text of a program is wanted, or the other
+/// way. It is empty where that text has no fault.
 ///
 /// # Errors
 ///
 /// Where memory was refused.
 pub fn told_fault(alloc: Global, job: &Job, text: &str) -> Result<String, AllocError> {
+    let Some(sizes) = table_sizes(job) else {
+        return match job {
+            Job::Assemble(_) if is_table(alloc, text) => String::from_str(alloc, IS_TABLE),
+            Job::Assemble(_) => told_text(alloc, text),
+            _ => Ok(String::new(alloc)),
+        };
+    };
+    if assemble(alloc, text).is_ok() {
+        return String::from_str(alloc, IS_PROGRAM);
+    }
     match job {
-        Job::Assemble(_) => told_text(alloc, text),
-        Job::Policy(words) => told_placed(alloc, text, &words.sizes),
-        Job::Decide(words) => told_table(alloc, text, &words.sizes),
-        Job::Compare(words) => told_table(alloc, text, &words.sizes),
-        Job::Map(words) => told_table(alloc, text, &words.sizes),
-        // An image that happens to be UTF-8 is no table.
-        Job::Rehearse(words) if !text.starts_with("BPFA") => {
-            told_table(alloc, text, &words.sizes)
-        }
-        _ => Ok(String::new(alloc)),
+        Job::Policy(_) => told_placed(alloc, text, sizes),
+        _ => told_table(alloc, text, sizes),
     }
 }

@@ -13,6 +13,8 @@ use job_nodes::judge::judge_file;
 use job_nodes::sim::sim_file;
 use job_packets::made_packets::packet_file;
 use job_packets::packet::PacketWords;
+use job_parts::faults::Fault;
+use job_parts::inputs::Inputs;
 use job_parts::lines::LinesArgs;
 use job_parts::status::Status;
 use job_parts::stops::{Halt, WriteFault};
@@ -73,7 +75,42 @@ pub enum Job {
     Rehearse(RehearseWords),
 }
 
-/// Does a job, up to its end or the fault that ends it, which is still to be printed.
+impl Job {
+    /// What the job reads and writes.
+    pub fn inputs(&self) -> Inputs<'_> {
+        match self {
+            Job::Judge(args) | Job::Serve(args) | Job::Simulate(args) | Job::Trace(args) => {
+                args.inputs()
+            }
+            Job::Assemble(words) => words.inputs(),
+            Job::Disassemble(words) => words.inputs(),
+            Job::Verify(args) => args.inputs(),
+            Job::Why(args) => args.told_inputs(),
+            Job::Policy(words) => words.inputs(),
+            Job::Weigh(words) => words.inputs(),
+            Job::Packet(words) => words.inputs(),
+            Job::Show(words) => words.inputs(),
+            Job::Decide(words) => words.inputs(),
+            Job::Compare(words) => words.inputs(),
+            Job::Map(words) => words.inputs(),
+            Job::Rehearse(words) => words.inputs(),
+            Job::Explain(_) => Inputs::none(),
+        }
+    }
+}
+
+/// How a job ended.
+#[derive(Debug, Drop)]
+pub struct JobEnd<'a> {
+    /// Its exit status.
+    pub status: Status,
+    /// The fault that ended it, of which the line was printed.
+    pub fault: Option<Fault<'a>>,
+    /// Of `judge` the first line whose command found the journal of the bank full.
+    pub full: Option<usize>,
+}
+
+/// Does a job, up to its end or the fault that ends it, which is still to be printed. `full` is as in [`JobEnd`].
 fn attempt<'a, J: Family + Send + Sync + 'static, R: Threads + Wait + Sync, F: Files, W: Write>(
     rt: &R,
     alloc: Global,
@@ -81,6 +118,7 @@ fn attempt<'a, J: Family + Send + Sync + 'static, R: Threads + Wait + Sync, F: F
     job: &'a Job,
     files: &mut F,
     out: &mut W,
+    full: &mut Option<usize>,
 ) -> Result<Status, Halt<'a>>
     requires { opened ≡ J.book }
     ensures done { IfOk result (IsDone F.reads F.writes job.now files.old files.new
@@ -89,7 +127,7 @@ fn attempt<'a, J: Family + Send + Sync + 'static, R: Threads + Wait + Sync, F: F
         (W.contents out.old) (W.contents out.new))) }
 {
     match job {
-        Job::Judge(args) => judge_file(alloc, args, files, out),
+        Job::Judge(args) => judge_file(alloc, args, files, out, full),
         Job::Serve(args) => serve_file::<J, _, _, _>(rt, alloc, opened, args, files, out),
         Job::Simulate(args) => sim_file(alloc, args, files, out),
         Job::Trace(args) => trace_file(alloc, args, files, out),
@@ -112,33 +150,62 @@ fn attempt<'a, J: Family + Send + Sync + 'static, R: Threads + Wait + Sync, F: F
 }
 
 /// Does a job, where a node that it makes has that history of programs.
-fn perform_opened<J: Family + Send + Sync + 'static, R: Threads + Wait + Sync, F: Files, W: Write>(
+fn perform_opened<
+    'a,
+    J: Family + Send + Sync + 'static,
+    R: Threads + Wait + Sync,
+    F: Files,
+    W: Write,
+>(
     rt: &R,
     alloc: Global,
     opened: Opened,
-    job: &Job,
+    job: &'a Job,
     files: &mut F,
     out: &mut W,
-) -> Result<Status, WriteFault>
+) -> Result<JobEnd<'a>, WriteFault>
     requires { opened ≡ J.book }
-    ensures { IfOk result (Performs F.reads F.writes job.now files.old files.new
-        (W.contents out.old) (W.contents out.new)) }
+    ensures { IfOk result (λ end. Performs F.reads F.writes job.now files.old files.new
+        (W.contents out.old) (W.contents out.new) end.status) }
 {
-    match attempt::<J, _, _, _>(rt, alloc, opened, job, files, out) {
-        Ok(status) => Ok(status),
+    let mut full = None;
+    match attempt::<J, _, _, _>(rt, alloc, opened, job, files, out, &mut full) {
+        Ok(status) => Ok(JobEnd {
+            status,
+            fault: None,
+            full,
+        }),
         Err(Halt::Ended(fault)) => {
             writeln!(out, "{fault}")?;
-            Ok(Status::Failed)
+            Ok(JobEnd {
+                status: Status::Failed,
+                fault: Some(fault),
+                full,
+            })
         }
         Err(Halt::Unwritten(fault)) => Err(fault),
     }
 }
 
-/// Does a job over any files and any writer, and gives the exit status: `Failed` where an image was refused, two tables differ,
+/// Does a job over any files and any writer, and gives how it ended, with the exit status: `Failed` where an image was refused, two tables differ,
 /// a load or its way back is closed or a fault was printed, `Misused` where there are no packets such as `packet` was to make, else `Done`. What the writer holds back is
 /// not flushed. It may wait: `serve` has a node, whose end does, and starts threads and waits for them.
 ///
 /// `WriteFault` where the writer failed; nothing is written after that.
+pub fn perform_told<'a, R: Threads + Wait + Sync, F: Files, W: Write>(
+    rt: &R,
+    alloc: Global,
+    job: &'a Job,
+    files: &mut F,
+    out: &mut W,
+) -> Result<JobEnd<'a>, WriteFault>
+    ensures { IfOk result (λ end. Performs F.reads F.writes job.now files.old files.new
+        (W.contents out.old) (W.contents out.new) end.status) }
+{
+    perform_opened::<Brand, _, _, _>(rt, alloc, Opened::new(), job, files, out)
+}
+
+/// The same, with the exit status alone.
 pub fn perform<R: Threads + Wait + Sync, F: Files, W: Write>(
     rt: &R,
     alloc: Global,
@@ -149,5 +216,6 @@ pub fn perform<R: Threads + Wait + Sync, F: Files, W: Write>(
     ensures { IfOk result (Performs F.reads F.writes job.now files.old files.new
         (W.contents out.old) (W.contents out.new)) }
 {
-    perform_opened::<Brand, _, _, _>(rt, alloc, Opened::new(), job, files, out)
+    let end = perform_told(rt, alloc, job, files, out)?;
+    Ok(end.status)
 }

@@ -1,15 +1,21 @@
 //! What `rmapctl` does: its command line, its jobs over any files and any writer, and its talks over any lines or frames that come.
 #![tactic(auto)]
 
+mod asked;
+mod dumps;
+mod ends;
 mod hints;
 mod jobs;
 mod shows;
 mod slips;
 mod told_files;
+mod told_talk;
 mod usage;
 mod work;
 
-pub use hints::told_fault;
+pub use asked::{Asked, WITHOUT_WORDS, asked_of, told_wait};
+pub use dumps::DumpTalk;
+pub use ends::{told_end, told_node};
 pub use job_charts::compare::CompareWords;
 pub use job_charts::map::MapWords;
 pub use job_codes::explain::ExplainWords;
@@ -24,8 +30,7 @@ pub use job_live::words::LiveWords;
 pub use job_packets::orders::{Order, Source};
 pub use job_packets::packet::PacketWords;
 pub use job_packets::packet_options::HeaderWords;
-pub use job_parts::host::HostFiles;
-pub use job_parts::lines::LinesArgs;
+pub use job_parts::faults::Fault;
 pub use job_parts::options::NodeWords;
 pub use job_parts::status::Status;
 pub use job_parts::stops::WriteFault;
@@ -37,11 +42,11 @@ pub use job_show::show::ShowWords;
 pub use job_texts::asm::AsmWords;
 pub use job_texts::dis::DisWords;
 pub use job_texts::images::ImageArgs;
-pub use job_texts::policies::PolicyWords;
 pub use job_weigh::weigh::WeighWords;
-pub use jobs::{Job, perform};
+pub use jobs::{Job, JobEnd, perform, perform_told};
 pub use shows::show_talk;
-pub use slips::{help, told_misuse, told_option, told_output};
-pub use told_files::{Cause, ToldFiles};
+pub use slips::{OWN_SOURCE, told_option};
+pub use told_files::{ToldFiles, own_source};
+pub use told_talk::ToldTalk;
 pub use usage::words;
-pub use work::Work;
+pub use work::{Course, Work};

@@ -4,12 +4,14 @@ use crate::jobs::Job;
 use crate::usage::command_line;
 use clap::ArgMatches;
 use clap::error::ErrorKind;
+use job_codes::explain::codes_of;
 use job_packets::orders::Order;
 use job_packets::packet::packet_words;
 use job_packets::slips::{PacketFault, PacketWord, Slip};
 use job_parts::arguments::{is_set, text_of};
 use job_parts::options::{ports_of, sizes_of};
 use job_parts::usage::UsageFault;
+use job_rehearse::loaders::{is_any_beside, loader_of};
 use job_rehearse::rehearse::slots_of;
 use job_weigh::times::times_of;
 use std::alloc::{AllocError, Global};
@@ -24,12 +26,18 @@ const PORTS: &str = "a decimal number from 1 to 32";
 /// What `--ports` may be beside `--frames`.
 const ONE_PORT: &str = "1 where frames come";
 
+/// What may not be there beside `--any`.
+const ANY_ALONE: &str = "    --any is there: without --port, --initiator, --key and --slot\n";
+
 /// What NEW may be where OLD is standard input.
 const ONE_INPUT: &str = "the name of a file where OLD is - too";
 
 /// What `--ns` may be.
 const TIMES: &str =
-    "four decimal numbers of nanoseconds with commas between them, as 15,14,6,2: of a division, a call, a jump and the rest";
+    "four decimal numbers of nanoseconds with commas between them, as 13.5,14,6,2: of a division, a call, a jump and the rest";
+
+/// What is told of an OUT that is the file that is read.
+pub const OWN_SOURCE: &str = "    this is the file that is read\n";
 
 /// What CODE may be.
 const CODE: &str = "one of the codes that explain lists without CODE, as V5 or load12";
@@ -61,15 +69,31 @@ fn slip_line(alloc: Global, found: &ArgMatches, slip: Slip) -> Result<String, Al
     line_of(alloc, name, text_of(found, word.id()), wanted)
 }
 
-/// The line of words of which each is one that it may be, but not beside the other: `--frames` and `--ports`, or OLD and NEW.
+/// The line of words of which each is one that it may be, but not beside the other: `--frames` and `--ports`, `--any` and options
+/// of loads that are done, or OLD and NEW.
 fn pair_line(alloc: Global, found: &ArgMatches) -> Result<String, AllocError> {
     if is_set(found, "frames") {
         return line_of(alloc, "--ports", text_of(found, "ports"), ONE_PORT);
+    }
+    if is_any_beside(found) {
+        return String::from_str(alloc, ANY_ALONE);
     }
     match text_of(found, "new") {
         Some(new) => line_of(alloc, "NEW", Some(new), ONE_INPUT),
         None => Ok(String::new(alloc)),
     }
+}
+
+/// The line of a code that is none: where it is a number, with the codes that have it.
+fn code_line(alloc: Global, code: &str) -> Result<String, AllocError> {
+    let codes = match code.parse::<u8>() {
+        Ok(number) if !code.starts_with('+') => codes_of(alloc, number)?,
+        _ => String::new(alloc),
+    };
+    if codes.is_empty() {
+        return line_of(alloc, "CODE", Some(code), CODE);
+    }
+    format!(in alloc; "    CODE is {code}: the number of {codes}\n")
 }
 
 /// The line of an option that words of any other job have.
@@ -84,11 +108,14 @@ fn option_line(alloc: Global, found: &ArgMatches) -> Result<String, AllocError> 
         let wanted = Slip::Bad(PacketWord::Slot).wanted();
         return line_of(alloc, "--slot", text_of(found, "slot"), wanted);
     }
+    if let Err(PacketFault::Words(slip)) = loader_of(found) {
+        return slip_line(alloc, found, slip);
+    }
     if let Err(UsageFault::BadOption) = times_of(alloc, found) {
         return line_of(alloc, "--ns", text_of(found, "ns"), TIMES);
     }
     match text_of(found, "code") {
-        Some(code) => line_of(alloc, "CODE", Some(code), CODE),
+        Some(code) => code_line(alloc, code),
         None => pair_line(alloc, found),
     }
 }
@@ -116,7 +143,7 @@ pub fn told_option(alloc: Global, words: &[&str]) -> Result<String, AllocError> 
 
 /// The text of `--help` for these words: of all commands, or of the one that they name. What `clap` refuses of them is
 /// `Parse`.
-pub fn help(alloc: Global, words: &[&str]) -> Result<String, UsageFault> {
+pub(crate) fn help(alloc: Global, words: &[&str]) -> Result<String, UsageFault> {
     let mut asking = Vec::from_slice(alloc, words)?;
     asking.push("--help")?;
     match command_line(alloc)?.try_get_matches_from(asking.as_slice()) {
@@ -135,7 +162,7 @@ pub fn help(alloc: Global, words: &[&str]) -> Result<String, UsageFault> {
 }
 
 /// The line behind `bad option` of a job that was begun: what of a packet is too long.
-pub fn told_misuse(job: &Job) -> &'static str {
+pub(crate) fn told_misuse(job: &Job) -> &'static str {
     match job {
         Job::Packet(words) => match &words.order {
             Order::Load { .. } => "    IMAGE is too long: the staging has 16,384 bytes\n",
@@ -148,15 +175,10 @@ pub fn told_misuse(job: &Job) -> &'static str {
 }
 
 /// The line behind `cannot write NAME` of a job that reads nothing, since its OUT is the file that it would read.
-pub fn told_output(job: &Job) -> &'static str {
-    let (read, written) = match job {
-        Job::Assemble(words) => (words.text.as_str(), words.image.as_str()),
-        Job::Policy(words) => (words.table.as_str(), words.image.as_str()),
-        _ => return "",
-    };
-    if read == written {
-        "    this is the file that is read\n"
-    } else {
-        ""
+pub(crate) fn told_output(job: &Job) -> &'static str {
+    let inputs = job.inputs();
+    match (inputs.first, inputs.output) {
+        (Some(input), Some(output)) if input.name == output => OWN_SOURCE,
+        _ => "",
     }
 }

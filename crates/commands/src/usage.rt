@@ -124,7 +124,7 @@ fn told(alloc: Global, refusal: &Error) -> UsageFault
 }
 
 /// What the subcommand that was found names.
-#[tactic(auto, using(crate::proofs::Matching::lacks_packet))]
+#[tactic(auto, using(crate::proofs::Matching::lacks_packet, crate::proofs::Matching::lacks_rehearse))]
 fn work_of(alloc: Global, found: &ArgMatches) -> Result<Work, UsageFault>
     ensures ok { IfOk result (Names (subcommand_rows_of found.now)) }
     ensures err { IfErr result (LacksWork (subcommand_rows_of found.now)) }

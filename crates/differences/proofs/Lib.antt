@@ -1,3 +1,4 @@
 pub mod Stepping
 pub mod Ending
 pub mod Gaining
+pub mod Advancing

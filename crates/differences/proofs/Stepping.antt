@@ -1,6 +1,7 @@
 -- The rules that are asked at a point, one after another.
-use Rattle.std.proofs.Common.{◌≡◌, ◌<◌, ◌+◌, ℕ, suc, Bool, true, false, List, [], ◌∷◌, ◌++◌, length, get_or, drop, drop-cons, add-one, Option, Some, None, refl, ap, sym, ◌∙◌}
+use Rattle.std.proofs.Common.{◌≡◌, ◌<◌, ◌+◌, ◌^◌, ℕ, suc, Bool, true, false, List, [], ◌∷◌, ◌++◌, length, get_or, take, drop, drop-cons, add-one, Option, Some, None, refl, ap, sym, ◌∙◌, arith}
 use Rattle.std.specs.Prelude.{All, if◌then◌else◌, map}
+use Rattle.std.proofs.lemmas.List.{take_more}
 use Rattle.std.proofs.lemmas.List.Elements.{All-cons, All-head, All-nil, All-tail}
 use Rattle.rmap.specs.Verdict.{verdict_number}
 use Rattle.machine.specs.declared.calls.Call.{Call}
@@ -8,7 +9,7 @@ use Rattle.policy_table.specs.Meaning.{ruled}
 use Rattle.policy_table.specs.declared.rules.Quota.{Quota}
 use Rattle.policy_table.specs.declared.rules.Rule.{Rule}
 use Rattle.regions.specs.declared.points.Point.{Point}
-use Rattle.charts.specs.Alike.{HasLimit, said}
+use Rattle.charts.specs.Alike.{AreLimited, HasLimit, said}
 use Rattle.charts.specs.Lines.{course_from, goes_on}
 use Rattle.charts.specs.Points.{decision_at, holds_at}
 use Rattle.differences.specs.Gains.{HasStepLimit}
@@ -51,9 +52,29 @@ pub steps_decide : StepsDecide
 steps_decide rules p told = said_from 1 rules p told
 
 -- the limits of the rules of steps
-pub rule_limits : (steps : List Step) → All HasStepLimit steps → All HasLimit (rules_of steps)
-rule_limits steps limits = All-map steps limits
-  where
-    All-map : (ss : List Step) → All HasStepLimit ss → All HasLimit (rules_of ss)
-    All-map [] h = All-nil HasLimit
-    All-map (s ∷ ss) h = All-cons HasLimit s.rule (rules_of ss) (All-head HasStepLimit s ss h) (All-map ss (All-tail HasStepLimit s ss h))
+rule_limits : (steps : List Step) → All HasStepLimit steps → All HasLimit (rules_of steps)
+rule_limits [] h = All-nil HasLimit
+rule_limits (s ∷ ss) h = All-cons HasLimit s.rule (rules_of ss) (All-head HasStepLimit s ss h) (rule_limits ss (All-tail HasStepLimit s ss h))
+
+-- there are as many of them
+pub count_rules : (steps : List Step) → length (rules_of steps) ≡ length steps
+count_rules [] = refl
+count_rules (s ∷ ss) = ap suc (count_rules ss)
+
+pub limited_rules : (steps : List Step) → All HasStepLimit steps → length steps < 2 ^ 62 → AreLimited (rules_of steps)
+limited_rules steps limits few = record { limits = rule_limits steps limits; few = omega (arith, few, count_rules steps) }
+
+-- ---- one step more
+
+-- the rules behind so many steps begin with that of the next
+pub rules_here : (steps : List Step) (n : ℕ) (d : Step) → n < length steps → rules_of (drop n steps) ≡ (get_or steps n d).rule ∷ rules_of (drop (n + 1) steps)
+rules_here steps n d lt =
+    ap rules_of (drop-cons steps n d lt) ∙ ap (λ (k : ℕ). (get_or steps n d).rule ∷ rules_of (drop k steps)) (sym (add-one n))
+
+pub rules_append : (steps others : List Step) → rules_of (steps ++ others) ≡ rules_of steps ++ rules_of others
+rules_append [] others = refl
+rules_append (s ∷ ss) others = ap (λ (rs : List Rule). s.rule ∷ rs) (rules_append ss others)
+
+-- those of so many and one end with it
+pub rules_more : (steps : List Step) (n : ℕ) (d : Step) → n < length steps → rules_of (take (n + 1) steps) ≡ rules_of (take n steps) ++ (get_or steps n d).rule ∷ []
+rules_more steps n d lt = ap rules_of (take_more steps n d lt) ∙ rules_append (take n steps) (get_or steps n d ∷ [])

@@ -2,6 +2,8 @@
 use Rattle.std.specs.Prelude.{◌≡◌, ◌≤◌, ◌⊎◌, ℕ, ◌-◌, List, [], ◌∷◌, length, take, true}
 use Rattle.frames.specs.Reading.{Reading, in_head, is_between}
 use Rattle.frames.specs.Streams.{held_behind}
+use Rattle.frames.specs.declared.flags.Flag.{Flag}
+use Rattle.frames.specs.declared.flags.Flag.TheVariants.{Last, Part, SendTime, GotTime, Other}
 
 -- bytes of a body, no more than are left of it
 abbrev pub in_run : Reading → List ℕ → Reading
@@ -15,9 +17,18 @@ IsRun s (byte ∷ bytes) next =
     ((s.left ≡ 0) × (bytes ≡ []) × (next ≡ in_head s byte))
     ⊎ ((length (byte ∷ bytes) ≤ s.left) × (next ≡ in_run s (byte ∷ bytes)))
 
+-- a packet ends with such a frame
+abbrev pub EndsPacket : Flag → Type 0
+EndsPacket (Last end) = Unit {0}
+EndsPacket Part = ⊥
+EndsPacket SendTime = ⊥
+EndsPacket GotTime = ⊥
+EndsPacket (Other code) = ⊥
+
 -- bytes were taken up to one that ends a frame, and there was no memory for the packet that ended: what was held is held still
 pub record EndsUnpacked (s : Reading) (bytes : List ℕ) (next : Reading) : Type 0 where
   pub count : ℕ
   pub few : count ≤ length bytes
   pub run : IsRun s (take count bytes) next
   pub ended : is_between next ≡ true
+  pub packet : EndsPacket next.flag

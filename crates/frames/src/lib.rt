@@ -16,4 +16,4 @@ pub use crate::flags::Flag;
 pub use crate::heads::{HEAD_LENGTH, Head};
 pub use crate::laws::frames_are_read;
 pub use crate::reader::FrameReader;
-pub use crate::replies::reply_frame;
+pub use crate::replies::reply_head;

@@ -2,7 +2,7 @@
 
 ghost use Rattle.std.specs.Prelude.{◌≡◌, ◌≢◌, ◌<◌, ◌≤◌, [], length, min, take, IfErr, IfOk, OnErr, OnOk};
 ghost use Rattle.frames.specs.Streams.{after, behind_path, came_in, keep_all, onto};
-ghost use Rattle.frames.specs.Runs.{EndsUnpacked, IsRun, in_run};
+ghost use Rattle.frames.specs.Runs.{EndsPacket, EndsUnpacked, IsRun, in_run};
 ghost use Rattle.spw.specs.declared.faults.LineFault.TheVariants.{Memory};
 ghost use Rattle.frames.specs.Reading.{behind_end, came_of, first_reading, in_head, is_between, is_cargo};
 
@@ -152,6 +152,7 @@ impl FrameReader {
         ensures behind { OnOk result (self.new ≡ behind_end self.old) }
         ensures err { IfErr result (λ fault. fault ≡ Memory) }
         ensures kept { OnErr result (self.new ≡ self.old) }
+        ensures packet { OnErr result (EndsPacket self.old.flag) }
     {
         match self.flag {
             Flag::Last(end) => Ok(Came::Whole(self.held.close(end)?)),

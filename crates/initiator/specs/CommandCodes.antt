@@ -12,3 +12,7 @@ read_code increment = 2 + bit_of increment
 -- the command code of a write: 1xxx, with verify, reply and increment
 abbrev pub write_code : (verify reply increment : Bool) → ℕ
 write_code verify reply increment = 8 + 4 * bit_of verify + 2 * bit_of reply + bit_of increment
+
+-- the command code of a read-modify-write: 0111
+abbrev pub rmw_code : ℕ
+rmw_code = 7

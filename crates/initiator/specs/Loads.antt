@@ -1,17 +1,19 @@
 -- The commands of a load: the image to the staging of the boot window, the control write, and the read of the load result.
-use Rattle.std.specs.Prelude.{◌^◌, ◌+◌, ◌*◌, ◌/◌, ◌%◌, ℕ, List, ◌∷◌, length, take, drop}
-use Rattle.byteorder.specs.Endian.{big_bytes}
+use Rattle.std.specs.Prelude.{◌^◌, ◌+◌, ◌*◌, ◌/◌, ◌%◌, ℕ, List, length, take, drop, true, false}
 use Rattle.rmap.specs.declared.boot.TheConstants.{BOOT_WINDOW, CONTROL_SIZE, LOAD_REGISTER, LOAD_RESULT_SIZE}
 use Rattle.rmap.specs.declared.checks.TheConstants.{MAX_DATA}
+use Rattle.rmap.specs.declared.boot_records.ControlData.{ControlData}
+use Rattle.rmap.specs.BootRecords.{control_bytes as bytes_of_control}
 use Rattle.initiator.specs.declared.requests.Request.{Request}
+use Rattle.initiator.specs.CommandCodes.{read_code, write_code}
 
 -- the command code of a write with reply and increment
 abbrev pub load_code : ℕ
-load_code = 11
+load_code = write_code false true true
 
 -- the command code of a read with increment
 abbrev pub result_code : ℕ
-result_code = 3
+result_code = read_code true
 
 -- a transaction identifier so many further on; behind FFFF comes 0000
 abbrev pub further : (transaction count : ℕ) → ℕ
@@ -45,9 +47,13 @@ control_request transaction image = record {
   count = CONTROL_SIZE;
 }
 
--- its data: the slot, and how many bytes are loaded
+-- what asks to load the image into that slot
+abbrev pub asked_for : (slot : ℕ) → (image : List ℕ) → ControlData
+asked_for slot image = record { slot = slot; zero = 0; length = length image }
+
+-- the data of the control write
 abbrev pub control_bytes : (slot : ℕ) → (image : List ℕ) → List ℕ
-control_bytes slot image = slot ∷ big_bytes 3 (length image)
+control_bytes slot image = bytes_of_control (asked_for slot image)
 
 -- the read of the load result
 abbrev pub result_request : (transaction : ℕ) → (image : List ℕ) → Request

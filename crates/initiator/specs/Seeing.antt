@@ -25,7 +25,7 @@ abbrev pub has_reply_type : List ℕ → Bool
 has_reply_type bytes =
     not (nat_lt (length bytes) 3) && (slice_index bytes 1 == 1 && packet_type (slice_index bytes 2) == 0)
 
--- what bytes are that are no command: a reply behind its path, or why they are none; or where they have not the type of one why a
+-- what bytes are that are no command, however their packet ended: a reply behind its path, or why they are none; or where they have not the type of one why a
 -- target discards them, and what is wrong
 abbrev pub IsOther : List ℕ → Seen → Type 0
 IsOther bytes (Command command fault) = ⊥

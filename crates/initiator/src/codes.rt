@@ -1,10 +1,15 @@
 //! The command codes of commands that are made (ECSS-E-ST-50-52C, instruction field).
 
 ghost use Rattle.std.specs.Prelude.{◌≡◌, ◌<◌};
-ghost use Rattle.initiator.specs.CommandCodes.{bit_of, read_code, write_code};
+ghost use Rattle.initiator.specs.CommandCodes.{bit_of, read_code, rmw_code, write_code};
 
 /// The command code of a read-modify-write.
 pub const RMW_CODE: u8 = 0b0111;
+
+/// A law and no work: [`RMW_CODE`] is 0111.
+pub fn rmw_code_is_its_own()
+    ensures { RMW_CODE ≡ rmw_code }
+{}
 
 /// A bit of an instruction.
 fn bit_of(set: bool) -> u8

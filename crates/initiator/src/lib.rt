@@ -14,15 +14,14 @@ mod requests;
 mod seen;
 mod write;
 
-pub use codes::{RMW_CODE, read_code, write_code};
+pub use codes::{RMW_CODE, read_code, rmw_code_is_its_own, write_code};
 pub use laws::{
     load_packets_are_taken, made_commands_are_read, reply_is_unique, written_replies_are_read,
 };
-pub use loads::{
-    LAST_SLOT, PART_SIZE, control_body, control_request, part_of, result_request, stage_request,
-};
+pub use loads::{PART_SIZE, control_body, control_request, part_of, result_request, stage_request};
 pub use no_reply::NoReply;
 pub use reply_view::Reply;
 pub use requests::Request;
+pub use rmap::LAST_SLOT;
 pub use seen::Seen;
 pub use write::{CommandFields, DATA_OVERHEAD, body_with_crc, write_command};

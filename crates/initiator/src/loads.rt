@@ -5,20 +5,13 @@ ghost use Rattle.std.specs.Prelude.{◌≡◌, ◌≤◌, ◌<◌, ◌*◌, ◌^
 ghost use Rattle.rmap.specs.Reply.{with_crc};
 ghost use Rattle.initiator.specs.Loads.{control_bytes, control_request, part_count, part_of, result_request, stage_request};
 
+use crate::codes::{read_code, write_code};
 use crate::requests::Request;
 use crate::write::body_with_crc;
-use byteorder::{BigEndian, ByteOrder};
-use rmap::{BOOT_WINDOW, CONTROL_SIZE, LOAD_REGISTER, LOAD_RESULT_SIZE, MAX_DATA, STAGING_SIZE};
+use rmap::{
+    BOOT_WINDOW, CONTROL_SIZE, ControlData, LOAD_REGISTER, LOAD_RESULT_SIZE, MAX_DATA, STAGING_SIZE,
+};
 use std::alloc::{AllocError, Global};
-
-/// The command code of a write with reply and increment.
-const LOAD_CODE: u8 = 0b1011;
-
-/// The command code of a read with increment.
-const RESULT_CODE: u8 = 0b0011;
-
-/// The greatest slot of a program.
-pub const LAST_SLOT: u8 = 3;
 
 /// The most bytes of a part of an image: as many as one command may have.
 pub const PART_SIZE: usize = MAX_DATA as usize;
@@ -63,7 +56,7 @@ pub fn stage_request(transaction: u16, part: &[u8], number: u16) -> Request
     ensures count { result.count < 2 ^ 24 }
 {
     Request {
-        code: LOAD_CODE,
+        code: write_code(false, true, true),
         transaction: transaction.wrapping_add(number),
         extended: BOOT_WINDOW,
         address: MAX_DATA * u32::from(number),
@@ -79,7 +72,7 @@ pub fn control_request(transaction: u16, image: &[u8]) -> Request
     ensures count { result.count < 2 ^ 24 }
 {
     Request {
-        code: LOAD_CODE,
+        code: write_code(false, true, true),
         transaction: transaction.wrapping_add(part_count(image)),
         extended: BOOT_WINDOW,
         address: LOAD_REGISTER,
@@ -95,7 +88,7 @@ pub fn result_request(transaction: u16, image: &[u8]) -> Request
     ensures count { result.count < 2 ^ 24 }
 {
     Request {
-        code: RESULT_CODE,
+        code: read_code(true),
         transaction: transaction.wrapping_add(part_count(image) + 1),
         extended: BOOT_WINDOW,
         address: LOAD_REGISTER,
@@ -103,16 +96,15 @@ pub fn result_request(transaction: u16, image: &[u8]) -> Request
     }
 }
 
-/// The data of the control write, with their CRC: the slot, and how many bytes are loaded, the most significant byte
-/// first.
+/// The data of the control write, with their CRC: the slot, and how many bytes are loaded.
 pub fn control_body(alloc: Global, slot: u8, image: &[u8]) -> Result<Vec<u8>, AllocError>
     requires { length image.now ≤ STAGING_SIZE }
     ensures { IfOk result (λ body. body.items ≡ with_crc (control_bytes slot image.now)) }
 {
-    let mut count = [0; 3];
-    BigEndian::write_u24(&mut count, image.len() as u32);
-    let mut bytes = Vec::new(alloc);
-    bytes.push(slot)?;
-    bytes.extend_from_slice(&count)?;
-    body_with_crc(alloc, bytes.as_slice())
+    let control = ControlData {
+        slot,
+        zero: 0,
+        length: image.len() as u16,
+    };
+    body_with_crc(alloc, &control.bytes())
 }

@@ -23,7 +23,7 @@ pub enum Seen<'a> {
         /// The first check of what follows its header that holds, however the packet ended.
         fault: Option<BodyFault>,
     },
-    /// A reply.
+    /// A reply, however the packet ended.
     Reply {
         /// The path of the reply: the bytes below 32 in front.
         path: &'a [u8],

@@ -1,15 +1,20 @@
 -- One place more that is told.
-use Rattle.std.proofs.Common.{◌≡◌, inl, ◌+◌, ◌++◌, ℕ, suc, List, ap, subst, ◌∙◌, arith}
+use Rattle.std.proofs.Common.{◌≡◌, inl, ◌<◌, ◌+◌, ◌++◌, ◌∷◌, [], ℕ, suc, List, false, true, ap, length, subst, take, ◌∙◌, arith}
 use Rattle.std.specs.Prelude.{get_or}
-use Rattle.charts.specs.Deciders.{NeverMatches}
+use Rattle.charts.specs.Lines.{IsComparison, IsMap, has_point}
+use Rattle.charts.specs.Plain.{LinesArePlain}
 use Rattle.charts.specs.declared.lines.Line.{Line}
 use Rattle.policy_table.specs.declared.rules.Rule.{Rule}
 use Rattle.regions.specs.declared.points.Point.{Point}
 use Rattle.job_charts.specs.Compared.{IsDifferenceAt, TellsLine, with_difference}
-use Rattle.job_charts.specs.Mapped.{TellsNever, note_text}
-use Rattle.job_charts.specs.Telling.{AddsMore, TellsFirst}
+use Rattle.job_charts.specs.Mapped.{AddsStop, AreStops, TellsLine as MapLine, with_line}
+use Rattle.job_charts.specs.Telling.{TellsFirst}
 use Rattle.job_charts.specs.Witnesses.{IsWitness}
 use Rattle.job_charts.specs.declared.compared.Difference.{Difference}
+
+-- a point of the line of a place, by the line itself
+own_point : (lines : List Line) (place : ℕ) (line : Line) (p : Point) → ((other : Line) → get_or lines place other ≡ line) → IsWitness lines place p → has_point (take place lines) line p ≡ true
+own_point lines place line p own witness = subst (λ (l : Line). has_point (take place lines) l p ≡ true) (own line) (witness.lies line)
 
 -- a place that was told behind those before
 pub tells_more : (tells : ℕ → List ℕ → List ℕ → Type 0) (place : ℕ) (first before after : List ℕ) → TellsFirst tells place first before
@@ -18,18 +23,37 @@ tells_more tells place first before after told more =
     let next : suc place ≡ place + 1 = omega arith in
     subst (λ count. TellsFirst tells count first after) next (before, told, more)
 
--- the beginning of a note, and what was told behind it
-pub never_told : (rules : List Rule) (place : ℕ) (before begun after : List ℕ) → NeverMatches rules place
-    → begun ≡ before ++ note_text (place + 1) → AddsMore begun after → TellsNever rules place before after
-never_told rules place before begun after never is more = record {
-  never = never;
-  reason = more.0;
-  text = more.1 ∙ ap (λ (text : List ℕ). text ++ more.0) is;
-}
+-- the line of a place of a map, with a point of it
+pub map_told : LinesArePlain → (rules : List Rule) (lines : List Line) → IsMap rules lines → (place : ℕ) (line : Line) (p : Point) (before after : List ℕ)
+    → place < length lines → ((other : Line) → get_or lines place other ≡ line) → IsWitness lines place p → after ≡ with_line before rules line p → MapLine rules lines place before after
+map_told law rules lines is place line p before after there own witness text =
+    inl (record {
+      line = line;
+      own = own;
+      point = p;
+      witness = witness;
+      plain = law true rules [] lines is place line there own p witness.command (own_point lines place line p own witness);
+      text = text;
+    })
 
--- the line of a place, with a point of it
-pub point_told : (old new : List Rule) (lines : List Line) (place : ℕ) (line : Line) (p : Point) (d : Difference) (before after : List ℕ)
-    → ((other : Line) → get_or lines place other ≡ line) → IsWitness lines place p → IsDifferenceAt old new p d
+-- the line of a place of a comparison, with a point of it
+pub point_told : LinesArePlain → (old new : List Rule) (lines : List Line) → IsComparison old new lines → (place : ℕ) (line : Line) (p : Point) (d : Difference) (before after : List ℕ)
+    → place < length lines → ((other : Line) → get_or lines place other ≡ line) → IsWitness lines place p → IsDifferenceAt old new p d
     → after ≡ with_difference before line d p → TellsLine old new lines place before after
-point_told old new lines place line p d before after own witness is text =
-    inl (record { line = line; own = own; point = p; witness = witness; difference = d; is_difference = is; text = text })
+point_told law old new lines compared place line p d before after there own witness is text =
+    inl (record {
+      line = line;
+      own = own;
+      point = p;
+      witness = witness;
+      plain = law false old new lines compared place line there own p witness.command (own_point lines place line p own witness);
+      difference = d;
+      is_difference = is;
+      text = text;
+    })
+
+-- one more rule that may be before another
+pub stops_more : (rules : List Rule) (place stop : ℕ) (before numbers : List ℕ) → AreStops rules place stop before → AddsStop rules place stop before numbers → AreStops rules place (stop + 1) numbers
+stops_more rules place stop before numbers known more =
+    let next : suc stop ≡ stop + 1 = omega arith in
+    subst (λ count. AreStops rules place count numbers) next (before, known, more)

@@ -1,6 +1,7 @@
 -- What is printed of two tables that differ.
 use Rattle.std.specs.Prelude.{◌≡◌, ◌⊎◌, ◌==◌, ℕ, Bool, if◌then◌else◌, List, [], ◌∷◌, ◌++◌, codes, decimal, get_or, length}
 use Rattle.charts.specs.Lines.{IsComparison}
+use Rattle.charts.specs.Plain.{IsPlain}
 use Rattle.charts.specs.declared.lines.Line.{Line}
 use Rattle.policy_table.specs.declared.rules.Rule.{Rule}
 use Rattle.regions.specs.declared.points.Point.{Point}
@@ -55,12 +56,13 @@ pub record IsDifferenceAt (old new : List Rule) (p : Point) (d : Difference) : T
   pub new_course : d.new.items ≡ steps_at new p
   pub sign : IsSign d.sign (rules_of d.old.items) (rules_of d.new.items)
 
--- the line of a place was told, with the packet of one of its points, and what two tables ask there
+-- the line of a place was told, with the packet of one of its points, and what two tables ask there; it is plain
 pub record TellsPoint (old new : List Rule) (lines : List Line) (place : ℕ) (before after : List ℕ) : Type 0 where
   pub line : Line
   pub own : (d : Line) → get_or lines place d ≡ line
   pub point : Point
   pub witness : IsWitness lines place point
+  pub plain : IsPlain lines line point
   pub difference : Difference
   pub is_difference : IsDifferenceAt old new point difference
   pub text : after ≡ with_difference before line difference point

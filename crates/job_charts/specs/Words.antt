@@ -94,9 +94,11 @@ with_fields before region =
     before ++ kinds_word region.kinds ++ codes " " ++ set_text region.keys ++ codes " " ++ set_text region.initiators
     ++ codes " " ++ set_text region.extended ++ codes " "
 
--- the word for the addresses of a line: `else` for those in none of the other lines with the same words before
+-- the word for the addresses of a line: `else` for the rest of all addresses, which are those in none of the other lines with
+-- the same words before
 abbrev pub addresses_text : (rest : Bool) → Region → List ℕ
-addresses_text rest region = if rest then codes "else" else span_text region.first region.last
+addresses_text rest region =
+    if rest && (is_whole region.first && is_whole region.last) then codes "else" else span_text region.first region.last
 
 -- the words of a line, behind a text
 abbrev pub with_words : (before : List ℕ) → Line → List ℕ

@@ -17,6 +17,7 @@ use clap::{ArgMatches, Command};
 use job_decide::tables::{NoTable, table_in};
 use job_parts::arguments::{file, name_of};
 use job_parts::faults::Fault;
+use job_parts::inputs::{Content, InputFile, Inputs};
 use job_parts::options::{maps_option, sizes_of};
 use job_parts::printing::print_text;
 use job_parts::status::Status;
@@ -40,6 +41,14 @@ pub struct CompareWords {
     pub new: String,
     /// How many cells each map of the node has, and of which kind it is.
     pub sizes: MapSizes,
+}
+
+impl CompareWords {
+    /// What the job reads: the old table, and then the new one.
+    pub fn inputs(&self) -> Inputs<'_> {
+        let old = InputFile::new(self.old.as_str(), Content::Table);
+        Inputs::two(old, InputFile::new(self.new.as_str(), Content::Table))
+    }
 }
 
 /// `compare OLD NEW [--maps LIST]`.

@@ -12,7 +12,7 @@ use crate::packets::{add_packet, is_brought, packet_at};
 use crate::witnesses::{line_at, witness};
 use crate::words::add_words;
 use chart_lines::comparison_of;
-use charts::Line;
+use charts::{Line, charts_are_read};
 use differences::{Repeats, Sign, Step, course, repeats_of, sign_of};
 use policy_table::Rule;
 use regions::Point;
@@ -141,10 +141,12 @@ fn add_line(
     requires place { place < length comparison.lines.now }
     requires old_limits { All HasLimit comparison.old.now }
     requires new_limits { All HasLimit comparison.new.now }
+    requires comparison { IsComparison comparison.old.now comparison.new.now comparison.lines.now }
     ensures { OnOk result
         (TellsLine comparison.entry.old.now comparison.entry.new.now comparison.entry.lines.now place
         (string_bytes text.old) (string_bytes text.new)) }
 {
+    charts_are_read();
     let Some(point) = witness(comparison.lines, place) else {
         return Ok(());
     };
@@ -157,6 +159,7 @@ fn add_line(
 fn add_lines(text: &mut String, alloc: Global, comparison: Comparison<'_>) -> Result<(), AllocError>
     requires old_limits { All HasLimit comparison.old.now }
     requires new_limits { All HasLimit comparison.new.now }
+    requires comparison { IsComparison comparison.old.now comparison.new.now comparison.lines.now }
     ensures { OnOk result (TellsFirst
         (TellsLine comparison.entry.old.now comparison.entry.new.now comparison.entry.lines.now)
         (length comparison.entry.lines.now) (string_bytes text.old) (string_bytes text.new)) }

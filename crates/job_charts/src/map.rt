@@ -13,6 +13,7 @@ use crate::mapped::map_text;
 use clap::{ArgMatches, Command};
 use job_decide::tables::{NoTable, print_table_fault, table_in};
 use job_parts::arguments::{file, name_of};
+use job_parts::inputs::{Content, InputFile, Inputs};
 use job_parts::options::{maps_option, sizes_of};
 use job_parts::printing::print_text;
 use job_parts::status::Status;
@@ -30,6 +31,13 @@ pub struct MapWords {
     pub table: String,
     /// How many cells each map of the node has, and of which kind it is.
     pub sizes: MapSizes,
+}
+
+impl MapWords {
+    /// What the job reads: the table.
+    pub fn inputs(&self) -> Inputs<'_> {
+        Inputs::one(InputFile::new(self.table.as_str(), Content::Table))
+    }
 }
 
 /// `map TABLE [--maps LIST]`.

@@ -1,34 +1,43 @@
 //! What is printed of a table.
 
 ghost use Rattle.std.specs.Prelude.{◌≡◌, ◌<◌, ◌++◌, ◌+◌, ◌-◌, ◌^◌, All, IfOk, OnOk, length, string_bytes};
+ghost use Rattle.std.specs.List.{flat_map};
 ghost use Rattle.charts.specs.Alike.{HasLimit};
 ghost use Rattle.charts.specs.Deciders.{NeverMatches};
+ghost use Rattle.charts.specs.Lines.{IsMap};
 ghost use Rattle.job_charts.specs.Courses.{with_course};
-ghost use Rattle.job_charts.specs.Mapped.{TellsLine, TellsMap, TellsNever, TellsNote, note_text, with_line};
-ghost use Rattle.job_charts.specs.Telling.{AddsMore, TellsFirst};
+ghost use Rattle.job_charts.specs.Mapped.{AddsStop, AreStops, IsReason, TellsLine, TellsMap, TellsNever, TellsNote, comma_number, draws_text, has_no_ticket, note_text, with_line, with_stops};
+ghost use Rattle.job_charts.specs.Telling.{TellsFirst};
 
 use crate::courses::add_course;
-use crate::witnesses::line_at;
+use crate::witnesses::{line_at, some_point};
 use crate::words::add_words;
 use chart_lines::map_of;
-use charts::{Line, is_asked, is_stopped_by, never_matches};
+use charts::{Line, charts_are_read, is_asked, is_stopped_by, never_matches};
 use differences::course;
-use policy_table::Rule;
+use policy_table::{Quota, Rule};
+use regions::Point;
 use std::alloc::{AllocError, Global};
 
-/// Adds a line: its words, and what the table asks there.
-fn add_line(text: &mut String, alloc: Global, rules: &[Rule], line: &Line) -> Result<(), AllocError>
+/// Adds a line: its words, and what the table asks at a point.
+fn add_line(
+    text: &mut String,
+    alloc: Global,
+    rules: &[Rule],
+    line: &Line,
+    point: &Point,
+) -> Result<(), AllocError>
     ensures { OnOk result
-        (string_bytes text.new ≡ with_line (string_bytes text.old) rules.now line.now) }
+        (string_bytes text.new ≡ with_line (string_bytes text.old) rules.now line.now point.now) }
 {
-    let steps = course(alloc, rules, &line.point)?;
+    let steps = course(alloc, rules, point)?;
     add_words(text, alloc, line.rest, &line.region)?;
     text.push_str(" : ")?;
     add_course(text, steps.as_slice())?;
     text.push_str("\n")
 }
 
-/// Adds the line of a place.
+/// Adds the line of a place; nothing, where it has no command.
 fn add_line_at(
     text: &mut String,
     alloc: Global,
@@ -36,12 +45,17 @@ fn add_line_at(
     lines: &[Line],
     place: usize,
 ) -> Result<(), AllocError>
-    requires { place < length lines.now }
+    requires place { place < length lines.now }
+    requires map { IsMap rules.now lines.now }
     ensures { OnOk result (TellsLine rules.now lines.now place
         (string_bytes text.old) (string_bytes text.new)) }
 {
+    charts_are_read();
+    let Some(point) = some_point(lines, place) else {
+        return Ok(());
+    };
     let line = line_at(lines, place);
-    add_line(text, alloc, rules, &line)
+    add_line(text, alloc, rules, &line, &point)
 }
 
 /// Adds each line of a map.
@@ -51,6 +65,7 @@ fn add_lines(
     rules: &[Rule],
     lines: &[Line],
 ) -> Result<(), AllocError>
+    requires { IsMap rules.now lines.now }
     ensures { OnOk result (TellsFirst (TellsLine rules.now lines.now) (length lines.now)
         (string_bytes text.old) (string_bytes text.new)) }
 {
@@ -60,34 +75,87 @@ fn add_lines(
     Ok(())
 }
 
+/// Adds the number of a rule, if it decides without quota somewhere where the rule of a place holds.
+fn push_stop(
+    numbers: &mut Vec<usize>,
+    rules: &[Rule],
+    stop: usize,
+    place: usize,
+) -> Result<(), AllocError>
+    requires { stop < 2 ^ 64 - 1 }
+    ensures { OnOk result (AddsStop rules.now place stop numbers.old.items numbers.new.items) }
+{
+    if is_stopped_by(rules, stop, place) {
+        numbers.push(stop + 1)?;
+    }
+    Ok(())
+}
+
 /// The numbers of the rules without quota that decide where the rule of a place holds.
 fn stops_before(alloc: Global, rules: &[Rule], place: usize) -> Result<Vec<usize>, AllocError>
     requires { place < length rules.now }
+    ensures { IfOk result (λ numbers. AreStops rules.now place place numbers.items) }
 {
     let mut numbers = Vec::new(alloc);
     for stop in 0..place {
-        if is_stopped_by(rules, stop, place) {
-            numbers.push(stop + 1)?;
-        }
+        push_stop(&mut numbers, rules, stop, place)?;
     }
     Ok(numbers)
 }
 
+/// Adds a number behind a comma.
+fn add_comma_number(text: &mut String, number: usize) -> Result<(), AllocError>
+    ensures { OnOk result (string_bytes text.new ≡ string_bytes text.old ++ comma_number number) }
+{
+    write!(text, ", {number}")
+}
+
+/// Adds numbers, each behind a comma.
+fn add_comma_numbers(text: &mut String, numbers: &[usize]) -> Result<(), AllocError>
+    ensures { OnOk result
+        (string_bytes text.new ≡ string_bytes text.old ++ flat_map comma_number numbers.now) }
+{
+    for number in numbers {
+        add_comma_number(text, *number)?;
+    }
+    Ok(())
+}
+
 /// Adds which rules are before one.
 fn add_stops(text: &mut String, numbers: &[usize]) -> Result<(), AllocError>
-    ensures { OnOk result (AddsMore (string_bytes text.old) (string_bytes text.new)) }
+    ensures { OnOk result
+        (string_bytes text.new ≡ with_stops (string_bytes text.old) numbers.now) }
 {
     let Some((first, rest)) = numbers.split_first() else {
-        return text.push_str("no command has its words\n");
+        return text.push_str("no command has its words");
     };
     if rest.is_empty() {
-        return writeln!(text, "rule {first} is before it wherever it agrees");
+        return write!(text, "rule {first} is before it wherever it agrees");
     }
     write!(text, "rules {first}")?;
-    for number in rest {
-        write!(text, ", {number}")?;
+    add_comma_numbers(text, rest)?;
+    text.push_str(" are before it wherever it agrees")
+}
+
+/// Whether a rule has a quota whose limit is 0.
+fn has_no_ticket(quota: Option<Quota>) -> bool
+    ensures { result ≡ has_no_ticket quota }
+{
+    match quota {
+        None => false,
+        Some(quota) => quota.limit == 0,
     }
-    text.push_str(" are before it wherever it agrees\n")
+}
+
+/// The reason why a rule never matches that is asked.
+fn draws_text(quota: Option<Quota>) -> &'static str
+    ensures { result.now ≡ draws_text quota }
+{
+    if has_no_ticket(quota) {
+        "its limit is 0"
+    } else {
+        "draws before it leave no ticket below its limit"
+    }
 }
 
 /// Adds why the rule of a place never matches.
@@ -98,10 +166,11 @@ fn add_reason(
     place: usize,
 ) -> Result<(), AllocError>
     requires { place < length rules.now }
-    ensures { OnOk result (AddsMore (string_bytes text.old) (string_bytes text.new)) }
+    ensures { OnOk result
+        (IsReason rules.now place (string_bytes text.old) (string_bytes text.new)) }
 {
     if is_asked(rules, place) {
-        return text.push_str("its limit is 0\n");
+        return text.push_str(draws_text(rules[place].quota));
     }
     let stops = stops_before(alloc, rules, place)?;
     add_stops(text, stops.as_slice())
@@ -129,7 +198,8 @@ fn add_never(
         (TellsNever rules.now place (string_bytes text.old) (string_bytes text.new)) }
 {
     add_number(text, place)?;
-    add_reason(text, alloc, rules, place)
+    add_reason(text, alloc, rules, place)?;
+    text.push_str("\n")
 }
 
 /// Adds the line of the rule of a place, where it never matches.

@@ -91,6 +91,15 @@ fn initiators(line: &Line) -> ByteSet {
     }
 }
 
+/// A point of the line of that place that a command has, if there is one.
+pub fn some_point(lines: &[Line], place: usize) -> Option<Point>
+    requires { place < length lines.now }
+    ensures { MatchOption result (HasNoCommand lines.now place) (IsWitness lines.now place) }
+{
+    let whole = Region::whole();
+    point_in(lines, place, &whole)
+}
+
 /// A point of the line of that place, which has a command: one whose command the node of the jobs brings to its table, if
 /// there is one.
 #[tactic(auto, using(crate::proofs::WitnessPoints::found_witness))]
@@ -106,5 +115,5 @@ pub fn witness(lines: &[Line], place: usize) -> Option<Point>
             return Some(point);
         }
     }
-    point_in(lines, place, &Region::whole())
+    some_point(lines, place)
 }

@@ -178,7 +178,7 @@ fn add_fields(text: &mut String, alloc: Global, region: &Region) -> Result<(), A
     text.push_str(" ")
 }
 
-/// Adds the words of a line, which are those of a rule, but that `else` stands for the addresses of the rest.
+/// Adds the words of a line, which are those of a rule, but that `else` stands for the rest of all addresses.
 pub fn add_words(
     text: &mut String,
     alloc: Global,
@@ -189,7 +189,7 @@ pub fn add_words(
         ≡ with_fields (string_bytes text.old) region.now ++ addresses_text rest region.now) }
 {
     add_fields(text, alloc, region)?;
-    if rest {
+    if rest && (is_whole(region.first) && is_whole(region.last)) {
         return text.push_str("else");
     }
     add_span(text, alloc, region.first, region.last)

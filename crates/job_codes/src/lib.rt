@@ -2,7 +2,7 @@
 #![tactic(auto)]
 
 pub mod explain;
-mod forms;
+pub mod forms;
 mod registers;
 pub mod topics;
 pub mod why;

@@ -89,7 +89,7 @@ impl Topic {
         }
     }
 
-    /// When it comes, and what to do, in lines of at most 113 columns.
+    /// When it comes, and what to do, in lines of at most 114 columns.
     pub fn advice(self) -> &'static str {
         match self {
             Topic::Refusal(refusal) => refusal.advice(),

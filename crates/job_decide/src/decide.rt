@@ -15,6 +15,7 @@ use crate::tables::{NoTable, print_table_fault, table_in};
 use clap::{ArgMatches, Command};
 use job_nodes::feeds::Feeds;
 use job_parts::arguments::{file, name_of, option};
+use job_parts::inputs::{Content, InputFile, Inputs};
 use job_parts::options::{maps_option, ports_of, sizes_of};
 use job_parts::programs::text_in;
 use job_parts::status::Status;
@@ -38,6 +39,14 @@ pub struct DecideWords {
     pub sizes: MapSizes,
     /// How many ports the node has.
     pub ports: u8,
+}
+
+impl DecideWords {
+    /// What the job reads: the lines, and then the table.
+    pub fn inputs(&self) -> Inputs<'_> {
+        let lines = InputFile::new(self.lines.as_str(), Content::Lines);
+        Inputs::two(lines, InputFile::new(self.table.as_str(), Content::Table))
+    }
 }
 
 /// `decide LINES TABLE [--maps LIST] [--ports N]`.

@@ -1,5 +1,5 @@
 -- A node behind a link: what it makes of what comes with a frame.
-use Rattle.std.specs.Prelude.{◌≡◌, ℕ, ◌+◌, ◌-◌, ◌^◌, min, Bool, true, false, List, [], ◌∷◌, ◌++◌, Some, slice_get, ⊤}
+use Rattle.std.specs.Prelude.{◌≡◌, ℕ, ◌+◌, ◌-◌, ◌^◌, min, Bool, true, false, List, [], ◌∷◌, ◌++◌, Some, slice_get}
 use Rattle.bank.specs.Records.{JournalValue}
 use Rattle.spw.specs.Cargo.{Cargo}
 use Rattle.node_parts.specs.declared.served.Served.{Served}
@@ -65,13 +65,12 @@ Answers before Time reply text after = AreNone reply text × (after ≡ one_more
 Answers before (Other code) reply text after =
     IsFaultDue (next_number before) reply text × (after ≡ one_more before before.is_open)
 
--- memory was refused: a packet and a frame for a bridge alone ask for some. What the node did then no one sees, since it ends
--- with its link
+-- memory was refused: only a packet and a frame for a bridge ask for some, and then all is as before the frame
 abbrev pub Refuses : AnsweringValue → Came → AnsweringValue → Type 0
-Refuses before (Whole packet) after = ⊤
+Refuses before (Whole packet) after = after ≡ before
 Refuses before Piece after = ⊥
 Refuses before Time after = ⊥
-Refuses before (Other code) after = ⊤
+Refuses before (Other code) after = after ≡ before
 
 -- what is told first where no more bytes come: that the input ended within the next frame, or before it where a packet goes
 -- on, if it did
@@ -80,8 +79,7 @@ cut_text true frame = []
 cut_text false frame = fault_line frame CutOff
 
 -- the text that is due where no more bytes come: behind that the entries of the journal, which was handed out
-pub record EndsWith (is_whole : Bool) (behind : AnsweringValue) (text : List ℕ) : Type 0 where
-  pub after : JobNodeValue
+pub record EndsWith (is_whole : Bool) (behind : AnsweringValue) (after : JobNodeValue) (text : List ℕ) : Type 0 where
   pub journal : JournalValue
   pub handed_out : HandsOut behind.node after journal
   pub told : text ≡ cut_text is_whole (next_number behind) ++ journal_text journal.entries

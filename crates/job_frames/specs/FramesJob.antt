@@ -2,7 +2,6 @@
 use Rattle.std.specs.Prelude.{◌≡◌, ◌⊎◌, ◌&&◌, ℕ, Bool, true, false, not, List, codes}
 use Rattle.std.specs.Borrow.{Bor}
 use Rattle.job_parts.specs.Files.{Reads}
-use Rattle.job_parts.specs.Printed.{fault_line}
 use Rattle.job_parts.specs.declared.faults.Fault.{Fault}
 use Rattle.job_parts.specs.declared.faults.Fault.TheVariants.{CannotRead, NoMemory}
 use Rattle.job_parts.specs.declared.options.NodeWords.{NodeWords}
@@ -12,7 +11,7 @@ use Rattle.job_parts.specs.declared.stops.Halt.{Halt}
 use Rattle.job_parts.specs.declared.stops.Halt.TheVariants.{Ended, Unwritten}
 use Rattle.job_parts.specs.declared.stops.WriteFault.{WriteFault}
 use Rattle.job_nodes.specs.JobNode.{JobNodeValue}
-use Rattle.job_live.specs.LiveJob.{IsLiveNode, IsNoLiveNode}
+use Rattle.job_live.specs.LiveJob.{IsLiveNode, IsNoLiveNode, TellsLast}
 use Rattle.frames.specs.Reading.{Reading, first_reading, is_between}
 use Rattle.linking.specs.Linking.{Fails, IsCutOff, IsWholeLink, Moves}
 use Rattle.linking.specs.declared.link.Broken.{Broken}
@@ -34,46 +33,51 @@ IsHalt NoRoom halt = halt ≡ Ended NoMemory
 IsHalt Unsent halt = halt ≡ Unwritten (record {})
 IsHalt Untold halt = halt ≡ Unwritten (record {})
 
--- what is due where no more bytes come was told
-pub record TellsEnd {L : Type 0} (told : Moves L) (is_whole : Bool) (behind : AnsweringValue) (last to : L) : Type 0 where
-  pub text : List ℕ
-  pub ends : EndsWith is_whole behind text
-  pub said : told last text to
+-- what is due where no more bytes come was told, or could not be told, and the node is then this
+pub record TellsEnd {L : Type 0} (told : Moves L) (is_whole : Bool) (behind : AnsweringValue) (after : JobNodeValue) (last to : L) : Type 0
+  where
+    pub text : List ℕ
+    pub ends : EndsWith is_whole behind after text
+    pub said : told last text to
 
--- what is due where no more bytes come was not told: memory was refused to it, or the text could not be told
-abbrev pub IsEndUntold : {L : Type 0} (untold : Moves L) (is_whole : Bool) (behind : AnsweringValue) (last to : L) → Halt → Type 0
-IsEndUntold untold is_whole behind last to (Ended fault) = (fault ≡ NoMemory) × (to ≡ last)
-IsEndUntold untold is_whole behind last to (Unwritten refused) = TellsEnd untold is_whole behind last to
+-- what is due where no more bytes come was not told: memory was refused to it, and the node is as before; or the text could not
+-- be told
+abbrev pub IsEndUntold : {L : Type 0} (untold : Moves L) (is_whole : Bool) (behind : AnsweringValue) (after : JobNodeValue) (last to : L) → Halt → Type 0
+IsEndUntold untold is_whole behind after last to (Ended fault) = (fault ≡ NoMemory) × (after ≡ behind.node) × (to ≡ last)
+IsEndUntold untold is_whole behind after last to (Unwritten refused) = TellsEnd untold is_whole behind after last to
 
 -- a link was held to its end: what is due for its frames was sent and told, frame for frame, and then what is due there; and
 -- whether it ended between two packets
-pub record HoldsLink {L : Type 0} (came sent told : Moves L) (start read : Reading) (before : AnsweringValue) (from to : L) (is_whole : Bool) :
-    Type 0 where
+pub record HoldsLink {L : Type 0} (came sent told : Moves L) (start read : Reading) (before : AnsweringValue) (after : JobNodeValue)
+    (from to : L) (is_whole : Bool) : Type 0 where
   pub behind : AnsweringValue
   pub last : L
   pub link : IsWholeLink Answers came sent told start read before behind from last
   pub whole : is_whole ≡ ends_whole read behind
-  pub end : TellsEnd told is_whole behind last to
+  pub end : TellsEnd told is_whole behind after last to
 
 module _ {L : Type 0} (came sent told : Moves L) (unread : Fails L) (unsent untold : Moves L) where
   -- bytes came to their end, and what is due there was not told
-  pub record StopsAtEnd (start read : Reading) (before : AnsweringValue) (from to : L) (halt : Halt) : Type 0 where
+  pub record StopsAtEnd (start read : Reading) (before : AnsweringValue) (after : JobNodeValue) (from to : L) (halt : Halt) :
+      Type 0 where
     pub behind : AnsweringValue
     pub last : L
     pub link : IsWholeLink Answers came sent told start read before behind from last
-    pub end_untold : IsEndUntold untold (ends_whole read behind) behind last to halt
+    pub end_untold : IsEndUntold untold (ends_whole read behind) behind after last to halt
 
   -- a link was cut off before its end
-  pub record StopsBefore (start read : Reading) (before : AnsweringValue) (from to : L) (halt : Halt) : Type 0 where
+  pub record StopsBefore (start read : Reading) (before : AnsweringValue) (after : JobNodeValue) (from to : L) (halt : Halt) :
+      Type 0 where
     pub why : Broken
     pub behind : AnsweringValue
     pub cut : IsCutOff Answers Refuses came sent told unread unsent untold why start read before behind from to
+    pub left : after ≡ behind.node
     pub is_halt : IsHalt why halt
 
   -- a link was cut off, or only what is due at its end was not told
-  abbrev pub StopsLink : (start read : Reading) (before : AnsweringValue) (from to : L) → Halt → Type 0
-  StopsLink start read before from to halt =
-      StopsBefore start read before from to halt ⊎ StopsAtEnd start read before from to halt
+  abbrev pub StopsLink : (start read : Reading) (before : AnsweringValue) (after : JobNodeValue) (from to : L) → Halt → Type 0
+  StopsLink start read before after from to halt =
+      StopsBefore start read before after from to halt ⊎ StopsAtEnd start read before after from to halt
 
 -- nothing was read, and no frame came to the node, which is a fresh one of these words with one port, whose commands the program
 -- judges that its files give
@@ -88,16 +92,18 @@ module _ {S L : Type 0} (reads : Reads S) (came sent told : Moves L) (unread : F
   -- a link was held to its end on the node of the words
   pub record HoldsFrames (before after : S) (start stop : L) (is_whole : Bool) : Type 0 where
     pub fresh : JobNodeValue
+    pub left : JobNodeValue
     pub read : Reading
     pub node : IsLiveNode reads (with_link words) before fresh after
-    pub link : HoldsLink came sent told first_reading read (first_answering fresh) start stop is_whole
+    pub link : HoldsLink came sent told first_reading read (first_answering fresh) left start stop is_whole
 
   -- a link on the node of the words was cut off
   pub record BreaksFrames (before after : S) (start stop : L) (halt : Halt) : Type 0 where
     pub fresh : JobNodeValue
+    pub left : JobNodeValue
     pub read : Reading
     pub node : IsLiveNode reads (with_link words) before fresh after
-    pub broken : StopsLink came sent told unread unsent untold first_reading read (first_answering fresh) start stop halt
+    pub broken : StopsLink came sent told unread unsent untold first_reading read (first_answering fresh) left start stop halt
 
   -- why no link was held to its end: there is no such node, and nothing came, was sent or was told; or a link was cut off
   abbrev pub IsUnheld : (before after : S) (start stop : L) → Halt → Type 0
@@ -111,14 +117,14 @@ module _ {S L : Type 0} (reads : Reads S) (came sent told : Moves L) (unread : F
     pub fault : Fault
     pub broken : L
     pub unheld : IsUnheld before after start broken (Ended fault)
-    pub said : told broken (fault_line fault) stop
+    pub said : TellsLast told fault broken stop
 
-  -- a fault cut the link off, and its line could not be told, or memory was refused to it
+  -- a fault cut the link off, and its line could not be told
   pub record LosesFault (before after : S) (start stop : L) : Type 0 where
     pub fault : Fault
     pub broken : L
     pub unheld : IsUnheld before after start broken (Ended fault)
-    pub lost : untold broken (fault_line fault) stop ⊎ (stop ≡ broken)
+    pub lost : TellsLast untold fault broken stop
 
   -- the exit status is 0 where a link was held to its end between two packets, and 1 where it ended within a frame or a
   -- packet, or a fault cut it off

@@ -13,10 +13,13 @@ abbrev pub fault_line : (frame : ℕ) → FrameFault → List ℕ
 fault_line frame fault =
     codes "frame " ++ decimal frame ++ codes " fault " ++ decimal (frame_fault_code fault) ++ 10 ∷ []
 
+-- the words before the number of a discard
+abbrev pub discard_words : (frame : ℕ) → List ℕ
+discard_words frame = codes "frame " ++ decimal frame ++ codes " discard "
+
 -- `frame K discard C`
 abbrev pub discard_line : (frame : ℕ) → Discard → List ℕ
-discard_line frame discard =
-    codes "frame " ++ decimal frame ++ codes " discard " ++ decimal (discard_code discard) ++ 10 ∷ []
+discard_line frame discard = discard_words frame ++ decimal (discard_code discard) ++ 10 ∷ []
 
 -- what is told of what became of a packet: that it was discarded, if it was
 abbrev pub served_text : (frame : ℕ) → Served → List ℕ

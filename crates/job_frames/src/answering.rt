@@ -1,82 +1,91 @@
 //! The node behind a link, which answers frames.
 
-ghost use Rattle.std.specs.Prelude.{◌≡◌, ◌<◌, IfOk, OnOk, length, slice_get};
+ghost use Rattle.std.specs.Prelude.{◌≡◌, ◌≤◌, ◌<◌, ◌+◌, ◌++◌, [], ℕ, List, IfOk, OnErr, OnOk, length};
+ghost use Rattle.std.specs.Vec.{vec_capacity, vec_len};
 ghost use Rattle.job_frames.specs.Answering.{Answers, AnswersPacket, AreNone, EndsWith, IsFaultDue, Refuses, cut_text, due_of, first_answering};
-ghost use Rattle.job_live.specs.Answering.{MakesRoom, TellsJournal};
-ghost use Rattle.job_nodes.specs.JobNode.{is_full};
+ghost use Rattle.job_frames.specs.Told.{discard_words, served_text};
 ghost use Rattle.job_parts.specs.Printed.{Prints};
 
-use crate::faults::{print_fault, print_served};
-use frames::{Came, FrameFault, reply_frame};
-use job_live::telling::print_journal;
-use job_nodes::node::{JobNode, fresh_journal};
+use crate::faults::print_fault;
+use frames::{Came, FrameFault, HEAD_LENGTH, reply_head};
+use job_live::answering::{hand_out, make_room};
+use job_live::putting::{drop_words, put, put_discard_code};
+use job_nodes::node::JobNode;
 use linking::{Cannot, Due, Target};
+use node_parts::{Served, Stop};
+use rmap::MAX_REPLY;
 use spw::Packet;
-use std::alloc::{AllocError, Global};
+use std::alloc::Global;
 use std::io::{self, Write};
 use std::marker::Model;
 
 /// The port of the node that a link is.
 const PORT: u8 = 0;
 
-/// Hands the journal of the node out, and prints its entries.
-#[tactic(auto, using(crate::proofs::Ports::rotated_ports))]
-fn hand_out<W: Write>(alloc: Global, node: &mut JobNode, out: &mut W) -> io::Result<()>
-    ensures tells { OnOk result
-        (TellsJournal node.old node.new (W.contents out.old) (W.contents out.new)) }
-    ensures ports { length node.new.passes ≡ length node.old.passes }
-{
-    let journal = node.rotate(fresh_journal(alloc)?);
-    print_journal(out, journal.entries())
-}
+/// How many bytes a line has behind its words: a number of one digit, and the line feed.
+const CODE: usize = 2;
 
-/// Hands the journal out where it is full.
-fn make_room<W: Write>(alloc: Global, node: &mut JobNode, out: &mut W) -> io::Result<()>
-    ensures room { OnOk result (MakesRoom (is_full (slice_get node.old.banks 0)) node.old node.new
-        (W.contents out.old) (W.contents out.new)) }
-    ensures ports { length node.new.passes ≡ length node.old.passes }
-{
-    if node.is_full() {
-        hand_out(alloc, node, out)?;
-    }
-    Ok(())
-}
+/// How many bytes the frame of the longest reply has.
+const MOST_OF_REPLY: usize = HEAD_LENGTH + MAX_REPLY;
 
-/// The frame of the reply that is due, or no bytes where none is.
-fn due_frame(alloc: Global, reply: &[u8]) -> Result<Vec<u8>, AllocError>
-    ensures { IfOk result (λ frame. frame.items ≡ due_of reply.now) }
+/// Puts the frame of the reply that is due behind no bytes; none where none is due. Conditions: a reply that is no longer than
+/// any ([`MAX_REPLY`]), and room for its frame ([`MOST_OF_REPLY`]).
+fn put_due(frame: &mut Vec<u8>, reply: &[u8])
+    requires reply { length reply.now ≤ MAX_REPLY }
+    requires none { frame.old.items ≡ [] }
+    requires room { HEAD_LENGTH + MAX_REPLY ≤ vec_capacity frame.old }
+    ensures { frame.new.items ≡ due_of reply.now }
 {
     if reply.is_empty() {
-        return Ok(Vec::new(alloc));
+        return;
     }
-    reply_frame(alloc, reply)
+    put(frame, &reply_head(reply));
+    put(frame, reply);
 }
 
-/// Serves a packet, for whose command the journal has room then, and gives the reply that is due, and what is told.
-#[tactic(auto, using(crate::proofs::Ports::served_ports))]
-fn answer_packet(
-    alloc: Global,
-    node: &mut JobNode,
-    packet: Packet,
-    frame: u64,
-) -> Result<Due, Cannot>
+/// The words before the number of a discard.
+fn discard_words(alloc: Global, frame: u64) -> io::Result<Vec<u8>>
+    ensures { IfOk result (λ words. words.items ≡ discard_words frame) }
+{
+    let mut words = Vec::new(alloc);
+    write!(words, "frame {frame} discard ")?;
+    Ok(words)
+}
+
+/// Tells what became of a packet in the place of the words that stand in the text from `end` on: those before the number of a
+/// discard. Conditions: they stand there, and behind them is room for that number and the end of the line.
+#[tactic(auto, using(crate::proofs::Told::no_more))]
+fn tell_served(text: &mut Vec<u8>, end: usize, served: Served)
+    requires { vec_len text.old + CODE ≤ vec_capacity text.old }
+    ensures { (begun : List ℕ) (frame : ℕ) → length begun ≡ end
+        → text.old.items ≡ begun ++ discard_words frame
+        → text.new.items ≡ begun ++ served_text frame served }
+{
+    match served {
+        Served::Stopped(Stop::Discarded(discard)) => put_discard_code(text, discard),
+        Served::Stopped(Stop::Answered(_)) | Served::Unread | Served::Done(_) | Served::Window(_) =>
+            { drop_words(text, end) }
+    }
+}
+
+/// Serves a packet, for whose command the journal has room then, and gives the reply that is due, and what is told. Memory is
+/// taken before anything is done.
+#[tactic(auto, using(crate::proofs::Ports::served_ports, crate::proofs::Ports::ready_ports, crate::proofs::Told::packet_answered))]
+fn answer_packet(alloc: Global, node: &mut JobNode, packet: Packet, frame: u64) -> io::Result<Due>
     requires { 0 < length node.old.passes }
     ensures due { IfOk result (λ due. AnswersPacket packet frame node.old node.new
         due.reply.items due.text.items) }
+    ensures kept { OnErr result (node.new ≡ node.old) }
     ensures ports { length node.new.passes ≡ length node.old.passes }
 {
+    let words = discard_words(alloc, frame)?;
+    let mut reply = Vec::with_capacity(alloc, MOST_OF_REPLY)?;
     let mut text = Vec::new(alloc);
-    if make_room(alloc, node, &mut text).is_err() {
-        return Err(Cannot);
-    }
+    let end = make_room(node, words.as_slice(), CODE, &mut text)?;
     let served = node.serve(alloc, PORT, packet);
-    if print_served(&mut text, frame, served).is_err() {
-        return Err(Cannot);
-    }
-    match due_frame(alloc, node.reply()) {
-        Ok(reply) => Ok(Due { reply, text }),
-        Err(_) => Err(Cannot),
-    }
+    put_due(&mut reply, node.reply());
+    tell_served(&mut text, end, served);
+    Ok(Due { reply, text })
 }
 
 /// That no bytes are due, and no text.
@@ -90,14 +99,12 @@ fn nothing_due(alloc: Global) -> Due
 }
 
 /// What is due for a frame that is for a bridge: that it has that fault.
-fn fault_due(alloc: Global, frame: u64) -> Result<Due, Cannot>
+fn fault_due(alloc: Global, frame: u64) -> io::Result<Due>
     ensures { IfOk result (λ due. IsFaultDue frame due.reply.items due.text.items) }
 {
     let mut due = nothing_due(alloc);
-    match print_fault(&mut due.text, frame, FrameFault::ForBridge) {
-        Ok(()) => Ok(due),
-        Err(_) => Err(Cannot),
-    }
+    print_fault(&mut due.text, frame, FrameFault::ForBridge)?;
+    Ok(due)
 }
 
 /// A node behind a link, how many frames came, and whether a packet goes on with the next.
@@ -153,13 +160,14 @@ impl Answering {
     }
 
     /// What is told where no more bytes come: that the input ended within a frame or a packet, if it did, and the entries
-    /// of the journal, which is handed out. Memory alone can be refused to it.
+    /// of the journal, which is handed out. Only memory can be refused to it, and then the node is as before.
     pub fn end(&mut self, is_whole: bool) -> io::Result<Vec<u8>>
-        ensures { IfOk result (λ text. EndsWith is_whole self.old text.items) }
+        ensures ends { IfOk result (λ text. EndsWith is_whole self.old self.new.node text.items) }
+        ensures kept { OnErr result (self.new ≡ self.old) }
     {
         let mut text = Vec::new(self.alloc);
         print_cut(&mut text, self.count.saturating_add(1), is_whole)?;
-        hand_out(self.alloc, &mut self.node, &mut text)?;
+        hand_out(&mut self.node, &mut text)?;
         Ok(text)
     }
 }
@@ -170,18 +178,32 @@ impl Target for Answering {
     ghost unserved = { Refuses };
 
     fn serve(&mut self, came: Came) -> Result<Due, Cannot> {
-        self.count = self.count.saturating_add(1);
+        let frame = self.count.saturating_add(1);
         match came {
             Came::Whole(packet) => {
+                let Ok(due) = answer_packet(self.alloc, &mut self.node, packet, frame) else {
+                    return Err(Cannot);
+                };
+                self.count = frame;
                 self.is_open = false;
-                answer_packet(self.alloc, &mut self.node, packet, self.count)
+                Ok(due)
             }
             Came::Piece => {
+                self.count = frame;
                 self.is_open = true;
                 Ok(nothing_due(self.alloc))
             }
-            Came::Time => Ok(nothing_due(self.alloc)),
-            Came::Other(_) => fault_due(self.alloc, self.count),
+            Came::Time => {
+                self.count = frame;
+                Ok(nothing_due(self.alloc))
+            }
+            Came::Other(_) => {
+                let Ok(due) = fault_due(self.alloc, frame) else {
+                    return Err(Cannot);
+                };
+                self.count = frame;
+                Ok(due)
+            }
         }
     }
 }

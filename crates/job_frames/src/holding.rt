@@ -1,13 +1,13 @@
 //! The job `live --frames`.
 
-ghost use Rattle.std.specs.Prelude.{◌≡◌, ◌⊎◌, IfErr, IfOk, OnOk, if◌then◌else◌};
-ghost use Rattle.job_parts.specs.Printed.{fault_line};
+ghost use Rattle.std.specs.Prelude.{◌≡◌, IfErr, IfOk, OnOk, if◌then◌else◌};
 ghost use Rattle.job_parts.specs.declared.status.Status.TheVariants.{Done, Failed};
-ghost use Rattle.job_live.specs.LiveJob.{IsNoLiveNode};
+ghost use Rattle.job_live.specs.LiveJob.{IsNoLiveNode, TellsLast};
 ghost use Rattle.job_frames.specs.FramesJob.{AreReady, HoldsFrames, HoldsLink, IsEndUntold, IsFramesUnsent, IsHalt, IsUnheld, LivesFrames, StopsLink, TellsEnd, with_link};
 
 use crate::answering::Answering;
 use frames::FrameReader;
+use job_live::live::NO_MEMORY;
 use job_nodes::node::JobNode;
 use job_parts::factory::judging_program;
 use job_parts::faults::Fault;
@@ -64,9 +64,10 @@ fn tell_end<'a, L: Link>(
     is_whole: bool,
     link: &mut L,
 ) -> Result<(), Halt<'a>>
-    ensures told { OnOk result (TellsEnd L.told is_whole answering.old link.old link.new) }
-    ensures stops { IfErr result
-        (IsEndUntold L.untold is_whole answering.old link.old link.new) }
+    ensures told { OnOk result (TellsEnd L.told is_whole answering.old answering.new.node
+        link.old link.new) }
+    ensures stops { IfErr result (IsEndUntold L.untold is_whole answering.old answering.new.node
+        link.old link.new) }
 {
     let Ok(text) = answering.end(is_whole) else {
         return Err(Halt::Ended(Fault::NoMemory));
@@ -83,10 +84,10 @@ fn hold_to_end<'a, L: Link>(
     answering: &mut Answering,
     link: &mut L,
 ) -> Result<bool, Halt<'a>>
-    ensures held { IfOk result (HoldsLink L.came L.sent L.told reader.old reader.new answering.old
-        link.old link.new) }
+    ensures held { IfOk result (HoldsLink L.came L.sent L.told reader.old reader.new
+        answering.old answering.new.node link.old link.new) }
     ensures stops { IfErr result (StopsLink L.came L.sent L.told L.unread L.unsent L.untold
-        reader.old reader.new answering.old link.old link.new) }
+        reader.old reader.new answering.old answering.new.node link.old link.new) }
 {
     if let Err(why) = hold(reader, answering, link) {
         return Err(halt_of(why));
@@ -112,15 +113,17 @@ fn hold_on<'a, F: Files, L: Link>(
     hold_to_end(&mut reader, &mut answering, link)
 }
 
-/// Tells the fault that cut a link off.
+/// Tells the fault that cut a link off; where memory is refused to its line, that there is none.
 fn tell<L: Link>(alloc: Global, fault: &Fault<'_>, link: &mut L) -> Result<(), WriteFault>
-    ensures told { OnOk result (L.told link.old (fault_line fault.now) link.new) }
-    ensures lost { IfErr result (λ _.
-        L.untold link.old (fault_line fault.now) link.new ⊎ (link.new ≡ link.old)) }
+    ensures told { OnOk result (TellsLast L.told fault.now link.old link.new) }
+    ensures lost { IfErr result (λ _. TellsLast L.untold fault.now link.old link.new) }
 {
     let mut text = Vec::new(alloc);
-    writeln!(text, "{fault}")?;
-    link.tell(text.as_slice()).map_err(|_| WriteFault)
+    let told = match writeln!(text, "{fault}") {
+        Ok(()) => link.tell(text.as_slice()),
+        Err(_) => link.tell(NO_MEMORY),
+    };
+    told.map_err(|_| WriteFault)
 }
 
 /// The exit status of a link that was held to its end.

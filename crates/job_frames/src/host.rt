@@ -1,19 +1,22 @@
 //! The link of this machine: standard input, standard output, and standard error.
 
-ghost use Rattle.std.specs.Prelude.{⊤};
+ghost use Rattle.std.specs.Prelude.{⊤, OnOk};
+ghost use Rattle.std.specs.Io.KnownBytes.{Appends};
 
 use linking::{Cannot, Link};
 use std::io::{self, Read, Write};
 use std::str;
 
-/// A link over a reader and a writer, beside which is told on standard error. It asks the reader for what there is: a buffer
-/// that waits to be filled would hold a command back.
+/// A link over a reader and a writer, beside which is told on standard error, of which no contract speaks. It asks the reader
+/// for what there is: a buffer that waits to be filled would hold a command back. A standard error that fails ends nothing:
+/// how many texts it did not take is counted.
 #[derive(Drop)]
 pub struct HostLink<'r, R: Eprint, I: Read + Drop, W: Write + Drop> {
     rt: &'r R,
     input: I,
     output: W,
     lost: io::Result<()>,
+    untold: u64,
 }
 
 impl<'r, R: Eprint, I: Read + Drop, W: Write + Drop> HostLink<'r, R, I, W> {
@@ -24,33 +27,55 @@ impl<'r, R: Eprint, I: Read + Drop, W: Write + Drop> HostLink<'r, R, I, W> {
             input,
             output,
             lost: Ok(()),
+            untold: 0,
         }
     }
 
-    /// Why the last bytes could not be sent, if they could not.
-    pub fn into_lost(self) -> io::Result<()> {
-        self.lost
+    /// How many texts standard error did not take.
+    pub fn untold(&self) -> u64 {
+        self.untold
+    }
+
+    /// The writer, and why the last bytes could not be sent, if they could not.
+    pub fn into_output(self) -> (W, io::Result<()>) {
+        (self.output, self.lost)
+    }
+
+    /// Prints a text on standard error: whether it took it.
+    fn is_told(&self, text: &[u8]) -> bool {
+        match str::from_utf8(text) {
+            Ok(text) => self.rt.eprint(text).is_ok(),
+            Err(_) => false,
+        }
     }
 
     /// Writes all of the bytes, and holds none of them back.
-    fn write(&mut self, bytes: &[u8]) -> io::Result<()> {
+    fn write(&mut self, bytes: &[u8]) -> io::Result<()>
+        ensures { OnOk result
+            (Appends (W.contents self.old.output) (W.contents self.new.output) bytes.now) }
+    {
         self.output.write_all(bytes)?;
         self.output.flush()
     }
 }
 
 impl<R: Eprint, I: Read + Drop, W: Write + Drop> Link for HostLink<'_, R, I, W> {
-    ghost came = { λ _ _ _. ⊤ };
+    ghost use Rattle.std.specs.Prelude.{ℕ, List, Option};
+    ghost use Rattle.std.specs.Io.KnownBytes.{Appends, Consumes, Keeps};
 
-    ghost sent = { λ _ _ _. ⊤ };
+    ghost came = { λ before bytes after.
+        Consumes (I.remaining before.input) (I.remaining after.input) bytes };
+
+    ghost sent = { λ before bytes after.
+        Appends (W.contents before.output) (W.contents after.output) bytes };
 
     ghost told = { λ _ _ _. ⊤ };
 
-    ghost unread = { λ _ _. ⊤ };
+    ghost unread = { λ before after. Keeps (I.remaining before.input) (I.remaining after.input) };
 
     ghost unsent = { λ _ _ _. ⊤ };
 
-    ghost untold = { λ _ _ _. ⊤ };
+    ghost untold = { λ _ _ _. ⊥ };
 
     fn receive(&mut self, room: &mut [u8]) -> Result<usize, Cannot> {
         self.input.read(room).map_err(|_| Cannot)
@@ -65,9 +90,9 @@ impl<R: Eprint, I: Read + Drop, W: Write + Drop> Link for HostLink<'_, R, I, W> 
     }
 
     fn tell(&mut self, text: &[u8]) -> Result<(), Cannot> {
-        match str::from_utf8(text) {
-            Ok(text) => self.rt.eprint(text).map_err(|_| Cannot),
-            Err(_) => Err(Cannot),
+        if !self.is_told(text) {
+            self.untold = self.untold.saturating_add(1);
         }
+        Ok(())
     }
 }

@@ -1,4 +1,6 @@
 mod CellRows
 mod EntryLines
 mod LinesInTurn
+mod PutText
 mod SetLines
+mod Taken

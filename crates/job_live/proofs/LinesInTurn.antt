@@ -68,14 +68,14 @@ goes_on {T} came sent number a b c s t u went some_bad is_bad both way exchanged
     subst (λ (x : Bool). IsUnderWay came sent (number + 1) a c s u x) (sym both_is) (next_one came sent number a b c s t u one.0 some_bad is_bad way one.1)
 
 -- A line that was not answered, behind those that were.
-pub breaks_off : {T : Type 0} (came : Comes T) (sent unsent : Sends T) (missed : Misses T) (number : ℕ) (a b : JobNodeValue) (s t u : T) (some_bad : Bool) (halt : Halt)
-    → IsUnderWay came sent number a b s t some_bad → IsUnanswered came sent unsent missed number b t u halt
-    → IsBrokenOff came sent unsent missed a s u halt
-breaks_off came sent unsent missed number a b s t u some_bad halt way unanswered = record {
+pub breaks_off : {T : Type 0} (came : Comes T) (sent unsent : Sends T) (missed : Misses T) (number : ℕ) (a b c : JobNodeValue) (s t u : T) (some_bad : Bool) (halt : Halt)
+    → IsUnderWay came sent number a b s t some_bad → IsUnanswered came sent unsent missed number b c t u halt
+    → IsBrokenOff came sent unsent missed a c s u halt
+breaks_off came sent unsent missed number a b c s t u some_bad halt way unanswered = record {
   lines = way.lines;
   left = b;
   last = t;
   some_bad = some_bad;
   talks = way.talks;
-  unanswered = subst (λ (n : ℕ). IsUnanswered came sent unsent missed n b t u halt) way.counted unanswered;
+  unanswered = subst (λ (n : ℕ). IsUnanswered came sent unsent missed n b c t u halt) way.counted unanswered;
 }

@@ -32,7 +32,7 @@ use Rattle.job_parts.specs.Printed.{fault_line}
 use Rattle.job_parts.specs.declared.bad_lines.BadLine.{BadLine}
 use Rattle.job_parts.specs.declared.bad_lines.BadLine.TheVariants.{Line, NoPort as NoSuchPort}
 use Rattle.job_parts.specs.declared.faults.Fault.TheVariants.{BadLine as AtLine}
-use Rattle.job_nodes.specs.JobNode.{HandsOut, JobNodeValue, RefusesLine, SetsBytes, TakesLine, is_full}
+use Rattle.job_nodes.specs.JobNode.{HandsOut, JobNodeValue, RefusesLine, SetsBytes, TakesLine, is_full, journal_of}
 use Rattle.job_nodes.specs.Lines.{IsPrinted}
 use Rattle.single_node.specs.Nodes.{covers_in}
 use Rattle.job_live.specs.Asks.{IsAsked}
@@ -59,6 +59,24 @@ pub record TellsCells (before after : JobNodeValue) (old new : Option (List ℕ)
 abbrev pub MakesRoom : (is_full : Bool) → (before after : JobNodeValue) → (old new : Option (List ℕ)) → Type 0
 MakesRoom true before after old new = TellsJournal before after old new
 MakesRoom false before after old new = (after ≡ before) × (new ≡ old)
+
+-- the entries of a journal that is full were printed
+abbrev pub PrintsFull : (is_full : Bool) → JobNodeValue → (old new : Option (List ℕ)) → Type 0
+PrintsFull true node old new = Appends old new (journal_text (journal_of (slice_get node.banks 0)).entries)
+PrintsFull false node old new = new ≡ old
+
+-- an empty journal began in the place of one that is full
+abbrev pub TurnsFull : (is_full : Bool) → (before after : JobNodeValue) → Type 0
+TurnsFull true before after = HandsOut before after (journal_of (slice_get before.banks 0))
+TurnsFull false before after = after ≡ before
+
+-- a journal that is full was handed out before a packet; behind the text stand its entries, and behind them, from that place
+-- on, these words
+pub record IsReady (words : List ℕ) (end : ℕ) (before after : JobNodeValue) (old new : List ℕ) : Type 0 where
+  pub begun : List ℕ
+  pub at : length begun ≡ end
+  pub text : new ≡ begun ++ words
+  pub room : MakesRoom (is_full (slice_get before.banks 0)) before after (Some old) (Some begun)
 
 -- the node took a packet line, and what came of it was printed; or it refuses the line for that fault
 abbrev pub TakesOrRefuses : (line : List ℕ) (fault : Option BadLine) (before after : JobNodeValue) (old new : Option (List ℕ)) → Type 0
@@ -148,24 +166,46 @@ abbrev pub DoesBy : (is_long : Bool) → Asks → (line : List ℕ) (fault : Opt
 DoesBy true asks line fault before after old new = RefusesLong (words_of line) asks fault before after old new
 DoesBy false asks line fault before after old new = DoesAsked asks line fault before after old new
 
--- the line did what it asks for, or nothing for that fault
-pub record Does (line : List ℕ) (fault : Option BadLine) (before after : JobNodeValue) (old new : Option (List ℕ)) : Type 0
-  where
-    pub asks : Asks
-    pub asked : IsAsked (words_of line) asks
-    pub done : DoesBy (nat_lt MAX_LINE (length line)) asks line fault before after old new
+-- the words before the number of a line's fault
+abbrev pub fault_words : (number : ℕ) → List ℕ
+fault_words number = codes "line " ++ decimal number ++ codes " fault "
 
 -- of a line that has a fault that was printed, with its number
 abbrev pub IsFaultPrinted : (number : ℕ) → Option BadLine → (old new : Option (List ℕ)) → Type 0
 IsFaultPrinted number None old new = new ≡ old
 IsFaultPrinted number (Some fault) old new = Appends old new (fault_line (AtLine number fault))
 
--- the line, which came as the one of that number, did what it asks for, and what is due for it was printed; it is bad
--- where it has a fault
-pub record Answers (line : List ℕ) (number : ℕ) (before after : JobNodeValue) (old new : Option (List ℕ)) (is_bad : Bool) :
+-- the node took a packet line or refuses it, and behind a text stands what came of it, or its fault
+pub record TakesAndTells (line : List ℕ) (number : ℕ) (is_bad : Bool) (before after : JobNodeValue) (old new : List ℕ) :
+    Type 0 where
+  pub fault : Option BadLine
+  pub between : List ℕ
+  pub taken : TakesOrRefuses line fault before after (Some old) (Some between)
+  pub told : IsFaultPrinted number fault (Some between) (Some new)
+  pub bad : is_bad ≡ is_some fault
+
+-- the write of an instrument was done, and what is due for it was printed; or not, for a fault that was printed
+pub record AnswersSetting (words : List (List ℕ)) (number : ℕ) (before after : JobNodeValue) (old new : Option (List ℕ)) (is_bad : Bool) :
     Type 0 where
   pub fault : Option BadLine
   pub between : Option (List ℕ)
-  pub does : Does line fault before after old between
+  pub done : SetsOrRefuses words fault before after old between
   pub told : IsFaultPrinted number fault between new
   pub bad : is_bad ≡ is_some fault
+
+-- the line, which came as the one of that number, did what it asks for, and what is due for it was printed; it is bad
+-- where it has a fault
+pub record AnswersAsked (is_long : Bool) (asks : Asks) (line : List ℕ) (number : ℕ) (before after : JobNodeValue)
+    (old new : Option (List ℕ)) (is_bad : Bool) : Type 0 where
+  pub fault : Option BadLine
+  pub between : Option (List ℕ)
+  pub done : DoesBy is_long asks line fault before after old between
+  pub told : IsFaultPrinted number fault between new
+  pub bad : is_bad ≡ is_some fault
+
+-- the same, by what its words ask for and by its length
+pub record Answers (line : List ℕ) (number : ℕ) (before after : JobNodeValue) (old new : Option (List ℕ)) (is_bad : Bool) :
+    Type 0 where
+  pub asks : Asks
+  pub asked : IsAsked (words_of line) asks
+  pub answered : AnswersAsked (nat_lt MAX_LINE (length line)) asks line number before after old new is_bad

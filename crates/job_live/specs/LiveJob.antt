@@ -17,7 +17,7 @@ use Rattle.job_parts.specs.declared.stops.Halt.{Halt}
 use Rattle.job_parts.specs.declared.stops.Halt.TheVariants.{Ended, Unwritten}
 use Rattle.job_parts.specs.declared.stops.WriteFault.{WriteFault}
 use Rattle.job_nodes.specs.JobNode.{IsFresh, JobNodeValue}
-use Rattle.job_live.specs.Answering.{Answers}
+use Rattle.job_live.specs.Answering.{Answers, TellsJournal}
 use Rattle.job_live.specs.Talking.{Comes, Misses, Sends}
 
 -- how many lines are counted: no talk gets there
@@ -57,12 +57,41 @@ module _ {T : Type 0} (came : Comes T) (sent : Sends T) where
     pub talks : Talks lines 0 before after start last some_bad
     pub ended : came last None stop ⊎ ((stop ≡ last) × (length lines ≡ most_lines))
 
+-- where no more lines come the journal was handed out, and its entries were sent
+pub record SendsEnd {T : Type 0} (sent : Sends T) (before after : JobNodeValue) (start stop : T) : Type 0 where
+  pub text : List ℕ
+  pub told : TellsJournal before after (Some []) (Some text)
+  pub left : sent start text stop
+
+-- a whole talk, behind which the entries of the journal were sent
+pub record EndsTalk {T : Type 0} (came : Comes T) (sent : Sends T) (before after : JobNodeValue) (start stop : T) (some_bad : Bool) : Type 0
+  where
+    pub behind : JobNodeValue
+    pub last : T
+    pub talk : IsWholeTalk came sent before behind start last some_bad
+    pub end : SendsEnd sent behind after last stop
+
+-- the entries of the journal were not sent where no more lines came: memory was refused to them, and the node is as before;
+-- or they could not be sent
+abbrev pub IsEndUnsent : {T : Type 0} (unsent : Sends T) (before after : JobNodeValue) (start stop : T) → Halt → Type 0
+IsEndUnsent unsent before after start stop (Ended fault) = (fault ≡ NoMemory) × (after ≡ before) × (stop ≡ start)
+IsEndUnsent unsent before after start stop (Unwritten refused) = SendsEnd unsent before after start stop
+
+-- the line that is sent last, of the fault that cut a talk off; where memory was refused to it, that there is none
+abbrev pub IsLastLine : Fault → List ℕ → Type 0
+IsLastLine fault text = (text ≡ fault_line fault) ⊎ (text ≡ fault_line NoMemory)
+
+-- the line of a fault was sent last, or could not be sent
+pub record TellsLast {T : Type 0} (sent : Sends T) (fault : Fault) (start stop : T) : Type 0 where
+  pub text : List ℕ
+  pub is_last : IsLastLine fault text
+  pub left : sent start text stop
+
 module _ {T : Type 0} (came : Comes T) (sent unsent : Sends T) (missed : Misses T) where
   -- a line came, and an answer was made to it on the node, of which not all could be sent
-  pub record LosesAnswer (number : ℕ) (before : JobNodeValue) (start stop : T) : Type 0 where
+  pub record LosesAnswer (number : ℕ) (before after : JobNodeValue) (start stop : T) : Type 0 where
     pub line : List ℕ
     pub heard : T
-    pub after : JobNodeValue
     pub text : List ℕ
     pub is_bad : Bool
     pub line_came : came start (Some line) heard
@@ -70,21 +99,35 @@ module _ {T : Type 0} (came : Comes T) (sent unsent : Sends T) (missed : Misses 
     pub lost : unsent heard text stop
 
   -- why no line of this number was answered: it could not be read; it came, but memory was refused to its answer, of which
-  -- nothing was sent; or its answer could not be sent
-  abbrev pub IsUnanswered : (number : ℕ) (before : JobNodeValue) (start stop : T) → Halt → Type 0
-  IsUnanswered number before start stop (Ended fault) =
-      ((file : Bor (List ℕ)) × (fault ≡ CannotRead file) × (file.now ≡ codes "-") × missed start stop)
-      ⊎ ((fault ≡ NoMemory) × (line : List ℕ) × came start (Some line) stop)
-  IsUnanswered number before start stop (Unwritten refused) = LosesAnswer number before start stop
+  -- nothing was sent, and the node is as before; or its answer could not be sent
+  abbrev pub IsUnanswered : (number : ℕ) (before after : JobNodeValue) (start stop : T) → Halt → Type 0
+  IsUnanswered number before after start stop (Ended fault) =
+      (after ≡ before)
+      × (((file : Bor (List ℕ)) × (fault ≡ CannotRead file) × (file.now ≡ codes "-") × missed start stop)
+      ⊎ ((fault ≡ NoMemory) × (line : List ℕ) × came start (Some line) stop))
+  IsUnanswered number before after start stop (Unwritten refused) = LosesAnswer number before after start stop
 
   -- some lines came and were answered in turn, and then the next was not
-  pub record IsBrokenOff (before : JobNodeValue) (start stop : T) (halt : Halt) : Type 0 where
+  pub record IsBrokenOff (before after : JobNodeValue) (start stop : T) (halt : Halt) : Type 0 where
     pub lines : List (List ℕ)
     pub left : JobNodeValue
     pub last : T
     pub some_bad : Bool
     pub talks : Talks came sent lines 0 before left start last some_bad
-    pub unanswered : IsUnanswered (suc (length lines)) left last stop halt
+    pub unanswered : IsUnanswered (suc (length lines)) left after last stop halt
+
+  -- a whole talk, behind which the entries of the journal were not sent
+  pub record StopsAtEnd (before after : JobNodeValue) (start stop : T) (halt : Halt) : Type 0 where
+    pub some_bad : Bool
+    pub behind : JobNodeValue
+    pub last : T
+    pub talk : IsWholeTalk came sent before behind start last some_bad
+    pub end_unsent : IsEndUnsent unsent behind after last stop halt
+
+  -- a line was not answered, or only the entries of the journal were not sent
+  abbrev pub StopsTalk : (before after : JobNodeValue) (start stop : T) → Halt → Type 0
+  StopsTalk before after start stop halt =
+      IsBrokenOff before after start stop halt ⊎ StopsAtEnd before after start stop halt
 
 module _ {S : Type 0} (reads : Reads S) (words : NodeWords) where
   -- the node is a fresh one of these words, whose commands the program judges that its files give, which is justified on it,
@@ -110,20 +153,21 @@ module _ {S : Type 0} (reads : Reads S) (words : NodeWords) where
 
 module _ {S T : Type 0} (reads : Reads S) (came : Comes T) (sent unsent : Sends T) (missed : Misses T) (words : NodeWords)
   where
-    -- a whole talk was held on the node of the words
+    -- a whole talk was held on the node of the words, and the entries of its journal were sent last
     pub record HoldsTalk (before after : S) (start stop : T) (some_bad : Bool) : Type 0 where
       pub fresh : JobNodeValue
       pub left : JobNodeValue
       pub node : IsLiveNode reads words before fresh after
-      pub talk : IsWholeTalk came sent fresh left start stop some_bad
+      pub talk : EndsTalk came sent fresh left start stop some_bad
 
-    -- a talk on the node of the words was broken off
+    -- a talk on the node of the words was cut off, with the node left so
     pub record BreaksTalk (before after : S) (start stop : T) (halt : Halt) : Type 0 where
       pub fresh : JobNodeValue
+      pub left : JobNodeValue
       pub node : IsLiveNode reads words before fresh after
-      pub broken : IsBrokenOff came sent unsent missed fresh start stop halt
+      pub broken : StopsTalk came sent unsent missed fresh left start stop halt
 
-    -- why no whole talk was held: there is no such node, and nothing came or was sent; or a talk was broken off
+    -- why no whole talk was held: there is no such node, and nothing came or was sent; or a talk was cut off
     abbrev pub IsCutOff : (before after : S) (start stop : T) → Halt → Type 0
     IsCutOff before after start stop (Ended fault) =
         (IsNoLiveNode reads words before after fault × (stop ≡ start))
@@ -135,14 +179,14 @@ module _ {S T : Type 0} (reads : Reads S) (came : Comes T) (sent unsent : Sends 
       pub fault : Fault
       pub broken : T
       pub cut_off : IsCutOff before after start broken (Ended fault)
-      pub told : sent broken (fault_line fault) stop
+      pub told : TellsLast sent fault broken stop
 
-    -- a fault cut the talk off, and its line could not be sent, or memory was refused to it
+    -- a fault cut the talk off, and its line could not be sent
     pub record LosesFault (before after : S) (start stop : T) : Type 0 where
       pub fault : Fault
       pub broken : T
       pub cut_off : IsCutOff before after start broken (Ended fault)
-      pub lost : unsent broken (fault_line fault) stop ⊎ (stop ≡ broken)
+      pub lost : TellsLast unsent fault broken stop
 
     -- the exit status is 0 where a whole talk was held and no line was bad, and 1 where one was, or a fault cut it off
     abbrev pub Lives : (before after : S) (start stop : T) → Status → Type 0
@@ -151,7 +195,7 @@ module _ {S T : Type 0} (reads : Reads S) (came : Comes T) (sent unsent : Sends 
         HoldsTalk before after start stop true ⊎ TellsFault before after start stop
     Lives before after start stop Misused = ⊥
 
-    -- the last text could not be sent: the answer to a line, or the line of a fault
+    -- the last text could not be sent: the answer to a line, the entries of the journal, or the line of a fault
     abbrev pub IsUnsent : (before after : S) (start stop : T) → WriteFault → Type 0
     IsUnsent before after start stop refused =
         IsCutOff before after start stop (Unwritten refused) ⊎ LosesFault before after start stop

@@ -1,17 +1,20 @@
 //! The answer to a line.
 
-ghost use Rattle.std.specs.Prelude.{◌≡◌, IfErr, IfOk, OnOk, map, slice_get, true};
+ghost use Rattle.std.specs.Prelude.{◌≡◌, ◌≤◌, ◌+◌, ◌++◌, [], ℕ, List, IfErr, IfOk, OnErr, OnOk, Some, false, length, map, slice_get, true};
+ghost use Rattle.std.specs.Vec.{vec_capacity, vec_len};
 ghost use Rattle.job_nodes.specs.JobNode.{is_full};
-ghost use Rattle.job_live.specs.Answering.{Answers, Does, IsFaultByPort, IsLongFault, MakesRoom, MeetsRoom, SetsOrRefuses, IsUnset, TakesOrRefuses, TellsJournal, TellsSetting, WritesInside, is_inside};
+ghost use Rattle.job_parts.specs.Printed.{Prints, fault_line};
+ghost use Rattle.job_parts.specs.declared.faults.Fault.TheVariants.{BadLine as AtLine};
+ghost use Rattle.job_live.specs.Answering.{Answers, AnswersAsked, AnswersSetting, IsFaultByPort, IsLongFault, IsReady, IsUnset, PrintsFull, TakesAndTells, TellsJournal, TellsSetting, TurnsFull, WritesInside, fault_words, is_inside};
 ghost use Rattle.job_live.specs.Asks.{IsAsked};
-ghost use Rattle.job_live.specs.declared.asks.Asks.TheVariants.{Set};
+ghost use Rattle.job_live.specs.declared.asks.Asks.TheVariants.{Packet, Set};
 
 use crate::asks::{Asks, asked};
 use crate::cell_lines::print_cells;
+use crate::putting::{MOST_OF_PACKET, drop_words, put_code, put_served};
 use crate::settings::{Setting, read_setting};
 use crate::telling::print_journal;
-use job_nodes::judge::print_served;
-use job_nodes::node::{JobNode, fresh_journal};
+use job_nodes::node::JobNode;
 use job_parts::bad_lines::BadLine;
 use job_parts::faults::Fault;
 use spw::{LineFault, read_port, words_of};
@@ -21,58 +24,114 @@ use std::io::{self, Write};
 /// How many bytes a line has at most. Any packet line has fewer, if it has no more than one space between two words.
 pub const MAX_LINE: usize = 16_384;
 
-/// Hands the journal of the node out, and prints its entries.
-fn hand_out<W: Write>(alloc: Global, node: &mut JobNode, out: &mut W) -> io::Result<()>
-    ensures { OnOk result
+/// Prints the entries of the journal of the node, and then begins an empty one.
+pub fn hand_out<W: Write>(node: &mut JobNode, out: &mut W) -> io::Result<()>
+    ensures tells { OnOk result
         (TellsJournal node.old node.new (W.contents out.old) (W.contents out.new)) }
+    ensures kept { OnErr result (node.new ≡ node.old) }
 {
-    let journal = node.rotate(fresh_journal(alloc)?);
-    print_journal(out, journal.entries())
-}
-
-/// Hands the journal out where it is full.
-fn make_room<W: Write>(alloc: Global, node: &mut JobNode, out: &mut W) -> io::Result<()>
-    ensures { OnOk result (MakesRoom (is_full (slice_get node.old.banks 0)) node.old node.new
-        (W.contents out.old) (W.contents out.new)) }
-{
-    if node.is_full() {
-        hand_out(alloc, node, out)?;
-    }
+    print_journal(out, node.entries())?;
+    node.turn();
     Ok(())
 }
 
-/// Takes a line on the node, and prints what came of it, or tells its fault.
-fn take_line<W: Write>(
-    alloc: Global,
-    node: &mut JobNode,
-    line: &str,
-    out: &mut W,
-) -> io::Result<Option<BadLine>>
-    ensures { IfOk result (λ fault. TakesOrRefuses line.now fault node.old node.new
+/// Prints the entries of the journal of the node, if it is full.
+fn print_full<W: Write>(node: &JobNode, out: &mut W) -> io::Result<()>
+    ensures { OnOk result (PrintsFull (is_full (slice_get node.now.banks 0)) node.now
         (W.contents out.old) (W.contents out.new)) }
 {
-    match node.take_line(alloc, line) {
-        Ok(Some((port, served))) => {
-            print_served(out, port, served, node.reply())?;
-            Ok(None)
-        }
-        Ok(None) => Ok(None),
-        Err(fault) => Ok(Some(fault)),
+    if !node.is_full() {
+        return Ok(());
+    }
+    print_journal(out, node.entries())
+}
+
+/// Begins an empty journal in the place of one that is full.
+fn turn_full(node: &mut JobNode)
+    ensures { TurnsFull (is_full (slice_get node.old.banks 0)) node.old node.new }
+{
+    if node.is_full() {
+        node.turn();
     }
 }
 
-/// Takes a packet line, for whose command the journal has room then.
-fn take_packet<W: Write>(
+/// Hands the journal out, if it is full, before a packet is served: its entries stand behind the text then, and behind them
+/// these words, and room for so many bytes more. Gives where the words begin.
+///
+/// Where memory is refused the node is as before.
+#[tactic(auto, using(crate::proofs::Taken::makes_room))]
+pub fn make_room(
+    node: &mut JobNode,
+    words: &[u8],
+    more: usize,
+    text: &mut Vec<u8>,
+) -> io::Result<usize>
+    ensures ready { IfOk result (λ end. IsReady words.now end node.old node.new
+        text.old.items text.new.items) }
+    ensures room { OnOk result (vec_len text.new + more ≤ vec_capacity text.new) }
+    ensures kept { OnErr result (node.new ≡ node.old) }
+{
+    print_full(node, text)?;
+    let end = text.len();
+    text.extend_from_slice(words)?;
+    text.reserve(more)?;
+    turn_full(node);
+    Ok(end)
+}
+
+/// The words before the number of a line's fault.
+fn fault_words(alloc: Global, number: usize) -> io::Result<Vec<u8>>
+    ensures { IfOk result (λ words. words.items ≡ fault_words number) }
+{
+    let mut words = Vec::new(alloc);
+    write!(words, "line {number} fault ")?;
+    Ok(words)
+}
+
+/// Takes a packet line on the node, and puts what came of it in the place of the words that stand in the text from `end` on:
+/// those before the number of a fault. Whether the line is bad. Conditions: they stand there, and behind them is room for the
+/// longest line ([`MOST_OF_PACKET`]).
+#[tactic(auto, using(crate::proofs::PutText::small_number))]
+fn take_line(alloc: Global, node: &mut JobNode, line: &str, end: usize, text: &mut Vec<u8>) -> bool
+    requires { vec_len text.old + MOST_OF_PACKET ≤ vec_capacity text.old }
+    ensures { (begun : List ℕ) (number : ℕ) → length begun ≡ end
+        → text.old.items ≡ begun ++ fault_words number
+        → TakesAndTells line.now number result node.old node.new begun text.new.items }
+{
+    match node.take_line(alloc, line) {
+        Ok(Some((port, served))) => {
+            drop_words(text, end);
+            put_served(text, port, served, node.reply());
+            false
+        }
+        Ok(None) => {
+            drop_words(text, end);
+            false
+        }
+        Err(fault) => {
+            put_code(text, fault.number());
+            true
+        }
+    }
+}
+
+/// Takes a packet line, for whose command the journal has room then, and puts what is due for it behind a text: whether the
+/// line is bad. Memory is taken before anything is done.
+#[tactic(auto, using(crate::proofs::Taken::packet_answered))]
+fn answer_packet(
     alloc: Global,
     node: &mut JobNode,
     line: &str,
-    out: &mut W,
-) -> io::Result<Option<BadLine>>
-    ensures { IfOk result (λ fault. MeetsRoom line.now fault node.old node.new
-        (W.contents out.old) (W.contents out.new)) }
+    number: usize,
+    text: &mut Vec<u8>,
+) -> io::Result<bool>
+    ensures answers { IfOk result (AnswersAsked false Packet line.now number node.old node.new
+        (Some text.old.items) (Some text.new.items)) }
+    ensures kept { OnErr result (node.new ≡ node.old) }
 {
-    make_room(alloc, node, out)?;
-    take_line(alloc, node, line, out)
+    let words = fault_words(alloc, number)?;
+    let end = make_room(node, words.as_slice(), MOST_OF_PACKET, text)?;
+    Ok(take_line(alloc, node, line, end, text))
 }
 
 /// Whether the bytes of a write lie in the bank of the node.
@@ -98,44 +157,54 @@ fn setting_inside(alloc: Global, node: &JobNode, words: &[&str]) -> Result<Setti
     }
 }
 
-/// Hands the journal out, and then puts the bytes of a write into memory. It prints the entries, and how many bytes were
-/// set.
+/// Puts the bytes of a write into memory, behind which an empty journal begins. Before that it prints the entries of the one
+/// that is there, and how many bytes are set.
 #[tactic(auto, unfolding(crate::specs::Answering::is_inside))]
-fn set_bytes<W: Write>(
-    alloc: Global,
-    node: &mut JobNode,
-    setting: &Setting,
-    out: &mut W,
-) -> io::Result<()>
+fn set_bytes<W: Write>(node: &mut JobNode, setting: &Setting, out: &mut W) -> io::Result<()>
     requires { is_inside node.old setting.now ≡ true }
-    ensures { OnOk result (TellsSetting setting.now node.old node.new
+    ensures tells { OnOk result (TellsSetting setting.now node.old node.new
         (W.contents out.old) (W.contents out.new)) }
+    ensures kept { OnErr result (node.new ≡ node.old) }
 {
-    let fresh = fresh_journal(alloc)?;
     let bytes = setting.bytes.as_slice();
-    let journal = node.set(setting.address, bytes, fresh);
-    print_journal(out, journal.entries())?;
     let count = bytes.len();
-    writeln!(out, "set {count}")
+    print_journal(out, node.entries())?;
+    writeln!(out, "set {count}")?;
+    node.set(setting.address, bytes);
+    Ok(())
 }
 
-/// Does the write of an instrument, or tells why not.
-fn take_setting<W: Write>(
+/// Prints the fault of a line.
+fn print_fault<W: Write>(out: &mut W, number: usize, fault: BadLine) -> io::Result<()>
+    ensures { OnOk result
+        (Prints W.contents out.old out.new (fault_line (AtLine number fault))) }
+{
+    let fault = Fault::BadLine { number, fault };
+    writeln!(out, "{fault}")
+}
+
+/// Does the write of an instrument, and prints what is due for it, or why it is not done: whether the line is bad.
+fn answer_setting<W: Write>(
     alloc: Global,
     node: &mut JobNode,
     words: &[&str],
+    number: usize,
     out: &mut W,
-) -> io::Result<Option<BadLine>>
+) -> io::Result<bool>
     requires { IsAsked (map (λ word. word.now) words.now) Set }
-    ensures { IfOk result (λ fault. SetsOrRefuses (map (λ word. word.now) words.now) fault
+    ensures answers { IfOk result (AnswersSetting (map (λ word. word.now) words.now) number
         node.old node.new (W.contents out.old) (W.contents out.new)) }
+    ensures kept { OnErr result (node.new ≡ node.old) }
 {
     match setting_inside(alloc, node, words) {
         Ok(setting) => {
-            set_bytes(alloc, node, &setting, out)?;
-            Ok(None)
+            set_bytes(node, &setting, out)?;
+            Ok(false)
         }
-        Err(fault) => Ok(Some(fault)),
+        Err(fault) => {
+            print_fault(out, number, fault)?;
+            Ok(true)
+        }
     }
 }
 
@@ -162,54 +231,53 @@ fn long_fault(words: &[&str], asks: Asks) -> BadLine
     }
 }
 
-/// Does what a line asks for, and prints what is due; or tells its fault.
-fn do_asked<W: Write>(
-    alloc: Global,
-    node: &mut JobNode,
-    line: &str,
-    out: &mut W,
-) -> io::Result<Option<BadLine>>
-    ensures { IfOk result (λ fault. Does line.now fault node.old node.new
-        (W.contents out.old) (W.contents out.new)) }
-{
-    let words = words_of(alloc, line)?;
-    let asks = asked(words.as_slice());
-    if line.len() > MAX_LINE {
-        return Ok(Some(long_fault(words.as_slice(), asks)));
-    }
-    match asks {
-        Asks::Packet => take_packet(alloc, node, line, out),
-        Asks::Journal => {
-            hand_out(alloc, node, out)?;
-            Ok(None)
-        }
-        Asks::Cells => {
-            print_cells(out, node)?;
-            Ok(None)
-        }
-        Asks::Set => take_setting(alloc, node, words.as_slice(), out),
-    }
-}
-
-/// Does what a line asks for, which came as the one of that number, and prints what is due for it: whether the line is bad.
+/// Does what a line asks for, which came as the one of that number, and puts what is due for it behind a text: whether the
+/// line is bad.
 ///
 /// Of a bad line that is `line K fault C`: the faults are those of [`JobNode::take_line`] and [`read_setting`], `NoPort` for
 /// bytes that do not lie in the bank, and of a line over [`MAX_LINE`] bytes `TooLong`, or `NoPort` where it begins as no
 /// packet line and no write. Before a packet line is taken a journal that is full is handed out.
-pub fn answer<W: Write>(
+///
+/// Where memory is refused the node is as before the line.
+pub fn answer(
     alloc: Global,
     node: &mut JobNode,
     line: &str,
     number: usize,
-    out: &mut W,
+    text: &mut Vec<u8>,
 ) -> io::Result<bool>
-    ensures { IfOk result (Answers line.now number node.old node.new
-        (W.contents out.old) (W.contents out.new)) }
+    ensures answers { IfOk result (Answers line.now number node.old node.new
+        (Some text.old.items) (Some text.new.items)) }
+    ensures kept { OnErr result (node.new ≡ node.old) }
 {
-    let Some(fault) = do_asked(alloc, node, line, out)? else {
-        return Ok(false);
-    };
-    let fault = Fault::BadLine { number, fault };
-    writeln!(out, "{fault}")?;
-    Ok(true)
+    let words = words_of(alloc, line)?;
+    let asks = asked(words.as_slice());
+    if line.len() > MAX_LINE {
+        print_fault(text, number, long_fault(words.as_slice(), asks))?;
+        return Ok(true);
+    }
+    match asks {
+        Asks::Packet => answer_packet(alloc, node, line, number, text),
+        Asks::Journal => {
+            hand_out(node, text)?;
+            Ok(false)
+        }
+        Asks::Cells => {
+            print_cells(text, node)?;
+            Ok(false)
+        }
+        Asks::Set => answer_setting(alloc, node, words.as_slice(), number, text),
+    }
+}
+
+/// The entries of the journal of the node, which are the last text of a talk: an empty journal begins.
+///
+/// Where memory is refused the node is as before.
+pub fn last_text(alloc: Global, node: &mut JobNode) -> io::Result<Vec<u8>>
+    ensures tells { IfOk result (λ text. TellsJournal node.old node.new (Some []) (Some text.items)) }
+    ensures kept { OnErr result (node.new ≡ node.old) }
+{
+    let mut text = Vec::new(alloc);
+    hand_out(node, &mut text)?;
+    Ok(text)
 }

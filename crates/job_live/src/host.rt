@@ -1,6 +1,7 @@
 //! The talk of this machine: standard input and standard output.
 
-ghost use Rattle.std.specs.Prelude.{⊤};
+ghost use Rattle.std.specs.Prelude.{⊤, OnOk};
+ghost use Rattle.std.specs.Io.KnownBytes.{Appends};
 
 use crate::answering::MAX_LINE;
 use crate::talk::Talk;
@@ -11,8 +12,8 @@ use std::io::{self, BufRead, Read, Write};
 /// What stands for a byte that is no ASCII character, which is in no word that a line may have.
 const FOREIGN: char = '?';
 
-/// A talk over a reader and a writer. A byte that is no ASCII character is read as `?`, and of a line over
-/// [`MAX_LINE`] bytes one byte more than those is kept.
+/// A talk over a reader and a writer. What is sent is appended; of the lines that come no contract speaks. A byte that is no
+/// ASCII character is read as `?`, and of a line over [`MAX_LINE`] bytes one byte more than those is kept.
 #[derive(Drop)]
 pub struct HostTalk<I: BufRead + Drop, W: Write + Drop> {
     input: I,
@@ -65,16 +66,23 @@ impl<I: BufRead + Drop, W: Write + Drop> HostTalk<I, W> {
     }
 
     /// Writes all of a text, and holds none of it back.
-    fn write(&mut self, text: &[u8]) -> io::Result<()> {
+    fn write(&mut self, text: &[u8]) -> io::Result<()>
+        ensures { OnOk result
+            (Appends (W.contents self.old.output) (W.contents self.new.output) text.now) }
+    {
         self.output.write_all(text)?;
         self.output.flush()
     }
 }
 
 impl<I: BufRead + Drop, W: Write + Drop> Talk for HostTalk<I, W> {
+    ghost use Rattle.std.specs.Prelude.{ℕ, List, Option};
+    ghost use Rattle.std.specs.Io.KnownBytes.{Appends};
+
     ghost came = { λ _ _ _. ⊤ };
 
-    ghost sent = { λ _ _ _. ⊤ };
+    ghost sent = { λ before text after.
+        Appends (W.contents before.output) (W.contents after.output) text };
 
     ghost missed = { λ _ _. ⊤ };
 

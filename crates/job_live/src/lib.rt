@@ -6,6 +6,7 @@ pub mod asks;
 pub mod cell_lines;
 pub mod host;
 pub mod live;
+pub mod putting;
 pub mod settings;
 pub mod talk;
 pub mod telling;

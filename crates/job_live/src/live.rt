@@ -1,11 +1,10 @@
 //! The job `live`.
 
-ghost use Rattle.std.specs.Prelude.{◌≡◌, ◌||◌, ◌⊎◌, IfErr, IfOk, OnOk, if◌then◌else◌};
-ghost use Rattle.job_parts.specs.Printed.{fault_line};
+ghost use Rattle.std.specs.Prelude.{◌≡◌, ◌||◌, IfErr, IfOk, OnOk, if◌then◌else◌};
 ghost use Rattle.job_parts.specs.declared.status.Status.TheVariants.{Done, Failed};
-ghost use Rattle.job_live.specs.LiveJob.{Exchanges, HoldsTalk, IsBrokenOff, IsCutOff, IsLiveNode, IsNoLiveNode, IsUnanswered, IsUnsent, IsWholeTalk, Lives};
+ghost use Rattle.job_live.specs.LiveJob.{EndsTalk, Exchanges, HoldsTalk, IsBrokenOff, IsCutOff, IsEndUnsent, IsLiveNode, IsNoLiveNode, IsUnanswered, IsUnsent, IsWholeTalk, Lives, SendsEnd, StopsTalk, TellsLast};
 
-use crate::answering::answer;
+use crate::answering::{answer, last_text};
 use crate::talk::Talk;
 use job_nodes::node::JobNode;
 use job_parts::factory::judging_program;
@@ -20,6 +19,9 @@ use std::io::Write;
 /// The name of standard input, where the lines cannot be read.
 const STANDARD_INPUT: &str = "-";
 
+/// The line of want of memory, which takes none.
+pub const NO_MEMORY: &[u8] = b"no memory\n";
+
 /// Takes the next line, and sends what is due for it: whether it is bad, or `None` where no more came.
 fn exchange<'a, T: Talk>(
     alloc: Global,
@@ -29,8 +31,8 @@ fn exchange<'a, T: Talk>(
 ) -> Result<Option<bool>, Halt<'a>>
     ensures exchanged { IfOk result (λ went. Exchanges T.came T.sent number went
         node.old node.new talk.old talk.new) }
-    ensures stops { IfErr result (IsUnanswered T.came T.sent T.unsent T.missed number node.old
-        talk.old talk.new) }
+    ensures stops { IfErr result (IsUnanswered T.came T.sent T.unsent T.missed number
+        node.old node.new talk.old talk.new) }
 {
     let mut line = String::new(alloc);
     let Ok(is_given) = talk.next(&mut line) else {
@@ -59,8 +61,8 @@ fn either(first: bool, second: bool) -> bool
 /// Holds a talk to its end: whether one of its lines was bad.
 fn hold<'a, T: Talk>(alloc: Global, node: &mut JobNode, talk: &mut T) -> Result<bool, Halt<'a>>
     ensures held { IfOk result (IsWholeTalk T.came T.sent node.old node.new talk.old talk.new) }
-    ensures stops { IfErr result (IsBrokenOff T.came T.sent T.unsent T.missed node.old
-        talk.old talk.new) }
+    ensures stops { IfErr result (IsBrokenOff T.came T.sent T.unsent T.missed
+        node.old node.new talk.old talk.new) }
 {
     let mut some_bad = false;
     for number in 1..usize::MAX {
@@ -69,6 +71,31 @@ fn hold<'a, T: Talk>(alloc: Global, node: &mut JobNode, talk: &mut T) -> Result<
         };
         some_bad = either(some_bad, is_bad);
     }
+    Ok(some_bad)
+}
+
+/// Sends what is sent last, where no more lines come: the entries of the journal, which is handed out.
+fn send_end<'a, T: Talk>(alloc: Global, node: &mut JobNode, talk: &mut T) -> Result<(), Halt<'a>>
+    ensures sent { OnOk result (SendsEnd T.sent node.old node.new talk.old talk.new) }
+    ensures stops { IfErr result (IsEndUnsent T.unsent node.old node.new talk.old talk.new) }
+{
+    let text = last_text(alloc, node).map_err(|_| Halt::Ended(Fault::NoMemory))?;
+    let sent = talk.send(text.as_slice());
+    sent.map_err(|_| Halt::Unwritten(WriteFault))
+}
+
+/// Holds a talk to its end, and sends the entries of the journal: whether one of its lines was bad.
+fn hold_to_end<'a, T: Talk>(
+    alloc: Global,
+    node: &mut JobNode,
+    talk: &mut T,
+) -> Result<bool, Halt<'a>>
+    ensures held { IfOk result (EndsTalk T.came T.sent node.old node.new talk.old talk.new) }
+    ensures stops { IfErr result (StopsTalk T.came T.sent T.unsent T.missed
+        node.old node.new talk.old talk.new) }
+{
+    let some_bad = hold(alloc, node, talk)?;
+    send_end(alloc, node, talk)?;
     Ok(some_bad)
 }
 
@@ -83,7 +110,7 @@ fn live_node<'a, F: Files>(
 {
     let image = words.image.as_deref();
     let program = judging_program(alloc, files, image, words.sizes)?;
-    JobNode::new(alloc, words.ports, program)
+    Ok(JobNode::new(alloc, words.ports, program)?)
 }
 
 /// Holds a talk on the node of these words to its end: whether one of its lines was bad.
@@ -99,18 +126,20 @@ fn live_on<'a, F: Files, T: Talk>(
         files.old files.new talk.old talk.new) }
 {
     let mut node = live_node(alloc, words, files)?;
-    hold(alloc, &mut node, talk)
+    hold_to_end(alloc, &mut node, talk)
 }
 
-/// Sends the line of the fault that cut a talk off.
+/// Sends the line of the fault that cut a talk off; where memory is refused to it, that there is none.
 fn tell<T: Talk>(alloc: Global, fault: &Fault<'_>, talk: &mut T) -> Result<(), WriteFault>
-    ensures told { OnOk result (T.sent talk.old (fault_line fault.now) talk.new) }
-    ensures lost { IfErr result (λ _.
-        T.unsent talk.old (fault_line fault.now) talk.new ⊎ (talk.new ≡ talk.old)) }
+    ensures told { OnOk result (TellsLast T.sent fault.now talk.old talk.new) }
+    ensures lost { IfErr result (λ _. TellsLast T.unsent fault.now talk.old talk.new) }
 {
     let mut text = Vec::new(alloc);
-    writeln!(text, "{fault}")?;
-    talk.send(text.as_slice()).map_err(|_| WriteFault)
+    let told = match writeln!(text, "{fault}") {
+        Ok(()) => talk.send(text.as_slice()),
+        Err(_) => talk.send(NO_MEMORY),
+    };
+    told.map_err(|_| WriteFault)
 }
 
 /// The exit status of a whole talk.
@@ -125,11 +154,12 @@ fn status_of(some_bad: bool) -> Status
 }
 
 /// Answers the lines of a talk as they come, on the node of these words, and gives the exit status: `Failed` where a line
-/// was bad, or a fault cut the talk off, else `Done`. What is due for a line is sent before the next is asked for.
+/// was bad, or a fault cut the talk off, else `Done`. What is due for a line is sent before the next is asked for. Where no
+/// more lines come the journal is handed out, and its entries are sent last.
 ///
 /// What cuts it off is told last: what [`judging_program`] refuses, `CannotRead` where a line cannot be read, `NoMemory`.
 ///
-/// `WriteFault` where an answer could not be sent; nothing is sent after that.
+/// `WriteFault` where a text could not be sent; nothing is sent after that.
 pub fn live<F: Files, T: Talk>(
     alloc: Global,
     words: &NodeWords,

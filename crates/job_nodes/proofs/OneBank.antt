@@ -1,5 +1,5 @@
 -- The one bank of the node, and its ports, before and behind a packet and a journal that is handed out.
-use Rattle.std.proofs.Common.{◌≡◌, ◌<◌, ℕ, leb, Bool, true, false, List, ◌∷◌, [], length, Some, set, refl, sym, ap, arith, ◌∙◌}
+use Rattle.std.proofs.Common.{◌≡◌, ◌<◌, ◌≤◌, ℕ, leb, Bool, true, false, List, ◌∷◌, [], length, Some, set, refl, sym, ap, subst, arith, ◌∙◌}
 use Rattle.std.specs.Prelude.{map, slice_get, if◌then◌else◌}
 use Rattle.std.proofs.lemmas.List.{length-map, length-set}
 use Rattle.std.proofs.lemmas.Option.{get_or_from_slice_get}
@@ -11,9 +11,9 @@ use Rattle.node_parts.specs.Passes.{PassValue}
 use Rattle.node_parts.specs.Served.{IsAnswered, PartsValue}
 use Rattle.node_parts.specs.declared.served.Served.{Served}
 use Rattle.node_parts.specs.declared.served.Served.TheVariants.{Stopped, Unread, Done, Window}
-use Rattle.single_node.specs.Nodes.{SingleNodeValue}
+use Rattle.single_node.specs.Nodes.{Rotates, RotatesTo, SetsBytes as SetsAlone, SetsMemory, SingleNodeValue, room_in}
 use Rattle.single_node.specs.Serving.{Serves as ServesAlone}
-use Rattle.job_nodes.specs.JobNode.{HandsOut, IsJobNode, JobNodeValue, SetsBytes, alone, is_full, own_journal, rooms_of}
+use Rattle.job_nodes.specs.JobNode.{AreKept, HandsOut, IsJobNode, JobNodeValue, SetsBytes, alone, is_full, journal_of, own_journal, rooms_of}
 
 -- how many entries its journal has room for
 abbrev room : BankValue → ℕ
@@ -57,14 +57,20 @@ own_room : (banks : List BankValue) (b : BankValue) → rooms_of banks ≡ own_j
 own_room [] b rooms at = absurd cc
 own_room (x ∷ banks) b rooms at = cc
 
+own_room_in : (banks : List BankValue) → rooms_of banks ≡ own_journal.room ∷ [] → own_journal.room ≤ room_in (slice_get banks 0)
+own_room_in [] rooms = absurd cc
+own_room_in (x ∷ banks) rooms =
+    let same : x.journal.room ≡ own_journal.room = cc in
+    omega (arith, same)
+
 -- a bank in the place of the one, with a fresh journal
 rooms_afresh : (banks : List BankValue) (b new : BankValue) → rooms_of banks ≡ own_journal.room ∷ [] → slice_get banks 0 ≡ Some b → room new ≡ own_journal.room
     → rooms_of (set banks 0 new) ≡ own_journal.room ∷ []
 rooms_afresh banks b new rooms at fresh = rooms_stay banks 0 b new at (fresh ∙ sym (own_room banks b rooms at)) ∙ rooms
 
 -- a journal that is handed out leaves the node with one bank, and with its ports
-pub rotated_stays : (before after : JobNodeValue) (old : JournalValue) → HandsOut before after old → IsJobNode before → IsJobNode after
-rotated_stays before after old out is = record {
+pub turned_stays : (before after : JobNodeValue) (old : JournalValue) → HandsOut before after old → IsJobNode before → IsJobNode after
+turned_stays before after old out is = record {
   rooms = ap (λ (s : SingleNodeValue). rooms_of s.banks) out.rotated.rotated ∙ rooms_afresh before.banks out.rotated.bank _ is.rooms out.rotated.own refl;
   ports = ap (λ (xs : List (List ℕ)). length xs) out.kept.held ∙ is.ports ∙ sym (ap (λ (s : SingleNodeValue). length s.passes) out.rotated.rotated);
 }
@@ -75,6 +81,30 @@ set_stays address bytes before after old out is = record {
   rooms = ap (λ (s : SingleNodeValue). rooms_of s.banks) out.set.set ∙ rooms_afresh before.banks out.set.bank _ is.rooms out.set.own refl;
   ports = ap (λ (xs : List (List ℕ)). length xs) out.kept.held ∙ is.ports ∙ sym (ap (λ (s : SingleNodeValue). length s.passes) out.set.set);
 }
+
+-- the room of the journal of the one bank
+pub room_of_own : (s : JobNodeValue) → IsJobNode s → own_journal.room ≤ room_in (slice_get s.banks 0)
+room_of_own s is = own_room_in s.banks is.rooms
+
+-- an empty journal that began at the one bank: its own came out
+pub turned : (before after : JobNodeValue) → RotatesTo 0 own_journal.room (alone before) (alone after) → AreKept before after
+    → HandsOut before after (journal_of (slice_get before.banks 0))
+turned before after turn kept =
+    let own : turn.old ≡ journal_of (slice_get before.banks 0) = turn.rotates.journal ∙ ap journal_of (sym turn.rotates.own) in
+    record {
+      rotated = subst (λ (old : JournalValue). Rotates 0 own_journal (alone before) (alone after) old) own turn.rotates;
+      kept = kept;
+    }
+
+-- so with bytes that are set
+pub set_turned : (address : ℕ) (bytes : List ℕ) (before after : JobNodeValue) → SetsAlone 0 address bytes own_journal.room (alone before) (alone after) → AreKept before after
+    → SetsBytes address bytes before after (journal_of (slice_get before.banks 0))
+set_turned address bytes before after set kept =
+    let own : set.old ≡ journal_of (slice_get before.banks 0) = set.sets.journal ∙ ap journal_of (sym set.sets.own) in
+    record {
+      set = subst (λ (old : JournalValue). SetsMemory 0 address bytes own_journal (alone before) (alone after) old) own set.sets;
+      kept = kept;
+    }
 
 -- whether the journal is full, by the count of its entries
 pub full_by_count : (s : JobNodeValue) (b : BankValue) → IsJobNode s → slice_get s.banks 0 ≡ Some b

@@ -123,6 +123,11 @@ pub record RefusesLine (line : List ℕ) (fault : BadLine) (before after : JobNo
   pub unfed : IsNotFed line before.held held fault
   pub same : after ≡ with_held before held
 
+-- the journal of a bank, if there is one
+abbrev pub journal_of : Option BankValue → JournalValue
+journal_of None = record { entries = []; room = 0 }
+journal_of (Some b) = b.journal
+
 -- the journal of the bank, if there is one, has room for no more entries
 abbrev pub is_full : Option BankValue → Bool
 is_full None = false

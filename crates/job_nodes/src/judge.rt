@@ -21,7 +21,7 @@ use job_parts::stops::{Halt, LineHalt};
 use job_parts::storage::Files;
 use job_parts::turns::{TakesLines, take_lines};
 use node_parts::{Served, Stop};
-use rmap::Discard;
+use rmap::{Discard, Status as Answer};
 use std::alloc::{AllocError, Global};
 use std::io::{self, Write};
 use std::marker::Model;
@@ -55,10 +55,13 @@ pub fn print_served<W: Write>(out: &mut W, port: u8, served: Served, reply: &[u8
     }
 }
 
-/// A node that judges packet lines. Contracts see the node.
+/// A node that judges packet lines, how many it took, and the first whose command met a full journal. Contracts see the
+/// node.
 #[derive(Drop)]
 pub struct Judging {
     node: JobNode,
+    taken: usize,
+    full: Option<usize>,
 }
 
 impl Model for Judging {
@@ -69,6 +72,25 @@ impl Model for Judging {
     ghost view = { λ j. j.node };
 }
 
+/// Whether a command ended at its bank with a general error, as each does that finds its journal full.
+fn is_refused(served: Served) -> bool {
+    match served {
+        Served::Done(applied) => applied.status == Answer::GeneralError,
+        Served::Stopped(_) | Served::Unread | Served::Window(_) => false,
+    }
+}
+
+impl Judging {
+    /// Notes the line that was taken last, if its command is the first that met a full journal.
+    fn note(&mut self, served: Served)
+        ensures { self.new ≡ self.old }
+    {
+        if self.full.is_none() && is_refused(served) && self.node.is_full() {
+            self.full = Some(self.taken);
+        }
+    }
+}
+
 impl TakesLines for Judging {
     ghost takes = { Judges };
 
@@ -76,9 +98,11 @@ impl TakesLines for Judging {
 
     /// Takes one line, judges the packet that it ends, and prints what comes of it.
     fn take<W: Write>(&mut self, alloc: Global, line: &str, out: &mut W) -> Result<(), LineHalt> {
+        self.taken = self.taken.saturating_add(1);
         let Some((port, served)) = self.node.take_line(alloc, line)? else {
             return Ok(());
         };
+        self.note(served);
         Ok(print_served(out, port, served, self.node.reply())?)
     }
 }
@@ -96,11 +120,16 @@ fn lines_and_node<'a, F: Files>(
 {
     let (text, program) = lines_and_program(alloc, args, files)?;
     let node = JobNode::new(alloc, args.node.ports, program)?;
-    Ok((text, Judging { node }))
+    let judging = Judging {
+        node,
+        taken: 0,
+        full: None,
+    };
+    Ok((text, judging))
 }
 
 /// Judges the packet lines of a file by the program of an image file, or by the factory program, on the node
-/// of these arguments.
+/// of these arguments. `full` is then the first line whose command found the journal of the bank full, if there is one.
 ///
 /// Faults are found in this order: the file of lines (`CannotRead`, also where it is not UTF-8),
 /// the image file, its image, and then each line.
@@ -109,6 +138,7 @@ pub fn judge_file<'a, F: Files, W: Write>(
     args: &'a LinesArgs,
     files: &mut F,
     out: &mut W,
+    full: &mut Option<usize>,
 ) -> Result<Status, Halt<'a>>
     ensures done { IfOk result (IsDoneWith (JudgesFile F.reads args.now files.old files.new
         (W.contents out.old) (W.contents out.new))) }
@@ -116,6 +146,8 @@ pub fn judge_file<'a, F: Files, W: Write>(
         (W.contents out.old) (W.contents out.new))) }
 {
     let (text, mut judging) = lines_and_node(alloc, args, files)?;
-    take_lines(alloc, &mut judging, text.as_str(), out)?;
+    let taken = take_lines(alloc, &mut judging, text.as_str(), out);
+    *full = judging.full;
+    taken?;
     Ok(Status::Done)
 }

@@ -1,20 +1,18 @@
 //! The node that the jobs run.
 
-ghost use Rattle.std.specs.Prelude.{◌≡◌, ◌<◌, ◌↔◌, IfErr, IfOk, IsSome, length, slice_get, true};
-ghost use Rattle.job_nodes.specs.JobNode.{HandsOut, IsConfig, IsFresh, RefusesLine, Serves, SetsBytes, TakesLine, is_full, own_journal};
-ghost use Rattle.job_parts.specs.declared.faults.Fault.TheVariants.{NoMemory};
+ghost use Rattle.std.specs.Prelude.{◌≡◌, ◌≤◌, ◌<◌, ◌↔◌, IfErr, IfOk, IsSome, length, slice_get, true};
+ghost use Rattle.job_nodes.specs.JobNode.{HandsOut, IsConfig, IsFresh, RefusesLine, Serves, SetsBytes, TakesLine, is_full, journal_of};
 ghost use Rattle.machine.specs.Sizes.{IsInside};
 ghost use Rattle.node_programs.specs.Published.{sizes_of};
 ghost use Rattle.plain_cells.specs.Words.{word_in};
 ghost use Rattle.single_node.specs.Nodes.{covers_in};
 
 use crate::feeds::Feeds;
-use bank::Journal;
+use bank::Entry;
 use bver::{Accepted, MapSizes};
 use job_parts::bad_lines::BadLine;
-use job_parts::faults::Fault;
 use node_parts::{BankConfig, NodeConfig, Served};
-use rmap::ReplyBuf;
+use rmap::{MAX_REPLY, ReplyBuf};
 use single_node::SingleNode;
 use spw::Packet;
 use std::alloc::{AllocError, Global};
@@ -51,14 +49,6 @@ pub fn node_config(ports: u8, sizes: MapSizes) -> NodeConfig<'static>
     }
 }
 
-/// An empty journal for the bank of the node: it has the room of the first one.
-pub fn fresh_journal(alloc: Global) -> Result<Journal, AllocError>
-    ensures { IfOk result (λ journal. journal ≡ own_journal) }
-{
-    // Memory alone can be refused to it: a journal may have that room.
-    Journal::new(alloc, BANK.room).map_err(|_| AllocError)
-}
-
 /// A node of one thread with one bank and some ports, each with what it holds of a packet that has not ended, and with
 /// room for one reply. Nothing of it waits.
 #[derive(Drop)]
@@ -80,15 +70,14 @@ impl Model for JobNode {
 
 impl JobNode {
     /// A node of zero bytes with so many ports, at each of which this program judges at first.
-    pub fn new<'a>(alloc: Global, ports: u8, program: Accepted) -> Result<JobNode, Fault<'a>>
-        ensures made { IfOk result (IsFresh ports program) }
-        ensures refused { IfErr result (λ fault. fault ≡ NoMemory) }
+    pub fn new(alloc: Global, ports: u8, program: Accepted) -> Result<JobNode, AllocError>
+        ensures { IfOk result (IsFresh ports program) }
     {
         let config = node_config(ports, program.sizes());
         let feeds = Feeds::new(alloc, ports)?;
         // Memory alone can be refused to it: the command line gives no other number of ports than a node has.
         let Ok(node) = SingleNode::new(alloc, &config, program) else {
-            return Err(Fault::NoMemory);
+            return Err(AllocError);
         };
         Ok(JobNode {
             node,
@@ -130,26 +119,33 @@ impl JobNode {
 
     /// The reply to the last packet that was served; no bytes where none is due.
     pub fn reply(&self) -> &[u8]
-        ensures { result.now ≡ self.now.reply }
+        ensures value { result.now ≡ self.now.reply }
+        ensures few { length result.now ≤ MAX_REPLY }
     {
         self.reply.bytes()
     }
 
+    /// The entries of the journal of the bank, oldest first.
+    pub fn entries(&self) -> &[Entry]
+        ensures { result.now ≡ (journal_of (slice_get self.now.banks 0)).entries }
+    {
+        self.node.bank(0).entries()
+    }
+
     /// Whether the journal of the bank has room for no more entries: a command for the bank is then answered with a
-    /// general error, and leaves none, until [`JobNode::rotate`].
+    /// general error, and leaves none, until [`JobNode::turn`].
     pub fn is_full(&self) -> bool
         ensures { result ≡ is_full (slice_get self.now.banks 0) }
     {
         self.node.bank(0).entries().len() >= BANK.room as usize
     }
 
-    /// Begins a fresh journal at the bank, and hands the old one out: what it tells is the memory of now. Memory, counts,
-    /// and what ports hold stay. The condition is a journal of [`fresh_journal`].
-    pub fn rotate(&mut self, fresh: Journal) -> Journal
-        requires { fresh ≡ own_journal }
-        ensures { HandsOut self.old self.new result }
+    /// Begins an empty journal at the bank: the entries of the one before ([`JobNode::entries`]) are gone then, and what
+    /// they tell is the memory of now. Memory, counts, and what ports hold stay. It takes no memory.
+    pub fn turn(&mut self)
+        ensures { HandsOut self.old self.new (journal_of (slice_get self.old.banks 0)) }
     {
-        self.node.rotate(0, fresh)
+        self.node.turn(0, BANK.room);
     }
 
     /// How many cells each map of the node has, and of which kind it is.
@@ -174,15 +170,14 @@ impl JobNode {
         self.node.covers(0, address, count)
     }
 
-    /// Puts bytes at an address of the bank without a command: the write of an instrument, of which no entry tells. So a
-    /// fresh journal begins with the memory that is then there, and the old one is handed out. Counts, and what ports
-    /// hold, stay. It costs a copy of the bank's memory. Conditions: the bytes lie in the bank ([`JobNode::covers`]), and
-    /// a journal of [`fresh_journal`].
-    pub fn set(&mut self, address: u32, bytes: &[u8], fresh: Journal) -> Journal
-        requires inside { covers_in (slice_get self.old.banks 0) address (length bytes.now) ≡ true }
-        requires fresh { fresh ≡ own_journal }
-        ensures { SetsBytes address bytes.now self.old self.new result }
+    /// Puts bytes at an address of the bank without a command: the write of an instrument, of which no entry tells. So an
+    /// empty journal begins with the memory that is then there, and the entries of the one before are gone. Counts, and what
+    /// ports hold, stay. It takes no memory, and costs a copy of the bank's. The condition is that the bytes lie in the bank
+    /// ([`JobNode::covers`]).
+    pub fn set(&mut self, address: u32, bytes: &[u8])
+        requires { covers_in (slice_get self.old.banks 0) address (length bytes.now) ≡ true }
+        ensures { SetsBytes address bytes.now self.old self.new (journal_of (slice_get self.old.banks 0)) }
     {
-        self.node.set_memory(0, address, bytes, fresh)
+        self.node.turn_and_set(0, address, bytes, BANK.room);
     }
 }

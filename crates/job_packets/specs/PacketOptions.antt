@@ -1,5 +1,5 @@
 -- The options of the job `packet`: the port, and the fields of a header that have a default.
-use Rattle.std.specs.Prelude.{◌≡◌, ◌≤◌, ◌%◌, ℕ, List, [], Option, Some, None, codes, length}
+use Rattle.std.specs.Prelude.{◌≡◌, ◌≤◌, ◌-◌, ◌%◌, ◌++◌, ℕ, List, [], Option, Some, None, codes, length, replicate}
 use Rattle.clap.specs.Walk.{Row, first_of}
 use Rattle.clap.specs.Simple.{App, with_rule}
 use Rattle.spw.specs.Line.{WritesPort}
@@ -24,14 +24,26 @@ abbrev pub GivesPort : Option (List ℕ) → ℕ → Type 0
 GivesPort None port = port ≡ 0
 GivesPort (Some word) port = WritesPort word port
 
--- a reply address has 0, 4, 8 or 12 bytes (ECSS-E-ST-50-52C, reply address field)
-abbrev pub IsReplyAddress : List ℕ → Type 0
-IsReplyAddress bytes = (length bytes % 4 ≡ 0) × (length bytes ≤ 12)
+-- how many zeros a reply address of so many bytes has in front: as many as it lacks to 0, 4, 8 or 12 bytes
+-- (ECSS-E-ST-50-52C, reply address field)
+abbrev pub zeros_before : ℕ → ℕ
+zeros_before count = (4 - count % 4) % 4
+
+-- the bytes of a reply address, with its zeros in front
+abbrev pub padded : List ℕ → List ℕ
+padded bytes = replicate (zeros_before (length bytes)) 0 ++ bytes
+
+-- the reply address is that of the bytes that the word writes, at most 12
+pub record PadsAddress (word bytes : List ℕ) : Type 0 where
+  pub written : List ℕ
+  pub writes : WritesBytes word written
+  pub few : length written ≤ 12
+  pub is : bytes ≡ padded written
 
 -- the reply address is what the option's value writes; without the option there is none
 abbrev pub GivesAddress : Option (List ℕ) → List ℕ → Type 0
 GivesAddress None bytes = bytes ≡ []
-GivesAddress (Some word) bytes = WritesBytes word bytes × IsReplyAddress bytes
+GivesAddress (Some word) bytes = PadsAddress word bytes
 
 -- the words of a header are those of the options, each with its default
 pub record GivesHeader (rows : List Row) (header : HeaderWords) : Type 0 where

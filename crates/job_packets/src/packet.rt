@@ -9,12 +9,15 @@ ghost use Rattle.job_packets.specs.HexWords.{Has};
 ghost use Rattle.job_packets.specs.PacketJob.{NamesPacket, RefusesPacket, packet_app, with_order_options, with_order_words};
 ghost use Rattle.job_packets.specs.Slips.{IsWordFault};
 
-use crate::orders::{Order, order_of};
+use crate::orders::{Order, Source, order_of};
 use crate::packet_options::{HeaderWords, field_arguments, header_words};
 use crate::slips::PacketFault;
 use clap::{ArgMatches, Command};
 use job_parts::arguments::{file, flag, option, optional};
+use job_parts::inputs::{Content, InputFile, Inputs};
 use job_parts::usage::UsageFault;
+use rmap::STAGING_SIZE;
+use spw::MAX_PACKET;
 use std::alloc::{AllocError, Global};
 
 /// The words of the job `packet`.
@@ -24,6 +27,21 @@ pub struct PacketWords {
     pub header: HeaderWords,
     /// What is made.
     pub order: Order,
+}
+
+impl PacketWords {
+    /// What the job reads: of a load the image, and of a write the data, if a file has them.
+    pub fn inputs(&self) -> Inputs<'_> {
+        let (name, most) = match &self.order {
+            Order::Load { image, .. } => (image, u64::from(STAGING_SIZE)),
+            Order::Write {
+                source: Source::File(name),
+                ..
+            } => (name, MAX_PACKET as u64),
+            Order::Read { .. } | Order::Write { .. } | Order::Rmw { .. } => return Inputs::none(),
+        };
+        Inputs::one(InputFile::new(name.as_str(), Content::Bytes(most.saturating_add(1))))
+    }
 }
 
 /// The subcommand with what is made and where.

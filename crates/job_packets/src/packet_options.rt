@@ -6,7 +6,7 @@ ghost use Rattle.clap.specs.declared.builder.command.Command.TheViews.{out-Comma
 ghost use Rattle.clap.specs.Walk.{first_of, rows_of};
 ghost use Rattle.clap.specs.Matches.{found_of};
 ghost use Rattle.job_packets.specs.HexWords.{Has};
-ghost use Rattle.job_packets.specs.PacketOptions.{GivesAddress, GivesHeader, GivesHex, GivesPort, with_field_options};
+ghost use Rattle.job_packets.specs.PacketOptions.{GivesAddress, GivesHeader, GivesHex, GivesPort, padded, with_field_options};
 ghost use Rattle.job_packets.specs.Slips.{IsBadWord, IsWordFault};
 
 use crate::hex_words::{bytes_written, hex_written};
@@ -34,7 +34,7 @@ pub struct HeaderWords {
     pub transaction: u16,
     /// The extended address; 00 without `--extended`.
     pub extended: u8,
-    /// The reply address, 0, 4, 8 or 12 bytes; none without `--reply-address`.
+    /// The reply address, 0, 4, 8 or 12 bytes, of which the first may be zeros; none without `--reply-address`.
     pub reply_address: Vec<u8>,
 }
 
@@ -57,7 +57,8 @@ pub fn field_arguments<'a>(alloc: Global, command: Command<'a>) -> Result<Comman
     let transaction = option(alloc, "transaction", "HHHH", help);
     let help = "The extended address, but of a load, which goes to FF; 00 without it";
     let extended = option(alloc, "extended", "HH", help);
-    let help = "The reply address: 4, 8 or 12 bytes, or - for none; none without it";
+    let help =
+        "The reply address: 1 to 12 bytes, with zeros in front up to 4, 8 or 12, or - for none; none without it";
     let reply_address = option(alloc, "reply-address", "HEX", help);
     command
         .arg(target)?
@@ -68,8 +69,8 @@ pub fn field_arguments<'a>(alloc: Global, command: Command<'a>) -> Result<Comman
         .arg(reply_address)
 }
 
-/// The port by `--port`.
-fn port_of(found: &ArgMatches) -> Result<u8, PacketFault>
+/// The port by `--port`; 0 without it. A slip where its value writes none.
+pub fn port_of(found: &ArgMatches) -> Result<u8, PacketFault>
     ensures { MatchResult result
         (GivesPort (first_of (codes "port") (rows_of (found_of found.now))))
         (IsBadWord (Has (GivesPort (first_of (codes "port") (rows_of (found_of found.now)))))) }
@@ -80,8 +81,14 @@ fn port_of(found: &ArgMatches) -> Result<u8, PacketFault>
     }
 }
 
-/// The byte by an option of two hexadecimal digits.
-fn byte_of(found: &ArgMatches, name: &str, word: PacketWord, default: u8) -> Result<u8, PacketFault>
+/// The byte by the option of this name, of two hexadecimal digits; the default without it. A slip of this word where its value
+/// writes none.
+pub fn byte_of(
+    found: &ArgMatches,
+    name: &str,
+    word: PacketWord,
+    default: u8,
+) -> Result<u8, PacketFault>
     ensures { MatchResult result
         (GivesHex 2 default (first_of name.now (rows_of (found_of found.now))))
         (IsBadWord (Has (GivesHex 2 default (first_of name.now (rows_of (found_of found.now)))))) }
@@ -115,6 +122,16 @@ fn pair_of(
     }
 }
 
+/// A reply address of at most 12 bytes, with the zeros that stand before it.
+fn padded(alloc: Global, bytes: &[u8]) -> Result<Vec<u8>, AllocError>
+    ensures { IfOk result (λ address. address.items ≡ padded bytes.now) }
+{
+    let zeros = (4 - bytes.len() % 4) % 4;
+    let mut address = vec![in alloc; 0; zeros]?;
+    address.extend_from_slice(bytes)?;
+    Ok(address)
+}
+
 /// The reply address by `--reply-address`.
 fn reply_address_of(alloc: Global, found: &ArgMatches) -> Result<Vec<u8>, PacketFault>
     ensures ok { IfOk result (λ bytes.
@@ -126,10 +143,10 @@ fn reply_address_of(alloc: Global, found: &ArgMatches) -> Result<Vec<u8>, Packet
         return Ok(Vec::new(alloc));
     };
     let bytes = bytes_written(alloc, text, PacketWord::ReplyAddress)?;
-    if bytes.len() % 4 != 0 || bytes.len() > MAX_REPLY_ADDRESS {
+    if bytes.len() > MAX_REPLY_ADDRESS {
         return Err(PacketFault::bad(PacketWord::ReplyAddress));
     }
-    Ok(bytes)
+    Ok(padded(alloc, bytes.as_slice())?)
 }
 
 /// The words of a header by the options. A slip where one has a value that it may not have: the first such.

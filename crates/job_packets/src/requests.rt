@@ -2,6 +2,7 @@
 
 ghost use Rattle.std.specs.Prelude.{◌≡◌, ◌≤◌, ◌<◌, ◌^◌, ◌++◌, IfOk, IsTrue, OnOk, length, string_bytes, true};
 ghost use Rattle.initiator.specs.Writing.{AreFields, command_with};
+ghost use Rattle.rmap.specs.Command.{IsHeader, bytes_of};
 ghost use Rattle.job_packets.specs.Requests.{fields_with, has_reply_address, line_of, marked_line};
 
 use crate::packet_options::HeaderWords;
@@ -41,6 +42,26 @@ fn add_marked(text: &mut String, port: u8, digits: &str) -> Result<(), AllocErro
     writeln!(text, "{port} {digits} EOP")
 }
 
+/// The bytes of the command that is requested, with that body. Conditions: the reply address has 0, 4, 8 or 12 bytes, and code and
+/// length fit their fields.
+pub fn command_bytes(
+    alloc: Global,
+    header: &HeaderWords,
+    request: Request,
+    body: &[u8],
+) -> Result<Vec<u8>, AllocError>
+    requires address { has_reply_address header.now ≡ true }
+    requires code { request.code < 16 }
+    requires count { request.count < 2 ^ 24 }
+    ensures bytes { IfOk result (λ made. made.items
+        ≡ bytes_of (command_with (fields_with header.now request) body.now)) }
+    ensures header { IfOk result (λ _.
+        IsHeader (command_with (fields_with header.now request) body.now)) }
+{
+    let fields = fields_with(header, request);
+    write_command(alloc, &fields, body)
+}
+
 /// Adds the packet line of the command that is requested, with that body.
 pub fn add_line(
     text: &mut String,
@@ -55,8 +76,7 @@ pub fn add_line(
     ensures { OnOk result
         (string_bytes text.new ≡ string_bytes text.old ++ line_of header.now request body.now) }
 {
-    let fields = fields_with(header, request);
-    let bytes = write_command(alloc, &fields, body)?;
+    let bytes = command_bytes(alloc, header, request, body)?;
     let digits = hex::encode_upper(alloc, bytes.as_slice())?;
     let port = header.port;
     add_marked(text, port, digits.as_str())?;

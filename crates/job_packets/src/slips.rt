@@ -107,7 +107,7 @@ impl PacketWord {
                 "at most two hexadecimal digits",
             PacketWord::Transaction => "at most four hexadecimal digits",
             PacketWord::ReplyAddress => {
-                "pairs of hexadecimal digits of 4, 8 or 12 bytes, or - for none"
+                "pairs of hexadecimal digits of 1 to 12 bytes, or - for none"
             }
         }
     }

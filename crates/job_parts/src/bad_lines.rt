@@ -63,6 +63,24 @@ impl BadLine {
         }
     }
 
+    /// What it is and what is wanted, in a few words that stand after its number.
+    pub fn told(self) -> &'static str {
+        match self {
+            BadLine::Line(LineFault::NoPort) => "no port: a decimal number, 0 to 31, comes first",
+            BadLine::Line(LineFault::BadHex) => {
+                "bad hexadecimal digits: each byte has two, without 0x"
+            }
+            BadLine::Line(LineFault::BadMarker) => "no end marker: EOP, EEP or PART",
+            BadLine::Line(LineFault::TooLong) => "packet too long: at most 4,200 bytes",
+            BadLine::Line(LineFault::Memory) => "no memory",
+            BadLine::NoPort => "no such port: the node has those below the number in --ports",
+            BadLine::NoEvent => "no such event: take, count, ticket, peak, effect or publish",
+            BadLine::NoRoom => {
+                "more packets than the port has room for, 1,023: serve the file in parts"
+            }
+        }
+    }
+
     /// When it comes, and what to do, in lines of at most 114 columns.
     pub fn advice(self) -> &'static str {
         match self {

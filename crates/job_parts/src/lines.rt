@@ -11,6 +11,7 @@ ghost use Rattle.job_parts.specs.Lines.{NamesLines, RefusesLines, lines_app};
 use crate::arguments::{file, name_of};
 use crate::factory::judging_program;
 use crate::faults::Fault;
+use crate::inputs::{Content, InputFile, Inputs};
 use crate::options::{NodeWords, node_arguments, node_words};
 use crate::programs::text_in;
 use crate::storage::Files;
@@ -26,6 +27,17 @@ pub struct LinesArgs {
     pub lines: String,
     /// The node that takes them.
     pub node: NodeWords,
+}
+
+impl LinesArgs {
+    /// What such a job reads: the lines, and the image that judges, if one is named.
+    pub fn inputs(&self) -> Inputs<'_> {
+        let lines = InputFile::new(self.lines.as_str(), Content::Lines);
+        match self.node.image_input() {
+            Some(image) => Inputs::two(lines, image),
+            None => Inputs::one(lines),
+        }
+    }
 }
 
 /// A subcommand that takes the lines of a file: `NAME LINES [--image FILE] [--maps LIST] [--ports N]`. `help` tells what

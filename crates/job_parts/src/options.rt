@@ -11,6 +11,7 @@ ghost use Rattle.job_parts.specs.Options.{GivesNode, GivesPorts, GivesSizes, IsB
 ghost use Rattle.machine.specs.Sizes.{listed_maps};
 
 use crate::arguments::{option, text_of};
+use crate::inputs::{Content, InputFile, Inputs};
 use crate::usage::UsageFault;
 use bver::MapSizes;
 use clap::{Arg, ArgMatches, Command};
@@ -27,6 +28,24 @@ pub struct NodeWords {
     pub sizes: MapSizes,
     /// How many ports the node has: 1 to 32. With any other number the job ends as for want of memory.
     pub ports: u8,
+}
+
+impl NodeWords {
+    /// The image that judges, if one is named.
+    pub fn image_input(&self) -> Option<InputFile<'_>> {
+        match &self.image {
+            Some(name) => Some(InputFile::new(name.as_str(), Content::Image)),
+            None => None,
+        }
+    }
+
+    /// What the node of a talk reads: that image.
+    pub fn inputs(&self) -> Inputs<'_> {
+        match self.image_input() {
+            Some(image) => Inputs::one(image),
+            None => Inputs::none(),
+        }
+    }
 }
 
 /// The sizes of no maps.

@@ -1,14 +1,12 @@
 //! Packets that wait in the queues of a node's ports, and what its workers do with them.
 
-ghost use Rattle.std.specs.Prelude.{◌≡◌, ◌≤◌, IfErr, IfOk, length, map, vec_len, zip};
+ghost use Rattle.std.specs.Prelude.{◌≡◌, ◌≤◌, IfOk, length, map, vec_len, zip};
 ghost use Rattle.job_ports.specs.Queues.{AreBeginnings, AreFew, AreFilled, AreOfPorts, IsDesk, IsFilled, ServeEach, new_worker};
 ghost use Rattle.ports.specs.Serves.{AreServed};
-ghost use Rattle.job_parts.specs.declared.faults.Fault.TheVariants.{NoMemory};
 
 use crate::arrivals::Arrivals;
 use bver::Accepted;
 use job_nodes::node::node_config;
-use job_parts::faults::Fault;
 use ports::{MAX_CAPACITY, NoGate, Port, PutPass, Replies, Report, ServePass, Worker, serve};
 use spw::Packet;
 use std::alloc::{AllocError, Global};
@@ -122,14 +120,14 @@ struct Desks<J: Family, R: Wait + Drop> {
 }
 
 /// A fresh node with so many ports, at each of which the program judges, and which hold the packets that came to them.
-fn fresh_desks<'a, 'r, J: Family, R: Wait>(
+fn fresh_desks<'r, J: Family, R: Wait>(
     rt: &'r R,
     alloc: Global,
     opened: Opened,
     ports: u8,
     program: Accepted,
     arrivals: Arrivals,
-) -> Result<Desks<J, &'r R>, Fault<'a>>
+) -> Result<Desks<J, &'r R>, AllocError>
     requires room { opened ≡ J.book }
     requires few { AreFew arrivals }
     requires count { length arrivals ≡ ports }
@@ -137,12 +135,11 @@ fn fresh_desks<'a, 'r, J: Family, R: Wait>(
         made.put_passes.items made.workers.items) }
     ensures served { IfOk result (λ made.
         AreServed made.node (vec_len made.workers) made.ports.items made.workers.items) }
-    ensures refused { IfErr result (λ fault. fault ≡ NoMemory) }
 {
     let config = node_config(ports, program.sizes());
     // Memory alone can be refused to it: the command line gives no other number of ports than a node has.
     let Ok((node, passes)) = Node::<J, _>::new(alloc, rt, opened, &config, program) else {
-        return Err(Fault::NoMemory);
+        return Err(AllocError);
     };
     let (ports, put_passes, serve_passes) = fill(rt, alloc, arrivals)?;
     let workers = workers_of(alloc, &node, passes, serve_passes)?;
@@ -156,19 +153,18 @@ fn fresh_desks<'a, 'r, J: Family, R: Wait>(
 
 /// Serves the packets that came to the ports of a fresh node, each port in a thread of its own, to the end: the replies
 /// of each port, and the sum of the reports. The program judges.
-pub fn serve_arrivals<'a, J: Family + Send + Sync + 'static, R: Threads + Wait + Sync>(
+pub fn serve_arrivals<J: Family + Send + Sync + 'static, R: Threads + Wait + Sync>(
     rt: &R,
     alloc: Global,
     opened: Opened,
     ports: u8,
     program: Accepted,
     arrivals: Arrivals,
-) -> Result<(Vec<Replies>, Report), Fault<'a>>
+) -> Result<(Vec<Replies>, Report), AllocError>
     requires room { opened ≡ J.book }
     requires few { AreFew arrivals }
     requires count { length arrivals ≡ ports }
-    ensures served { IfOk result (λ made. ServeEach program ports arrivals made.0.items made.1) }
-    ensures refused { IfErr result (λ fault. fault ≡ NoMemory) }
+    ensures { IfOk result (λ made. ServeEach program ports arrivals made.0.items made.1) }
 {
     let made = fresh_desks::<J, _>(rt, alloc, opened, ports, program, arrivals)?;
     let Desks {
@@ -180,7 +176,7 @@ pub fn serve_arrivals<'a, J: Family + Send + Sync + 'static, R: Threads + Wait +
     let (workers, report) = serve(rt, alloc, &node, &ports, workers, &NoGate);
     // Memory or a thread was refused, and that is all there is to tell.
     let Ok(report) = report else {
-        return Err(Fault::NoMemory);
+        return Err(AllocError);
     };
     let sinks = sinks_of(alloc, &ports, put_passes, workers)?;
     Ok((sinks, report))

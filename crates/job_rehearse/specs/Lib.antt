@@ -1,6 +1,10 @@
+pub mod Loaders
+pub mod Askers
 pub mod Policies
 pub mod Words
 pub mod Steps
 pub mod Loads
+pub mod Judging
+pub mod OpenPorts
 pub mod RehearseJob
 pub mod Rehearsed

@@ -25,6 +25,9 @@ use Rattle.job_parts.specs.Printed.{fault_line}
 use Rattle.job_parts.specs.Reading.{IsUnread}
 use Rattle.job_parts.specs.declared.faults.Fault.{Fault}
 use Rattle.job_parts.specs.declared.faults.Fault.TheVariants.{BadImage, BadTable as IsBadTable, CannotRead, NoMemory, Refused as IsRefused}
+use Rattle.job_rehearse.specs.Askers.{askers_of}
+use Rattle.job_rehearse.specs.declared.policies.Asked.{Asked}
+use Rattle.job_rehearse.specs.declared.policies.Images.{Images}
 use Rattle.job_rehearse.specs.declared.policies.NoPolicy.{NoPolicy}
 use Rattle.job_rehearse.specs.declared.policies.NoPolicy.TheVariants.{BadTable, Ended}
 use Rattle.job_rehearse.specs.declared.policies.Policies.{Policies}
@@ -48,16 +51,16 @@ pub record IsImageOf (bytes : List ℕ) (p : Program) : Type 0 where
   pub limits : IsProgram p
   pub spelled : bytes ≡ image_bytes p
 
--- the bytes are a table that compiles to the program for these maps
-pub record IsCompiledOf (sizes : Maps) (bytes : List ℕ) (p : Program) : Type 0 where
+-- the bytes are a table of these rules that compiles to the program for these maps
+pub record IsCompiledOf (sizes : Maps) (bytes : List ℕ) (p : Program) (rules : List Rule) : Type 0 where
   pub other : is_image bytes ≡ false
-  pub rules : List Rule
   pub table : IsTableOf sizes bytes rules
   pub compiled : IsCompiled sizes rules p
 
--- the bytes are a policy of this program, for a node with these maps: its image, or a table that compiles to it
-abbrev pub IsPolicy : Maps → (bytes : List ℕ) → Program → Type 0
-IsPolicy sizes bytes p = IsImageOf bytes p ⊎ IsCompiledOf sizes bytes p
+-- the bytes are a policy of this program, for a node with these maps: its image, or a table of these rules that compiles to it
+abbrev pub IsPolicy : Maps → (bytes : List ℕ) → Program → Option (List Rule) → Type 0
+IsPolicy sizes bytes p None = IsImageOf bytes p
+IsPolicy sizes bytes p (Some rules) = IsCompiledOf sizes bytes p rules
 
 -- the first fault of bytes that are no image, or memory was refused to it
 abbrev pub IsNoImage : (bytes : List ℕ) → Fault → Type 0
@@ -108,6 +111,17 @@ pub record ArePolicies (one other : Program) (sizes : Maps) (made : Policies) : 
 abbrev pub AreUnready : (one other : Program) → Maps → Fault → Type 0
 AreUnready one other sizes fault = IsNotAccepted one sizes fault ⊎ (IsTooLong one fault ⊎ IsTooLong other fault)
 
+-- what is asked of two images: what a rehearsal needs of them, the second may judge, and of whose loads it is asked
+pub record AreAsked (images : Images) (sizes : Maps) (made : Asked) : Type 0 where
+  pub policies : ArePolicies images.old images.new sizes made.policies
+  pub judge : made.judge.program ≡ images.new
+  pub sizes_are : made.judge.sizes ≡ sizes
+  pub askers : made.askers.items ≡ askers_of images.table
+
+-- why the second of two images cannot be asked
+abbrev pub AreUnasked : Images → Maps → Fault → Type 0
+AreUnasked images sizes fault = AreUnready images.old images.new sizes fault ⊎ IsNotAccepted images.new sizes fault
+
 -- ---- files
 
 -- the line of a table's fault was printed, and behind it a line with the name of its file and the place
@@ -119,11 +133,12 @@ pub record TellsNamedFault (name : List ℕ) (fault : TableFault) (old new : Opt
   pub place : Appends named new (table_fault_text fault ++ 10 ∷ [])
 
 module _ {S : Type 0} (reads : Reads S) where
-  -- the file was read, and gave a policy of this program for these maps
-  pub record HoldsPolicy (before : S) (name : List ℕ) (sizes : Maps) (p : Program) (after : S) : Type 0 where
+  -- the file was read, and gave a policy of this program for these maps, and of these rules if it is a table
+  pub record HoldsPolicy (before : S) (name : List ℕ) (sizes : Maps) (p : Program) (table : Option (List Rule)) (after : S) :
+      Type 0 where
     pub bytes : List ℕ
     pub read : reads before name (Some bytes) after
-    pub policy : IsPolicy sizes bytes p
+    pub policy : IsPolicy sizes bytes p table
 
   -- the file was read, and gave no policy for these maps
   pub record HoldsNone (before : S) (name : List ℕ) (sizes : Maps) (after : S) (none : NoPolicy) : Type 0 where
@@ -144,13 +159,14 @@ module _ {S : Type 0} (reads : Reads S) where
 module _ {S : Type 0} (reads : Reads S) (words : RehearseWords) where
   -- the file of the old policy gave this program
   abbrev pub HoldsOld : (before : S) → Program → (after : S) → Type 0
-  HoldsOld before p after = HoldsPolicy reads before (string_bytes words.old) words.sizes p after
+  HoldsOld before p after =
+      (table : Option (List Rule)) × HoldsPolicy reads before (string_bytes words.old) words.sizes p table after
 
-  -- the files were read in this order, and gave policies of these programs
-  pub record AreImages (before : S) (one other : Program) (after : S) : Type 0 where
+  -- the files were read in this order, and gave policies of these images
+  pub record AreImages (before : S) (images : Images) (after : S) : Type 0 where
     pub between : S
-    pub first : HoldsOld before one between
-    pub second : HoldsPolicy reads between (string_bytes words.new) words.sizes other after
+    pub first : HoldsOld before images.old between
+    pub second : HoldsPolicy reads between (string_bytes words.new) words.sizes images.new images.table after
 
   -- the file of the new policy gives none, behind that of the old one, which does
   pub record NewIsNone (before after : S) (none : NoPolicy) : Type 0 where
@@ -166,17 +182,15 @@ module _ {S : Type 0} (reads : Reads S) (words : RehearseWords) where
 
   -- the files gave what a rehearsal needs
   pub record HoldsBoth (before after : S) (made : Policies) : Type 0 where
-    pub one : Program
-    pub other : Program
-    pub images : AreImages before one other after
-    pub policies : ArePolicies one other words.sizes made
+    pub images : Images
+    pub are_images : AreImages before images after
+    pub policies : ArePolicies images.old images.new words.sizes made
 
   -- the files gave policies that cannot be rehearsed with
   pub record BothUnready (before after : S) (fault : Fault) : Type 0 where
-    pub one : Program
-    pub other : Program
-    pub images : AreImages before one other after
-    pub unready : AreUnready one other words.sizes fault
+    pub images : Images
+    pub are_images : AreImages before images after
+    pub unready : AreUnready images.old images.new words.sizes fault
 
   -- the same as a reason
   abbrev pub EndUnready : (before after : S) → NoPolicy → Type 0
@@ -186,3 +200,24 @@ module _ {S : Type 0} (reads : Reads S) (words : RehearseWords) where
   -- why the files do not give what a rehearsal needs
   abbrev pub HoldsNotBoth : (before after : S) → NoPolicy → Type 0
   HoldsNotBoth before after none = AreNoImages before after none ⊎ EndUnready before after none
+
+  -- the files gave policies of which the new one can be asked
+  pub record HoldsAsked (before after : S) (made : Asked) : Type 0 where
+    pub images : Images
+    pub are_images : AreImages before images after
+    pub asked : AreAsked images words.sizes made
+
+  -- the files gave policies of which the new one cannot be asked
+  pub record BothUnasked (before after : S) (fault : Fault) : Type 0 where
+    pub images : Images
+    pub are_images : AreImages before images after
+    pub unasked : AreUnasked images words.sizes fault
+
+  -- the same as a reason
+  abbrev pub EndUnasked : (before after : S) → NoPolicy → Type 0
+  EndUnasked before after (Ended fault) = BothUnasked before after fault
+  EndUnasked before after (BadTable own fault) = ⊥
+
+  -- why the files do not give policies of which the new one can be asked
+  abbrev pub HoldsNotAsked : (before after : S) → NoPolicy → Type 0
+  HoldsNotAsked before after none = AreNoImages before after none ⊎ EndUnasked before after none

@@ -5,19 +5,28 @@ use Rattle.clap.specs.Walk.{Row, first_of}
 use Rattle.clap.specs.Simple.{App, new_app, with_rule}
 use Rattle.job_packets.specs.HexWords.{Has}
 use Rattle.job_packets.specs.Slots.{WritesSlots, every_slot}
-use Rattle.job_parts.specs.Arguments.{file_rule, option_rule}
+use Rattle.job_parts.specs.Arguments.{file_rule, flag_rule, option_rule}
 use Rattle.job_parts.specs.Options.{GivesSizes, IsBadList}
 use Rattle.job_parts.specs.declared.usage.UsageFault.{UsageFault}
 use Rattle.job_parts.specs.declared.usage.UsageFault.TheVariants.{Parse, BadOption, Memory}
+use Rattle.job_rehearse.specs.Loaders.{GivesLoaders}
 use Rattle.job_rehearse.specs.declared.rehearse.RehearseWords.{RehearseWords}
 
 -- `rehearse OLD NEW [--maps LIST] [--slot LIST]`
-abbrev pub rehearse_app : App
-rehearse_app =
+abbrev pub slots_app : App
+slots_app =
     with_rule
     (with_rule
     (with_rule (with_rule (new_app (codes "rehearse")) (file_rule (codes "old"))) (file_rule (codes "new")))
     (option_rule (codes "maps"))) (option_rule (codes "slot"))
+
+-- the same, with `[--port N] [--initiator HH] [--key HH] [--any]` behind it
+abbrev pub rehearse_app : App
+rehearse_app =
+    with_rule
+    (with_rule
+    (with_rule (with_rule slots_app (option_rule (codes "port"))) (option_rule (codes "initiator")))
+    (option_rule (codes "key"))) (flag_rule (codes "any"))
 
 -- both names are that of standard input, which one read ends
 abbrev pub are_one_input : (old new : List ℕ) → Bool
@@ -46,6 +55,7 @@ pub record NamesRehearse (rows : List Row) (words : RehearseWords) : Type 0 wher
   pub apart : are_one_input (string_bytes words.old) (string_bytes words.new) ≡ false
   pub sizes : GivesSizes (first_of (codes "maps") rows) words.sizes
   pub slots : GivesSlots (first_of (codes "slot") rows) words.slots.items
+  pub loaders : GivesLoaders rows words.loaders
 
 -- matches that name standard input for both files
 pub record NamesOneInput (rows : List Row) : Type 0 where
@@ -55,10 +65,11 @@ pub record NamesOneInput (rows : List Row) : Type 0 where
   pub new_name : first_of (codes "new") rows ≡ Some new
   pub one : are_one_input old new ≡ true
 
--- matches without one of the files, with one input for both, or with a list of maps or of slots that is none
+-- matches without one of the files, with one input for both, with a list of maps or of slots that is none, or with options that
+-- do not say whose loads are rehearsed
 abbrev pub SpoilsRehearse : List Row → Type 0
 SpoilsRehearse rows = (first_of (codes "old") rows ≡ None) ⊎ (first_of (codes "new") rows ≡ None) ⊎ NamesOneInput rows
-    ⊎ IsBadList (first_of (codes "maps") rows) ⊎ AreBadSlots (first_of (codes "slot") rows)
+    ⊎ IsBadList (first_of (codes "maps") rows) ⊎ AreBadSlots (first_of (codes "slot") rows) ⊎ (¬ Has (GivesLoaders rows))
 
 -- such matches, or memory was refused
 abbrev pub RefusesRehearse : List Row → UsageFault → Type 0

@@ -8,11 +8,18 @@ use Rattle.job_parts.specs.declared.faults.Fault.{Fault}
 use Rattle.job_parts.specs.declared.faults.Fault.TheVariants.{NoMemory}
 use Rattle.job_parts.specs.declared.status.Status.{Status}
 use Rattle.job_parts.specs.declared.status.Status.TheVariants.{Done, Failed}
+use Rattle.job_rehearse.specs.Loaders.{loader_in, loader_text, ports_in}
 use Rattle.job_rehearse.specs.Loads.{Loads, StopsLoad}
-use Rattle.job_rehearse.specs.Policies.{HoldsBoth, HoldsNotBoth, TellsNamedFault}
+use Rattle.job_rehearse.specs.OpenPorts.{TellsAskers}
+use Rattle.job_rehearse.specs.Policies.{HoldsAsked, HoldsBoth, HoldsNotAsked, HoldsNotBoth, TellsNamedFault}
 use Rattle.job_rehearse.specs.Steps.{IsBegun}
 use Rattle.job_rehearse.specs.declared.loads.Ending.{Ending}
-use Rattle.job_rehearse.specs.declared.loads.Ending.TheVariants.{Loaded, LockedOut, NotLoaded}
+use Rattle.job_rehearse.specs.declared.loads.Ending.TheVariants.{InPart, Loaded, LockedOut, NotLoaded}
+use Rattle.job_rehearse.specs.declared.loaders.Loader.{Loader}
+use Rattle.job_rehearse.specs.declared.loaders.Loaders.TheVariants.{Any, One}
+use Rattle.job_rehearse.specs.declared.loaders.Loaders.{Loaders}
+use Rattle.job_rehearse.specs.declared.policies.Asked.{Asked}
+use Rattle.job_rehearse.specs.declared.policies.NoPolicy.{NoPolicy}
 use Rattle.job_rehearse.specs.declared.policies.NoPolicy.TheVariants.{BadTable, Ended}
 use Rattle.job_rehearse.specs.declared.policies.Policies.{Policies}
 use Rattle.job_rehearse.specs.declared.rehearse.RehearseWords.{RehearseWords}
@@ -21,97 +28,158 @@ use Rattle.job_rehearse.specs.declared.steps.Rehearsing.{Rehearsing}
 -- what is told where the load of the new policy ended so; nothing, where it is loaded
 abbrev pub there_line : Ending → Option (List ℕ)
 there_line Loaded = None
+there_line InPart = Some (codes "NEW is loaded in part")
 there_line LockedOut = Some (codes "NEW is locked out")
 there_line NotLoaded = Some (codes "NEW is not loaded")
 
 -- what is told where the load of the old policy under the new one ended so, and the exit status: 0 where it is loaded
 abbrev pub back_line : Ending → List ℕ × Status
 back_line Loaded = (codes "NEW lets OLD be loaded", Done)
+back_line InPart = (codes "NEW locks loads out", Failed)
 back_line LockedOut = (codes "NEW locks loads out", Failed)
 back_line NotLoaded = (codes "OLD is not loaded", Failed)
 
--- the new policy was loaded at a fresh node on which the old one judges
-pub record LoadsNew (slots : List ℕ) (policies : Policies) (ending : Ending) (after : Rehearsing) (old new : Option (List ℕ)) :
-    Type 0 where
-  pub fresh : Rehearsing
-  pub begun : IsBegun policies.program fresh
-  pub loads : Loads (codes "NEW") slots policies.new.items ending fresh after old new
+-- what is printed of whose loads the new policy lets pass, where these are their lines, and the exit status: 0 where it lets some
+-- pass
+abbrev pub any_end : (lines : List ℕ) → List ℕ × Status
+any_end [] = (codes "loads by nobody" ++ 10 ∷ [], Failed)
+any_end (code ∷ lines) = (code ∷ lines, Done)
 
--- the new policy was not loaded, which was told
-pub record StaysOld (slots : List ℕ) (policies : Policies) (old new : Option (List ℕ)) (status : Status) : Type 0 where
-  pub ending : Ending
-  pub after : Rehearsing
-  pub between : Option (List ℕ)
-  pub there : LoadsNew slots policies ending after old between
-  pub line : List ℕ
-  pub closed : there_line ending ≡ Some line
-  pub told : Appends between new (line ++ 10 ∷ [])
+-- ---- of the loads of one
+
+module _ (slots : List ℕ) (named : Option Loader) (policies : Policies) where
+  -- the new policy was loaded at a fresh node on which the old one judges
+  pub record LoadsNew (ending : Ending) (after : Rehearsing) (old new : Option (List ℕ)) : Type 0 where
+    pub fresh : Rehearsing
+    pub begun : IsBegun policies.program (ports_in named) fresh
+    pub loads : Loads (codes "NEW") (loader_in named) slots policies.new.items ending fresh after old new
+
+  -- the new policy was not loaded, which was told
+  pub record StaysOld (old new : Option (List ℕ)) (status : Status) : Type 0 where
+    pub ending : Ending
+    pub after : Rehearsing
+    pub between : Option (List ℕ)
+    pub there : LoadsNew ending after old between
+    pub line : List ℕ
+    pub closed : there_line ending ≡ Some line
+    pub told : Appends between new (line ++ loader_text named ++ 10 ∷ [])
+    pub failed : status ≡ Failed
+
+  -- the new policy was loaded, then the load of the old one was tried under it, and how that ended was told
+  pub record TriesBack (old new : Option (List ℕ)) (status : Status) : Type 0 where
+    pub ending : Ending
+    pub middle : Rehearsing
+    pub after : Rehearsing
+    pub between : Option (List ℕ)
+    pub behind : Option (List ℕ)
+    pub there : LoadsNew Loaded middle old between
+    pub back : Loads (codes "OLD") (loader_in named) slots policies.old.items ending middle after between behind
+    pub told : Appends behind new ((back_line ending).0 ++ loader_text named ++ 10 ∷ [])
+    pub status_is : status ≡ (back_line ending).1
+
+  -- the load of the new policy was rehearsed, and the way back
+  abbrev pub Rehearses : (old new : Option (List ℕ)) → Status → Type 0
+  Rehearses old new status = StaysOld old new status ⊎ TriesBack old new status
+
+  -- a fault ended the load of the new policy
+  pub record StopsThere (old new : Option (List ℕ)) (fault : Fault) : Type 0 where
+    pub fresh : Rehearsing
+    pub begun : IsBegun policies.program (ports_in named) fresh
+    pub stop : StopsLoad (codes "NEW") (loader_in named) slots policies.new.items fresh old new fault
+
+  -- a fault ended the load of the old policy, behind that of the new one
+  pub record StopsBack (old new : Option (List ℕ)) (fault : Fault) : Type 0 where
+    pub middle : Rehearsing
+    pub between : Option (List ℕ)
+    pub there : LoadsNew Loaded middle old between
+    pub stop : StopsLoad (codes "OLD") (loader_in named) slots policies.old.items middle between new fault
+
+  -- why a rehearsal was not ended: memory was refused to the node, or a fault ended one of the loads
+  abbrev pub IsStuck : (old new : Option (List ℕ)) → Fault → Type 0
+  IsStuck old new fault =
+      ((fault ≡ NoMemory) × (new ≡ old)) ⊎ (StopsThere old new fault ⊎ StopsBack old new fault)
+
+-- ---- of the loads of any
+
+-- the new policy was asked whose loads of the old one it lets pass, and that was printed
+pub record AsksAny (asked : Asked) (old new : Option (List ℕ)) (status : Status) : Type 0 where
+  pub lines : List ℕ
+  pub tells : TellsAskers asked.judge asked.policies.old.items asked.askers.items lines
+  pub printed : Appends old new (any_end lines).0
+  pub status_is : status ≡ (any_end lines).1
+
+-- ---- of files
+
+-- a table has a fault, which was told with the name of its file and its place
+pub record TellsBad (holds : NoPolicy → Type 0) (old new : Option (List ℕ)) (status : Status) : Type 0 where
+  pub file : Bor (List ℕ)
+  pub fault : TableFault
+  pub bad : holds (BadTable file fault)
+  pub told : TellsNamedFault file.now fault old new
   pub failed : status ≡ Failed
-
--- the new policy was loaded, then the load of the old one was tried under it, and how that ended was told
-pub record TriesBack (slots : List ℕ) (policies : Policies) (old new : Option (List ℕ)) (status : Status) : Type 0 where
-  pub ending : Ending
-  pub middle : Rehearsing
-  pub after : Rehearsing
-  pub between : Option (List ℕ)
-  pub behind : Option (List ℕ)
-  pub there : LoadsNew slots policies Loaded middle old between
-  pub back : Loads (codes "OLD") slots policies.old.items ending middle after between behind
-  pub told : Appends behind new ((back_line ending).0 ++ 10 ∷ [])
-  pub status_is : status ≡ (back_line ending).1
-
--- the load of the new policy was rehearsed, and the way back
-abbrev pub Rehearses : (slots : List ℕ) → Policies → (old new : Option (List ℕ)) → Status → Type 0
-Rehearses slots policies old new status =
-    StaysOld slots policies old new status ⊎ TriesBack slots policies old new status
-
--- a fault ended the load of the new policy
-pub record StopsThere (slots : List ℕ) (policies : Policies) (old new : Option (List ℕ)) (fault : Fault) : Type 0 where
-  pub fresh : Rehearsing
-  pub begun : IsBegun policies.program fresh
-  pub stop : StopsLoad (codes "NEW") slots policies.new.items fresh old new fault
-
--- a fault ended the load of the old policy, behind that of the new one
-pub record StopsBack (slots : List ℕ) (policies : Policies) (old new : Option (List ℕ)) (fault : Fault) : Type 0 where
-  pub middle : Rehearsing
-  pub between : Option (List ℕ)
-  pub there : LoadsNew slots policies Loaded middle old between
-  pub stop : StopsLoad (codes "OLD") slots policies.old.items middle between new fault
-
--- why a rehearsal was not ended: memory was refused to the node, or a fault ended one of the loads
-abbrev pub IsStuck : (slots : List ℕ) → Policies → (old new : Option (List ℕ)) → Fault → Type 0
-IsStuck slots policies old new fault =
-    ((fault ≡ NoMemory) × (new ≡ old))
-    ⊎ (StopsThere slots policies old new fault ⊎ StopsBack slots policies old new fault)
 
 module _ {S : Type 0} (reads : Reads S) (words : RehearseWords) where
   -- both policies were read, and rehearsed with
-  pub record RehearsesBoth (before after : S) (old new : Option (List ℕ)) (status : Status) : Type 0 where
-    pub policies : Policies
-    pub held : HoldsBoth reads words before after policies
-    pub rehearsed : Rehearses words.slots.items policies old new status
+  pub record RehearsesBoth (named : Option Loader) (before after : S) (old new : Option (List ℕ)) (status : Status) : Type 0
+    where
+      pub policies : Policies
+      pub held : HoldsBoth reads words before after policies
+      pub rehearsed : Rehearses words.slots.items named policies old new status
 
-  -- a table has a fault, which was told with the name of its file and its place
-  pub record TellsBad (before after : S) (old new : Option (List ℕ)) (status : Status) : Type 0 where
-    pub file : Bor (List ℕ)
-    pub fault : TableFault
-    pub bad : HoldsNotBoth reads words before after (BadTable file fault)
-    pub told : TellsNamedFault file.now fault old new
-    pub failed : status ≡ Failed
+  -- what was read and printed of the loads of one where no fault ended it: the new policy was loaded or not, and so was the old one
+  -- under it; or a table has a fault
+  abbrev pub DoesOne : Option Loader → (before after : S) → (old new : Option (List ℕ)) → Status → Type 0
+  DoesOne named before after old new status =
+      RehearsesBoth named before after old new status ⊎ TellsBad (HoldsNotBoth reads words before after) old new status
+
+  -- both policies were read, and the new one was asked
+  pub record AsksBoth (before after : S) (old new : Option (List ℕ)) (status : Status) : Type 0 where
+    pub asked : Asked
+    pub held : HoldsAsked reads words before after asked
+    pub asks : AsksAny asked old new status
+
+  -- what was read and printed of the loads of any where no fault ended it: the new policy was asked; or a table has a fault
+  abbrev pub DoesAny : (before after : S) → (old new : Option (List ℕ)) → Status → Type 0
+  DoesAny before after old new status =
+      AsksBoth before after old new status ⊎ TellsBad (HoldsNotAsked reads words before after) old new status
+
+  -- of whose loads it is done
+  abbrev pub Does : Loaders → (before after : S) → (old new : Option (List ℕ)) → Status → Type 0
+  Does (One named) before after old new status = DoesOne named before after old new status
+  Does Any before after old new status = DoesAny before after old new status
 
   -- what `rehearse` reads and prints where no fault ends it, with its exit status: 0 where the new policy is loaded and lets
-  -- the old one be loaded again, else 1
+  -- the old one be loaded again, or where it lets somebody load it, else 1
   abbrev pub RehearsesFile : (before after : S) → (old new : Option (List ℕ)) → Status → Type 0
-  RehearsesFile before after old new status =
-      RehearsesBoth before after old new status ⊎ TellsBad before after old new status
+  RehearsesFile before after old new status = Does words.loaders before after old new status
 
   -- a fault ended the rehearsal of both policies
-  pub record StopsBoth (before after : S) (old new : Option (List ℕ)) (fault : Fault) : Type 0 where
+  pub record StopsBoth (named : Option Loader) (before after : S) (old new : Option (List ℕ)) (fault : Fault) : Type 0 where
     pub policies : Policies
     pub held : HoldsBoth reads words before after policies
-    pub stuck : IsStuck words.slots.items policies old new fault
+    pub stuck : IsStuck words.slots.items named policies old new fault
 
-  -- a file gives no policy that can be rehearsed with, and nothing was printed; or a fault ended the rehearsal
+  -- of the loads of one: a file gives no policy that can be rehearsed with, and nothing was printed; or a fault ended the rehearsal
+  abbrev pub IsUndone : Option Loader → (before after : S) → (old new : Option (List ℕ)) → Fault → Type 0
+  IsUndone named before after old new fault =
+      ((new ≡ old) × HoldsNotBoth reads words before after (Ended fault)) ⊎ StopsBoth named before after old new fault
+
+  -- both policies were read, and memory was refused to what was to be printed
+  pub record LacksRoom (before after : S) (fault : Fault) : Type 0 where
+    pub asked : Asked
+    pub held : HoldsAsked reads words before after asked
+    pub no_memory : fault ≡ NoMemory
+
+  -- of the loads of any: nothing was printed, and a file gives no policy that can be asked, or memory was refused
+  abbrev pub IsUnasked : (before after : S) → (old new : Option (List ℕ)) → Fault → Type 0
+  IsUnasked before after old new fault =
+      (new ≡ old) × (HoldsNotAsked reads words before after (Ended fault) ⊎ LacksRoom before after fault)
+
+  -- of whose loads it is not done
+  abbrev pub DoesNot : Loaders → (before after : S) → (old new : Option (List ℕ)) → Fault → Type 0
+  DoesNot (One named) before after old new fault = IsUndone named before after old new fault
+  DoesNot Any before after old new fault = IsUnasked before after old new fault
+
+  -- the fault that ended it
   abbrev pub IsNotRehearsed : (before after : S) → (old new : Option (List ℕ)) → Fault → Type 0
-  IsNotRehearsed before after old new fault =
-      ((new ≡ old) × HoldsNotBoth reads words before after (Ended fault)) ⊎ StopsBoth before after old new fault
+  IsNotRehearsed before after old new fault = DoesNot words.loaders before after old new fault

@@ -38,10 +38,10 @@ is_refused Part verdict = not (verdict == 0)
 is_refused Control verdict = not (verdict == 0)
 is_refused Result verdict = false
 
--- a fresh node of one port, at which the program judges all, and which has served nothing
-pub record IsBegun (program : AcceptedValue) (r : Rehearsing) : Type 0 where
+-- a fresh node of so many ports, at which the program judges all, and which has served nothing
+pub record IsBegun (program : AcceptedValue) (ports : ℕ) (r : Rehearsing) : Type 0 where
   pub config : NodeConfig
-  pub is_config : IsConfig 1 program.sizes config
+  pub is_config : IsConfig ports program.sizes config
   pub fresh : IsFresh config program r.node
   pub silent : r.reply ≡ []
   pub unrefused : r.refused ≡ false

@@ -1,10 +1,12 @@
 -- The words for what becomes of a load.
-use Rattle.std.specs.Prelude.{ℕ, ◌==◌, if◌then◌else◌, List, [], ◌∷◌, ◌++◌, Option, Some, None, codes, decimal, drop, length, slice_index}
-use Rattle.byteorder.specs.Endian.{big_number}
+use Rattle.std.specs.Prelude.{ℕ, ◌+◌, ◌==◌, if◌then◌else◌, List, [], ◌∷◌, ◌++◌, Option, Some, None, codes, decimal, drop, length, take}
 use Rattle.node_parts.specs.declared.served.Served.{Served}
 use Rattle.node_parts.specs.declared.served.Served.TheVariants.{Stopped, Unread, Done, Window}
 use Rattle.node_parts.specs.declared.stop.Stop.TheVariants.{Answered, Discarded}
+use Rattle.rmap.specs.BootRecords.{load_result_of}
 use Rattle.rmap.specs.Codes.{status_code}
+use Rattle.rmap.specs.declared.boot.TheConstants.{LOAD_RESULT_SIZE}
+use Rattle.rmap.specs.declared.boot_records.LoadResult.{LoadResult}
 use Rattle.rmap.specs.declared.status.Status.{Status}
 use Rattle.rmap.specs.declared.status.Status.TheVariants.{
   Success,
@@ -22,7 +24,6 @@ use Rattle.rmap.specs.declared.status.Status.TheVariants.{
 }
 use Rattle.job_rehearse.specs.declared.steps.Step.{Step}
 use Rattle.job_rehearse.specs.declared.steps.Step.TheVariants.{Control, Part, Result}
-use Rattle.job_rehearse.specs.declared.words.TheConstants.{RESULT_REPLY}
 
 -- what a packet of a load is
 abbrev pub step_words : Step → List ℕ
@@ -58,21 +59,28 @@ abbrev pub outcome_text : Option Status → List ℕ
 outcome_text None = codes "no reply"
 outcome_text (Some status) = codes "status " ++ decimal (status_code status) ++ codes " " ++ status_words status
 
--- the load result behind a reply's header of twelve bytes: the generation of what was loaded, or why it was not. Its first
--- byte is the code of a refusal, the next but one and the one behind it the slot, and the last four the generation
-unfoldable pub result_words : (reply : List ℕ) → List ℕ
-result_words reply =
-    if big_number 4 (drop 16 reply) == 0
-    then (if slice_index reply 12 == 0
-    then codes ", nothing was loaded"
-    else codes ", load fault " ++ decimal (slice_index reply 12) ++ codes " slot " ++ decimal (big_number 2 (drop 14 reply)))
-    else codes ", generation " ++ decimal (big_number 4 (drop 16 reply))
+-- the load result that a reply has, if it has one: where it has a header of twelve bytes, the eight of a load result and one of
+-- a CRC, what those eight are (ECSS-E-ST-50-52C, read reply format)
+abbrev pub load_result_in : (reply : List ℕ) → Option LoadResult
+load_result_in reply =
+    if length reply == 12 + LOAD_RESULT_SIZE + 1 then load_result_of (take LOAD_RESULT_SIZE (drop 12 reply)) else None
 
--- the load result that a reply has, if it has one: it has as many bytes as the reply to the read of it
-abbrev pub result_text : (reply : List ℕ) → List ℕ
-result_text reply = if length reply == RESULT_REPLY then result_words reply else []
+-- a load result: the generation of what was loaded, or why it was not
+unfoldable pub result_words : LoadResult → List ℕ
+result_words r =
+    if r.generation == 0
+    then (if r.code == 0
+    then codes ", nothing was loaded"
+    else codes ", load fault " ++ decimal r.code ++ codes " slot " ++ decimal r.place)
+    else codes ", generation " ++ decimal r.generation
+
+-- the same, where there is one
+abbrev pub result_text : Option LoadResult → List ℕ
+result_text None = []
+result_text (Some r) = result_words r
 
 -- the line of a packet of a load: what it is, and how it ended
 abbrev pub step_line : Step → Served → (reply : List ℕ) → List ℕ
 step_line step served reply =
-    codes "    " ++ step_words step ++ codes ": " ++ outcome_text (status_in served) ++ result_text reply ++ 10 ∷ []
+    codes "    " ++ step_words step ++ codes ": " ++ outcome_text (status_in served)
+    ++ result_text (load_result_in reply) ++ 10 ∷ []

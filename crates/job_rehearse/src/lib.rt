@@ -1,7 +1,11 @@
 //! The job `rehearse` of `rmapctl`: the load of a new policy at a node on which the old one judges, and the way back.
 #![tactic(auto)]
 
+mod askers;
+mod judging;
+pub mod loaders;
 mod loads;
+mod open_ports;
 mod policies;
 pub mod rehearse;
 mod steps;

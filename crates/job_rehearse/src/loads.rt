@@ -1,15 +1,13 @@
 //! The load of an image at the node of a rehearsal.
 
-ghost use Rattle.std.specs.Prelude.{◌≡◌, ◌≤◌, ◌+◌, [], IfErr, IfOk, OnOk, length, true};
+ghost use Rattle.std.specs.Prelude.{◌≡◌, ◌≤◌, ◌+◌, IfErr, IfOk, OnOk, length};
 ghost use Rattle.rmap.specs.declared.boot.TheConstants.{STAGING_SIZE};
-ghost use Rattle.job_packets.specs.PacketOptions.{GivesHeader};
-ghost use Rattle.job_packets.specs.Requests.{has_reply_address};
 ghost use Rattle.job_parts.specs.Stops.{StopsBy};
 ghost use Rattle.job_rehearse.specs.Loads.{Loads, StopsLoad, StopsTaking, TakesLoad, ending_of};
 
+use crate::loaders::{Loader, header_of};
 use crate::steps::Rehearsing;
 use job_packets::loads::add_loads;
-use job_packets::packet_options::HeaderWords;
 use job_parts::stops::Halt;
 use job_parts::turns::take_lines;
 use std::alloc::Global;
@@ -20,7 +18,9 @@ use std::io::Write;
 pub enum Ending {
     /// The image was loaded into each slot.
     Loaded,
-    /// It was not, and a program did not let a packet be done.
+    /// It was loaded into some slot and not into each, and a program did not let a packet be done.
+    InPart,
+    /// It was loaded into no slot, and a program did not let a packet be done.
     LockedOut,
     /// It was not, though each packet was let pass.
     NotLoaded,
@@ -31,26 +31,12 @@ pub enum Ending {
 pub struct LoadOf<'a> {
     /// What the image is called.
     pub name: &'a str,
+    /// Who loads it.
+    pub loader: Loader,
     /// The slots of its program, in the order of the loads.
     pub slots: &'a [u8],
     /// Its bytes, at most as many as the staging has.
     pub image: &'a [u8],
-}
-
-/// The words of a header as `packet` has them without an option.
-fn plain_header(alloc: Global) -> HeaderWords
-    ensures given { GivesHeader [] result }
-    ensures address { has_reply_address result ≡ true }
-{
-    HeaderWords {
-        port: 0,
-        target: 0xFE,
-        key: 0,
-        initiator: 0x67,
-        transaction: 0,
-        extended: 0,
-        reply_address: Vec::new(alloc),
-    }
 }
 
 /// Lets the node take the packets of the loads of an image.
@@ -61,12 +47,12 @@ fn take_load<'a, W: Write>(
     out: &mut W,
 ) -> Result<(), Halt<'a>>
     requires { length load.image.now ≤ STAGING_SIZE }
-    ensures taken { OnOk result (TakesLoad load.entry.slots.now load.entry.image.now
-        rehearsing.old rehearsing.new (W.contents out.old) (W.contents out.new)) }
-    ensures stops { IfErr result (StopsBy (StopsTaking load.entry.slots.now load.entry.image.now
-        rehearsing.old rehearsing.new (W.contents out.old) (W.contents out.new))) }
+    ensures taken { OnOk result (TakesLoad load.entry.loader load.entry.slots.now
+        load.entry.image.now rehearsing.old rehearsing.new (W.contents out.old) (W.contents out.new)) }
+    ensures stops { IfErr result (StopsBy (StopsTaking load.entry.loader load.entry.slots.now
+        load.entry.image.now rehearsing.old rehearsing.new (W.contents out.old) (W.contents out.new))) }
 {
-    let header = plain_header(alloc);
+    let header = header_of(alloc, load.loader);
     let mut text = String::new(alloc);
     add_loads(&mut text, alloc, &header, load.slots, load.image)?;
     take_lines(alloc, rehearsing, text.as_str(), out)
@@ -80,10 +66,13 @@ fn ending_of(slots: &[u8], before: u32, after: u32, is_refused: bool) -> Ending
     if after.saturating_sub(before) as usize == slots.len() {
         return Ending::Loaded;
     }
-    if is_refused {
-        Ending::LockedOut
+    if !is_refused {
+        return Ending::NotLoaded;
+    }
+    if after > before {
+        Ending::InPart
     } else {
-        Ending::NotLoaded
+        Ending::LockedOut
     }
 }
 
@@ -95,11 +84,11 @@ pub fn load<'a, W: Write>(
     out: &mut W,
 ) -> Result<Ending, Halt<'a>>
     requires { length load.image.now ≤ STAGING_SIZE }
-    ensures loads { IfOk result (λ ending. Loads load.entry.name.now load.entry.slots.now
-        load.entry.image.now ending rehearsing.old rehearsing.new
+    ensures loads { IfOk result (λ ending. Loads load.entry.name.now load.entry.loader
+        load.entry.slots.now load.entry.image.now ending rehearsing.old rehearsing.new
         (W.contents out.old) (W.contents out.new)) }
-    ensures stops { IfErr result (StopsBy (StopsLoad load.entry.name.now load.entry.slots.now
-        load.entry.image.now rehearsing.old (W.contents out.old) (W.contents out.new))) }
+    ensures stops { IfErr result (StopsBy (StopsLoad load.entry.name.now load.entry.loader
+        load.entry.slots.now load.entry.image.now rehearsing.old (W.contents out.old) (W.contents out.new))) }
 {
     let name = load.name;
     writeln!(out, "{name}")?;

@@ -3,9 +3,10 @@
 ghost use Rattle.std.specs.Prelude.{◌≡◌, ◌≤◌, IfErr, IfOk, OnOk, false, length};
 ghost use Rattle.bpf.specs.Program.{IsProgram, image_bytes};
 ghost use Rattle.rmap.specs.declared.boot.TheConstants.{STAGING_SIZE};
-ghost use Rattle.job_rehearse.specs.Policies.{AreImages, AreNoImages, ArePolicies, AreUnready, GivesNoPolicy, HoldsBoth, HoldsNotBoth, HoldsPolicy, IsNoImage, IsNoPolicy, IsNotAccepted, IsPolicy, IsTableOf, IsTooLong, TellsNamedFault, is_image};
+ghost use Rattle.job_rehearse.specs.Policies.{AreAsked, AreImages, AreNoImages, ArePolicies, AreUnasked, AreUnready, GivesNoPolicy, HoldsAsked, HoldsBoth, HoldsNotAsked, HoldsNotBoth, HoldsPolicy, IsCompiledOf, IsNoImage, IsNoPolicy, IsNotAccepted, IsTableOf, IsTooLong, TellsNamedFault, is_image};
 ghost use Rattle.job_rehearse.specs.declared.policies.NoPolicy.TheVariants.{Ended};
 
+use crate::askers::{Asker, askers_of};
 use crate::rehearse::RehearseWords;
 use bpf::{Image, ImageFault};
 use bver::{Accepted, verify};
@@ -38,6 +39,17 @@ impl<'a> From<Fault<'a>> for NoPolicy<'a> {
     }
 }
 
+/// The images of two policies.
+#[derive(Drop)]
+struct Images {
+    /// The image of the old policy.
+    old: Image,
+    /// The image of the new policy.
+    new: Image,
+    /// The table that the new policy is, if it is one.
+    table: Option<Table>,
+}
+
 /// The policies of a rehearsal.
 #[derive(Drop)]
 pub struct Policies {
@@ -47,6 +59,17 @@ pub struct Policies {
     pub old: Vec<u8>,
     /// The bytes of the image of the new policy, at most as many as the staging has.
     pub new: Vec<u8>,
+}
+
+/// The policies of which the new one is asked.
+#[derive(Drop)]
+pub struct Asked {
+    /// The policies.
+    pub policies: Policies,
+    /// The program of the new policy, which may judge on the node.
+    pub judge: Accepted,
+    /// Of whose loads it is asked.
+    pub askers: Vec<Asker>,
 }
 
 /// Whether bytes begin as those of an image do.
@@ -84,58 +107,58 @@ fn table_of<'a>(
     }
 }
 
-/// The image of the table that the bytes of the file of this name are.
+/// The image of the table that the bytes of the file of this name are, and the table.
 fn compiled<'a>(
     alloc: Global,
     name: &'a str,
     bytes: Vec<u8>,
     sizes: &MapSizes,
-) -> Result<Image, NoPolicy<'a>>
+) -> Result<(Image, Table), NoPolicy<'a>>
     requires { is_image bytes.items ≡ false }
-    ensures policy { IfOk result (IsPolicy sizes.now bytes.items) }
+    ensures policy { IfOk result (λ made. IsCompiledOf sizes.now bytes.items made.0 made.1) }
     ensures none { IfErr result (IsNoPolicy name.now sizes.now bytes.items) }
 {
     let table = table_of(alloc, name, bytes, sizes)?;
     match compile(alloc, &table, sizes) {
-        Ok(image) => Ok(image),
+        Ok(image) => Ok((image, table)),
         // Memory alone can be refused to it: the table has no fault for these maps.
         Err(_) => Err(NoPolicy::Ended(Fault::NoMemory)),
     }
 }
 
 /// The image of the policy in the file of this name, for a node with maps of these sizes: of an image that it has, or of a
-/// table.
+/// table, and the table.
 fn policy_in<'a, F: Files>(
     alloc: Global,
     files: &mut F,
     name: &'a str,
     sizes: &MapSizes,
-) -> Result<Image, NoPolicy<'a>>
-    ensures policy { IfOk result (λ image.
-        HoldsPolicy F.reads files.old name.now sizes.now image files.new) }
+) -> Result<(Image, Option<Table>), NoPolicy<'a>>
+    ensures policy { IfOk result (λ made.
+        HoldsPolicy F.reads files.old name.now sizes.now made.0 made.1 files.new) }
     ensures none { IfErr result
         (GivesNoPolicy F.reads files.old name.now sizes.now files.new) }
 {
     let bytes = bytes_in(alloc, files, name)?;
     if is_image(bytes.as_slice()) {
-        return Ok(image_of(alloc, bytes.as_slice())?);
+        return Ok((image_of(alloc, bytes.as_slice())?, None));
     }
-    compiled(alloc, name, bytes, sizes)
+    let (image, table) = compiled(alloc, name, bytes, sizes)?;
+    Ok((image, Some(table)))
 }
 
 /// The images of the policies in two files, read in this order.
-fn images<'a, F: Files>(
+fn images_read<'a, F: Files>(
     alloc: Global,
     words: &'a RehearseWords,
     files: &mut F,
-) -> Result<(Image, Image), NoPolicy<'a>>
-    ensures images { IfOk result (λ made.
-        AreImages F.reads words.now files.old made.0 made.1 files.new) }
+) -> Result<Images, NoPolicy<'a>>
+    ensures images { IfOk result (λ made. AreImages F.reads words.now files.old made files.new) }
     ensures none { IfErr result (AreNoImages F.reads words.now files.old files.new) }
 {
-    let old = policy_in(alloc, files, words.old.as_str(), &words.sizes)?;
-    let new = policy_in(alloc, files, words.new.as_str(), &words.sizes)?;
-    Ok((old, new))
+    let (old, _) = policy_in(alloc, files, words.old.as_str(), &words.sizes)?;
+    let (new, table) = policy_in(alloc, files, words.new.as_str(), &words.sizes)?;
+    Ok(Images { old, new, table })
 }
 
 /// The program of an image, which may judge on a node with maps of these sizes.
@@ -188,8 +211,38 @@ pub fn policies_in<'a, F: Files>(
     ensures policies { IfOk result (HoldsBoth F.reads words.now files.old files.new) }
     ensures none { IfErr result (HoldsNotBoth F.reads words.now files.old files.new) }
 {
-    let (old, new) = images(alloc, words, files)?;
-    Ok(policies_of(alloc, &old, &new, &words.sizes)?)
+    let images = images_read(alloc, words, files)?;
+    Ok(policies_of(alloc, &images.old, &images.new, &words.sizes)?)
+}
+
+/// What is asked of two images.
+fn asked_of<'a>(alloc: Global, images: &Images, sizes: &MapSizes) -> Result<Asked, Fault<'a>>
+    ensures asked { IfOk result (AreAsked images.now sizes.now) }
+    ensures refused { IfErr result (AreUnasked images.now sizes.now) }
+{
+    let policies = policies_of(alloc, &images.old, &images.new, sizes)?;
+    let judge = accepted(alloc, &images.new, sizes)?;
+    let askers = askers_of(alloc, &images.table)?;
+    Ok(Asked {
+        policies,
+        judge,
+        askers,
+    })
+}
+
+/// The policies of which the new one is asked, of the files that the words name.
+///
+/// Faults are found in the order of [`policies_in`], and then whether the new policy may judge on the node.
+pub fn asked_in<'a, F: Files>(
+    alloc: Global,
+    words: &'a RehearseWords,
+    files: &mut F,
+) -> Result<Asked, NoPolicy<'a>>
+    ensures asked { IfOk result (HoldsAsked F.reads words.now files.old files.new) }
+    ensures none { IfErr result (HoldsNotAsked F.reads words.now files.old files.new) }
+{
+    let images = images_read(alloc, words, files)?;
+    Ok(asked_of(alloc, &images, &words.sizes)?)
 }
 
 /// Prints the fault of a table: its line, and a line with the name of its file and the place.

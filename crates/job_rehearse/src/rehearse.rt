@@ -1,29 +1,36 @@
 //! The job `rehearse`.
 
-ghost use Rattle.std.specs.Prelude.{◌≡◌, ◌≤◌, IfErr, IfOk, codes, false, length, option_map};
+ghost use Rattle.std.specs.Prelude.{◌≡◌, ◌≤◌, ◌++◌, ◌∷◌, [], IfErr, IfOk, OnOk, codes, false, length, option_map};
 ghost use Rattle.clap.specs.Simple.{app_of};
 ghost use Rattle.clap.specs.declared.builder.command.Command.TheViews.{out-Command as fields_of};
 ghost use Rattle.clap.specs.Walk.{first_of, rows_of};
 ghost use Rattle.clap.specs.Matches.{found_of};
+ghost use Rattle.job_parts.specs.Printed.{Prints};
 ghost use Rattle.job_parts.specs.Stops.{StopsBy};
 ghost use Rattle.rmap.specs.declared.boot.TheConstants.{STAGING_SIZE};
+ghost use Rattle.job_parts.specs.declared.faults.Fault.TheVariants.{NoMemory};
 ghost use Rattle.job_rehearse.specs.RehearseJob.{GivesSlots, NamesRehearse, RefusesRehearse, RefusesSlots, are_one_input, rehearse_app};
-ghost use Rattle.job_rehearse.specs.Rehearsed.{IsNotRehearsed, IsStuck, Rehearses, RehearsesFile, back_line, there_line};
+ghost use Rattle.job_rehearse.specs.Loaders.{loader_text};
+ghost use Rattle.job_rehearse.specs.Rehearsed.{AsksAny, DoesAny, DoesOne, IsNotRehearsed, IsStuck, IsUnasked, IsUndone, Rehearses, RehearsesFile, any_end, back_line, there_line};
 
+use crate::loaders::{Loader, Loaders, loader_in, loader_text, loaders_of, ports_in};
 use crate::loads::{Ending, LoadOf, load};
-use crate::policies::{NoPolicy, Policies, policies_in, print_named_fault};
+use crate::open_ports::askers_text;
+use crate::policies::{Asked, NoPolicy, Policies, asked_in, policies_in, print_named_fault};
 use crate::steps::Rehearsing;
 use clap::{ArgMatches, Command};
 use job_packets::numbers::{every_slot, slots_written};
-use job_parts::arguments::{file, name_of, option, text_of};
+use job_parts::arguments::{file, flag, name_of, option, text_of};
+use job_parts::inputs::{Content, InputFile, Inputs};
 use job_parts::options::{maps_option, sizes_of};
+use job_parts::printing::print_text;
 use job_parts::status::Status;
 use job_parts::stops::Halt;
 use job_parts::storage::Files;
 use job_parts::usage::UsageFault;
 use machine::MapSizes;
 use std::alloc::{AllocError, Global};
-use std::io::Write;
+use std::io::{self, Write};
 
 /// The name of standard input.
 const STANDARD_INPUT: &str = "-";
@@ -39,9 +46,19 @@ pub struct RehearseWords {
     pub sizes: MapSizes,
     /// The slots into which a policy is loaded, in this order.
     pub slots: Vec<u8>,
+    /// Whose loads are rehearsed.
+    pub loaders: Loaders,
 }
 
-/// `rehearse OLD NEW [--maps LIST] [--slot LIST]`.
+impl RehearseWords {
+    /// What the job reads: the old policy, and then the new one.
+    pub fn inputs(&self) -> Inputs<'_> {
+        let old = InputFile::new(self.old.as_str(), Content::ImageOrText);
+        Inputs::two(old, InputFile::new(self.new.as_str(), Content::ImageOrText))
+    }
+}
+
+/// `rehearse OLD NEW [--maps LIST] [--slot LIST] [--port N] [--initiator HH] [--key HH] [--any]`.
 pub fn rehearse_command<'a>(alloc: Global) -> Result<Command<'a>, AllocError>
     ensures shape { IfOk result (λ c. app_of c ≡ rehearse_app) }
     ensures local { IfOk result (λ c. (fields_of c).has_globals ≡ false) }
@@ -54,12 +71,24 @@ pub fn rehearse_command<'a>(alloc: Global) -> Result<Command<'a>, AllocError>
     let help =
         "The slots of the loads, 0 to 3 with commas between them; without it each of the four";
     let slot = option(alloc, "slot", "LIST", help);
+    let help = "The port at which the loads come in, 0 to 31; without it 0";
+    let port = option(alloc, "port", "N", help);
+    let help = "The initiator of the loads; without it 67";
+    let initiator = option(alloc, "initiator", "HH", help);
+    let help = "The key of the loads; without it 00";
+    let key = option(alloc, "key", "HH", help);
+    let help = "Loads nothing, and prints whose loads of OLD a fresh NEW in slot 3 lets pass";
+    let any = flag(alloc, "any", help);
     Command::new(alloc, "rehearse")
         .about("Loads a new policy at a node under the old one, and then the old one again")
         .arg(old)?
         .arg(new)?
         .arg(maps)?
-        .arg(slot)
+        .arg(slot)?
+        .arg(port)?
+        .arg(initiator)?
+        .arg(key)?
+        .arg(any)
 }
 
 /// Whether both policies would be read of standard input, which one read ends.
@@ -96,11 +125,13 @@ pub fn rehearse_job(alloc: Global, found: &ArgMatches) -> Result<RehearseWords, 
     }
     let sizes = sizes_of(alloc, found)?;
     let slots = slots_of(alloc, found)?;
+    let loaders = loaders_of(found)?;
     Ok(RehearseWords {
         old,
         new,
         sizes,
         slots,
+        loaders,
     })
 }
 
@@ -110,6 +141,7 @@ fn there_line(ending: Ending) -> Option<&'static str>
 {
     match ending {
         Ending::Loaded => None,
+        Ending::InPart => Some("NEW is loaded in part"),
         Ending::LockedOut => Some("NEW is locked out"),
         Ending::NotLoaded => Some("NEW is not loaded"),
     }
@@ -121,9 +153,16 @@ fn back_line(ending: Ending) -> (&'static str, Status)
 {
     match ending {
         Ending::Loaded => ("NEW lets OLD be loaded", Status::Done),
-        Ending::LockedOut => ("NEW locks loads out", Status::Failed),
+        Ending::InPart | Ending::LockedOut => ("NEW locks loads out", Status::Failed),
         Ending::NotLoaded => ("OLD is not loaded", Status::Failed),
     }
+}
+
+/// Prints the last line of a rehearsal, and in it who was named to load.
+fn print_end<W: Write>(out: &mut W, line: &str, who: &str) -> io::Result<()>
+    ensures { OnOk result (Prints W.contents out.old out.new (line.now ++ who.now ++ 10 ∷ [])) }
+{
+    writeln!(out, "{line}{who}")
 }
 
 /// Loads the new policy at a fresh node on which the old one judges, and then the old one, and prints what becomes of each
@@ -131,42 +170,119 @@ fn back_line(ending: Ending) -> (&'static str, Status)
 fn rehearse<'a, W: Write>(
     alloc: Global,
     slots: &[u8],
+    named: Option<Loader>,
     policies: Policies,
     out: &mut W,
 ) -> Result<Status, Halt<'a>>
     requires old { length policies.old.items ≤ STAGING_SIZE }
     requires new { length policies.new.items ≤ STAGING_SIZE }
     ensures done { IfOk result
-        (Rehearses slots.now policies (W.contents out.old) (W.contents out.new)) }
+        (Rehearses slots.now named policies (W.contents out.old) (W.contents out.new)) }
     ensures stops { IfErr result
-        (StopsBy (IsStuck slots.now policies (W.contents out.old) (W.contents out.new))) }
+        (StopsBy (IsStuck slots.now named policies (W.contents out.old) (W.contents out.new))) }
 {
-    let mut rehearsing = Rehearsing::new(alloc, policies.program)?;
+    let who = loader_text(alloc, named)?;
+    let mut rehearsing = Rehearsing::new(alloc, policies.program, ports_in(named))?;
+    let loader = loader_in(named);
     let new = LoadOf {
         name: "NEW",
+        loader,
         slots,
         image: policies.new.as_slice(),
     };
     if let Some(line) = there_line(load(alloc, &mut rehearsing, new, out)?) {
-        writeln!(out, "{line}")?;
+        print_end(out, line, who.as_str())?;
         return Ok(Status::Failed);
     }
     let old = LoadOf {
         name: "OLD",
+        loader,
         slots,
         image: policies.old.as_slice(),
     };
     let (line, status) = back_line(load(alloc, &mut rehearsing, old, out)?);
-    writeln!(out, "{line}")?;
+    print_end(out, line, who.as_str())?;
     Ok(status)
 }
 
+/// Rehearses the load of the new policy by the one that is named, and the way back.
+fn rehearse_one<'a, F: Files, W: Write>(
+    alloc: Global,
+    words: &'a RehearseWords,
+    named: Option<Loader>,
+    files: &mut F,
+    out: &mut W,
+) -> Result<Status, Halt<'a>>
+    ensures done { IfOk result (DoesOne F.reads words.now named files.old files.new
+        (W.contents out.old) (W.contents out.new)) }
+    ensures stops { IfErr result (StopsBy (IsUndone F.reads words.now named files.old files.new
+        (W.contents out.old) (W.contents out.new))) }
+{
+    match policies_in(alloc, words, files) {
+        Ok(policies) => rehearse(alloc, words.slots.as_slice(), named, policies, out),
+        Err(NoPolicy::Ended(fault)) => Err(Halt::Ended(fault)),
+        Err(NoPolicy::BadTable(name, fault)) => {
+            print_named_fault(out, name, &fault)?;
+            Ok(Status::Failed)
+        }
+    }
+}
+
+/// What is printed of whose loads the new policy lets pass, where these are their lines, and the exit status.
+fn any_end(lines: &str) -> (&str, Status)
+    ensures { (result.0.now, result.1) ≡ any_end lines.now }
+{
+    if lines.is_empty() {
+        ("loads by nobody\n", Status::Failed)
+    } else {
+        (lines, Status::Done)
+    }
+}
+
+/// Asks the new policy whose loads of the old one it lets pass, and prints that. Nothing is printed before all is asked.
+fn ask_any<'a, W: Write>(alloc: Global, asked: &Asked, out: &mut W) -> Result<Status, Halt<'a>>
+    requires { length asked.now.policies.old.items ≤ STAGING_SIZE }
+    ensures done { IfOk result
+        (AsksAny asked.now (W.contents out.old) (W.contents out.new)) }
+    ensures stops { IfErr result (StopsBy (λ fault.
+        (fault ≡ NoMemory) × (W.contents out.new ≡ W.contents out.old))) }
+{
+    let image = asked.policies.old.as_slice();
+    let lines = askers_text(alloc, &asked.judge, image, asked.askers.as_slice())?;
+    let (text, status) = any_end(lines.as_str());
+    print_text(out, text)?;
+    Ok(status)
+}
+
+/// Asks the new policy whose loads of the old one it lets pass.
+fn rehearse_any<'a, F: Files, W: Write>(
+    alloc: Global,
+    words: &'a RehearseWords,
+    files: &mut F,
+    out: &mut W,
+) -> Result<Status, Halt<'a>>
+    ensures done { IfOk result (DoesAny F.reads words.now files.old files.new
+        (W.contents out.old) (W.contents out.new)) }
+    ensures stops { IfErr result (StopsBy (IsUnasked F.reads words.now files.old files.new
+        (W.contents out.old) (W.contents out.new))) }
+{
+    match asked_in(alloc, words, files) {
+        Ok(asked) => ask_any(alloc, &asked, out),
+        Err(NoPolicy::Ended(fault)) => Err(Halt::Ended(fault)),
+        Err(NoPolicy::BadTable(name, fault)) => {
+            print_named_fault(out, name, &fault)?;
+            Ok(Status::Failed)
+        }
+    }
+}
+
 /// Rehearses the load of the policy of a file at a node on which that of another judges, and the way back: prints what
-/// becomes of each packet of the loads, and whether the way back is open. Where a table has a fault that is printed, with the
-/// name of its file and the place, and the job failed.
+/// becomes of each packet of the loads, and whether the way back is open. Or asks the new policy whose loads of the old one it
+/// lets pass, and loads nothing. Where a table has a fault that is printed, with the name of its file and the place, and the
+/// job failed.
 ///
 /// Faults are found in this order: the file of the old policy (`CannotRead`, also where it is neither an image nor UTF-8),
-/// that policy, the file of the new one, that policy, and whether the old one may judge.
+/// that policy, the file of the new one, that policy, whether the old one may judge, and if it is asked whether the new one may.
 pub fn rehearse_file<'a, F: Files, W: Write>(
     alloc: Global,
     words: &'a RehearseWords,
@@ -178,12 +294,8 @@ pub fn rehearse_file<'a, F: Files, W: Write>(
     ensures stops { IfErr result (StopsBy (IsNotRehearsed F.reads words.now files.old files.new
         (W.contents out.old) (W.contents out.new))) }
 {
-    match policies_in(alloc, words, files) {
-        Ok(policies) => rehearse(alloc, words.slots.as_slice(), policies, out),
-        Err(NoPolicy::Ended(fault)) => Err(Halt::Ended(fault)),
-        Err(NoPolicy::BadTable(name, fault)) => {
-            print_named_fault(out, name, &fault)?;
-            Ok(Status::Failed)
-        }
+    match words.loaders {
+        Loaders::One(named) => rehearse_one(alloc, words, named, files, out),
+        Loaders::Any => rehearse_any(alloc, words, files, out),
     }
 }

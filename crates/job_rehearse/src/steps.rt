@@ -3,20 +3,18 @@
 ghost use Rattle.std.specs.Prelude.{◌≡◌, ◌<◌, IfErr, IfOk};
 ghost use Rattle.rmap.specs.Command.{discard_of};
 ghost use Rattle.spw.specs.Line.{IsPacketLine};
-ghost use Rattle.job_parts.specs.declared.faults.Fault.TheVariants.{NoMemory};
 ghost use Rattle.job_rehearse.specs.Steps.{IsBegun, IsNoPacket, IsNoStep, TakesStep, is_refused, step_at, step_of};
 
 use crate::words::print_step;
 use bver::Accepted;
 use job_nodes::node::node_config;
 use job_parts::bad_lines::BadLine;
-use job_parts::faults::Fault;
 use job_parts::stops::LineHalt;
 use job_parts::turns::TakesLines;
 use rmap::{Command, LOAD_REGISTER, ReplyBuf};
 use single_node::SingleNode;
 use spw::{Packet, read_line};
-use std::alloc::Global;
+use std::alloc::{AllocError, Global};
 use std::io::Write;
 
 /// What a packet of a load is.
@@ -90,15 +88,14 @@ pub struct Rehearsing {
 }
 
 impl Rehearsing {
-    /// A fresh node of one port, at which this program judges all.
-    pub fn new<'a>(alloc: Global, program: Accepted) -> Result<Rehearsing, Fault<'a>>
-        ensures begun { IfOk result (IsBegun program) }
-        ensures none { IfErr result (λ fault. fault ≡ NoMemory) }
+    /// A fresh node of so many ports, 1 to 32, at which this program judges all.
+    pub fn new(alloc: Global, program: Accepted, ports: u8) -> Result<Rehearsing, AllocError>
+        ensures { IfOk result (IsBegun program ports) }
     {
-        let config = node_config(1, program.sizes());
+        let config = node_config(ports, program.sizes());
         // Memory alone can be refused to it.
         let Ok(node) = SingleNode::new(alloc, &config, program) else {
-            return Err(Fault::NoMemory);
+            return Err(AllocError);
         };
         Ok(Rehearsing {
             node,

@@ -1,18 +1,19 @@
 //! The words for what becomes of a load.
 
-ghost use Rattle.std.specs.Prelude.{◌≡◌, OnOk, length};
+ghost use Rattle.std.specs.Prelude.{◌≡◌, OnOk};
 ghost use Rattle.job_parts.specs.Printed.{Prints};
-ghost use Rattle.job_rehearse.specs.declared.words.TheConstants.{RESULT_REPLY};
-ghost use Rattle.job_rehearse.specs.Words.{outcome_text, result_text, result_words, status_in, status_words, step_line, step_words};
+ghost use Rattle.job_rehearse.specs.Words.{load_result_in, outcome_text, result_text, result_words, status_in, status_words, step_line, step_words};
 
 use crate::steps::Step;
-use byteorder::{BigEndian, ByteOrder};
 use node_parts::{Served, Stop};
-use rmap::Status;
+use rmap::{LOAD_RESULT_SIZE, LoadResult, Status};
 use std::io::{self, Write};
 
+/// How many bytes stand before the data of a reply to a read, without a path (ECSS-E-ST-50-52C, read reply format).
+const REPLY_HEADER: usize = 12;
+
 /// How many bytes the reply to a read of the load result has, without a path: its header, the load result and a CRC.
-const RESULT_REPLY: usize = 21;
+const RESULT_REPLY: usize = REPLY_HEADER + LOAD_RESULT_SIZE as usize + 1;
 
 /// What a packet of a load is.
 fn step_words(step: Step) -> &'static str
@@ -67,30 +68,38 @@ fn print_outcome<W: Write>(out: &mut W, status: Option<Status>) -> io::Result<()
     write!(out, "status {code} {words}")
 }
 
-/// Prints the load result behind the header of a reply.
-#[tactic(auto, unfolding(crate::specs::Words::result_words))]
-fn print_words<W: Write>(out: &mut W, reply: &[u8]) -> io::Result<()>
-    requires { length reply.now ≡ RESULT_REPLY }
-    ensures { OnOk result (Prints W.contents out.old out.new (result_words reply.now)) }
+/// The load result that a reply has, if it has one.
+fn load_result_in(reply: &[u8]) -> Option<LoadResult>
+    ensures { result ≡ load_result_in reply.now }
 {
-    let generation = BigEndian::read_u32(&reply[16..]);
+    if reply.len() != RESULT_REPLY {
+        return None;
+    }
+    let (data, _crc) = reply.split_at(REPLY_HEADER).1.split_first_chunk::<8>()?;
+    LoadResult::read(data)
+}
+
+/// Prints a load result.
+#[tactic(auto, unfolding(crate::specs::Words::result_words))]
+fn print_words<W: Write>(out: &mut W, loaded: LoadResult) -> io::Result<()>
+    ensures { OnOk result (Prints W.contents out.old out.new (result_words loaded)) }
+{
+    let (code, place, generation) = (loaded.code, loaded.place, loaded.generation);
     if generation != 0 {
         return write!(out, ", generation {generation}");
     }
-    let code = reply[12];
     if code == 0 {
         return write!(out, ", nothing was loaded");
     }
-    let slot = BigEndian::read_u16(&reply[14..]);
-    write!(out, ", load fault {code} slot {slot}")
+    write!(out, ", load fault {code} slot {place}")
 }
 
 /// Prints the load result that a reply has, if it has one.
 fn print_result<W: Write>(out: &mut W, reply: &[u8]) -> io::Result<()>
-    ensures { OnOk result (Prints W.contents out.old out.new (result_text reply.now)) }
+    ensures { OnOk result (Prints W.contents out.old out.new (result_text (load_result_in reply.now))) }
 {
-    if reply.len() == RESULT_REPLY {
-        print_words(out, reply)?;
+    if let Some(loaded) = load_result_in(reply) {
+        print_words(out, loaded)?;
     }
     Ok(())
 }

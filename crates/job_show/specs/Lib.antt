@@ -1,2 +1,3 @@
 pub mod ShowJob
 pub mod Shown
+pub mod ShownLines

@@ -1,27 +1,31 @@
 -- What the job `show` reads and prints. What it prints of a line is not told.
 use Rattle.std.specs.Prelude.{◌≡◌, ◌⊎◌, ℕ, List, Option, Some}
+use Rattle.std.specs.Io.KnownBytes.{Appends}
 use Rattle.std.specs.Str.{IsUtf8}
-use Rattle.spw.specs.Line.{lines_of}
+use Rattle.spw.specs.Line.{lines_of, words_of}
 use Rattle.spw.specs.declared.faults.LineFault.{LineFault}
 use Rattle.job_parts.specs.Files.{Reads}
-use Rattle.job_parts.specs.Printed.{PrintsMore}
 use Rattle.job_parts.specs.Reading.{TextUnread}
-use Rattle.job_parts.specs.Turns.{AreTaken, Sees, SeesEnd, StopsIn}
+use Rattle.job_parts.specs.Turns.{AreTaken, SeesEnd, StopsIn}
 use Rattle.job_parts.specs.declared.bad_lines.BadLine.TheVariants.{Line}
 use Rattle.job_parts.specs.declared.faults.Fault.{Fault}
 use Rattle.job_parts.specs.declared.stops.LineEnd.TheVariants.{Bad}
+use Rattle.job_show.specs.ShownLines.{EndsLine, IsLineFault}
 use Rattle.job_show.specs.declared.show.Showing.{Showing}
 
--- something was printed of the line
-abbrev pub ShowsLine : List ℕ → Sees Showing
-ShowsLine line before after old new = PrintsMore old new
+-- a line was printed of the line
+pub record ShowsLine (line : List ℕ) (before after : Showing) (old new : Option (List ℕ)) : Type 0 where
+  pub text : List ℕ
+  pub is_line : EndsLine text
+  pub printed : Appends old new text
 
--- the line has a fault of a packet line, and nothing was printed of it
+-- the line has that fault, or memory was refused to it, and nothing was printed of it
 abbrev pub IsUnshown : List ℕ → SeesEnd Showing
-IsUnshown line before after old new end = (fault : LineFault) × (end ≡ Bad (Line fault)) × (new ≡ old)
+IsUnshown line before after old new end =
+    (fault : LineFault) × (end ≡ Bad (Line fault)) × IsLineFault line (words_of line) fault × (new ≡ old)
 
 module _ {S : Type 0} (reads : Reads S) where
-  -- the file was read and is UTF-8, and something was printed of each of its lines in turn
+  -- the file was read and is UTF-8, and a line was printed of each of its lines in turn
   pub record ShowsFile (before : S) (name : List ℕ) (after : S) (old new : Option (List ℕ)) : Type 0 where
     pub text : List ℕ
     pub read : reads before name (Some text) after
@@ -30,7 +34,7 @@ module _ {S : Type 0} (reads : Reads S) where
     pub last : Showing
     pub all : AreTaken ShowsLine (lines_of text) first last old new
 
-  -- the file was read and is UTF-8, something was printed of each line up to one, and that one is bad
+  -- the file was read and is UTF-8, a line was printed of each line up to one, and that one is bad
   pub record StopsShowing (before : S) (name : List ℕ) (after : S) (old new : Option (List ℕ)) (fault : Fault) : Type 0
     where
       pub text : List ℕ

@@ -2,16 +2,21 @@
 
 use bpf::ImageFault;
 use node_parts::LoadRefusal;
+use rmap::{CONTROL_SIZE, ControlData, LoadResult};
 use std::alloc::AllocError;
+
+/// How many bytes follow the header of a control write: its data, and their CRC.
+const CONTROL_BODY: usize = CONTROL_SIZE as usize + 1;
 
 /// Adds what a control write asks for, by its data and their CRC.
 pub fn add_control(text: &mut String, body: &[u8]) -> Result<(), AllocError> {
-    let [slot, zero, high, low, _] = body else {
+    if body.len() != CONTROL_BODY {
         return Ok(());
-    };
-    let length = u16::from_be_bytes([*high, *low]);
+    }
+    let control = ControlData::read(body);
+    let (slot, zero, length) = (control.slot, control.zero, control.length);
     write!(text, " (a load of {length} bytes for slot {slot}")?;
-    if *zero != 0 {
+    if zero != 0 {
         write!(text, ", with {zero:02X} for the zero byte")?;
     }
     text.push(')')
@@ -34,17 +39,26 @@ fn add_refusal(text: &mut String, code: u8, slot: u16) -> Result<(), AllocError>
     }
 }
 
+/// The load result that the data of a read are, if they are one.
+fn load_result_in(data: &[u8]) -> Option<LoadResult> {
+    let (bytes, rest) = data.split_first_chunk::<8>()?;
+    if rest.is_empty() {
+        LoadResult::read(bytes)
+    } else {
+        None
+    }
+}
+
 /// Adds what the data of a read tell, if they are a load result: any memory may hold such bytes too.
 pub fn add_load_result(text: &mut String, data: &[u8]) -> Result<(), AllocError> {
-    let [code, 0, high, low, first, second, third, fourth] = data else {
+    let Some(result) = load_result_in(data) else {
         return Ok(());
     };
-    let slot = u16::from_be_bytes([*high, *low]);
-    let generation = u32::from_be_bytes([*first, *second, *third, *fourth]);
+    let (code, place, generation) = (result.code, result.place, result.generation);
     if generation == 0 {
-        return add_refusal(text, *code, slot);
+        return add_refusal(text, code, place);
     }
-    if *code != 0 || slot != 0 {
+    if code != 0 || place != 0 {
         return Ok(());
     }
     write!(text, " (as a load result: generation {generation})")

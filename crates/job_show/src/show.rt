@@ -13,8 +13,9 @@ ghost use Rattle.job_show.specs.Shown.{IsNotShown, ShowsFile};
 
 use crate::shown_lines::shown_line;
 use clap::{ArgMatches, Command};
-use job_parts::arguments::{file, name_of};
+use job_parts::arguments::{file, flag, is_set, name_of};
 use job_parts::bad_lines::BadLine;
+use job_parts::inputs::{Content, InputFile, Inputs};
 use job_parts::printing::print_text;
 use job_parts::programs::text_in;
 use job_parts::status::Status;
@@ -30,9 +31,18 @@ use std::io::Write;
 pub struct ShowWords {
     /// The name of the file of packet lines.
     pub lines: String,
+    /// Whether its lines are those of a dump: the bytes of a packet alone.
+    pub raw: bool,
 }
 
-/// `show LINES`.
+impl ShowWords {
+    /// What the job reads: the lines.
+    pub fn inputs(&self) -> Inputs<'_> {
+        Inputs::one(InputFile::new(self.lines.as_str(), Content::Lines))
+    }
+}
+
+/// `show LINES [--raw]`.
 pub fn show_command<'a>(alloc: Global) -> Result<Command<'a>, AllocError>
     ensures shape { IfOk result (λ c. app_of c ≡ show_app) }
     ensures local { IfOk result (λ c. (fields_of c).has_globals ≡ false) }
@@ -40,7 +50,12 @@ pub fn show_command<'a>(alloc: Global) -> Result<Command<'a>, AllocError>
     let about = "Tells in words what packet lines are, commands or replies";
     let help = "The file of packet lines, or - for standard input";
     let lines = file(alloc, "lines", "LINES", help);
-    Command::new(alloc, "show").about(about).arg(lines)
+    let help = "Each line is the bytes of a packet alone, as in a dump: without port and marker";
+    let raw = flag(alloc, "raw", help);
+    Command::new(alloc, "show")
+        .about(about)
+        .arg(lines)?
+        .arg(raw)
 }
 
 /// The words of `show` with these matches.
@@ -49,7 +64,8 @@ pub fn show_job(alloc: Global, found: &ArgMatches) -> Result<ShowWords, UsageFau
     ensures err { IfErr result (Lacks (codes "lines") (rows_of (found_of found.now))) }
 {
     let lines = name_of(alloc, found, "lines")?;
-    Ok(ShowWords { lines })
+    let raw = is_set(found, "raw");
+    Ok(ShowWords { lines, raw })
 }
 
 /// Prints what each line is.

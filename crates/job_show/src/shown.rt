@@ -2,6 +2,7 @@
 
 use crate::load_results::{add_control, add_load_result};
 use initiator::{NoReply, Reply, Seen};
+use job_parts::paths::{add_path, path_in_front};
 use rmap::{
     BodyFault, Command, Discard, Flaw, HeaderFault, Instruction, Kind, MAX_DATA, PROTOCOL, Place,
     Status, VERIFY_BUFFER, Windows, header_check,
@@ -233,16 +234,32 @@ fn add_no_reply(
     }
 }
 
-/// Adds that a packet is no command, and why.
-fn add_discard(text: &mut String, reason: Discard, flaw: Flaw) -> Result<(), AllocError> {
+/// Adds that a packet has another protocol, and the path that stands before it, if one does.
+fn add_protocol(text: &mut String, found: u8, bytes: &[u8]) -> Result<(), AllocError> {
+    write!(
+        text,
+        " the protocol is {found:02X} and should be {PROTOCOL:02X}"
+    )?;
+    let path = path_in_front(bytes);
+    if path.is_empty() {
+        return Ok(());
+    }
+    text.push_str(": ")?;
+    add_path(text, path)
+}
+
+/// Adds that a packet of these bytes is no command, and why.
+fn add_discard(
+    text: &mut String,
+    reason: Discard,
+    flaw: Flaw,
+    bytes: &[u8],
+) -> Result<(), AllocError> {
     let code = reason.code();
     write!(text, "discard {code}")?;
     match flaw {
         Flaw::TooShort => text.push_str(" too few bytes"),
-        Flaw::OtherProtocol { found } => write!(
-            text,
-            " the protocol is {found:02X} and should be {PROTOCOL:02X}"
-        ),
+        Flaw::OtherProtocol { found } => add_protocol(text, found, bytes),
         Flaw::IsReply => text.push_str(" a reply"),
         Flaw::WrongHeaderCrc { found, right } => write!(
             text,
@@ -257,6 +274,6 @@ pub fn add_packet(text: &mut String, alloc: Global, packet: &Packet) -> Result<(
         Seen::Command { command, fault } => add_command(text, alloc, &command, fault),
         Seen::Reply { path, reply } => add_reply(text, alloc, &reply, path, packet.end()),
         Seen::NoReply { instruction, why } => add_no_reply(text, instruction, why),
-        Seen::Discarded { reason, flaw } => add_discard(text, reason, flaw),
+        Seen::Discarded { reason, flaw } => add_discard(text, reason, flaw, packet.bytes()),
     }
 }

@@ -1,4 +1,9 @@
-//! Lines in words: packet lines, and what `judge` and `live` print beside them.
+//! Lines in words: packet lines, and what `judge`, `serve` and `live` print beside them.
+
+ghost use Rattle.std.specs.Prelude.{◌≡◌, ◌⊎◌, ◌∷◌, IfErr, IfOk, map, string_bytes};
+ghost use Rattle.job_show.specs.ShownLines.{EndsLine, IsLineFault};
+ghost use Rattle.spw.specs.Line.{HasFault, marker_word, words_of as words_in};
+ghost use Rattle.spw.specs.declared.faults.LineFault.TheVariants.{Memory};
 
 use crate::shown::add_packet;
 use job_parts::bad_lines::BadLine;
@@ -66,6 +71,15 @@ fn add_count(text: &mut String, count: &str, what: &str) -> Result<bool, AllocEr
     Ok(true)
 }
 
+/// Adds how many packets `serve` discarded, and how many replies it lost. Tells whether the words are numbers.
+fn add_report(text: &mut String, discarded: &str, lost: &str) -> Result<bool, AllocError> {
+    let (Some(discarded), Some(lost)) = (decimal(discarded), decimal(lost)) else {
+        return Ok(false);
+    };
+    write!(text, "packets discarded: {discarded}, replies lost: {lost}")?;
+    Ok(true)
+}
+
 /// Whether all of some words are numbers, and there is one.
 fn are_numbers(words: &[&str]) -> bool {
     for word in words {
@@ -92,7 +106,7 @@ fn add_cells(text: &mut String, map: &str, words: &[&str]) -> Result<bool, Alloc
 }
 
 /// Adds what a line of these words is in words, but for its packet, if it is none of a packet alone: what `judge` prints of
-/// a packet without a reply, or what `live` prints. Tells whether it is.
+/// a packet without a reply, what `live` prints, or the last line of `serve`. Tells whether it is.
 fn add_told(text: &mut String, words: &[&str]) -> Result<bool, AllocError> {
     match words {
         ["journal", count, "entries"] => add_count(text, count, "entries of the journal:"),
@@ -100,6 +114,7 @@ fn add_told(text: &mut String, words: &[&str]) -> Result<bool, AllocError> {
         ["cells", map, words @ ..] => add_cells(text, map, words),
         ["set", count] => add_count(text, count, "bytes set by the instrument:"),
         ["line", number, "fault", code] => add_bad_line(text, number, code),
+        ["discarded", discarded, "lost", lost] => add_report(text, discarded, lost),
         [port, rest @ ..] => add_answer(text, port, rest),
         [] => Ok(false),
     }
@@ -165,25 +180,61 @@ fn add_entry(text: &mut String, alloc: Global, words: &[&str]) -> Result<(), Lin
 }
 
 /// Adds a packet line.
-fn add_line(text: &mut String, alloc: Global, line: &str) -> Result<(), LineFault> {
+fn add_line(text: &mut String, alloc: Global, line: &str) -> Result<(), LineFault>
+    ensures { IfErr result (λ fault. (fault ≡ Memory) ⊎ HasFault marker_word line.now fault) }
+{
     let (port, packet) = read_line(alloc, line)?;
     write!(text, "{port} ")?;
     Ok(add_packet(text, alloc, &packet)?)
 }
 
+/// Adds an entry of a journal, or a packet line, by the words of the line, of which this is the first.
+fn add_by_first(
+    text: &mut String,
+    alloc: Global,
+    line: &str,
+    first: &str,
+    rest: &[&str],
+) -> Result<(), LineFault>
+    ensures { IfErr result
+        (IsLineFault line.now (first.now ∷ map (λ word. word.now) rest.now)) }
+{
+    match first {
+        "journal" if rest.len() > 5 => add_entry(text, alloc, rest),
+        _ => add_line(text, alloc, line),
+    }
+}
+
+/// Adds an entry of a journal, or a packet line, which has these words.
+fn add_packet_line(
+    text: &mut String,
+    alloc: Global,
+    line: &str,
+    words: &[&str],
+) -> Result<(), LineFault>
+    ensures { IfErr result (IsLineFault line.now (map (λ word. word.now) words.now)) }
+{
+    let [first, rest @ ..] = words else {
+        return add_line(text, alloc, line);
+    };
+    add_by_first(text, alloc, line, first, rest)
+}
+
 /// A line in words, with its line feed: a packet line, what `judge` prints of a packet without a reply, or what `live`
-/// prints: an entry of the journal, how many there are, the words of
-/// a map's cells, how many bytes were set, or that a line was bad. A line that is
-/// none of these has the fault of a packet line.
-pub fn shown_line(alloc: Global, line: &str) -> Result<String, LineFault> {
+/// prints: an entry of the journal, how many there are, the words of a map's cells, how many bytes were set, or that a line
+/// was bad; or the last line of `serve`.
+///
+/// A line that is none of these has the fault of a packet line, and an entry that of its packet. `Memory` where memory was
+/// refused: of a packet line that is the only one.
+pub fn shown_line(alloc: Global, line: &str) -> Result<String, LineFault>
+    ensures told { IfOk result (λ text. EndsLine (string_bytes text)) }
+    ensures fault { IfErr result (IsLineFault line.now (words_in line.now)) }
+{
     let words = words_of(alloc, line)?;
     let mut text = String::new(alloc);
     if !add_told(&mut text, words.as_slice())? {
-        match words.as_slice() {
-            ["journal", rest @ ..] if rest.len() > 5 => add_entry(&mut text, alloc, rest)?,
-            _ => add_line(&mut text, alloc, line)?,
-        }
+        add_packet_line(&mut text, alloc, line, words.as_slice())?;
     }
-    text.push('\n')?;
+    text.push_str("\n")?;
     Ok(text)
 }

@@ -17,6 +17,7 @@ use bpf::Image;
 use clap::{ArgMatches, Command};
 use job_parts::arguments::{file, name_of};
 use job_parts::faults::Fault;
+use job_parts::inputs::{Content, InputFile, Inputs};
 use job_parts::programs::text_in;
 use job_parts::status::Status;
 use job_parts::stops::Halt;
@@ -32,6 +33,14 @@ pub struct AsmWords {
     pub text: String,
     /// The name of the file that the image is written to.
     pub image: String,
+}
+
+impl AsmWords {
+    /// What the job reads and writes: the text, and then the image.
+    pub fn inputs(&self) -> Inputs<'_> {
+        let text = InputFile::new(self.text.as_str(), Content::Text);
+        Inputs::made(text, self.image.as_str())
+    }
 }
 
 /// `asm FILE OUT`.

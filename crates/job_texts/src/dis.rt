@@ -15,6 +15,7 @@ use crate::listed::listed;
 use crate::needed::needed_line;
 use clap::{ArgMatches, Command};
 use job_parts::arguments::{flag, image_command, is_set, name_of};
+use job_parts::inputs::{Content, InputFile, Inputs};
 use job_parts::printing::print_text;
 use job_parts::programs::image_in;
 use job_parts::status::Status;
@@ -31,6 +32,13 @@ pub struct DisWords {
     pub image: String,
     /// Whether each instruction is printed behind its slot.
     pub slots: bool,
+}
+
+impl DisWords {
+    /// What the job reads: the image.
+    pub fn inputs(&self) -> Inputs<'_> {
+        Inputs::one(InputFile::new(self.image.as_str(), Content::Image))
+    }
 }
 
 /// `dis FILE [--slots]`.

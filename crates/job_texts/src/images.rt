@@ -10,6 +10,7 @@ ghost use Rattle.job_texts.specs.Images.{NamesImage, RefusesImage, maps_app};
 use bver::MapSizes;
 use clap::{ArgMatches, Command};
 use job_parts::arguments::{image_command, name_of};
+use job_parts::inputs::{Content, InputFile, Inputs};
 use job_parts::options::{maps_option, sizes_of};
 use job_parts::usage::UsageFault;
 use std::alloc::{AllocError, Global};
@@ -21,6 +22,18 @@ pub struct ImageArgs {
     pub image: String,
     /// How many cells each map has of the node, and of which kind it is, that it may judge on.
     pub sizes: MapSizes,
+}
+
+impl ImageArgs {
+    /// What `verify` reads: the image.
+    pub fn inputs(&self) -> Inputs<'_> {
+        Inputs::one(InputFile::new(self.image.as_str(), Content::Image))
+    }
+
+    /// What `why` reads: the image, or what is in its place.
+    pub fn told_inputs(&self) -> Inputs<'_> {
+        Inputs::one(InputFile::new(self.image.as_str(), Content::ImageOrText))
+    }
 }
 
 /// A subcommand that verifies an image: `NAME FILE [--maps LIST]`.

@@ -17,6 +17,7 @@ use bver::MapSizes;
 use clap::{ArgMatches, Command};
 use job_parts::arguments::{file, name_of};
 use job_parts::faults::Fault;
+use job_parts::inputs::{Content, InputFile, Inputs};
 use job_parts::options::{maps_option, sizes_of};
 use job_parts::programs::text_in;
 use job_parts::status::Status;
@@ -36,6 +37,14 @@ pub struct PolicyWords {
     pub image: String,
     /// How many cells each map has of the node, and of which kind it is, that the image is to judge on.
     pub sizes: MapSizes,
+}
+
+impl PolicyWords {
+    /// What the job reads and writes: the table, and then the image.
+    pub fn inputs(&self) -> Inputs<'_> {
+        let table = InputFile::new(self.table.as_str(), Content::Table);
+        Inputs::made(table, self.image.as_str())
+    }
 }
 
 /// `policy FILE OUT [--maps LIST]`.

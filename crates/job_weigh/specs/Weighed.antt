@@ -8,8 +8,9 @@ use Rattle.bver.specs.Justified.{IsJustified}
 use Rattle.bver_form.specs.Costs.{weight_by}
 use Rattle.machine.specs.Runs.{IsSafe}
 use Rattle.weights.specs.Classes.{cost_by, costs}
-use Rattle.weights.specs.declared.costs.Costs.{Costs}
 use Rattle.job_parts.specs.Files.{Reads, HoldsImage}
+use Rattle.job_weigh.specs.Times.{in_nanoseconds}
+use Rattle.job_weigh.specs.declared.times.Times.{Times}
 use Rattle.job_weigh.specs.declared.weigh.WeighWords.{WeighWords}
 
 -- the lines of these weights
@@ -25,11 +26,11 @@ class_lines p =
     lines_of (weight_by (cost_by (costs 1 0 0 0)) p) (weight_by (cost_by (costs 0 1 0 0)) p)
     (weight_by (cost_by (costs 0 0 1 0)) p) (weight_by (cost_by (costs 0 0 0 1)) p) (saturated_weight (weight_of p))
 
--- how long a run of the program takes at most, where times are given: the weight where each instruction costs the time of
--- its class
-abbrev pub longest : Program → Option Costs → Option ℕ
+-- how many nanoseconds a run of the program takes at most, where times are given: the weight where each instruction costs the
+-- time of its class
+abbrev pub longest : Program → Option Times → Option ℕ
 longest p None = None
-longest p (Some times) = Some (weight_by (cost_by times) p)
+longest p (Some times) = Some (in_nanoseconds times.unit (weight_by (cost_by times.costs) p))
 
 -- the line of that
 abbrev pub time_lines : Option ℕ → List ℕ

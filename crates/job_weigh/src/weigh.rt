@@ -12,10 +12,11 @@ ghost use Rattle.job_parts.specs.Stops.{StopsBy};
 ghost use Rattle.job_weigh.specs.WeighJob.{NamesWeigh, RefusesWeigh, weigh_app};
 ghost use Rattle.job_weigh.specs.Weighed.{Weighs, class_lines, lines_of, longest, time_lines};
 
-use crate::times::times_of;
+use crate::times::{Times, times_of};
 use bver::{Accepted, MapSizes, justified_programs};
 use clap::{ArgMatches, Command};
 use job_parts::arguments::{image_command, name_of, option};
+use job_parts::inputs::{Content, InputFile, Inputs};
 use job_parts::options::{maps_option, sizes_of};
 use job_parts::programs::program_in;
 use job_parts::status::Status;
@@ -24,7 +25,7 @@ use job_parts::storage::Files;
 use job_parts::usage::UsageFault;
 use std::alloc::{AllocError, Global};
 use std::io::{self, Write};
-use weights::{Costs, weigh, weights_of};
+use weights::{weigh, weights_of};
 
 /// The words of the job `weigh`.
 #[derive(Debug, Drop)]
@@ -34,7 +35,14 @@ pub struct WeighWords {
     /// How many cells each map has of the node, and of which kind it is, that it may judge on.
     pub sizes: MapSizes,
     /// How many nanoseconds an instruction of each class takes, where that is told.
-    pub times: Option<Costs>,
+    pub times: Option<Times>,
+}
+
+impl WeighWords {
+    /// What the job reads: the image.
+    pub fn inputs(&self) -> Inputs<'_> {
+        Inputs::one(InputFile::new(self.image.as_str(), Content::Image))
+    }
 }
 
 /// `weigh FILE [--maps LIST] [--ns D,C,J,R]`.
@@ -45,7 +53,7 @@ pub fn weigh_command<'a>(alloc: Global) -> Result<Command<'a>, AllocError>
     let about = "Tells how many instructions of each class a run of a BPF image takes at most";
     let maps = maps_option(alloc);
     let help =
-        "How many nanoseconds a division, a call, a conditional jump and any other instruction take, as 15,14,6,2";
+        "How many nanoseconds a division, a call, a conditional jump and any other instruction take, as 13.5,14,6,2";
     let times = option(alloc, "ns", "D,C,J,R", help);
     image_command(alloc, "weigh", about)?.arg(maps)?.arg(times)
 }
@@ -94,11 +102,11 @@ fn print_weights<W: Write>(out: &mut W, program: &Accepted) -> io::Result<()>
 }
 
 /// How many nanoseconds a run takes at most, where it is told how many an instruction of each class takes.
-fn longest(program: &Accepted, times: &Option<Costs>) -> Option<u64>
+fn longest(program: &Accepted, times: &Option<Times>) -> Option<u64>
     ensures { result ≡ longest program.now.program times.now }
 {
     match times {
-        Some(times) => Some(weigh(program, times)),
+        Some(times) => Some(times.nanoseconds(weigh(program, &times.costs))),
         None => None,
     }
 }

@@ -1,5 +1,5 @@
 -- What came over a link, what the target made of it, and what left.
-use Rattle.std.specs.Prelude.{◌≡◌, ◌⊎◌, ◌≤◌, ℕ, Bool, true, false, length, List, [], ◌∷◌, ◌++◌, take}
+use Rattle.std.specs.Prelude.{◌≡◌, ◌≢◌, ◌⊎◌, ◌≤◌, ℕ, Bool, true, false, length, List, [], ◌∷◌, ◌++◌, take}
 use Rattle.frames.specs.declared.came.Came.{Came}
 use Rattle.frames.specs.Reading.{Reading}
 use Rattle.frames.specs.Runs.{EndsUnpacked}
@@ -46,9 +46,10 @@ AnswersAll {N} {L} served sent told (first ∷ others) before after_ start stop 
     (next : N) × (between : L) × AnswersFrame served sent told first before next start between
     × AnswersAll served sent told others next after_ between stop
 
--- these bytes came at once, what came with them was answered in turn, and then this was read
+-- these bytes, one at least, came at once, what came with them was answered in turn, and then this was read
 pub record AnswersChunk {N L : Type 0} (served : Serves N) (came sent told : Moves L) (bytes : List ℕ) (start at : Reading) (before after_ : N) (from to : L) : Type 0
   where
+    pub some : bytes ≢ []
     pub heard : L
     pub bytes_came : came from bytes heard
     pub read : at ≡ after start bytes

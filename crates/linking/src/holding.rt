@@ -7,7 +7,7 @@ ghost use Rattle.linking.specs.Linking.{AnswersAll, AnswersFrame, Exchanges, IsC
 use crate::link::{Broken, Cannot, Link, Target};
 use frames::{Came, FrameReader, frames_are_read};
 
-/// How many bytes are asked for at a time.
+/// How many bytes are asked for at a time: any number above 0 gives the same answers.
 const CHUNK: usize = 8192;
 
 /// Sends what is due, if anything is.

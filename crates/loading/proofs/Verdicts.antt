@@ -16,10 +16,11 @@ use Rattle.node_programs.specs.declared.publishes.Publish.{Publish}
 use Rattle.node_programs.specs.Histories.{longer_history}
 use Rattle.node_programs.specs.Laws.{IsSetByNext}
 use Rattle.node_programs.specs.Published.{judging_program, sizes_of}
-use Rattle.node_parts.specs.declared.control.ControlData.{ControlData}
+use Rattle.rmap.specs.declared.boot_records.ControlData.{ControlData}
 use Rattle.node_parts.specs.declared.refusal.LoadRefusal.{LoadRefusal}
 use Rattle.node_parts.specs.Loaded.{EndsAs, HasLoaded, HasRefused, control_in}
-use Rattle.node_parts.specs.Loads.{IsPrepared, IsUnpreparedBy, WantsToPrepare, of_image, of_verifier, control_fault, control_of, loaded_bytes, published_result}
+use Rattle.node_parts.specs.Loads.{IsPrepared, IsUnpreparedBy, WantsToPrepare, of_image, of_verifier, control_fault, loaded_bytes, published_result}
+use Rattle.rmap.specs.BootRecords.{control_of}
 use Rattle.node_parts.specs.Outcomes.{IsLoadRefusal, WantsMemory, preparing, publishing}
 use Rattle.node_parts.specs.Passes.{PassValue}
 use Rattle.loading.specs.Asked.{ControlDataAreRead, asked_for}
@@ -29,10 +30,9 @@ use Rattle.loading.specs.Told.{IsPublishedAs, IsRefusedAs, IsVerdict}
 pub asks_for : ControlDataAreRead
 asks_for slot image short =
     let n = length image in
-    let zero : n / 65536 % 256 ≡ 0 = omega (arith, short) in
     let count : n / 256 % 256 * 256 + n % 256 ≡ n = omega (arith, short) in
-    let made : ℕ → ℕ → ControlData = λ z l. record { slot = slot; zero = z; length = l } in
-    ap (λ z. made z (n / 256 % 256 * 256 + n % 256)) zero ∙ ap (λ l. made 0 l) count
+    let made : ℕ → ControlData = λ l. record { slot = slot; zero = 0; length = l } in
+    ap made count
 
 -- a load reads the first bytes of the staging alone
 prepared : (control : ControlData) (staged image : List ℕ) (sizes : Maps) (slot : ℕ) (a : AcceptedValue) → loaded_bytes control staged ≡ loaded_bytes control image → IsPrepared control staged sizes slot a → IsPrepared control image sizes slot a

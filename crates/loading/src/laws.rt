@@ -1,7 +1,7 @@
 //! The laws of loads. Each function does no work: its contract is the law.
 
 ghost use Rattle.std.specs.Prelude.{◌<◌, length};
-ghost use Rattle.loading.specs.Asked.{ControlDataAreRead, SlotsAgree};
+ghost use Rattle.loading.specs.Asked.{ControlDataAreRead};
 ghost use Rattle.loading.specs.Told.{LoadsAreTold};
 
 use initiator::{load_packets_are_taken, made_commands_are_read};
@@ -13,11 +13,6 @@ use single_node::SingleNode;
 /// zero byte, and the bytes of the image.
 pub fn control_data_are_read()
     ensures { ControlDataAreRead }
-{}
-
-/// A law and no work: the greatest slot for which an initiator asks is the greatest of a node.
-pub fn slots_agree()
-    ensures { SlotsAgree }
 {}
 
 /// A law and no work: where a node of one thread serves the packets of a load in turn at one of its ports and lets each of

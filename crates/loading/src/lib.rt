@@ -5,4 +5,4 @@
 
 mod laws;
 
-pub use laws::{control_data_are_read, loads_are_told, slots_agree};
+pub use laws::{control_data_are_read, loads_are_told};

@@ -1,5 +1,4 @@
 pub mod Codes
-pub mod Controls
 pub mod Makings
 pub mod Pairings
 pub mod Services

@@ -14,7 +14,7 @@ use Rattle.node_programs.specs.declared.publishes.Publish.{Publish}
 use Rattle.node_programs.specs.Histories.{longer_history}
 use Rattle.node_programs.specs.Published.{sizes_of}
 use Rattle.node_programs.specs.Staged.{Staged, staged}
-use Rattle.node_parts.specs.declared.control.ControlData.{ControlData}
+use Rattle.rmap.specs.declared.boot_records.ControlData.{ControlData}
 use Rattle.node_parts.specs.declared.refusal.LoadRefusal.{LoadRefusal}
 use Rattle.node_parts.specs.Passes.{RunContextValue, pass_of}
 use Rattle.node_parts.specs.Loads.{IsPrepared, published_result, refused_result}

@@ -14,7 +14,7 @@ use Rattle.bver_form.specs.Laws.{FaultIsKnown}
 use Rattle.bver_form.specs.declared.refusal.Refusal.{Refusal}
 use Rattle.bver_form.specs.declared.refusal.Refusal.TheVariants as refusals
 use Rattle.bver_form.specs.declared.refusal.Refused.{Refused}
-use Rattle.node_parts.specs.declared.control.ControlData.{ControlData}
+use Rattle.rmap.specs.declared.boot_records.ControlData.{ControlData}
 use Rattle.node_parts.specs.declared.refusal.LoadRefusal.{LoadRefusal}
 use Rattle.node_parts.specs.declared.refusal.LoadRefusal.TheVariants.{Control, Slot, Image, Program as Unverified, GenerationsFull}
 use Rattle.node_parts.specs.Loads.{IsUnpreparedBy, IsUnspelled, IsUnverified, control_fault, load_refusal_code, load_refusal_slot, loaded_bytes, wants_image_memory, wants_verifier_memory}

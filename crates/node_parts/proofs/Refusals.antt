@@ -17,7 +17,7 @@ use Rattle.bver_form.specs.declared.refusal.Refused.{Refused}
 use Rattle.machine.specs.Sizes.{Maps}
 use Rattle.node_programs.specs.Codes.{IsUnpublished}
 use Rattle.node_programs.specs.declared.faults.PublishFault.{PublishFault}
-use Rattle.node_parts.specs.declared.control.ControlData.{ControlData}
+use Rattle.rmap.specs.declared.boot_records.ControlData.{ControlData}
 use Rattle.node_parts.specs.declared.refusal.LoadRefusal.{LoadRefusal}
 use Rattle.node_parts.specs.declared.refusal.LoadRefusal.TheVariants.{Control, Slot, Image, Program as Unverified, Memory, GenerationsFull}
 use Rattle.node_parts.specs.Loads.{of_image, of_verifier, IsFirstFault, IsPrepared, IsUnprepared, IsUnpreparedBy, IsUnspelled, IsUnverified, WantsToPrepare, WantsToVerify, control_fault, loaded_bytes, refusal_of_publishing, verifier_memory}

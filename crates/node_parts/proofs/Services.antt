@@ -18,7 +18,7 @@ use Rattle.node_parts.specs.Loaded.{EndsAs}
 use Rattle.node_parts.specs.Served.{PartsValue, IsServed, IsAnswered, IsDone, IsUntouched, IsStagedAt, EndsAtWindow}
 use Rattle.node_parts.specs.Steps.{IsJudgement}
 use Rattle.node_parts.specs.Pairs.{ArePaired, IsPaired}
-use Rattle.node_parts.specs.Keeping.{AnsweredAreServed, LeavesAllPaired, LeavesOthersPaired, LeavesOwnPaired, PairedAreAnswered}
+use Rattle.node_parts.specs.Keeping.{AnsweredAreServed, LeavesAllPaired}
 use Rattle.node_parts.proofs.Pairings.{own_stays_paired, others_stay_paired, pair_set, at_written, at_other, judged_paired, judged_fits, staged_paired, loaded_paired}
 
 -- the command was applied
@@ -26,7 +26,9 @@ done_applied : (old new : PartsValue) (h after : PassValue) (p : Cargo) (result 
 done_applied old new h after p result reply paired done =
     done.ended.applied (judged_fits old.banks h done.between p done.judged done.number done.before done.judgement paired done.place done.bank)
 
-pub answered : PairedAreAnswered
+-- where banks and port are paired no command is refused
+answered : (served : Served) (p : Cargo) (old new : PartsValue) (h after : PassValue) (reply : List ℕ)
+    → IsServed served p old new h after reply → IsPaired old.banks h → IsAnswered served p old new h after reply
 answered (Stopped stop) p old new h after reply s paired = s
 answered Unread p old new h after reply s paired = s
 answered (Window status) p old new h after reply s paired = s
@@ -90,7 +92,9 @@ at_window Staging banks h after old new j status reply end paired = at_staging b
 at_window LoadResult banks h after old new j status reply end paired = at_staging banks h after j status reply end.0 paired
 at_window Control banks h after old new j status reply end paired = at_load _ banks h after old new j status end.ended paired
 
-pub stays_paired : ExtentsStay → LeavesOwnPaired
+-- a packet leaves the port at which it came in paired
+stays_paired : ExtentsStay → (served : Served) (p : Cargo) (old new : PartsValue) (h after : PassValue) (reply : List ℕ)
+    → IsServed served p old new h after reply → IsPaired old.banks h → IsPaired new.banks after
 stays_paired keeps (Stopped stop) p old new h after reply s paired =
     subst (λ x. IsPaired new.banks x) (sym s.1.holder_after) (untouched old new h after h s.1 paired)
 stays_paired keeps Unread p old new h after reply s paired =
@@ -115,7 +119,10 @@ behind_paired keeps old new h after other p result reply done true fit apart pai
 behind_paired keeps old new h after other p result reply done false fit apart paired =
     subst (λ b. IsPaired (set old.banks done.number b) other) (sym (done.ended.refused fit).bank) (pair_set old.banks done.number done.before done.before other done.bank refl paired (paired.shares done.number done.before done.bank))
 
-pub others_paired : ExtentsStay → LeavesOthersPaired
+-- and every other
+others_paired : ExtentsStay → (served : Served) (p : Cargo) (old new : PartsValue) (h after : PassValue) (reply : List ℕ)
+    → IsServed served p old new h after reply → (other : PassValue) → other.port ≢ h.port
+    → IsPaired old.banks other → IsPaired new.banks other
 others_paired keeps (Stopped stop) p old new h after reply s other apart paired = untouched old new h after other s.1 paired
 others_paired keeps Unread p old new h after reply s other apart paired = untouched old new h after other s.1 paired
 others_paired keeps (Done result) p old new h after reply done other apart paired =

@@ -1,7 +1,5 @@
 -- The numbers of the faults.
 use Rattle.std.specs.Prelude.{ℕ}
-use Rattle.bank.specs.declared.faults.BankFault.{BankFault}
-use Rattle.bank.specs.declared.faults.BankFault.TheVariants.{Memory as NoMemory, Size}
 use Rattle.node_parts.specs.declared.faults.NodeFault.{NodeFault}
 use Rattle.node_parts.specs.declared.faults.NodeFault.TheVariants.{Memory, Ports, Banks}
 
@@ -10,8 +8,3 @@ abbrev pub node_fault_code : NodeFault → ℕ
 node_fault_code Memory = 1
 node_fault_code Ports = 2
 node_fault_code Banks = 3
-
--- what a bank's fault is to its node
-abbrev pub fault_of_bank : BankFault → NodeFault
-fault_of_bank NoMemory = Memory
-fault_of_bank Size = Banks

@@ -1,5 +1,5 @@
 -- What a packet leaves of banks and ports that are paired.
-use Rattle.std.specs.Prelude.{◌≡◌, ◌≢◌, ℕ, true, List, length, slice_get, slice_set, Some}
+use Rattle.std.specs.Prelude.{◌≡◌, ℕ, true, List, length, slice_get, slice_set, Some}
 use Rattle.spw.specs.Cargo.{Cargo}
 use Rattle.bank.specs.declared.bank.Applied.{Applied}
 use Rattle.bank.specs.Records.{BankValue, JudgedValue, fits, is_next}
@@ -10,30 +10,11 @@ use Rattle.node_parts.specs.Passes.{PassValue}
 use Rattle.node_parts.specs.Served.{PartsValue, IsServed, IsAnswered}
 use Rattle.node_parts.specs.Steps.{IsBankBelow}
 
--- where banks and port are paired no command is refused
-abbrev pub PairedAreAnswered : Type 0
-PairedAreAnswered =
-    (served : Served) (p : Cargo) (old new : PartsValue) (h after : PassValue) (reply : List ℕ)
-    → IsServed served p old new h after reply → IsPaired old.banks h → IsAnswered served p old new h after reply
-
--- and what is answered is one of the ways in which a packet is served
+-- where banks and port are paired, a packet whose command was applied was served
 abbrev pub AnsweredAreServed : Type 0
 AnsweredAreServed =
     (served : Served) (p : Cargo) (old new : PartsValue) (h after : PassValue) (reply : List ℕ)
     → IsAnswered served p old new h after reply → IsPaired old.banks h → IsServed served p old new h after reply
-
--- a packet leaves the port at which it came in paired
-abbrev pub LeavesOwnPaired : Type 0
-LeavesOwnPaired =
-    (served : Served) (p : Cargo) (old new : PartsValue) (h after : PassValue) (reply : List ℕ)
-    → IsServed served p old new h after reply → IsPaired old.banks h → IsPaired new.banks after
-
--- and every other
-abbrev pub LeavesOthersPaired : Type 0
-LeavesOthersPaired =
-    (served : Served) (p : Cargo) (old new : PartsValue) (h after : PassValue) (reply : List ℕ)
-    → IsServed served p old new h after reply → (other : PassValue) → other.port ≢ h.port
-    → IsPaired old.banks other → IsPaired new.banks other
 
 -- banks and all ports stay paired, whichever of them the packet came in at
 abbrev pub LeavesAllPaired : Type 0

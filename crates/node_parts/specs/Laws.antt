@@ -10,7 +10,7 @@ use Rattle.bver.specs.Justified.{IsJustified}
 use Rattle.bank.specs.Records.{JudgedValue}
 use Rattle.node_programs.specs.declared.publishes.Publish.{Publish}
 use Rattle.node_programs.specs.Laws.{IsThatOrLater}
-use Rattle.node_parts.specs.declared.control.ControlData.{ControlData}
+use Rattle.rmap.specs.declared.boot_records.ControlData.{ControlData}
 use Rattle.node_parts.specs.declared.refusal.LoadRefusal.{LoadRefusal}
 use Rattle.node_parts.specs.Slots.{slot_of}
 use Rattle.node_parts.specs.Passes.{PassValue}

@@ -12,10 +12,11 @@ use Rattle.node_programs.specs.Histories.{longer_history}
 use Rattle.node_programs.specs.Published.{sizes_of}
 use Rattle.node_programs.specs.declared.publishes.Publish.{Publish}
 use Rattle.node_programs.specs.Staged.{staged}
-use Rattle.node_parts.specs.declared.control.ControlData.{ControlData}
+use Rattle.rmap.specs.declared.boot_records.ControlData.{ControlData}
 use Rattle.node_parts.specs.declared.refusal.LoadRefusal.{LoadRefusal}
 use Rattle.node_parts.specs.Passes.{PassValue}
-use Rattle.node_parts.specs.Loads.{control_of, published_result, refused_result}
+use Rattle.node_parts.specs.Loads.{published_result, refused_result}
+use Rattle.rmap.specs.BootRecords.{control_of}
 use Rattle.node_parts.specs.Outcomes.{IsLoad, IsLoadRefusal, Published}
 
 -- what a control write asks for

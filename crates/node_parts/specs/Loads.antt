@@ -28,7 +28,6 @@ use Rattle.std.specs.Prelude.{
   Some,
   None,
 }
-use Rattle.byteorder.specs.Endian.{big_bytes}
 use Rattle.std.specs.Option.{option_map}
 use Rattle.bpf_insn.specs.declared.decoder.BadInsn.TheVariants.{Opcode}
 use Rattle.bpf.specs.Fault.{image_fault_code, image_fault_of_code, image_fault_slot}
@@ -43,11 +42,12 @@ use Rattle.bver_form.specs.declared.refusal.Refused.{Refused}
 use Rattle.bver.specs.Refusals.{IsRefusal}
 use Rattle.bver.specs.Justified.{AcceptedValue, IsJustified}
 use Rattle.machine.specs.Sizes.{Maps}
-use Rattle.rmap.specs.declared.boot.TheConstants.{STAGING_SIZE}
-use Rattle.node_programs.specs.declared.publishes.TheConstants.{LAST_SLOT}
+use Rattle.rmap.specs.declared.boot.TheConstants.{LAST_SLOT, STAGING_SIZE}
+use Rattle.rmap.specs.declared.boot_records.ControlData.{ControlData}
+use Rattle.rmap.specs.declared.boot_records.LoadResult.{LoadResult}
+use Rattle.rmap.specs.BootRecords.{load_result_bytes}
 use Rattle.node_programs.specs.declared.faults.PublishFault.{PublishFault}
 use Rattle.node_programs.specs.declared.faults.PublishFault.TheVariants as publish_faults
-use Rattle.node_parts.specs.declared.control.ControlData.{ControlData}
 use Rattle.node_parts.specs.declared.refusal.LoadRefusal.{LoadRefusal}
 use Rattle.node_parts.specs.declared.refusal.LoadRefusal.TheVariants.{
   Control,
@@ -57,23 +57,6 @@ use Rattle.node_parts.specs.declared.refusal.LoadRefusal.TheVariants.{
   Memory,
   GenerationsFull,
 }
-
--- what the data of a control write asks: a slot, a byte that is zero, and how many bytes the image has, the
--- most significant byte first
-abbrev pub control_of : List ℕ → ControlData
-control_of bytes = record {
-  slot = slice_index bytes 0;
-  zero = slice_index bytes 1;
-  length = slice_index bytes 2 * 256 + slice_index bytes 3;
-}
-
--- the data of a control write that asks so
-abbrev pub control_bytes : ControlData → List ℕ
-control_bytes control = (control.slot ∷ control.zero ∷ []) ++ big_bytes 2 control.length
-
--- the bytes ask so, whatever follows them
-abbrev pub AreReadAs : ControlData → List ℕ → Type 0
-AreReadAs control bytes = (behind : List ℕ) → control_of (bytes ++ behind) ≡ control
 
 -- what is wrong with control data: first its second byte and its length, then its slot
 abbrev pub control_fault : ControlData → Option LoadRefusal
@@ -239,14 +222,17 @@ pub data WantsToPrepare (control : ControlData) (staged : List ℕ) (refusal : L
   of_verifier : control_fault control ≡ None → (p : Program) → IsProgram p → loaded_bytes control staged ≡ image_bytes p
       → refusal ≡ Unverified verifier_memory → WantsToPrepare control staged refusal
 
--- the load result of a refusal: its code, a zero byte, its place in two bytes, and generation 0
-abbrev pub refused_result : LoadRefusal → List ℕ
-refused_result r =
-    (load_refusal_code r ∷ 0 ∷ []) ++ big_bytes 2 (load_refusal_slot r) ++ 0 ∷ 0 ∷ 0 ∷ 0 ∷ []
+-- the load result of a refusal: its code, its place, and generation 0
+abbrev pub refused_load : LoadRefusal → LoadResult
+refused_load r = record { code = load_refusal_code r; place = load_refusal_slot r; generation = 0 }
 
--- the load result of a program that was published with that generation: four zero bytes, and the generation in four
+-- the bytes of the load result of a refusal
+abbrev pub refused_result : LoadRefusal → List ℕ
+refused_result r = load_result_bytes (refused_load r)
+
+-- the bytes of the load result of a program that was published with that generation
 abbrev pub published_result : (generation : ℕ) → List ℕ
-published_result n = (0 ∷ 0 ∷ 0 ∷ 0 ∷ []) ++ big_bytes 4 n
+published_result n = load_result_bytes (record { code = 0; place = 0; generation = n })
 
 -- the refusal in publishing
 abbrev pub refusal_of_publishing : PublishFault → LoadRefusal

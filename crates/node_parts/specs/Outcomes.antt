@@ -2,7 +2,7 @@
 use Rattle.std.specs.Prelude.{◌≡◌, ◌<◌, ◌≤◌, ◌⊎◌, ◌^◌, ℕ, List}
 use Rattle.bver.specs.Justified.{AcceptedValue}
 use Rattle.machine.specs.Sizes.{Maps}
-use Rattle.node_parts.specs.declared.control.ControlData.{ControlData}
+use Rattle.rmap.specs.declared.boot_records.ControlData.{ControlData}
 use Rattle.node_parts.specs.declared.refusal.LoadRefusal.{LoadRefusal}
 use Rattle.node_parts.specs.declared.refusal.LoadRefusal.TheVariants as load_refusals
 use Rattle.node_parts.specs.Loads.{IsPrepared, IsUnprepared, WantsToPrepare}

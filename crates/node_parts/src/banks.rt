@@ -9,7 +9,7 @@ ghost use Rattle.node_parts.specs.Nodes.{AreDistributed, ArePortShares, AreShare
 use crate::config::{BankConfig, NodeConfig};
 use crate::faults::NodeFault;
 use crate::shares::PortShares;
-use bank::{Bank, Journal, Share, is_bank_size};
+use bank::{Bank, BankFault, Journal, Share, is_bank_size};
 use rmap::MAX_BANKS;
 use spw::PORTS;
 use std::alloc::{AllocError, Global};
@@ -74,20 +74,35 @@ fn distribute(by_port: &mut Vec<PortShares>, mut shares: Vec<Share>) -> Result<(
     Ok(())
 }
 
+/// Why a bank within its limits could not be made: memory was refused.
+fn refused(fault: BankFault) -> AllocError
+    requires { fault ≡ BankFault.Memory }
+{
+    match fault {
+        BankFault::Memory => AllocError,
+        BankFault::Size => unreachable!(),
+    }
+}
+
 /// A bank, and the share of each port.
 fn bank_with_shares(
     alloc: Global,
     bank: &BankConfig,
     ports: u8,
-) -> Result<(Bank, Vec<Share>), NodeFault>
+) -> Result<(Bank, Vec<Share>), AllocError>
     requires within { is_within bank.now ≡ true }
     requires ports { is_ports ports ≡ true }
     ensures bank { IfOk result (λ made. made.0 ≡ bank_of ports bank.now) }
     ensures shares { IfOk result (λ made. made.1.items ≡ map first_share (range_with_len 0 ports)) }
-    ensures memory { IfErr result (λ fault. fault ≡ NodeFault.Memory) }
 {
-    let journal = Journal::new(alloc, bank.room)?;
-    Ok(Bank::new(alloc, bank.base, bank.size, journal, ports)?)
+    let journal = match Journal::new(alloc, bank.room) {
+        Ok(journal) => journal,
+        Err(fault) => return Err(refused(fault)),
+    };
+    match Bank::new(alloc, bank.base, bank.size, journal, ports) {
+        Ok(made) => Ok(made),
+        Err(fault) => Err(refused(fault)),
+    }
 }
 
 /// The banks, and in `by_port` their shares.
@@ -95,12 +110,11 @@ fn make_banks(
     alloc: Global,
     config: &NodeConfig,
     by_port: &mut Vec<PortShares>,
-) -> Result<Vec<Bank>, NodeFault>
+) -> Result<Vec<Bank>, AllocError>
     requires within { list_all is_within config.now.banks.now ≡ true }
     requires ports { is_ports config.now.ports ≡ true }
     requires by_port { ArePortShares 0 config.now.ports by_port.old.items }
     ensures banks { IfOk result (λ banks. banks.items ≡ fresh_banks config.now) }
-    ensures memory { IfErr result (λ fault. fault ≡ NodeFault.Memory) }
     ensures by_port { OnOk result (AreSharesOf config.now by_port.new.items) }
 {
     let mut banks = Vec::with_capacity(alloc, config.banks.len())?;

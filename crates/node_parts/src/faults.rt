@@ -1,11 +1,10 @@
 //! Why a node could not be made.
 
 ghost use Rattle.std.specs.Prelude.{◌≡◌};
-ghost use Rattle.node_parts.specs.Codes.{node_fault_code, fault_of_bank};
+ghost use Rattle.node_parts.specs.Codes.{node_fault_code};
 ghost use Rattle.node_parts.specs.declared.faults.NodeFault.TheVariants.{Memory};
 
-use bank::BankFault;
-use std::alloc::{AllocError, AllocFailed};
+use std::alloc::AllocError;
 use thiserror::Error;
 
 /// Why a node could not be made. The limits are tested before memory is taken, first `Ports`, then
@@ -41,24 +40,5 @@ impl From<AllocError> for NodeFault {
 
     fn from(_refused: AllocError) -> NodeFault {
         NodeFault::Memory
-    }
-}
-
-impl<T: Drop> From<AllocFailed<T>> for NodeFault {
-    ghost from_gives = { λ _ fault. fault ≡ Memory };
-
-    fn from(_refused: AllocFailed<T>) -> NodeFault {
-        NodeFault::Memory
-    }
-}
-
-impl From<BankFault> for NodeFault {
-    ghost from_gives = { λ refused fault. fault ≡ fault_of_bank refused };
-
-    fn from(refused: BankFault) -> NodeFault {
-        match refused {
-            BankFault::Memory => NodeFault::Memory,
-            BankFault::Size => NodeFault::Banks,
-        }
     }
 }

@@ -2,13 +2,12 @@
 
 ghost use Rattle.std.specs.Prelude.{◌≡◌};
 ghost use Rattle.node_parts.specs.Pairs.{MadeArePaired, PairedCommandsFit, OwnStaysPaired, OthersStayPaired};
-ghost use Rattle.node_parts.specs.Keeping.{AnsweredAreServed, AppliedSharesAgree, LeavesAllPaired, LeavesOthersPaired, LeavesOwnPaired, PairedAreAnswered};
+ghost use Rattle.node_parts.specs.Keeping.{AnsweredAreServed, AppliedSharesAgree, LeavesAllPaired};
 ghost use Rattle.node_parts.specs.Laws.{LoadsAreTaken, RefusalsTellWhy};
 
 use bank::extents_stay;
 use bver_form::first_faults;
-use node_programs::{STAGING_BYTES, published_programs};
-use rmap::STAGING_SIZE;
+use node_programs::published_programs;
 
 /// A law and no work: the banks and the passes of all ports are paired as they are made.
 pub fn made_are_paired()
@@ -30,13 +29,9 @@ pub fn pairs_stay()
     extents_stay();
 }
 
-/// A law and no work: what a packet that was served leaves of banks and ports. Where they are paired no command is
-/// refused, and they stay so, and all other ports.
+/// A law and no work: what a packet that was served leaves of banks and ports. Where they are paired, all of them stay so.
 pub fn packets_keep_pairs()
-    ensures answered { PairedAreAnswered }
     ensures served { AnsweredAreServed }
-    ensures own { LeavesOwnPaired }
-    ensures others { LeavesOthersPaired }
     ensures all { LeavesAllPaired }
 {
     extents_stay();
@@ -45,11 +40,6 @@ pub fn packets_keep_pairs()
 /// A law and no work: where a command is applied, share and count agree before, and so they do afterwards.
 pub fn shares_agree()
     ensures { AppliedSharesAgree }
-{}
-
-/// A law and no work: a port stages as many bytes as the boot window has addresses for.
-pub fn staging_fills_its_window()
-    ensures { STAGING_BYTES ≡ STAGING_SIZE }
 {}
 
 /// A law and no work: behind a port's own load, a command that the loaded slot judges is judged by the loaded

@@ -9,7 +9,6 @@
 
 mod banks;
 mod config;
-mod control;
 mod faults;
 mod laws;
 mod loads;
@@ -24,14 +23,13 @@ mod stop;
 
 pub use banks::Banks;
 pub use config::{BankConfig, NodeConfig};
-pub use control::{ControlData, read_control};
 pub use faults::NodeFault;
 pub use laws::{
     loads_are_taken, made_are_paired, packets_keep_pairs, paired_commands_fit, pairs_stay,
-    refusals_tell_why, shares_agree, staging_fills_its_window,
+    refusals_tell_why, shares_agree,
 };
 pub use loads::{load, prepare};
-pub use refusal::{LoadRefusal, load_result_of};
+pub use refusal::LoadRefusal;
 pub use run_context::RunContext;
 pub use served::Served;
 pub use shares::PortShares;

@@ -11,14 +11,13 @@ ghost use Rattle.node_parts.specs.Outcomes.{IsLoadRefusal};
 ghost use Rattle.node_parts.specs.Passes.{RunContextValue, pass_of};
 ghost use Rattle.node_parts.specs.Loads.{IsFirstFault, IsPrepared, IsUnprepared, IsUnpreparedBy, IsUnspelled, WantsToPrepare, WantsToVerify, control_fault, loaded_bytes};
 
-use crate::control::{ControlData, read_control};
-use crate::refusal::{LoadRefusal, load_result_of};
+use crate::refusal::LoadRefusal;
 use bank::{Judged, judged_fault};
 use bpf::{Image, ImageFault};
 use bver::{Accepted, MapSizes, verify};
 use bver_form::first_faults;
-use node_programs::{LAST_SLOT, ProgramStore, Staging};
-use rmap::{Place, ReplyBuf, STAGING_SIZE, Status};
+use node_programs::{ProgramStore, Staging};
+use rmap::{ControlData, LAST_SLOT, LoadResult, Place, ReplyBuf, STAGING_SIZE, Status};
 use std::alloc::Global;
 
 /// What is wrong with control data.
@@ -133,10 +132,10 @@ pub fn load<K, S: ProgramStore<K>>(
         judged.end(status, reply);
         return status;
     }
-    let control = read_control(judged.command().body());
+    let control = ControlData::read(judged.command().body());
     let (status, loaded) = match publish_staged(alloc, reader, store, staging, control) {
-        Ok(generation) => (Status::Success, load_result_of(generation)),
-        Err(refusal) => (Status::GeneralError, refusal.load_result()),
+        Ok(generation) => (Status::Success, LoadResult::published(generation).bytes()),
+        Err(refusal) => (Status::GeneralError, refusal.load_result().bytes()),
     };
     staging.set_load_result(loaded);
     judged.end(status, reply);

@@ -1,13 +1,13 @@
 //! Why a load is refused.
 
 ghost use Rattle.std.specs.Prelude.{◌≡◌, IfSome, Some};
-ghost use Rattle.node_parts.specs.Loads.{load_refusal_code, load_refusal_of_code, load_refusal_slot, named_refusal, program_refusal_of_code, published_result, refused_result, refusal_of_publishing, wants_memory};
+ghost use Rattle.node_parts.specs.Loads.{load_refusal_code, load_refusal_of_code, load_refusal_slot, named_refusal, program_refusal_of_code, refused_load, refusal_of_publishing, wants_memory};
 ghost use Rattle.node_parts.specs.declared.refusal.LoadRefusal.TheVariants.{Image, Program};
 
 use bpf::ImageFault;
 use bver::{Refusal, Refused};
-use byteorder::{BigEndian, ByteOrder};
 use node_programs::PublishFault;
+use rmap::LoadResult;
 use thiserror::Error;
 
 const CONTROL: &str = "\
@@ -139,24 +139,16 @@ impl LoadRefusal {
         }
     }
 
-    /// The load result: code, a zero byte, the slot of the image, and generation 0, the most significant bytes first.
-    pub fn load_result(self) -> [u8; 8]
-        ensures { result ≡ refused_result self }
+    /// The load result: the code, the slot of the image, and generation 0.
+    pub fn load_result(self) -> LoadResult
+        ensures { result ≡ refused_load self }
     {
-        let mut bytes = [self.code(), 0, 0, 0, 0, 0, 0, 0];
-        BigEndian::write_u16(&mut bytes[2..], self.slot());
-        bytes
+        LoadResult {
+            code: self.code(),
+            place: self.slot(),
+            generation: 0,
+        }
     }
-}
-
-/// The load result of a program that was published with that generation: four zero bytes, and the generation, the
-/// most significant byte first.
-pub fn load_result_of(generation: u32) -> [u8; 8]
-    ensures { result ≡ published_result generation }
-{
-    let mut bytes = [0; 8];
-    BigEndian::write_u32(&mut bytes[4..], generation);
-    bytes
 }
 
 impl From<ImageFault> for LoadRefusal {

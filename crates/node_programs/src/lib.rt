@@ -3,7 +3,8 @@
 //!
 //! A list of [`Publish`]es says which program judges at each of four slots: the last that was published for it, and the
 //! factory program where there is none. [`Shown`] is what a slot has of that, and [`published_programs`] says how the
-//! list and its slots go on. A [`ProgramStore`] is what holds such a list. Nothing here waits: what threads share of a node's programs is in `publish`.
+//! list and its slots go on. A [`ProgramStore`] is what holds such a list. Nothing here waits: what threads share of a
+//! node's programs is in `publish`.
 #![tactic(auto)]
 
 mod faults;
@@ -15,7 +16,8 @@ mod store;
 
 pub use faults::PublishFault;
 pub use laws::published_programs;
-pub use publishes::{LAST_SLOT, Publish};
+pub use publishes::Publish;
+pub use rmap::LAST_SLOT;
 pub use shown::Shown;
 pub use staging::{STAGING_BYTES, Staging};
 pub use store::ProgramStore;

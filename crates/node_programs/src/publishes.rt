@@ -2,9 +2,6 @@
 
 use bver::Accepted;
 
-/// The greatest slot of the four.
-pub const LAST_SLOT: u8 = 3;
-
 /// A program, and the slot for which it was published. No value of it is made.
 pub struct Publish {
     /// The slot.

@@ -3,11 +3,12 @@
 ghost use Rattle.std.specs.Prelude.{◌≡◌, ◌<◌, IfOk, length, replicate, slice_get, slice_set};
 ghost use Rattle.node_programs.specs.Staged.{staged};
 
+use rmap::STAGING_SIZE;
 use std::alloc::{AllocError, Global};
 use std::marker::Model;
 
 /// How many bytes a staging has.
-pub const STAGING_BYTES: usize = 16_384;
+pub const STAGING_BYTES: usize = STAGING_SIZE as usize;
 
 /// A port's staging: 16,384 bytes from address 0 on, and the result of its last load.
 #[derive(Debug, Drop)]

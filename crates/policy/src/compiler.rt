@@ -6,7 +6,6 @@ ghost use Rattle.bver.specs.Justified.{IsJustified};
 ghost use Rattle.policy.specs.Compiled.{IsCompiled, IsCompileFault};
 ghost use Rattle.policy.specs.Meant.{CodeHasMeaning, CodeIsJustified, IsMadeOf};
 ghost use Rattle.policy_table.specs.FirstFault.{compile_fault};
-ghost use Rattle.policy_table.specs.declared.faults.PolicyFault.TheVariants.{Memory};
 
 use crate::code::table_insns;
 use absdom::{order_of_states, refine_shrinks};
@@ -14,7 +13,7 @@ use bpf::{Image, ImageFault, Version};
 use bpf_insn::Insn;
 use machine::{MapSizes, runs_from_the_front, steps_perform};
 use policy_table::{PolicyFault, Table, decisions};
-use std::alloc::Global;
+use std::alloc::{AllocError, Global};
 
 /// The program of a table has its meaning, whatever its budget.
 fn code_has_meaning()
@@ -35,17 +34,16 @@ fn code_is_justified()
 
 /// The image of these instructions, at most 256, without a loop. Each is performed once at most, so their number is
 /// its weight, and its budget.
-fn image_of(alloc: Global, insns: &[Insn]) -> Result<Image, PolicyFault>
+fn image_of(alloc: Global, insns: &[Insn]) -> Result<Image, AllocError>
     requires some { 1 ≤ length insns.now }
     requires few { length insns.now ≤ 256 }
     ensures image { IfOk result (IsMadeOf insns.now) }
     ensures limits { IfOk result IsProgram }
-    ensures fault { IfErr result (λ fault. fault ≡ Memory) }
 {
     match Image::new(alloc, Version::One, insns, &[], insns.len() as u32) {
         Ok(image) => Ok(image),
         Err(fault) => match fault {
-            ImageFault::Memory => Err(PolicyFault::Memory),
+            ImageFault::Memory => Err(AllocError),
             _ => unreachable!(),
         },
     }
@@ -73,5 +71,6 @@ pub fn compile(alloc: Global, table: &Table, sizes: &MapSizes) -> Result<Image, 
     let rules = table.rules();
     let insns = table_insns(alloc, rules)?;
     let insns = insns.as_slice();
-    image_of(alloc, insns)
+    let image = image_of(alloc, insns)?;
+    Ok(image)
 }

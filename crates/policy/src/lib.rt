@@ -12,7 +12,6 @@ mod insns;
 
 pub use compiler::compile;
 pub use policy_table::{
-    Counts, Match, Mismatch, OtherByte, Passed, PolicyFault, Quota, Rule, RuleKind, RuleWord,
-    Table, TableFault, decisions, faults_have_places, first_rule_matches, headers_have_fields,
-    last_address, table_is_unambiguous,
+    Counts, Match, Mismatch, OtherByte, Passed, PolicyFault, Rule, RuleKind, RuleWord, Table,
+    TableFault, decisions, headers_have_fields, table_is_unambiguous,
 };

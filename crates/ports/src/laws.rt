@@ -28,7 +28,7 @@ pub fn workers_entries_follow()
 {}
 
 /// A history that goes on from what a worker knows in the end, and has no entries of its port but those that its shares count
-/// ([`Pass::knows_entries`](target::PortPass::knows_entries)), has at each bank, behind those that the share counted at first,
+/// ([`Pass::knows_entries`](target::Pass::knows_entries)), has at each bank, behind those that the share counted at first,
 /// the entries of the worker's commands that left one there, in the order of their packets, each once, and no others.
 pub fn workers_entries_are_all()
     ensures { WorkersEntriesAreAll }

@@ -4,7 +4,7 @@
 //! node's annals, and what is known of it is carried by tokens of that one history, which exists in proofs alone: a
 //! [`Reader`] knows a beginning of it, [`Publisher::install`] adds to it and tells how far it went then ([`Told`]),
 //! [`Reader::take`] shows the program that judges at a slot ([`Taken`]), and [`Reader::tell`] lets its port know in that
-//! history what the reader knows. [`Staging`] is where the bytes of a program lie before it is published.
+//! history what the reader knows.
 #![tactic(auto)]
 
 mod history;
@@ -19,9 +19,7 @@ mod told;
 pub use annals::Family;
 pub use history::Opened;
 pub use laws::readers_know_a_beginning;
-pub use node_programs::{
-    LAST_SLOT, Publish, PublishFault, STAGING_BYTES, Staging, published_programs,
-};
+pub use node_programs::{PublishFault, Staging};
 pub use programs::Programs;
 pub use publisher::Publisher;
 pub use reader::{Reader, Taken};

@@ -1,5 +1,5 @@
 -- Sets of bytes, a bit for each.
-use Rattle.std.proofs.Common.{◌≡◌, ◌<◌, ◌≤◌, ◌-◌, ◌%◌, ◌^◌, ◌==◌, ◌&&◌, ◌||◌, ℕ, zero, suc, max, min, Bool, true, false, not, refl, ap, sym, ◌∙◌, arith, bit_and}
+use Rattle.std.proofs.Common.{◌≡◌, ◌<◌, ◌≤◌, ◌+◌, ◌-◌, ◌%◌, ◌^◌, ◌==◌, ◌&&◌, ◌||◌, ℕ, zero, suc, max, min, Bool, true, false, not, refl, ap, sym, ◌∙◌, arith, bit_and}
 use Rattle.std.specs.Prelude.{nat_lt, if◌then◌else◌}
 use Rattle.std.specs.Int.{bit_at, bit_not, w128}
 use Rattle.std.specs.Int.Bits.{bit_or}
@@ -104,3 +104,22 @@ only_high byte other high inside fits = by_half (nat_lt other 128) refl
       where
         shifted : (other - 128 == byte - 128) ≡ (other == byte)
         shifted = let ge : 128 ≤ other = grind (arith, nat_tests) in grind (arith, nat_tests)
+
+-- where the lower half has a bit, no byte below the lowest is in a set
+pub below_low : (low high place : ℕ) → place < 128 → ((j : ℕ) → j < place → has_bit low j ≡ false) → (other : ℕ) → other < place → has_bit (half_of low high other) (other % 128) ≡ false
+below_low low high place inside none other lt = by_half (nat_lt other 128) refl
+  where
+    by_half : (t : Bool) → nat_lt other 128 ≡ t → has_bit (if t then low else high) (other % 128) ≡ false
+    by_half true e = let same : other % 128 ≡ other = omega arith in ap (λ i. has_bit low i) same ∙ none other lt
+    by_half false e = let ge : 128 ≤ other = grind (arith, nat_tests) in absurd (omega arith)
+
+-- where it has none, no byte below the lowest of the higher half is
+pub below_high : (low high place : ℕ) → place < 128 → ((i : ℕ) → has_bit low i ≡ false) → ((j : ℕ) → j < place → has_bit high j ≡ false) → (other : ℕ) → other < place + 128 → has_bit (half_of low high other) (other % 128) ≡ false
+below_high low high place inside bare none other lt = by_half (nat_lt other 128) refl
+  where
+    by_half : (t : Bool) → nat_lt other 128 ≡ t → has_bit (if t then low else high) (other % 128) ≡ false
+    by_half true e = bare (other % 128)
+    by_half false e =
+        let ge : 128 ≤ other = grind (arith, nat_tests) in
+        let less : other % 128 ≡ other - 128 = omega arith in
+        ap (λ i. has_bit high i) less ∙ none (other - 128) (omega arith)

@@ -3,7 +3,7 @@ use Rattle.std.proofs.Common.{◌≡◌, ◌≤◌, ◌<◌, ◌+◌, ◌⊎◌,
 use Rattle.std.specs.Prelude.{if◌then◌else◌, OnOk, Result, Ok, Err}
 use Rattle.regions.specs.Cells.{AreCellsOf, IsFiledAt, IsFiledIf, IsFilled, IsInOneMore, cells_at}
 use Rattle.regions.specs.Points.{HasCommand}
-use Rattle.regions.specs.Questions.{IsCutBy, IsSettledBy}
+use Rattle.regions.specs.Questions.{IsCutBy, IsSettledBy, IsUnderWay}
 use Rattle.regions.specs.Regions.{AreCut, IsBare, IsIn, lies_in, meets}
 use Rattle.regions.specs.declared.cutting.Cell.{Cell}
 use Rattle.regions.specs.declared.points.Point.{Point}
@@ -83,3 +83,11 @@ all_filled tests holds fails whole cells lies filled p has = subst (λ (t : Bool
 pub on_ok : {A E : Type 0} (r : Result A E) (P Q : Type 0) → (P → Q) → OnOk r P → OnOk r Q
 on_ok (Ok x) P Q f h = f h
 on_ok (Err e) P Q f h = h
+
+-- what is known of a part at which the filling of a region has come, by itself
+pub record IsFilling (tests : List (Point → Bool)) (holds fails : Point → Type 0) (region : Region) (number : ℕ) (part : Region) (at : ℕ) (shape : Region) (sides : ℕ) (old mid : List Cell) : Type 0 where
+  pub sides_left : sides ≤ 8
+  pub further : number ≤ at
+  pub cut : IsCutBy tests at part
+  pub under_way : IsUnderWay tests at shape sides part
+  pub back : (new : List Cell) → IsFilled tests holds fails part mid new → IsFilled tests holds fails region old new

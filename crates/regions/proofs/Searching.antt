@@ -4,11 +4,11 @@ use Rattle.std.specs.Prelude.{MatchOption, Option, Some, None, is_some}
 use Rattle.std.proofs.lemmas.Bool.{cases_lt}
 use Rattle.regions.specs.Points.{HasCommand}
 use Rattle.regions.specs.Questions.{HoldsOn, IsCutBy, IsCutTo, IsSettledBy, IsShapeAt, IsUnderWay, IsUnmixed}
-use Rattle.regions.specs.Regions.{AreCut, IsBare, IsIn, lies_in, meets, meets_last, side_of}
+use Rattle.regions.specs.Regions.{AreApart, AreCut, IsBare, IsIn, lies_in, meets, meets_last, side_of}
 use Rattle.regions.specs.declared.points.Point.{Point}
 use Rattle.regions.specs.declared.regions.Region.{Region}
 use Rattle.regions.specs.declared.sides.Side.{Side}
-use Rattle.regions.proofs.Lying.{parts}
+use Rattle.regions.proofs.Lying.{false_of, parts}
 
 -- how much of a number's work is left: with no side left its shape is still to be found
 abbrev pub rank : ℕ → ℕ
@@ -146,18 +146,21 @@ pub rank_some : (left : ℕ) → 0 < left → rank left ≡ left
 rank_some zero h = absurd (omega arith)
 rank_some (suc left) h = refl
 
--- where a region and a shape have no point of a command together, the test of the shape has one outcome in the region
-pub apart_cut : (tests : List (Point → Bool)) (number : ℕ) (region shape both : Region) → IsShapeAt tests number shape → ((p : Point) → HasCommand p → lies_in both p ≡ (lies_in region p && lies_in shape p)) → IsBare both → IsCutBy tests number region
-    → IsCutBy tests (number + 1) region
-apart_cut tests number region shape both at is bare cut =
+-- where a region and a shape are apart, the test of the shape has one outcome in the region
+pub apart_cut : (tests : List (Point → Bool)) (number : ℕ) (region shape : Region) → IsShapeAt tests number shape → AreApart region shape → IsCutBy tests number region → IsCutBy tests (number + 1) region
+apart_cut tests number region shape at apart cut =
     one_more tests number region cut (λ d p q in_p in_q. constant (get_or tests number d p) (get_or tests number d q) false (failed d p in_p) (failed d q in_q))
   where
-    outside : (s t : Bool) → s ≡ true → false ≡ (s && t) → t ≡ false
-    outside true t e f = sym f
-    outside false t e f = absurd (cc)
-
     failed : (d : Point → Bool) (r : Point) → IsIn region r → get_or tests number d r ≡ false
-    failed d r in_r = sym (at.same d r in_r.0) ∙ outside (lies_in region r) (lies_in shape r) in_r.1 (sym (bare r in_r.0) ∙ is r in_r.0)
+    failed d r in_r = sym (at.same d r in_r.0) ∙ false_of (lies_in shape r) (apart r in_r.0 in_r.1)
+
+-- what is known of a part at which a search of a region has come, by itself
+pub record IsOnWay (tests : List (Point → Bool)) (holds : Point → Type 0) (region : Region) (number : ℕ) (part : Region) (at : ℕ) (shape : Region) (sides : ℕ) : Type 0 where
+  pub sides_left : sides ≤ 8
+  pub further : number ≤ at
+  pub cut : IsCutBy tests at part
+  pub under_way : IsUnderWay tests at shape sides part
+  pub back : HoldsOn holds part → HoldsOn holds region
 
 pub bare_of : (o : Option Point) (P : Type 0) (Q : Point → Type 0) → is_some o ≡ false → MatchOption o P Q → P
 bare_of None P Q none h = h

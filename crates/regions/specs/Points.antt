@@ -33,3 +33,7 @@ pub record HasCommand (p : Point) : Type 0 where
 -- whether an address lies on a stretch
 abbrev pub lies_on : Stretch → ℕ → Bool
 lies_on stretch address = nat_le stretch.start address && nat_lt address stretch.end
+
+-- no address lies on both stretches
+abbrev pub HaveNoAddress : (one other : Stretch) → Type 0
+HaveNoAddress one other = (address : ℕ) → lies_on one address ≡ true → lies_on other address ≡ true → ⊥

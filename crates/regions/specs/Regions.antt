@@ -65,6 +65,10 @@ IsIn region p = HasCommand p × (lies_in region p ≡ true)
 abbrev pub IsBare : Region → Type 0
 IsBare region = (p : Point) → HasCommand p → lies_in region p ≡ false
 
+-- no command has a point that lies in both regions
+abbrev pub AreApart : (one other : Region) → Type 0
+AreApart one other = (p : Point) → HasCommand p → lies_in one p ≡ true → lies_in other p ≡ true → ⊥
+
 -- a region is cut by a side of another into the points that meet its condition and those that do not
 pub record AreCut (region shape : Region) (side : Side) (inside outside : Region) : Type 0 where
   pub met : (p : Point) → HasCommand p → lies_in inside p ≡ (lies_in region p && meets side shape p)

@@ -1,7 +1,7 @@
 //! Sets of bytes.
 
-ghost use Rattle.std.specs.Prelude.{◌≡◌, ◌<◌, ◌==◌, ◌^◌, ◌&&◌, ◌||◌, ℕ, MatchOption, false, not, true};
-ghost use Rattle.regions.specs.ByteSets.{are_same_bytes, has_bit, has_byte};
+ghost use Rattle.std.specs.Prelude.{◌≡◌, ◌<◌, ◌==◌, ◌^◌, ◌&&◌, ◌||◌, ℕ, MatchBool, MatchOption, false, not, true};
+ghost use Rattle.regions.specs.ByteSets.{HaveNoByte, IsLeast, IsLowest, are_same_bytes, has_bit, has_byte};
 
 /// How many bits a half has.
 const HALF: u8 = 128;
@@ -24,7 +24,7 @@ fn bit(place: u8) -> u128
 /// The place of the lowest bit of a half that is set.
 fn lowest(half: u128) -> Option<u8>
     ensures { MatchOption result ((i : ℕ) → has_bit half i ≡ false)
-        (λ i. (i < HALF) × (has_bit half i ≡ true)) }
+        (IsLowest half) }
 {
     if half == 0 {
         return None;
@@ -107,10 +107,17 @@ impl ByteSet {
         }
     }
 
+    /// Whether a byte may be in both sets.
+    pub(crate) fn may_meet(&self, other: &ByteSet) -> bool
+        ensures { MatchBool result (Unit {0}) (HaveNoByte self.now other.now) }
+    {
+        self.both(other).first().is_some()
+    }
+
     /// The least of them.
     pub fn first(&self) -> Option<u8>
         ensures { MatchOption result ((byte : ℕ) → byte < 256 → has_byte self.now byte ≡ false)
-            (λ byte. has_byte self.now byte ≡ true) }
+            (IsLeast self.now) }
     {
         match lowest(self.low) {
             Some(place) => Some(place),

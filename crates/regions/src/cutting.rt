@@ -20,7 +20,8 @@ pub struct Cell {
 }
 
 /// Appends the cells of a region. Each test before that of a number has one outcome at all points of the region; and while
-/// sides are left, they meet the conditions of its shape but for so many, the last ones.
+/// sides are left, they meet the conditions of its shape but for so many, the last ones. It calls itself as deep as
+/// [`search`](crate::search) does.
 fn fill_from<Q: Question>(
     question: &Q,
     region: &Region,
@@ -37,30 +38,42 @@ fn fill_from<Q: Question>(
     ensures { OnOk result (IsFilled (Q.tests question.now) (Q.holds question.now)
         (Q.fails question.now) region.now cells.old.items cells.new.items) }
 {
-    let Some(point) = region.witness() else {
-        return Ok(());
-    };
-    if left == 0 {
-        let Some(next) = question.shape(number) else {
-            if !question.ask(&point) {
-                cells.push(Cell {
-                    region: *region,
-                    point,
-                })?;
-            }
+    let mut part = *region;
+    let mut at = number;
+    let mut cutter = *shape;
+    let mut sides = left;
+    'cuts: loop {
+        let Some(point) = part.witness() else {
             return Ok(());
         };
-        if region.both(&next).witness().is_none() {
-            return fill_from(question, region, number + 1, &next, 0, cells);
+        if sides == 0 {
+            let Some(next) = question.shape(at) else {
+                if !question.ask(&point) {
+                    cells.push(Cell {
+                        region: part,
+                        point,
+                    })?;
+                }
+                return Ok(());
+            };
+            if !part.may_meet(&next) {
+                at += 1;
+                continue 'cuts;
+            }
+            cutter = next;
+            sides = SIDES;
+            continue 'cuts;
         }
-        return fill_from(question, region, number, &next, SIDES, cells);
+        let (inside, outside) = part.cut(&cutter, side_of(sides));
+        fill_from(question, &outside, at + 1, &cutter, 0, cells)?;
+        part = inside;
+        if sides == 1 {
+            sides = 0;
+            at += 1;
+            continue 'cuts;
+        }
+        sides -= 1;
     }
-    let (inside, outside) = region.cut(shape, side_of(left));
-    fill_from(question, &outside, number + 1, shape, 0, cells)?;
-    if left == 1 {
-        return fill_from(question, &inside, number + 1, shape, 0, cells);
-    }
-    fill_from(question, &inside, number, shape, left - 1, cells)
 }
 
 /// The cells at whose points the answer is no: each point that a command has lies in one of them alone, with the outcomes of

@@ -32,6 +32,13 @@ pub trait Question {
 
 /// A point of a region at which the answer is no. Each test before that of a number has one outcome at all points of the
 /// region; and while sides are left, they meet the conditions of its shape but for so many, the last ones.
+///
+/// It calls itself on what is outside of a side, and goes on with what is inside by itself. A region is cut by a shape only
+/// if some command has a point of both, so what is outside has fewer kinds, bytes of one field or addresses of one stretch,
+/// counted as far as shapes tell them apart. So the calls are at most as deep as there are edges of shapes, and one more. Kinds
+/// have two edges. The shapes of rules and of the lines of their chart tell apart what the rules do: a rule adds at most seven
+/// edges, one for each of its three bytes, and its first and its last address in either stretch. Two tables have at most 24
+/// rules, so 170 edges.
 fn search_from<Q: Question>(
     question: &Q,
     region: &Region,
@@ -47,30 +54,42 @@ fn search_from<Q: Question>(
     ensures { MatchOption result (HoldsOn (Q.holds question.now) region.now)
         (IsFound (Q.fails question.now)) }
 {
-    let Some(point) = region.witness() else {
-        return None;
-    };
-    if left == 0 {
-        let Some(next) = question.shape(number) else {
-            return if question.ask(&point) {
-                None
-            } else {
-                Some(point)
-            };
+    let mut part = *region;
+    let mut at = number;
+    let mut cutter = *shape;
+    let mut sides = left;
+    'cuts: loop {
+        let Some(point) = part.witness() else {
+            return None;
         };
-        if region.both(&next).witness().is_none() {
-            return search_from(question, region, number + 1, &next, 0);
+        if sides == 0 {
+            let Some(next) = question.shape(at) else {
+                return if question.ask(&point) {
+                    None
+                } else {
+                    Some(point)
+                };
+            };
+            if !part.may_meet(&next) {
+                at += 1;
+                continue 'cuts;
+            }
+            cutter = next;
+            sides = SIDES;
+            continue 'cuts;
         }
-        return search_from(question, region, number, &next, SIDES);
+        let (inside, outside) = part.cut(&cutter, side_of(sides));
+        if let Some(found) = search_from(question, &outside, at + 1, &cutter, 0) {
+            return Some(found);
+        }
+        part = inside;
+        if sides == 1 {
+            sides = 0;
+            at += 1;
+            continue 'cuts;
+        }
+        sides -= 1;
     }
-    let (inside, outside) = region.cut(shape, side_of(left));
-    if let Some(found) = search_from(question, &outside, number + 1, shape, 0) {
-        return Some(found);
-    }
-    if left == 1 {
-        return search_from(question, &inside, number + 1, shape, 0);
-    }
-    search_from(question, &inside, number, shape, left - 1)
 }
 
 /// A point that a command has at which the answer is no, or `None` where it is yes at each of a region.

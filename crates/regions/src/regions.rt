@@ -1,9 +1,9 @@
 //! Regions of points.
 
-ghost use Rattle.std.specs.Prelude.{◌≡◌, ◌≤◌, ◌&&◌, MatchOption, not, true};
+ghost use Rattle.std.specs.Prelude.{◌≡◌, ◌≤◌, ◌&&◌, MatchBool, MatchOption, not, true};
 ghost use Rattle.rmap.specs.declared.kind.Kind.{Kind};
 ghost use Rattle.regions.specs.Points.{HasCommand};
-ghost use Rattle.regions.specs.Regions.{AreCut, IsBare, IsIn, are_same_kinds, is_one_of, is_same, lies_in, meets, meets_last};
+ghost use Rattle.regions.specs.Regions.{AreApart, AreCut, IsBare, IsIn, are_same_kinds, is_one_of, is_same, lies_in, meets, meets_last};
 ghost use Rattle.regions.specs.declared.points.Point.{Point};
 
 use crate::byte_sets::ByteSet;
@@ -194,6 +194,36 @@ impl Region {
             ≡ (lies_in self.now p && lies_in other.now p) }
     {
         self.met(other, SIDES)
+    }
+
+    /// Whether the values of a field that lie in both regions are none.
+    #[tactic(auto, using(crate::proofs::Apart::by_keys, crate::proofs::Apart::by_initiators, crate::proofs::Apart::by_extended, crate::proofs::Apart::by_first, crate::proofs::Apart::by_last))]
+    fn is_apart(&self, other: &Region) -> bool
+        ensures { MatchBool result (AreApart self.now other.now) (Unit {0}) }
+    {
+        if !self.keys.may_meet(&other.keys) {
+            return true;
+        }
+        if !self.initiators.may_meet(&other.initiators) {
+            return true;
+        }
+        if !self.extended.may_meet(&other.extended) {
+            return true;
+        }
+        if !self.first.may_meet(other.first) {
+            return true;
+        }
+        !self.last.may_meet(other.last)
+    }
+
+    /// Whether a command may have a point that lies in both regions.
+    pub(crate) fn may_meet(&self, other: &Region) -> bool
+        ensures { MatchBool result (Unit {0}) (AreApart self.now other.now) }
+    {
+        if self.is_apart(other) {
+            return false;
+        }
+        self.both(other).witness().is_some()
     }
 
     /// A point of the region that a command has.

@@ -24,8 +24,7 @@ pub(crate) struct Reach {
     pub(crate) last: u32,
 }
 
-/// The first and the last address of a read or a write that begins on one stretch and ends on another: the least last
-/// address, and the greatest first that is not above it.
+/// The first and the last address of a read or a write that begins on one stretch and ends on another, if there is one.
 fn far_span(one: &Stretch, other: &Stretch) -> Option<(u32, u32)>
     ensures { MatchOption result (HasNoSpan Read one.now other.now)
         (λ span. IsSpan Read span.0 span.1 × LieOn one.now other.now span.0 span.1) }
@@ -41,7 +40,7 @@ fn far_span(one: &Stretch, other: &Stretch) -> Option<(u32, u32)>
     Some((first as u32, last as u32))
 }
 
-/// The first address of a command that begins on one stretch and ends on another, so far behind: the least.
+/// The first address of a command that begins on one stretch and ends on another, so far behind it, if there is one.
 fn first_at(one: &Stretch, other: &Stretch, distance: u64) -> Option<u32>
     requires { distance < 8 }
     ensures { MatchOption result (HasNoneAt distance one.now other.now)

@@ -1,7 +1,7 @@
 //! Stretches of addresses.
 
-ghost use Rattle.std.specs.Prelude.{◌≡◌, ℕ, ◌&&◌, max, min, nat_lt, not};
-ghost use Rattle.regions.specs.Points.{lies_on};
+ghost use Rattle.std.specs.Prelude.{◌≡◌, ℕ, ◌&&◌, MatchBool, max, min, nat_lt, not};
+ghost use Rattle.regions.specs.Points.{HaveNoAddress, lies_on};
 
 /// The addresses from one to before another; none, where that is not greater.
 #[derive(Clone, Copy, Debug, PartialEq, Eq)]
@@ -33,5 +33,12 @@ impl Stretch {
             start: self.start,
             end: self.end.min(end),
         }
+    }
+
+    /// Whether an address may lie on both.
+    pub(crate) fn may_meet(self, other: Stretch) -> bool
+        ensures { MatchBool result (Unit {0}) (HaveNoAddress self other) }
+    {
+        self.start < other.end && other.start < self.end
     }
 }

@@ -5,7 +5,7 @@ use Rattle.std.specs.Prelude.{All}
 use Rattle.byteorder.specs.Endian.{big_bytes, big_number}
 use Rattle.rmap.specs.Command.{CommandValue, IsCommand, front_fields, tail_fields}
 
-abbrev IsByte : ℕ → Type 0
+abbrev pub IsByte : ℕ → Type 0
 IsByte b = b < 256
 
 all_left : (xs ys : List ℕ) → All IsByte (xs ++ ys) → All IsByte xs
@@ -18,7 +18,7 @@ all_right xs ys h = λ k d lt.
     let within : length xs + k < length (xs ++ ys) = omega (arith, length-append xs ys) in
     rw (← get_or-append-add xs ys k d) (h (length xs + k) d within)
 
-two : (a b : ℕ) (rest : List ℕ) → a < 256 → b < 256 → big_bytes 2 (big_number 2 (a ∷ b ∷ rest)) ≡ a ∷ b ∷ []
+pub two : (a b : ℕ) (rest : List ℕ) → a < 256 → b < 256 → big_bytes 2 (big_number 2 (a ∷ b ∷ rest)) ≡ a ∷ b ∷ []
 two a b rest la lb =
     let high : (a * 256 + (b * 1 + 0)) / 256 % 256 ≡ a = omega arith in
     let low : (a * 256 + (b * 1 + 0)) % 256 ≡ b = omega arith in
@@ -31,7 +31,7 @@ three a b c rest la lb lc =
     let low : (a * 65536 + (b * 256 + (c * 1 + 0))) % 256 ≡ c = omega arith in
     rw (high, middle, low) refl
 
-four : (a b c d : ℕ) (rest : List ℕ) → a < 256 → b < 256 → c < 256 → d < 256 → big_bytes 4 (big_number 4 (a ∷ b ∷ c ∷ d ∷ rest)) ≡ a ∷ b ∷ c ∷ d ∷ []
+pub four : (a b c d : ℕ) (rest : List ℕ) → a < 256 → b < 256 → c < 256 → d < 256 → big_bytes 4 (big_number 4 (a ∷ b ∷ c ∷ d ∷ rest)) ≡ a ∷ b ∷ c ∷ d ∷ []
 four a b c d rest la lb lc ld =
     let first : (a * 16777216 + (b * 65536 + (c * 256 + (d * 1 + 0)))) / 16777216 % 256 ≡ a = omega arith in
     let second : (a * 16777216 + (b * 65536 + (c * 256 + (d * 1 + 0)))) / 65536 % 256 ≡ b = omega arith in
@@ -40,7 +40,7 @@ four a b c d rest la lb lc ld =
     rw (first, second, third, fourth) refl
 
 -- a list of four is its elements
-of_four : (xs : List ℕ) → length xs ≡ 4 → xs ≡ get_or xs 0 0 ∷ get_or xs 1 0 ∷ get_or xs 2 0 ∷ get_or xs 3 0 ∷ []
+pub of_four : (xs : List ℕ) → length xs ≡ 4 → xs ≡ get_or xs 0 0 ∷ get_or xs 1 0 ∷ get_or xs 2 0 ∷ get_or xs 3 0 ∷ []
 of_four (x0 ∷ x1 ∷ x2 ∷ x3 ∷ []) h = refl
 of_four (x0 ∷ x1 ∷ x2 ∷ x3 ∷ x4 ∷ xs) h = let no : ⊥ = omega arith in absurd no
 of_four [] h = let no : ⊥ = omega arith in absurd no

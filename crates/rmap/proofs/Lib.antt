@@ -5,3 +5,4 @@ pub mod Masks
 mod Readings
 pub mod BankPlaces
 pub mod LongPackets
+pub mod BootRecords

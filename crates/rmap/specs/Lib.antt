@@ -7,3 +7,4 @@ pub mod Windows
 pub mod Checks
 pub mod Reply
 pub mod Laws
+pub mod BootRecords

@@ -17,6 +17,9 @@ pub const STAGING_SIZE: u32 = 16_384;
 /// The address of the load result and of control writes in the boot window.
 pub const LOAD_REGISTER: u32 = 0x10000;
 
+/// The greatest slot of a program.
+pub const LAST_SLOT: u8 = 3;
+
 /// The bytes of a load result.
 pub const LOAD_RESULT_SIZE: u32 = 8;
 

@@ -7,6 +7,7 @@
 
 mod body_faults;
 mod boot;
+mod boot_records;
 mod checks;
 mod command;
 mod discard;
@@ -22,7 +23,10 @@ mod verdict;
 mod windows;
 
 pub use body_faults::BodyFault;
-pub use boot::{BOOT_WINDOW, CONTROL_SIZE, LOAD_REGISTER, LOAD_RESULT_SIZE, STAGING_SIZE};
+pub use boot::{
+    BOOT_WINDOW, CONTROL_SIZE, LAST_SLOT, LOAD_REGISTER, LOAD_RESULT_SIZE, STAGING_SIZE,
+};
+pub use boot_records::{ControlData, LoadResult};
 pub use checks::{
     MAX_DATA, VERIFY_BUFFER, body_check, body_fault, checked_place, content_check, header_check,
     header_fault, place,

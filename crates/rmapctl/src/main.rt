@@ -3,11 +3,11 @@
 #![tactic(auto)]
 
 use commands::{
-    Cause, HostLink, HostTalk, Job, LiveWords, NodeWords, Status, ToldFiles, UsageFault, Work,
-    WriteFault, help, live, live_frames, perform, show_talk, told_fault, told_misuse, told_option,
-    told_output, words,
+    Asked, Course, DumpTalk, Fault, HostLink, HostTalk, Job, NodeWords, OWN_SOURCE, ShowWords,
+    Status, ToldFiles, ToldTalk, UsageFault, WITHOUT_WORDS, Work, WriteFault, asked_of, live,
+    live_frames, own_source, perform_told, show_talk, told_end, told_node, told_option, told_wait,
 };
-use std::alloc::Global;
+use std::alloc::{AllocError, Global};
 use std::io::{BufReader, BufWriter, IsTerminal, Write};
 use std::process::ExitCode;
 use std::rt::{self, Env};
@@ -15,16 +15,7 @@ use std::sync::Wait;
 use std::thread::Threads;
 use std::{env, io};
 
-/// What the program does where its command line has no word: it judges standard input.
-const WITHOUT_WORDS: [&str; 2] = ["judge", "-"];
-
-/// What is told before standard input is judged, where it is a terminal.
-const WAITS: &str = "judge -: reads packet lines; rmapctl --help has the words";
-
-/// The name of standard input.
-const STANDARD_INPUT: &str = "-";
-
-/// The exit status where standard output cannot be written.
+/// The exit status where standard output cannot be written, or OUT may not be.
 const FAILED: u8 = 1;
 
 /// Tells the user that standard output cannot be written, but where it is a pipe that its reader closed, and gives the
@@ -40,42 +31,29 @@ fn lose_output<R: Eprint>(rt: &R, flushed: io::Result<()>) -> u8 {
     FAILED
 }
 
-/// Tells why a file could not be read or written.
-fn tell_cause<R: Eprint>(rt: &R, cause: &Cause) {
-    let _ = rt.eprint(&"    ");
-    let _ = match cause {
-        Cause::System(refused) => rt.eprintln(refused),
-        Cause::NoText => rt.eprintln(&"this is no text: it is not UTF-8"),
-        Cause::Image => rt.eprintln(&"this is an image"),
-        Cause::Input => rt.eprintln(&"this is standard input"),
-    };
+/// Prints a text on standard output, and gives the exit status.
+fn print<R: Print + Eprint>(rt: &R, text: &str, status: u8) -> u8 {
+    match rt.print(&text) {
+        Ok(()) => status,
+        Err(refused) => lose_output(rt, Err(refused)),
+    }
 }
 
-/// Tells more of a job that ended with this status, behind what it printed.
-fn tell_more<R: Eprint + rt::Files + Input>(
-    rt: &R,
-    alloc: Global,
-    job: &Job,
-    status: Status,
-    files: &ToldFiles<'_, R>,
-) {
-    match status {
-        Status::Done => {}
-        Status::Misused => {
-            let _ = rt.eprint(&told_misuse(job));
-        }
-        Status::Failed => {
-            if let Some(cause) = files.cause() {
-                tell_cause(rt, cause);
-            } else if let Some(text) = files.text() {
-                if let Ok(told) = told_fault(alloc, job, text) {
-                    let _ = rt.eprint(&told);
-                }
-            } else {
-                let _ = rt.eprint(&told_output(job));
-            }
-        }
+/// Prints a text on standard error, if there was memory for it.
+fn tell<R: Eprint>(rt: &R, told: Result<String, AllocError>) {
+    if let Ok(text) = told {
+        let _ = rt.eprint(&text);
     }
+}
+
+/// Refuses a job that would write over what it reads, and gives the exit status.
+fn refuse_output<R: Print + Eprint>(rt: &R, name: &str) -> u8 {
+    let status = match rt.println(&Fault::CannotWrite(name)) {
+        Ok(()) => FAILED,
+        Err(refused) => lose_output(rt, Err(refused)),
+    };
+    let _ = rt.eprint(&OWN_SOURCE);
+    status
 }
 
 /// Does a job over this machine's files and standard output, and gives the exit status.
@@ -84,17 +62,20 @@ fn do_job<R: rt::Files + Input + Print + Eprint + Threads + Wait + Sync>(
     alloc: Global,
     job: &Job,
 ) -> u8 {
+    if let Some(name) = own_source(rt, &job.inputs()) {
+        return refuse_output(rt, name);
+    }
     let mut out = match BufWriter::new(alloc, io::writer(rt)) {
         Ok(out) => out,
         Err(refused) => return lose_output(rt, Err(refused)),
     };
     let mut files = ToldFiles::of_job(rt, job);
-    let done = perform(rt, alloc, job, &mut files, &mut out);
+    let done = perform_told(rt, alloc, job, &mut files, &mut out);
     // What was held back fails again where it failed before, with the reason.
     match (done, out.flush()) {
-        (Ok(status), Ok(())) => {
-            tell_more(rt, alloc, job, status, &files);
-            status.code()
+        (Ok(end), Ok(())) => {
+            tell(rt, told_end(alloc, job, &end, &files));
+            end.status.code()
         }
         (_, flushed) => lose_output(rt, flushed),
     }
@@ -119,24 +100,23 @@ fn talk_lines<R: rt::Files + Input + Print + Eprint>(
         Ok(input) => input,
         Err(_) => return refuse(rt, &UsageFault::Memory),
     };
-    let mut talk = HostTalk::new(alloc, input, io::writer(rt));
-    let mut files = ToldFiles::of_node(rt);
+    let mut talk = ToldTalk::new(rt, HostTalk::new(alloc, input, io::writer(rt)));
+    let mut files = ToldFiles::new(rt, node.inputs());
     let done = live(alloc, node, &mut files, &mut talk);
-    if let Some(cause) = files.cause() {
-        tell_cause(rt, cause);
-    }
-    end_talk(rt, done, talk.into_output().1)
+    tell(rt, told_node(alloc, node, &files));
+    end_talk(rt, done, talk.into_talk().into_output().1)
 }
 
 /// Tells in words what the lines of standard input are, each as it comes, and gives the exit status.
-fn show_input<R: Input + Print + Eprint>(rt: &R, alloc: Global) -> u8 {
+fn show_input<R: Input + Print + Eprint>(rt: &R, alloc: Global, words: &ShowWords) -> u8 {
     let input = match BufReader::new(alloc, rt.reader()) {
         Ok(input) => input,
         Err(_) => return refuse(rt, &UsageFault::Memory),
     };
-    let mut talk = HostTalk::new(alloc, input, io::writer(rt));
+    let told = ToldTalk::new(rt, HostTalk::new(alloc, input, io::writer(rt)));
+    let mut talk = DumpTalk::new(alloc, told, words.raw);
     let done = show_talk(alloc, &mut talk);
-    end_talk(rt, done, talk.into_output().1)
+    end_talk(rt, done, talk.into_talk().into_talk().into_output().1)
 }
 
 /// Holds a talk in frames over standard input and standard output, and gives the exit status.
@@ -146,35 +126,28 @@ fn talk_frames<R: rt::Files + Input + Print + Eprint>(
     node: &NodeWords,
 ) -> u8 {
     let mut link = HostLink::new(rt, rt.reader(), io::writer(rt));
-    let mut files = ToldFiles::of_node(rt);
+    let mut files = ToldFiles::new(rt, node.inputs());
     let done = live_frames(alloc, node, &mut files, &mut link);
-    if let Some(cause) = files.cause() {
-        tell_cause(rt, cause);
+    tell(rt, told_node(alloc, node, &files));
+    let untold = link.untold();
+    if untold > 0 {
+        let _ = rt.eprint(&"texts that standard error did not take: ");
+        let _ = rt.eprintln(&untold);
     }
-    end_talk(rt, done, link.into_lost())
+    end_talk(rt, done, link.into_output().1)
 }
 
-/// Holds the talk that the words name, and gives the exit status.
-fn talk<R: rt::Files + Input + Print + Eprint>(rt: &R, alloc: Global, words: &LiveWords) -> u8 {
-    if words.frames {
-        talk_frames(rt, alloc, &words.node)
-    } else {
-        talk_lines(rt, alloc, &words.node)
-    }
-}
-
-/// Does what the command line names, and gives the exit status.
+/// Does the work that the words name, and gives the exit status.
 fn do_work<R: rt::Files + Input + Print + Eprint + Threads + Wait + Sync>(
     rt: &R,
     alloc: Global,
     work: &Work,
 ) -> u8 {
-    match work {
-        Work::Once(Job::Show(words)) if words.lines.as_str() == STANDARD_INPUT => {
-            show_input(rt, alloc)
-        }
-        Work::Once(job) => do_job(rt, alloc, job),
-        Work::Live(words) => talk(rt, alloc, words),
+    match work.course() {
+        Course::Perform(job) => do_job(rt, alloc, job),
+        Course::Show(words) => show_input(rt, alloc, words),
+        Course::Lines(node) => talk_lines(rt, alloc, node),
+        Course::Frames(node) => talk_frames(rt, alloc, node),
     }
 }
 
@@ -192,7 +165,7 @@ fn words_given<R: Env + AllocGlobal>(rt: &R) -> Result<Vec<String>, UsageFault> 
     Ok(arguments.skip(1).collect(rt.alloc())?)
 }
 
-/// Tells the user why the command line names no work, and gives the exit status. Want of memory is
+/// Tells the user why the command line asks for nothing, and gives the exit status. Want of memory is
 /// told on standard output, as by a job.
 fn refuse<R: Print + Eprint>(rt: &R, fault: &UsageFault) -> u8 {
     let _ = match fault {
@@ -203,64 +176,82 @@ fn refuse<R: Print + Eprint>(rt: &R, fault: &UsageFault) -> u8 {
     fault.status()
 }
 
-/// The same, and behind `bad option` the word that is none that it may be.
+/// Whether the words ask for frames: then standard output has nothing else.
+fn are_frames(texts: &[&str]) -> bool {
+    let [first, others @ ..] = texts else {
+        return false;
+    };
+    *first == "live" && others.iter().any(|word| *word == "--frames")
+}
+
+/// The same, and behind `bad option` the word that is none that it may be. Of frames want of memory is told on standard error.
 fn refuse_words<R: Print + Eprint>(
     rt: &R,
     alloc: Global,
     fault: &UsageFault,
     texts: &[&str],
 ) -> u8 {
-    let status = refuse(rt, fault);
-    if let UsageFault::BadOption = fault {
-        if let Ok(told) = told_option(alloc, texts) {
-            let _ = rt.eprint(&told);
+    let status = match fault {
+        UsageFault::Memory if are_frames(texts) => {
+            let _ = rt.eprintln(fault);
+            fault.status()
         }
+        _ => refuse(rt, fault),
+    };
+    if let UsageFault::BadOption = fault {
+        tell(rt, told_option(alloc, texts));
     }
     status
 }
 
-/// Prints the text of `--help`, of all commands or of the one that is named, and gives the exit status.
-fn tell_help<R: Print + Eprint>(rt: &R, alloc: Global, texts: &[&str]) -> u8 {
-    match help(alloc, texts) {
-        Ok(text) => match rt.print(&text) {
-            Ok(()) => 0,
-            Err(refused) => lose_output(rt, Err(refused)),
-        },
-        Err(fault) => refuse(rt, &fault),
-    }
-}
-
-/// Does what these words name, and gives the exit status.
+/// Does what these words ask for, and gives the exit status. Where standard input is a terminal it tells first that it waits
+/// for it.
 fn do_words<R: rt::Files + Input + Print + Eprint + Threads + Wait + Sync>(
     rt: &R,
     alloc: Global,
     texts: &[&str],
+    waits: Waits,
 ) -> u8 {
-    if let ["help", topic @ ..] = texts {
-        return tell_help(rt, alloc, topic);
+    let found = match asked_of(alloc, texts) {
+        Ok(found) => found,
+        Err(fault) => return refuse_words(rt, alloc, &fault, texts),
+    };
+    if waits.is_terminal {
+        if let Some(text) = told_wait(&found, waits.without_words) {
+            let _ = rt.eprintln(&text);
+        }
     }
-    match words(alloc, texts) {
-        Ok(work) => do_work(rt, alloc, &work),
-        Err(fault) => refuse_words(rt, alloc, &fault, texts),
+    match &found {
+        Asked::Named(work) => do_work(rt, alloc, work),
+        Asked::Told(text) => print(rt, text.as_str(), 0),
     }
 }
 
-/// Does what the command line names, and gives the exit status. Without a word it tells first that it waits, where standard
-/// input is a terminal.
+/// What decides whether it is told that standard input is waited for.
+#[derive(Clone, Copy)]
+struct Waits {
+    /// Whether standard input is a terminal.
+    is_terminal: bool,
+    /// Whether no word was given.
+    without_words: bool,
+}
+
+/// Does what the command line asks for, and gives the exit status.
 fn do_given<R: rt::Files + Input + Print + Eprint + Threads + Wait + Sync>(
     rt: &R,
     alloc: Global,
     given: &[String],
     is_terminal: bool,
 ) -> Result<u8, UsageFault> {
+    let waits = Waits {
+        is_terminal,
+        without_words: given.is_empty(),
+    };
     if given.is_empty() {
-        if is_terminal {
-            let _ = rt.eprintln(&WAITS);
-        }
-        return Ok(do_words(rt, alloc, &WITHOUT_WORDS));
+        return Ok(do_words(rt, alloc, &WITHOUT_WORDS, waits));
     }
     let texts: Vec<&str> = given.iter().map(|word| word.as_str()).collect(alloc)?;
-    Ok(do_words(rt, alloc, texts.as_slice()))
+    Ok(do_words(rt, alloc, texts.as_slice(), waits))
 }
 
 fn main(rt: HostRuntime) -> ExitCode {
@@ -272,6 +263,10 @@ fn main(rt: HostRuntime) -> ExitCode {
     };
     ExitCode::from(match done {
         Ok(status) => status,
-        Err(fault) => refuse(&rt, &fault),
+        // The words are not known, and so not what standard output is for.
+        Err(fault) => {
+            let _ = rt.eprintln(&fault);
+            fault.status()
+        }
     })
 }

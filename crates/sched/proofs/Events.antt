@@ -15,12 +15,13 @@ use Rattle.sched.specs.declared.event.Event.{Event}
 use Rattle.sched.specs.declared.event.Event.TheVariants.{Take}
 use Rattle.sched.specs.declared.event.Outcome.{Outcome}
 use Rattle.sched.specs.declared.event.Outcome.TheVariants.{Refused, Taken, Told}
-use Rattle.sched.specs.Answers.{answering, told_of_word, word_behind}
+use Rattle.sched.specs.Answers.{answering}
+use Rattle.plain_cells.specs.Words.{told_of_word, word_behind, with_word, word_at}
 use Rattle.sched.specs.Begins.{IsBegun}
 use Rattle.sched.specs.History.{port_of}
 use Rattle.sched.specs.Lawful.{stop_outcome}
 use Rattle.sched.specs.Looking.{argument_asked, cell_asked}
-use Rattle.sched.specs.Worlds.{RunValue, PortValue, WorldValue, GoesOn, IsPortIn, IsRunUnderIfAny, IsSameRunIfAny, IsWorld, turn_in, with_word, word_at}
+use Rattle.sched.specs.Worlds.{RunValue, PortValue, WorldValue, GoesOn, IsPortIn, IsRunUnderIfAny, IsSameRunIfAny, IsWorld, turn_in}
 use Rattle.sched.proofs.Growth.{left_all}
 use Rattle.sched.proofs.Keeping.{cells_keep, cell_there, port_keeps, same_under_if_any, world_with_port}
 use Rattle.sched.proofs.Taking.{take_refused, take_stopped, take_taken}

@@ -17,7 +17,8 @@ use Rattle.bver.specs.Justified.{IsJustified}
 use Rattle.brun.specs.declared.turns.Turn.{Turn}
 use Rattle.brun.specs.declared.turns.Turn.TheVariants as turns
 use Rattle.bank.specs.Answer.{judged_line}
-use Rattle.node_parts.specs.Loads.{control_of, published_result}
+use Rattle.node_parts.specs.Loads.{published_result}
+use Rattle.rmap.specs.BootRecords.{control_of}
 use Rattle.node_parts.specs.Outcomes.{Load, IsLoad}
 use Rattle.node_parts.specs.Outcomes as loads
 use Rattle.machine.specs.declared.helpers.Helper.{Helper}

@@ -8,7 +8,8 @@ use Rattle.std.proofs.lemmas.Option.{slice_get-get_or}
 use Rattle.rmap.specs.Windows.{WindowsValue}
 use Rattle.machine.specs.Sizes.{Maps, IsInside}
 use Rattle.bank.specs.Records.{BankValue}
-use Rattle.sched.specs.Worlds.{RunValue, PortValue, WorldValue, IsSameRun, IsSameRunIfAny, IsRunUnder, IsRunUnderIfAny, AreCells, IsPortIn, ArePortsIn, IsWorld, with_word, word_at, word_in, word_of}
+use Rattle.sched.specs.Worlds.{RunValue, PortValue, WorldValue, IsSameRun, IsSameRunIfAny, IsRunUnder, IsRunUnderIfAny, IsPortIn, ArePortsIn, IsWorld}
+use Rattle.plain_cells.specs.Words.{AreCells, with_word, word_at, word_in, word_of}
 use Rattle.sched.proofs.Growth.{at_written, at_other}
 
 -- the same command is judged under the same windows

@@ -29,7 +29,8 @@ use Rattle.sched.specs.declared.faults.WorldFault.TheVariants.{Memory as NoMemor
 use Rattle.sched.specs.Codes.{fault_of_node, fault_of_refusal}
 use Rattle.sched.specs.History.{Start}
 use Rattle.sched.specs.Looking.{entries, memory, room_of, first_memory, word_by_kind}
-use Rattle.sched.specs.Worlds.{PortValue, WorldValue, AreBanksOf, AreCells, ArePortsOf, AreZeros, IsBankOf, IsPortIn, IsWorld, IsFactoryRefused, IsUnmade, IsWorldOf, IsWorldFault, first_port, node_of, shown_in_all}
+use Rattle.sched.specs.Worlds.{PortValue, WorldValue, AreBanksOf, ArePortsOf, IsBankOf, IsPortIn, IsWorld, IsFactoryRefused, IsUnmade, IsWorldOf, IsWorldFault, first_port, node_of, shown_in_all}
+use Rattle.plain_cells.specs.Words.{AreCells, AreZeros}
 
 -- ---- lists by their number
 

@@ -11,8 +11,8 @@ use Rattle.bpf.specs.Laws.{ImagesAreRead}
 use Rattle.machine.specs.Sizes.{Maps}
 use Rattle.bver.specs.Justified.{AcceptedValue}
 use Rattle.bank.specs.Answer.{judged_line}
-use Rattle.node_parts.specs.declared.control.ControlData.{ControlData}
-use Rattle.node_parts.specs.Loads.{control_of}
+use Rattle.rmap.specs.declared.boot_records.ControlData.{ControlData}
+use Rattle.rmap.specs.BootRecords.{control_of}
 use Rattle.sched.specs.declared.control.Decision.{Decision}
 use Rattle.sched.specs.declared.control.Decision.TheVariants.{Stopped, NotLoaded, Loaded}
 use Rattle.sched.specs.declared.event.Event.TheVariants.{Publish}

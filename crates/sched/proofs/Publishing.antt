@@ -22,9 +22,10 @@ use Rattle.brun.specs.declared.turns.Turn.TheVariants as turns
 use Rattle.bank.specs.Answer.{judged_line}
 use Rattle.bank.specs.Records.{EntryValue, numbers_of}
 use Rattle.node_programs.specs.Staged.{Staged}
-use Rattle.node_parts.specs.declared.control.ControlData.{ControlData}
+use Rattle.rmap.specs.declared.boot_records.ControlData.{ControlData}
 use Rattle.node_parts.specs.declared.refusal.LoadRefusal.{LoadRefusal}
-use Rattle.node_parts.specs.Loads.{control_of, loaded_bytes, published_result, refused_result, wants_memory, IsPrepared, IsUnprepared, WantsToPrepare}
+use Rattle.node_parts.specs.Loads.{loaded_bytes, published_result, refused_result, wants_memory, IsPrepared, IsUnprepared, WantsToPrepare}
+use Rattle.rmap.specs.BootRecords.{control_of}
 use Rattle.node_parts.specs.Loads as loading
 use Rattle.node_parts.specs.Outcomes.{Load, IsLoad}
 use Rattle.node_parts.specs.Outcomes as loads

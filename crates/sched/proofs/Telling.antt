@@ -14,11 +14,12 @@ use Rattle.sched.specs.declared.event.Event.{Event}
 use Rattle.sched.specs.declared.event.Event.TheVariants.{Count, Ticket, Peak}
 use Rattle.sched.specs.declared.event.Outcome.{Outcome}
 use Rattle.sched.specs.declared.event.Outcome.TheVariants.{Refused, Told}
-use Rattle.sched.specs.Answers.{answering, told_of_word, word_behind}
+use Rattle.sched.specs.Answers.{answering}
+use Rattle.plain_cells.specs.Words.{told_of_word, word_behind, with_word, word_at}
 use Rattle.sched.specs.History.{History, Then, Open, port_of, after_told, opened}
 use Rattle.sched.specs.Lawful.{IsOutcome, IsOutcomeAt, helper_outcome, told_of_cell, told_on}
 use Rattle.sched.specs.Looking.{Node, argument_asked, cell_asked, is_cell_of_node, turn_by, turn_at, staging, tickets, peaks, word_by_kind, cell_word, entries}
-use Rattle.sched.specs.Worlds.{RunValue, PortValue, WorldValue, AreWordsOf, GoesOn, IsJudging, IsPortOf, IsWorldOf, turn_in, with_word, word_at}
+use Rattle.sched.specs.Worlds.{RunValue, PortValue, WorldValue, AreWordsOf, GoesOn, IsJudging, IsPortOf, IsWorldOf, turn_in}
 use Rattle.sched.proofs.Growth.{IsPortBehind, ports_changed, left_all}
 
 -- where a port stands is where its command does

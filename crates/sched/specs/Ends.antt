@@ -38,8 +38,9 @@ use Rattle.bank.specs.Records.{
   next_share,
 }
 use Rattle.node_programs.specs.Staged.{Staged, staged}
-use Rattle.node_parts.specs.declared.control.ControlData.{ControlData}
-use Rattle.node_parts.specs.Loads.{control_of, published_result, refused_result}
+use Rattle.rmap.specs.declared.boot_records.ControlData.{ControlData}
+use Rattle.node_parts.specs.Loads.{published_result, refused_result}
+use Rattle.rmap.specs.BootRecords.{control_of}
 use Rattle.node_parts.specs.Outcomes.{IsLoad}
 use Rattle.node_parts.specs.Outcomes as loads
 use Rattle.node_parts.specs.Stagings.{IsStaged}

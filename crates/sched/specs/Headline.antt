@@ -30,7 +30,8 @@ use Rattle.brun.specs.declared.turns.Turn.TheVariants as turns
 use Rattle.bank.specs.Answer.{judged_line}
 use Rattle.bank.specs.Effect.{Memory}
 use Rattle.node_programs.specs.Staged.{Staged, staged}
-use Rattle.node_parts.specs.Loads.{control_of, published_result, refused_result}
+use Rattle.node_parts.specs.Loads.{published_result, refused_result}
+use Rattle.rmap.specs.BootRecords.{control_of}
 use Rattle.node_parts.specs.Outcomes.{Load, IsLoad}
 use Rattle.node_parts.specs.Outcomes as loads
 use Rattle.sched.specs.declared.event.Event.{Event}

@@ -16,7 +16,8 @@ use Rattle.brun.specs.declared.turns.Turn.{Turn}
 use Rattle.brun.specs.declared.turns.Turn.TheVariants as turns
 use Rattle.bank.specs.Answer.{Answer, answer, judged_line}
 use Rattle.bank.specs.Effect.{memory_at}
-use Rattle.node_parts.specs.Loads.{control_of, published_result, refused_result}
+use Rattle.node_parts.specs.Loads.{published_result, refused_result}
+use Rattle.rmap.specs.BootRecords.{control_of}
 use Rattle.node_parts.specs.declared.stop.Stop.{Stop}
 use Rattle.node_parts.specs.declared.stop.Stop.TheVariants.{Discarded as NoCommand, Answered as Fault}
 use Rattle.node_parts.specs.Outcomes.{Load, IsLoad}

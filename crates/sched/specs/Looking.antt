@@ -52,7 +52,8 @@ use Rattle.bank.specs.Effect.{Memory, memory_at}
 use Rattle.bank.specs.Records.{EntryValue, numbers_of, replay}
 use Rattle.node_programs.specs.Staged.{Staged, staged}
 use Rattle.node_parts.specs.declared.config.BankConfig.{BankConfig}
-use Rattle.node_parts.specs.Loads.{control_of, loaded_bytes}
+use Rattle.node_parts.specs.Loads.{loaded_bytes}
+use Rattle.rmap.specs.BootRecords.{control_of}
 use Rattle.node_parts.specs.Nodes.{windows_of, first_staging}
 use Rattle.node_parts.specs.Slots.{slot_of}
 use Rattle.spw.specs.Cargo.{Cargo}

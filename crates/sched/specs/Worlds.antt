@@ -37,6 +37,7 @@ use Rattle.brun.specs.declared.frame.Frame.{Frame}
 use Rattle.brun.specs.declared.turns.Turn.{Turn}
 use Rattle.brun.specs.declared.turns.Turn.TheVariants as turns
 use Rattle.brun.specs.Pauses.{Turns, AsksWithin}
+use Rattle.plain_cells.specs.Words.{AreCells, word_at}
 use Rattle.bank.specs.Admission.{IsPlacedBy}
 use Rattle.bank.specs.Effect.{Memory}
 use Rattle.bank.specs.Records.{BankValue, EntryValue, ShareValue, base_of, first_share, memory_of, numbers_of}
@@ -232,32 +233,6 @@ pub record IsRunUnder (windows : WindowsValue) (sizes : Maps) (r : RunValue) : T
 abbrev pub IsRunUnderIfAny : WindowsValue → Maps → Option RunValue → Type 0
 IsRunUnderIfAny windows sizes None = Unit {0}
 IsRunUnderIfAny windows sizes (Some r) = IsRunUnder windows sizes r
-
--- the word of a cell; of one that is not there it says nothing
-abbrev pub word_at : List (List ℕ) → (map key : ℕ) → ℕ
-word_at words map key = slice_index (slice_index_or words map []) key
-
--- the word of a key, if there are words of its map
-abbrev pub word_of : Option (List ℕ) → (key : ℕ) → Option ℕ
-word_of None key = None
-word_of (Some words) key = slice_get words key
-
--- the word of a cell, if there is one
-abbrev pub word_in : List (List ℕ) → (map key : ℕ) → Option ℕ
-word_in words map key = word_of (slice_get words map) key
-
--- the words with another one of a cell
-abbrev pub with_word : List (List ℕ) → (map key word : ℕ) → List (List ℕ)
-with_word words map key word = slice_set words map (slice_set (slice_index_or words map []) key word)
-
--- each word is 0
-abbrev pub AreZeros : List (List ℕ) → Type 0
-AreZeros words = (map key : ℕ) → word_at words map key ≡ 0
-
--- there are words of each map, one for each of its cells
-pub record AreCells (sizes : Maps) (words : List (List ℕ)) : Type 0 where
-  pub maps : length words ≡ length sizes.cells
-  pub cells : (map : ℕ) → map < length sizes.cells → length (slice_index_or words map []) ≡ slice_index sizes.cells map
 
 -- what a port of a world has, as the pass of a port of a node: of the node's cells and programs it knows nothing
 abbrev pub pass_of_port : WindowsValue → Maps → (port : ℕ) → PortValue → PassValue

@@ -1,28 +1,14 @@
 //! The events Count, Ticket and Peak: a helper of a port's program is answered.
 
 ghost use Rattle.std.specs.Prelude.{◌≡◌, ◌<◌, length};
-ghost use Rattle.sched.specs.Answers.{answering, told_of_word, word_behind};
+ghost use Rattle.sched.specs.Answers.{answering};
 ghost use Rattle.sched.specs.Worlds.{GoesOn};
 ghost use Rattle.sched.specs.declared.event.Outcome.TheVariants.{Refused as RefusedOutcome};
 
 use crate::event::Outcome;
 use crate::world::World;
 use machine::Helper;
-
-/// What a helper makes of the word of a cell, asked with that argument: what it tells, and the word behind that.
-fn answered(helper: Helper, word: u64, argument: u64) -> (u64, u64)
-    ensures told { result.0 ≡ told_of_word helper word argument }
-    ensures behind { result.1 ≡ word_behind helper word argument }
-{
-    match helper {
-        Helper::Count => (word, word),
-        Helper::Ticket => (word, word.wrapping_add(1)),
-        Helper::Peak => {
-            let greater = word.max(argument);
-            (greater, greater)
-        }
-    }
-}
+use plain_cells::answered;
 
 impl World {
     /// The program of a port that is there is told what a helper answers, where it asks for that, and the word of the cell

@@ -1,14 +1,14 @@
 //! The event Publish: a judged control write loads what its port staged.
 
-ghost use Rattle.std.specs.Prelude.{◌≡◌, ◌<◌, length, false, IfOk, IfErr, OnErr, IsSome};
-ghost use Rattle.node_parts.specs.Loads.{control_of, wants_memory};
+ghost use Rattle.std.specs.Prelude.{◌≡◌, ◌<◌, length, false, IfOk, OnErr, IsSome};
+ghost use Rattle.node_parts.specs.Loads.{wants_memory};
+ghost use Rattle.rmap.specs.BootRecords.{control_of};
 ghost use Rattle.sched.specs.Ends.{IsDecisionOf, IsLoadDecision, ShowsInSlot, count_shown, load_result_of_decision, programs_shown, status_of_decision};
 ghost use Rattle.sched.specs.Worlds.{GoesOn};
 ghost use Rattle.sched.specs.declared.event.Event.TheVariants.{Publish as PublishEvent};
 ghost use Rattle.sched.specs.declared.event.Outcome.TheVariants.{Refused as RefusedOutcome};
 
 use crate::event::Outcome;
-use crate::faults::WorldFault;
 use crate::port::Port;
 use crate::reply::{Reply, reply_room};
 use crate::shown::Shown;
@@ -16,10 +16,10 @@ use crate::world::World;
 use bank::judged_fault;
 use bpf::image_laws;
 use machine::MapSizes;
-use node_parts::{LoadRefusal, load_result_of, prepare, read_control};
+use node_parts::{LoadRefusal, prepare};
 use node_programs::Staging;
-use rmap::Status;
-use std::alloc::Global;
+use rmap::{ControlData, LoadResult, Status};
+use std::alloc::{AllocError, Global};
 use std::sync::Arc;
 
 /// What a judged control write comes to.
@@ -34,13 +34,12 @@ pub(crate) enum Decision {
 }
 
 /// A load that is refused: for want of memory it does not come to an end.
-fn not_loaded(refusal: LoadRefusal) -> Result<Decision, WorldFault>
+fn not_loaded(refusal: LoadRefusal) -> Result<Decision, AllocError>
     ensures refused { IfOk result (λ decision. decision ≡ Decision.NotLoaded refusal) }
     ensures told { IfOk result (λ _. wants_memory refusal ≡ false) }
-    ensures fault { IfErr result (λ fault. fault ≡ WorldFault.Memory) }
 {
     if refusal.wants_memory() {
-        return Err(WorldFault::Memory);
+        return Err(AllocError);
     }
     Ok(Decision::NotLoaded(refusal))
 }
@@ -53,12 +52,11 @@ fn load(
     body: &[u8],
     sizes: &MapSizes,
     count: u32,
-) -> Result<Decision, WorldFault>
+) -> Result<Decision, AllocError>
     ensures load { IfOk result
         (IsLoadDecision (control_of body.now) staging.now.bytes sizes.now count) }
-    ensures fault { IfErr result (λ fault. fault ≡ WorldFault.Memory) }
 {
-    let (slot, accepted) = match prepare(alloc, staging, read_control(body), sizes) {
+    let (slot, accepted) = match prepare(alloc, staging, ControlData::read(body), sizes) {
         Ok(prepared) => prepared,
         Err(refusal) => return not_loaded(refusal),
     };
@@ -80,9 +78,12 @@ impl Decision {
     {
         match self {
             Decision::Stopped(status) => (*status, None),
-            Decision::NotLoaded(refusal) => (Status::GeneralError, Some(refusal.load_result())),
+            Decision::NotLoaded(refusal) => {
+                (Status::GeneralError, Some(refusal.load_result().bytes()))
+            }
             Decision::Loaded(_, shown) => {
-                (Status::Success, Some(load_result_of(shown.generation)))
+                let result = LoadResult::published(shown.generation);
+                (Status::Success, Some(result.bytes()))
             }
         }
     }
@@ -112,11 +113,10 @@ impl Port {
         verdict: u64,
         sizes: &MapSizes,
         count: u32,
-    ) -> Result<Decision, WorldFault>
+    ) -> Result<Decision, AllocError>
         requires { IsSome self.now.run }
         ensures decides { IfOk result
             (IsDecisionOf self.now.run self.now.staging.bytes verdict sizes.now count) }
-        ensures fault { IfErr result (λ fault. fault ≡ WorldFault.Memory) }
     {
         let Some(run) = &self.run else {
             unreachable!();
@@ -130,12 +130,11 @@ impl Port {
 }
 
 impl World {
-    /// The judged control write of a port that is there loads what the port staged. `Memory` where memory was refused.
-    pub(crate) fn publish(&mut self, alloc: Global, port: u8) -> Result<Outcome, WorldFault>
+    /// The judged control write of a port that is there loads what the port staged.
+    pub(crate) fn publish(&mut self, alloc: Global, port: u8) -> Result<Outcome, AllocError>
         requires { port < length self.old.ports }
         ensures goes_on { IfOk result
             (λ outcome. GoesOn (PublishEvent port) outcome self.old self.new) }
-        ensures fault { IfErr result (λ fault. fault ≡ WorldFault.Memory) }
         ensures same { OnErr result (self.new ≡ self.old) }
         ensures refused { IfOk result
             (λ outcome. outcome ≡ RefusedOutcome → self.new ≡ self.old) }

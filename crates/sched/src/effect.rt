@@ -1,25 +1,22 @@
 //! The event Effect: a judged command takes its effect, at its bank or at its port's staging.
 
-ghost use Rattle.std.specs.Prelude.{◌≡◌, ◌<◌, length, IfOk, IfErr, OnErr};
+ghost use Rattle.std.specs.Prelude.{◌≡◌, ◌<◌, length, IfOk, OnErr};
 ghost use Rattle.sched.specs.Worlds.{GoesOn};
 ghost use Rattle.sched.specs.declared.event.Event.TheVariants.{Effect as EffectEvent};
 ghost use Rattle.sched.specs.declared.event.Outcome.TheVariants.{Refused as RefusedOutcome};
 
 use crate::event::Outcome;
-use crate::faults::WorldFault;
 use crate::reply::{Reply, reply_room};
 use crate::world::World;
 use node_parts::{paired_commands_fit, pairs_stay};
-use std::alloc::Global;
+use std::alloc::{AllocError, Global};
 
 impl World {
-    /// The judged command of a port that is there takes its effect, where it is no control write. `Memory` where memory
-    /// was refused.
-    pub(crate) fn effect(&mut self, alloc: Global, port: u8) -> Result<Outcome, WorldFault>
+    /// The judged command of a port that is there takes its effect, where it is no control write.
+    pub(crate) fn effect(&mut self, alloc: Global, port: u8) -> Result<Outcome, AllocError>
         requires { port < length self.old.ports }
         ensures goes_on { IfOk result
             (λ outcome. GoesOn (EffectEvent port) outcome self.old self.new) }
-        ensures fault { IfErr result (λ fault. fault ≡ WorldFault.Memory) }
         ensures same { OnErr result (self.new ≡ self.old) }
         ensures refused { IfOk result
             (λ outcome. outcome ≡ RefusedOutcome → self.new ≡ self.old) }

@@ -14,7 +14,6 @@ mod schedule;
 mod shown;
 mod standing;
 mod take;
-mod words;
 mod world;
 
 pub use event::{Event, Outcome};

@@ -31,12 +31,12 @@ pub fn step(alloc: Global, world: &mut World, event: Event) -> Result<Outcome, W
         return Ok(Outcome::Refused);
     }
     match event {
-        Event::Take(port, packet) => world.take(alloc, port, packet),
+        Event::Take(port, packet) => Ok(world.take(alloc, port, packet)?),
         Event::Count(port) => Ok(world.answer(port, Helper::Count)),
         Event::Ticket(port) => Ok(world.answer(port, Helper::Ticket)),
         Event::Peak(port) => Ok(world.answer(port, Helper::Peak)),
-        Event::Effect(port) => world.effect(alloc, port),
-        Event::Publish(port) => world.publish(alloc, port),
+        Event::Effect(port) => Ok(world.effect(alloc, port)?),
+        Event::Publish(port) => Ok(world.publish(alloc, port)?),
     }
 }
 

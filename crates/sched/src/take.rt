@@ -1,6 +1,6 @@
 //! The event Take: a packet is discarded, answered by its header, or judged from now on.
 
-ghost use Rattle.std.specs.Prelude.{◌≡◌, ◌<◌, ℕ, None, [], length, IfOk, IfErr, OnErr};
+ghost use Rattle.std.specs.Prelude.{◌≡◌, ◌<◌, ℕ, None, [], length, IfOk, OnErr};
 ghost use Rattle.std.specs.Arc.{arc_value};
 ghost use Rattle.rmap.specs.Command.{discard_of};
 ghost use Rattle.bank.specs.Admission.{IsPlacedBy};
@@ -11,7 +11,6 @@ ghost use Rattle.sched.specs.declared.event.Event.TheVariants.{Take as TakeEvent
 ghost use Rattle.sched.specs.declared.event.Outcome.TheVariants.{Refused as RefusedOutcome};
 
 use crate::event::Outcome;
-use crate::faults::WorldFault;
 use crate::reply::{Reply, reply_room};
 use crate::run::Opening;
 use crate::world::World;
@@ -58,17 +57,16 @@ impl World {
         })
     }
 
-    /// A packet is taken at a port that is there. `Memory` where memory was refused.
+    /// A packet is taken at a port that is there.
     pub(crate) fn take(
         &mut self,
         alloc: Global,
         port: u8,
         packet: Packet,
-    ) -> Result<Outcome, WorldFault>
+    ) -> Result<Outcome, AllocError>
         requires { port < length self.old.ports }
         ensures goes_on { IfOk result
             (λ outcome. GoesOn (TakeEvent port packet) outcome self.old self.new) }
-        ensures fault { IfErr result (λ fault. fault ≡ WorldFault.Memory) }
         ensures same { OnErr result (self.new ≡ self.old) }
         ensures refused { IfOk result
             (λ outcome. outcome ≡ RefusedOutcome → self.new ≡ self.old) }

@@ -9,19 +9,20 @@ ghost use Rattle.sched.specs.Headline.{IsNode};
 ghost use Rattle.sched.specs.History.{History, Start, opened};
 ghost use Rattle.sched.specs.Standing.{IsLent};
 ghost use Rattle.sched.specs.Looking.{Node};
-ghost use Rattle.sched.specs.Worlds.{IsUnmade, IsWorldFault, IsWorldOf, first_port, generation_in, node_of, shown_in_all, staging_in, word_at, word_in};
+ghost use Rattle.sched.specs.Worlds.{IsUnmade, IsWorldFault, IsWorldOf, first_port, generation_in, node_of, shown_in_all, staging_in};
+ghost use Rattle.plain_cells.specs.Words.{word_at, word_in};
 
 use crate::faults::WorldFault;
 use crate::port::Port;
 use crate::shown::Shown;
 use crate::standing::Standing;
-use crate::words::CellWords;
 use bank::Bank;
 use bpf::Image;
 use bver::{Accepted, verify};
 use machine::MapSizes;
 use node_parts::{Banks, NodeConfig, PortShares, made_are_paired};
 use node_programs::Staging;
+use plain_cells::CellWords;
 use rmap::{MAX_BANKS, ReplyBuf, Windows};
 use spw::PORTS;
 use std::alloc::{AllocError, Global};
@@ -105,7 +106,7 @@ impl World {
     {
         let (banks, by_port) = Banks::new(alloc, config)?;
         let factory = accepted(alloc, factory, &config.sizes)?;
-        World::of(alloc, config, banks, by_port, factory)
+        Ok(World::of(alloc, config, banks, by_port, factory)?)
     }
 
     /// The world of a node behind no event, as [`World::new`] makes it, with a factory program that the verifier accepted
@@ -126,7 +127,7 @@ impl World {
         ensures fault { IfErr result (IsUnmade (limit_fault config.now)) }
     {
         let (banks, by_port) = Banks::new(alloc, config)?;
-        World::of(alloc, config, banks, by_port, factory)
+        Ok(World::of(alloc, config, banks, by_port, factory)?)
     }
 
     /// The world of a node behind no event, of its banks, its ports' shares of them, and its factory program.
@@ -136,7 +137,7 @@ impl World {
         banks: Banks,
         by_port: Vec<PortShares>,
         factory: Accepted,
-    ) -> Result<World, WorldFault>
+    ) -> Result<World, AllocError>
         requires banks { banks ≡ fresh_banks config.now }
         requires by_port { AreSharesOf config.now by_port.items }
         requires few_ports { config.now.ports ≤ PORTS }
@@ -144,7 +145,6 @@ impl World {
         requires factory { factory.sizes ≡ config.now.sizes }
         ensures world { IfOk result (IsWorldOf (node_of config.now factory.program) Start) }
         ensures node { IfOk result (λ _. IsNode (node_of config.now factory.program)) }
-        ensures fault { IfErr result (λ fault. fault ≡ WorldFault.Memory) }
     {
         made_are_paired();
         let _justified = factory.image();

@@ -9,6 +9,7 @@ use Rattle.bank.specs.Records.{
   after_setting,
   base_of,
   covers,
+  empty_journal,
   memory_of,
   replay,
 }
@@ -66,6 +67,11 @@ abbrev pub covers_in : Option BankValue → (address count : ℕ) → Bool
 covers_in None address count = false
 covers_in (Some b) address count = covers b address count
 
+-- how many entries the journal of a bank has room for in all, if there is that bank
+abbrev pub room_in : Option BankValue → ℕ
+room_in None = 0
+room_in (Some b) = b.journal.room
+
 -- the node with another bank of that number
 abbrev pub with_bank : SingleNodeValue → (number : ℕ) → BankValue → SingleNodeValue
 with_bank node number bank = record node { banks = slice_set node.banks number bank }
@@ -89,3 +95,14 @@ pub record SetsMemory (number address : ℕ) (bytes : List ℕ) (fresh : Journal
   pub set : after ≡ with_bank before number (after_setting bank address bytes fresh)
   pub journal : old ≡ bank.journal
   pub replayed : memory_of bank ≡ replay (base_of bank) old.entries
+
+-- the bank of that number has an empty journal of that room, which begins with the memory of now; nothing else changed
+pub record RotatesTo (number room : ℕ) (before after : SingleNodeValue) : Type 0 where
+  pub old : JournalValue
+  pub rotates : Rotates number (empty_journal room) before after old
+
+-- the bank of that number has those bytes at that address, and an empty journal of that room, which begins with that
+-- memory; nothing else changed
+pub record SetsBytes (number address : ℕ) (bytes : List ℕ) (room : ℕ) (before after : SingleNodeValue) : Type 0 where
+  pub old : JournalValue
+  pub sets : SetsMemory number address bytes (empty_journal room) before after old

@@ -1,6 +1,6 @@
 //! A node of one thread: what becomes of a packet (ECSS-E-ST-50-52C), with no lock, no reader and no wait.
 //!
-//! [`SingleNode`] has the plain parts of `target`: the banks, four slots of programs, and what each port has. So its
+//! [`SingleNode`] has the plain parts of `node_parts`: the banks, four slots of programs, and what each port has. So its
 //! theorem says more than that of a port of threads: what judges a command is the last program that was published for its
 //! slot. The list of what was published exists in proofs alone.
 #![tactic(auto)]

@@ -7,7 +7,7 @@ ghost use Rattle.machine.specs.Sizes.{IsInside};
 ghost use Rattle.node_programs.specs.Published.{generation_at, sizes_of};
 ghost use Rattle.node_parts.specs.Nodes.{AreSharesOf, IsNodeFault, first_passes, first_programs, limit_fault};
 ghost use Rattle.plain_cells.specs.Words.{word_in};
-ghost use Rattle.single_node.specs.Nodes.{IsFresh, IsSingleNode, Rotates, SetsMemory, covers_in, staging_in};
+ghost use Rattle.single_node.specs.Nodes.{IsFresh, IsSingleNode, Rotates, RotatesTo, SetsBytes, SetsMemory, covers_in, room_in, staging_in};
 ghost use Rattle.rmap.specs.declared.reply.TheConstants.{MAX_REPLY};
 ghost use Rattle.single_node.specs.Serving.{Serves, ServesInto, ServesTold};
 
@@ -211,6 +211,28 @@ impl SingleNode {
         self.banks.bank_mut(k).rotate(fresh)
     }
 
+    /// How many entries the journal of the bank of that number has room for in all; 0 where there is no such bank.
+    pub fn room(&self, k: u8) -> u32
+        ensures { result ≡ room_in (slice_get self.now.banks k) }
+    {
+        if usize::from(k) >= self.banks.len() {
+            return 0;
+        }
+        self.banks.bank(k).room()
+    }
+
+    /// Begins a new journal of that room at the bank of that number, in the memory of the old one, whose entries are gone:
+    /// all is as after [`SingleNode::rotate`] with a fresh journal of that room. So it takes no memory. Conditions: a
+    /// number below [`SingleNode::banks`], and a room of 1 to [`SingleNode::room`].
+    pub fn turn(&mut self, k: u8, room: u32)
+        requires number { k < length self.old.banks }
+        requires some { 1 ≤ room }
+        requires room { room ≤ room_in (slice_get self.old.banks k) }
+        ensures { RotatesTo k room self.old self.new }
+    {
+        self.banks.bank_mut(k).turn(room);
+    }
+
     /// Whether so many bytes from the address on lie in the bank of that number; not where there is no such bank.
     pub fn covers(&self, k: u8, address: u32, count: usize) -> bool
         ensures { result ≡ covers_in (slice_get self.now.banks k) address count }
@@ -228,6 +250,18 @@ impl SingleNode {
         ensures { SetsMemory k address bytes.now fresh self.old self.new result }
     {
         self.banks.bank_mut(k).set(address, bytes, fresh)
+    }
+
+    /// Puts bytes at an address of the bank of that number without a command, as [`SingleNode::set_memory`] does, and
+    /// begins a new journal of that room in the memory of the old one, as [`SingleNode::turn`] does. Conditions: the bytes
+    /// lie in that bank ([`SingleNode::covers`]), and a room of 1 to [`SingleNode::room`].
+    pub fn turn_and_set(&mut self, k: u8, address: u32, bytes: &[u8], room: u32)
+        requires inside { covers_in (slice_get self.old.banks k) address (length bytes.now) ≡ true }
+        requires some { 1 ≤ room }
+        requires room { room ≤ room_in (slice_get self.old.banks k) }
+        ensures { SetsBytes k address bytes.now room self.old self.new }
+    {
+        self.banks.bank_mut(k).turn_and_set(address, bytes, room);
     }
 
     /// The staging of a port, with the result of its last load. The condition is a port of the node.

@@ -1,8 +1,8 @@
 -- What calls on journals tell and do.
 use Rattle.std.specs.Prelude.{◌≡◌, ◌+◌, ℕ, List, [], length, nat_le, nat_lt, not, Option, Some, None, Result, Ok, Err, if◌then◌else◌, slice_get}
 use Rattle.bank.specs.Limits.{is_room}
-use Rattle.bank.specs.Records.{BankValue, EntryValue, JournalValue}
-use Rattle.single_node.specs.Nodes.{SingleNodeValue, Rotates}
+use Rattle.bank.specs.Records.{BankValue, EntryValue}
+use Rattle.single_node.specs.Nodes.{SingleNodeValue, room_in}
 use Rattle.single_node_c.specs.Numbers.{entry_numbers}
 use Rattle.single_node.specs.Serving.{put_front}
 use Rattle.single_node_c.specs.declared.codes.TheConstants.{OK, BAD_CONFIG, NO_BANK, NO_ENTRY, NO_ROOM}
@@ -60,11 +60,8 @@ abbrev pub rotate_test : (number room : ℕ) → SingleNodeValue → Option ℕ
 rotate_test number room node =
     if nat_le (length node.banks) number then Some NO_BANK else if not (is_room room) then Some BAD_CONFIG else None
 
--- an empty journal of that room
-abbrev pub empty_journal : (room : ℕ) → JournalValue
-empty_journal room = record { entries = []; room = room }
-
--- the bank of that number has a new journal of that room, which begins with the memory of now; nothing else changed
-pub record RotatesTo (number room : ℕ) (before after : SingleNodeValue) : Type 0 where
-  pub old : JournalValue
-  pub rotates : Rotates number (empty_journal room) before after old
+-- how many entries the journal of the bank of that number has room for in all, of the node of a handle; 0 where there is
+-- no node or no such bank
+abbrev pub room_at : Option SingleNodeValue → (number : ℕ) → ℕ
+room_at None number = 0
+room_at (Some node) number = room_in (slice_get node.banks number)

@@ -1,9 +1,8 @@
 -- What calls on the memory of a bank tell and do.
 use Rattle.std.specs.Prelude.{◌≡◌, ◌<◌, ◌+◌, ℕ, List, length, nat_le, not, Option, Some, None, if◌then◌else◌, slice_get}
 use Rattle.bank.specs.Limits.{is_room}
-use Rattle.bank.specs.Records.{BankValue, JournalValue, byte_in}
-use Rattle.single_node.specs.Nodes.{SingleNodeValue, SetsMemory, covers_in}
-use Rattle.single_node_c.specs.Journals.{empty_journal}
+use Rattle.bank.specs.Records.{BankValue, byte_in}
+use Rattle.single_node.specs.Nodes.{SingleNodeValue, covers_in}
 use Rattle.single_node_c.specs.declared.codes.TheConstants.{OK, BAD_CONFIG, NO_BANK, NO_ROOM}
 
 -- the code of a question for so many bytes from an address on of the bank of that number
@@ -26,9 +25,3 @@ poke_test number address count room node =
     else if not (covers_in (slice_get node.banks number) address count) then Some NO_ROOM
     else if not (is_room room) then Some BAD_CONFIG
     else None
-
--- the bank of that number has those bytes at that address, and a new journal of that room, which begins with that
--- memory; nothing else changed
-pub record SetsBytes (number address : ℕ) (bytes : List ℕ) (room : ℕ) (before after : SingleNodeValue) : Type 0 where
-  pub old : JournalValue
-  pub sets : SetsMemory number address bytes (empty_journal room) before after old

@@ -1,17 +1,18 @@
 //! The journals of the banks.
 
-ghost use Rattle.std.specs.Prelude.{◌≡◌, ◌≢◌, ◌<◌, Err, IfErr, IfSome, MatchResult, Ok, length};
+ghost use Rattle.std.specs.Prelude.{◌≡◌, ◌≢◌, ◌<◌, ◌≤◌, Err, IfErr, IfSome, MatchResult, Ok, length, slice_get};
 ghost use Rattle.single_node_c.specs.Held.{Becomes, IsCode, code_on, test_on};
-ghost use Rattle.single_node_c.specs.Journals.{RotatesTo, TellsEntry, TellsJournal, bank_code, entry_at, entry_code, room_code, rotate_test};
+ghost use Rattle.single_node_c.specs.Journals.{TellsEntry, TellsJournal, bank_code, entry_at, entry_code, room_at, room_code, rotate_test};
 ghost use Rattle.single_node_c.specs.Numbers.{entry_numbers};
+ghost use Rattle.single_node.specs.Nodes.{RotatesTo, room_in};
 ghost use Rattle.single_node.specs.Serving.{put_front};
-ghost use Rattle.single_node_c.specs.declared.codes.TheConstants.{OK};
+ghost use Rattle.single_node_c.specs.declared.codes.TheConstants.{NO_MEMORY, OK};
 
 use crate::codes::{BAD_CONFIG, NO_BANK, NO_ENTRY, NO_MEMORY, NO_NODE, NO_ROOM, OK};
 use crate::handle::Handle;
 use crate::held::{put, take};
 use crate::numbers::{EntryNumbers, JournalNumbers};
-use bank::{BankFault, Entry, Journal};
+use bank::{BankFault, Entry, Journal, MAX_ROOM};
 use single_node::{SingleNode, put_front};
 use std::alloc::Global;
 
@@ -137,14 +138,20 @@ pub extern "C" fn sandbar_entry_at(
     code
 }
 
-/// Begins a new journal of that room at a bank, where it may: a code.
+/// Begins a new journal of that room at a bank, where it may: a code. It asks for memory only where the room is more than
+/// that of the old journal.
 fn rotate(alloc: Global, node: &mut SingleNode, bank: u8, room: u32) -> u32
     ensures code { IsCode (rotate_test bank room node.old) result }
+    ensures turned { room ≤ room_in (slice_get node.old.banks bank) → result ≢ NO_MEMORY }
     ensures rotated { result ≡ OK → RotatesTo bank room node.old node.new }
     ensures node { result ≢ OK → node.new ≡ node.old }
 {
     if bank >= node.banks() {
         return NO_BANK;
+    }
+    if 1 <= room && room <= MAX_ROOM && room <= node.room(bank) {
+        node.turn(bank, room);
+        return OK;
     }
     match Journal::new(alloc, room) {
         Ok(fresh) => {
@@ -156,10 +163,12 @@ fn rotate(alloc: Global, node: &mut SingleNode, bank: u8, room: u32) -> u32
     }
 }
 
-/// Begins a new journal with room for so many entries at a bank: the entries of the old one are gone. Numbers go on.
+/// Begins a new journal with room for so many entries at a bank: the entries of the old one are gone. Numbers go on. Where
+/// the room is at most that of the old journal it takes no memory.
 #[unsafe(no_mangle)]
 pub extern "C" fn sandbar_rotate(alloc: Global, handle: &mut Handle, bank: u8, room: u32) -> u32
     ensures code { IsCode (test_on handle.old.kept (rotate_test bank room)) result }
+    ensures turned { room ≤ room_at handle.old.kept bank → result ≢ NO_MEMORY }
     ensures rotated { result ≡ OK → Becomes (RotatesTo bank room) handle.old.kept handle.new.kept }
     ensures node { result ≢ OK → handle.new.kept ≡ handle.old.kept }
 {

@@ -5,14 +5,16 @@ ghost use Rattle.bank.specs.Records.{byte_in, covers};
 ghost use Rattle.bank.specs.declared.bank.TheConstants.{MAX_SIZE};
 ghost use Rattle.rcrc.specs.Crc.{crc_of};
 ghost use Rattle.rcrc.specs.Polynomial.{IsRemainder};
+ghost use Rattle.single_node.specs.Nodes.{SetsBytes, room_in};
 ghost use Rattle.single_node_c.specs.Held.{Becomes, IsCode, code_on, test_on};
-ghost use Rattle.single_node_c.specs.Memory.{SetsBytes, TellsBytes, peek_code, poke_test};
-ghost use Rattle.single_node_c.specs.declared.codes.TheConstants.{OK};
+ghost use Rattle.single_node_c.specs.Journals.{room_at};
+ghost use Rattle.single_node_c.specs.Memory.{TellsBytes, peek_code, poke_test};
+ghost use Rattle.single_node_c.specs.declared.codes.TheConstants.{NO_MEMORY, OK};
 
 use crate::codes::{BAD_CONFIG, NO_BANK, NO_MEMORY, NO_NODE, NO_ROOM, OK};
 use crate::handle::Handle;
 use crate::held::{put, take};
-use bank::{Bank, BankFault, Journal};
+use bank::{Bank, BankFault, Journal, MAX_ROOM};
 use rcrc::crc;
 use single_node::SingleNode;
 use std::alloc::Global;
@@ -93,7 +95,8 @@ pub extern "C" fn sandbar_peek(
     code
 }
 
-/// Puts bytes at an address of a bank, where they lie in it, with a new journal of that room: a code.
+/// Puts bytes at an address of a bank, where they lie in it, with a new journal of that room: a code. It asks for memory
+/// only where the room is more than that of the old journal.
 fn poke(
     alloc: Global,
     node: &mut SingleNode,
@@ -103,6 +106,7 @@ fn poke(
     room: u32,
 ) -> u32
     ensures code { IsCode (poke_test bank address (length bytes.now) room node.old) result }
+    ensures turned { room ≤ room_in (slice_get node.old.banks bank) → result ≢ NO_MEMORY }
     ensures set { result ≡ OK → SetsBytes bank address bytes.now room node.old node.new }
     ensures node { result ≢ OK → node.new ≡ node.old }
 {
@@ -111,6 +115,10 @@ fn poke(
     }
     if !node.covers(bank, address, bytes.len()) {
         return NO_ROOM;
+    }
+    if 1 <= room && room <= MAX_ROOM && room <= node.room(bank) {
+        node.turn_and_set(bank, address, bytes, room);
+        return OK;
     }
     match Journal::new(alloc, room) {
         Ok(fresh) => {
@@ -123,7 +131,8 @@ fn poke(
 }
 
 /// Puts bytes at an address of a bank without a command, as the instrument does, and begins a new journal of that room
-/// with the memory that is then there: the entries of the old one are gone.
+/// with the memory that is then there: the entries of the old one are gone. Where the room is at most that of the old
+/// journal it takes no memory.
 #[unsafe(no_mangle)]
 pub extern "C" fn sandbar_poke(
     alloc: Global,
@@ -135,6 +144,7 @@ pub extern "C" fn sandbar_poke(
 ) -> u32
     ensures code { IsCode (test_on handle.old.kept
         (poke_test bank address (length bytes.now) room)) result }
+    ensures turned { room ≤ room_at handle.old.kept bank → result ≢ NO_MEMORY }
     ensures set { result ≡ OK
         → Becomes (SetsBytes bank address bytes.now room) handle.old.kept handle.new.kept }
     ensures node { result ≢ OK → handle.new.kept ≡ handle.old.kept }

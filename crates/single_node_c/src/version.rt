@@ -4,7 +4,7 @@ ghost use Rattle.std.specs.Prelude.{◌≡◌};
 ghost use Rattle.single_node_c.specs.declared.version.TheConstants.{VERSION};
 
 /// It rises with each change of a call, a struct or a number of the header.
-pub const VERSION: u32 = 3;
+pub const VERSION: u32 = 4;
 
 /// The number of the header that this was made with.
 #[unsafe(no_mangle)]

@@ -1,5 +1,4 @@
 pub mod Askings
-pub mod Keeping
 pub mod Loadings
 pub mod Judgements
 pub mod Fresh

@@ -1,22 +1,18 @@
 -- A port's line beside its shares.
-use Rattle.std.proofs.Common.{◌≡◌, ◌≢◌, ◌⊎◌, inl, inr, ◌<◌, ◌+◌, ◌==◌, ℕ, suc, zero, Bool, true, false, List, [], ◌∷◌, ◌++◌, length, set, get_or, refl, sym, ap, ◌∙◌, subst, arith}
-use Rattle.std.specs.Prelude.{IfNone, map, replicate}
+use Rattle.std.proofs.Common.{◌≡◌, ◌≢◌, ◌⊎◌, inl, inr, ◌<◌, ◌==◌, ℕ, Bool, true, false, List, [], length, set, get_or, refl, sym, ap, ◌∙◌, subst, arith}
+use Rattle.std.specs.Prelude.{IfNone, replicate}
 use Rattle.std.specs.List.{range_with_len}
-use Rattle.std.proofs.lemmas.List.{get_or_read, get_or-set_same, get_or-set_other, get_or-replicate, length-set, length-replicate, set-get_or}
+use Rattle.std.proofs.lemmas.List.{get_or_read, get_or-set_same, get_or-set_other, get_or-replicate, length-set, set-get_or}
 use Rattle.std.proofs.lemmas.Bool.{cases_eq}
 use Rattle.std.proofs.lemmas.Bool.Decides.{nat_tests}
-use base.Stored.{Gv}
 use Rattle.rmap.specs.declared.places.Place.{Place}
 use Rattle.rmap.specs.declared.places.Place.TheVariants.{Bank}
-use Rattle.bver.specs.Justified.{AcceptedValue}
 use Rattle.bank.specs.declared.bank.Applied.{Applied}
 use Rattle.bank.specs.Records.{ShareValue, JudgedValue, first_share, fits, is_place_of}
-use Rattle.node_parts.specs.declared.config.BankConfig.{BankConfig}
-use Rattle.node_parts.specs.Nodes.{first_pass}
 use Rattle.annals.specs.Chains.{LineValue}
 use Rattle.annals.specs.Banks.{CountsOn, IsCountOf, IsRefusedAt, KeptValue, takes}
-use Rattle.target.specs.Lines.{AreNew, IsLineOf}
-use Rattle.target.proofs.Finishing.{both_are, same_bank}
+use Rattle.target.specs.Lines.{IsLineOf}
+use Rattle.target.proofs.Finishing.{both_are}
 
 -- the share of a bank, read with another default
 pub read_share : (port k : ℕ) (shares : List ShareValue) (share : ShareValue) → k < length shares → share ≡ get_or shares k share → share ≡ get_or shares k (first_share port)
@@ -93,9 +89,3 @@ new_line port shares new = record {
   where
     first : (k : ℕ) → k < length shares → get_or shares k (first_share port) ≡ first_share port
     first k below = ap (λ (ss : List ShareValue). get_or ss k (first_share port)) new ∙ get_or-replicate (length shares) k (first_share port) (first_share port) below
-
--- the passes of a node are new
-pub are_new : (address : ℕ) (banks : List BankConfig) (factory : AcceptedValue) (home : Gv) (from n : ℕ) → AreNew from (map (first_pass address banks factory home) (range_with_len from n))
-are_new address banks factory home from zero = tt
-are_new address banks factory home from (suc n) =
-    (refl, ap (λ (m : ℕ). replicate m (first_share from)) (sym (length-replicate (length banks) (first_share from))), are_new address banks factory home (from + 1) n)

@@ -1,5 +1,5 @@
 -- A port's line of the history of its node's banks, beside its shares of them.
-use Rattle.std.specs.Prelude.{◌≡◌, ◌<◌, ◌+◌, ℕ, List, [], ◌∷◌, length, replicate, slice_index_or}
+use Rattle.std.specs.Prelude.{◌≡◌, ◌<◌, ℕ, List, length, slice_index_or}
 use Rattle.std.specs.List.{range_with_len}
 use mathlib.Core.List.{IsPrefix}
 use Rattle.rmap.specs.declared.places.Place.TheVariants.{Bank}
@@ -22,8 +22,3 @@ abbrev pub CountsAllOf : PassValue → List Link → Type 0
 CountsAllOf h log =
     (k : ℕ) → k < length h.shares
     → IsPrefix (numbers_of h.port (entries_of k log)) (range_with_len 0 (share_of h (Bank k)).number)
-
--- the passes of ports from that number on, which have sent no bank a command
-abbrev pub AreNew : ℕ → List PassValue → Type 0
-AreNew port [] = Unit {0}
-AreNew port (p ∷ ps) = (p.port ≡ port) × (p.shares ≡ replicate (length p.shares) (first_share port)) × AreNew (port + 1) ps

@@ -4,7 +4,7 @@ ghost use Rattle.std.specs.Prelude.{◌≡◌};
 ghost use mathlib.Core.List.{IsPrefix};
 ghost use Rattle.node_parts.specs.Loaded.{IsLoadEnd};
 
-use crate::pass::{PortLine, PortPass};
+use crate::pass::Pass;
 use bank::Judged;
 use publish::{Family, Publisher, readers_know_a_beginning};
 use rmap::{Place, ReplyBuf, Status};
@@ -16,9 +16,9 @@ use std::sync::Wait;
 /// name, the port's reader learns of it, and the load result tells its generation, or why the load was refused.
 /// Nothing else changes. What the port knew is a beginning of what was published. It may wait for readers. The condition
 /// is a control write.
-pub fn load<J: Family, L: PortLine + Drop, R: Wait + Drop>(
+pub fn load<J: Family, R: Wait + Drop>(
     alloc: Global,
-    pass: &mut PortPass<J, L>,
+    pass: &mut Pass<J>,
     publisher: &mut Publisher<J, R>,
     judged: Judged,
     reply: &mut ReplyBuf,

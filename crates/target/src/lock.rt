@@ -3,16 +3,18 @@
 ghost use Rattle.std.specs.Prelude.{◌≡◌};
 
 use annals::{Family, Kept};
+use crossbeam_utils::CachePadded;
 use std::marker::Model;
 use std::ops::Deref;
 use std::sync::Mutex;
 
 /// The lock of a bank, with the bank's number beside it: all that can be told of a lock that another
-/// thread may hold. What is known of the bank behind it is what is known of every bank with its chain.
+/// thread may hold. What is known of the bank behind it is what is known of every bank with its chain. The lock and the bank
+/// share no cache line with another bank's, so ports at two banks do not hold each other up.
 #[derive(Drop)]
 pub struct BankLock<J: Family> {
     number: u8,
-    bank: Mutex<Kept<J>>,
+    bank: CachePadded<Mutex<Kept<J>>>,
 }
 
 impl<J: Family> Model for BankLock<J> {
@@ -30,7 +32,7 @@ impl<J: Family> BankLock<J> {
     {
         BankLock {
             number,
-            bank: Mutex::new(bank),
+            bank: CachePadded::new(Mutex::new(bank)),
         }
     }
 

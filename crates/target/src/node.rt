@@ -7,13 +7,12 @@ ghost use Rattle.annals.specs.Banks.{IsFresh};
 ghost use Rattle.annals.specs.Publishes.{publishes_chain, publishes_of};
 ghost use Rattle.cells.specs.Seats.{cells};
 ghost use Rattle.node_parts.specs.Nodes.{IsNodeFault, first_passes, limit_fault};
-ghost use Rattle.target.specs.Lines.{AreNew};
 ghost use Rattle.target.specs.Nodes.{AreNumbered};
 
 use crate::lock::BankLock;
 use crate::parts::cells_and_passes;
-use crate::pass::{Pass, PlainPass};
-use annals::{BANK_CHAINS, Chain, Family, Front, Kept, Line};
+use crate::pass::Pass;
+use annals::{BANK_CHAINS, Chain, Family, Front, Kept};
 use bver::Accepted;
 use cells::Cells;
 use node_parts::{Banks, NodeConfig, NodeFault};
@@ -99,34 +98,15 @@ fn locks_and_chain<J: Family>(
     Ok((locks, chain))
 }
 
-/// The passes, each with the line of its port, which is the next chain of the history. It ends with `AllocError` also where a
-/// chain has begun before (no test met that).
-fn with_lines<J: Family>(
-    alloc: Global,
-    plain: Vec<PlainPass<J>>,
-    history: &mut annals::Opened,
-) -> Result<Vec<Pass<J>>, AllocError>
-    requires family { history.old.0 ≡ J.book }
-    requires chains { history.old.1 ≡ 32 }
-    requires new { AreNew 0 plain.items }
-    ensures { IfOk result (λ passes. passes.items ≡ plain.items) }
-{
-    let mut passes = Vec::with_capacity(alloc, plain.len())?;
-    for pass in plain {
-        let Some(line) = Line::new(pass.port(), history) else {
-            return Err(AllocError);
-        };
-        passes.push(pass.with_line(line))?;
-    }
-    Ok(passes)
-}
-
 impl<J: Family, R: Wait + Drop> Node<J, R> {
-    /// A node with locks round banks of zero bytes and round what publishes its programs, and a pass for each
-    /// port, in order: the parts that [`banks_and_passes`](crate::banks_and_passes)
-    /// makes. `Ports` and then `Banks` where a number is
-    /// outside its limits; `Memory` where memory was refused: a publisher that was made already ends then, which
-    /// may wait. The condition is a program that was accepted for the maps of the configuration.
+    /// A node with locks round banks of zero bytes and round what publishes its programs, and a pass for each port, in order,
+    /// with a seat at the cells and a reader of the programs. In each slot the factory program judges, of generation 0. The
+    /// publisher keeps `rt`. The condition is a program that was accepted for the maps of the configuration.
+    ///
+    /// # Errors
+    ///
+    /// `Ports` and then `Banks` where a number is outside its limits; `Memory` where memory was refused: a publisher that was
+    /// made already ends then, which may wait.
     pub fn new(
         alloc: Global,
         rt: R,
@@ -170,15 +150,15 @@ impl<J: Family, R: Wait + Drop> Node<J, R> {
         let front = history.front();
         let (banks, mut by_port) = Banks::new(alloc, config)?;
         let (banks, chain) = locks_and_chain(alloc, banks, &mut history)?;
-        let (cells, publisher, plain) = cells_and_passes(
+        let (cells, publisher, passes) = cells_and_passes(
             alloc,
             rt,
             chain,
+            &mut history,
             config,
             factory,
             &mut by_port,
         )?;
-        let passes = with_lines(alloc, plain, &mut history)?;
         let publisher = Mutex::new(publisher);
         let node = Node {
             banks,

@@ -3,7 +3,7 @@
 ghost use Rattle.node_parts.specs.Stagings.{IsStagingPlace};
 ghost use Rattle.node_parts.specs.Served.{IsStagedAt};
 
-use crate::pass::{PortLine, PortPass};
+use crate::pass::Pass;
 use bank::Judged;
 use node_parts::answer_staged;
 use publish::Family;
@@ -12,11 +12,7 @@ use rmap::{ReplyBuf, Status};
 /// Answers a judged command to the port's own staging, or to the result of its last load, and leaves the
 /// reply. There is no entry in a journal. The status is that of the reply. The condition is one of these two
 /// places.
-pub fn stage<J: Family, L: PortLine + Drop>(
-    pass: &mut PortPass<J, L>,
-    judged: Judged,
-    reply: &mut ReplyBuf,
-) -> Status
+pub fn stage<J: Family>(pass: &mut Pass<J>, judged: Judged, reply: &mut ReplyBuf) -> Status
     requires { IsStagingPlace judged.place }
     ensures { IsStagedAt pass.old pass.new judged result reply.new }
 {

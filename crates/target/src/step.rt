@@ -4,7 +4,7 @@ ghost use Rattle.std.specs.Prelude.{◌≡◌, IfErr, IfOk, OnErr};
 ghost use Rattle.node_programs.specs.Published.{sizes_of};
 ghost use Rattle.target.specs.Steps.{IsJudgedByTaken, IsStep};
 
-use crate::pass::{PortLine, PortPass};
+use crate::pass::Pass;
 use bank::{Admitted, Judged};
 use cells::CellSeat;
 use node_parts::{RunContext, Stop, admit, judge_by, slot};
@@ -55,11 +55,7 @@ fn judge_taken<J: Family>(
 /// its place on the header of its command. That is the program that some list of publishes has there which begins with
 /// all that the port knew; that it is the last published, and that one is taken at all, is tested. `reply` holds the reply
 /// that is due then, if any.
-pub fn judge<J: Family, L: PortLine + Drop>(
-    pass: &mut PortPass<J, L>,
-    packet: Packet,
-    reply: &mut ReplyBuf,
-) -> Step
+pub fn judge<J: Family>(pass: &mut Pass<J>, packet: Packet, reply: &mut ReplyBuf) -> Step
     ensures step { IsStep result packet pass.old pass.new reply.new }
 {
     let admitted = match admit(packet, pass.context.windows(), reply) {

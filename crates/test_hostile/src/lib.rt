@@ -1,4 +1,4 @@
-//! Tests of hostile input: packets and images that are cut off or changed, and loads that race.
+//! Tests of hostile input: images that are cut off or changed, and loads that race.
 #![tactic(auto)]
 
 #[cfg(test)]

@@ -1,4 +1,5 @@
-//! Tests of jobs of `rmapctl` over files in memory that text cannot say: a writer that fails, and refused memory.
+//! Tests of jobs of `rmapctl` that no text can say: a writer, a link and a talk that fail at each of their moves, when a writer is
+//! flushed, a reply that is lost, the list of codes beside the enums that have them, and `words` and `perform` over files in memory.
 #![tactic(auto)]
 
 #[cfg(test)]

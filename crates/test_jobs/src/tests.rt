@@ -1,13 +1,10 @@
-//! Jobs whose writer fails, jobs to which memory is refused, ports that meet in `serve`, talks in lines and in frames, the
-//! line of a report, codes, and the maps of programs.
+//! Jobs whose writer fails, links and talks that fail, the line of a report, the list of codes, and sessions in memory.
 
 mod checks;
 mod codes;
 mod links;
-mod needs;
-mod printing;
+mod nodes;
 mod reports;
-mod schedules;
-mod serves;
+mod rows;
 mod talks;
 mod writers;

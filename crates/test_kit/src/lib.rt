@@ -1,11 +1,9 @@
-//! What crates of tests share: comparisons, random numbers, the tables of all operations, rows of a table in text and
-//! what stands in them, images of program text, runs of programs, and nodes in one thread. `rmapctl` does not stand
-//! on it.
+//! What crates of tests share: random numbers, rows of a table in text and what stands in them, images of program text,
+//! runs of programs, and nodes in one thread. `rmapctl` does not stand on it.
 #![tactic(auto)]
 
 mod images;
 mod nodes;
-mod operations;
 mod plain_node;
 mod random;
 mod rows;
@@ -14,9 +12,6 @@ mod runs;
 pub use images::image_of_text;
 pub use nodes::{
     BASE, LOAD, PLAIN_READ, PLAIN_REPLY, PLAIN_WRITE, STAGE, SpareBank, bank, packet, program,
-};
-pub use operations::{
-    CONDITIONS, EXTENSIONS, LOAD_SIZES, OPERATIONS, SIZES, SWAP_BITS, SWAPS, WIDTHS,
 };
 pub use plain_node::PlainNode;
 pub use random::Random;

@@ -4,7 +4,6 @@ use crate::images::image_of_text;
 use bank::{Bank, Journal, Judged, Share};
 use bver::{Accepted, MapSizes, verify};
 use node_parts::BankConfig;
-use publish::{Family, Opened, Publisher};
 use rmap::{ReplyBuf, Status};
 use spw::{Packet, read_line};
 use std::alloc::Global;

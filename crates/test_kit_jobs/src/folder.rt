@@ -69,14 +69,6 @@ impl Folder {
             sheets: Vec::new(alloc),
         }
     }
-
-    /// The bytes of the file of this name, or `None` where there is no such file.
-    pub fn content(&self, name: &str) -> Option<&[u8]>
-        ensures { MatchOption result (content_of self.now name.now ≡ None)
-            (λ bytes. content_of self.now name.now ≡ Some bytes.now) }
-    {
-        newest(self.sheets.as_slice(), name).map(|bytes| bytes.as_slice())
-    }
 }
 
 impl Files for Folder {

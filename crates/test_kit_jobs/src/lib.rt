@@ -5,10 +5,8 @@ mod folder;
 mod jobs;
 mod links;
 mod outcomes;
-mod talks;
 
 pub use folder::{Folder, LOCKED};
 pub use jobs::{job_named, perform_in};
 pub use links::{RECEIVED, Wire};
 pub use outcomes::{folder_of, judged, printed};
-pub use talks::{live_in, show_in};

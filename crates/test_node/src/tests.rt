@@ -1,10 +1,8 @@
-//! What no clause says, of banks, of what is judged, and of whole nodes.
+//! What no clause says and no whole job shows, of banks and of nodes that no job has.
 
-mod admissions;
 mod banks;
 mod checks;
-mod full_journals;
 mod journals;
+mod limits;
 mod nodes;
 mod pages;
-mod single_nodes;

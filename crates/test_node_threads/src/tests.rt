@@ -2,4 +2,5 @@
 
 mod checks;
 mod locks;
+mod one_history;
 mod tickets;

@@ -1,17 +1,10 @@
 //! Packets as bytes and as lines, and what a command says.
 
-use rcrc::crc;
 use rmap::{Command, ReplyBuf, Status, Windows, body_fault, header_fault, place, put_reply};
 use spw::{End, read_line, read_part};
 use std::alloc::{AllocError, Global};
 use std::test::Fail;
 use test_kit::{Row, packet, word};
-
-/// The CRC of bytes.
-pub fn crc_of(alloc: Global, given: &str) -> Result<String, Fail> {
-    let bytes = hex::decode(alloc, given)?;
-    Ok(format!(in alloc; "{:02X}", crc(&bytes))?)
-}
 
 /// A port, bytes in hexadecimal digits, and the marker; `-` for none.
 fn printed(alloc: Global, port: u8, bytes: &[u8], end: Option<End>) -> Result<String, Fail> {
@@ -40,14 +33,6 @@ pub fn reading(alloc: Global, given: &str) -> Result<String, Fail> {
         Err(fault) => word(alloc, Some(fault))?,
     };
     Ok(format!(in alloc; "{of_packet}|{of_piece}")?)
-}
-
-/// Why a named packet is discarded, or `-`.
-pub fn discard(alloc: Global, given: &str) -> Result<String, Fail> {
-    let mut row = Row::of(given);
-    let _name = row.part()?;
-    let sent = packet(alloc, row.part()?)?;
-    word(alloc, Command::view(&sent).err())
 }
 
 /// The fault of the header of a named command, and the place of its bytes.

@@ -1,9 +1,8 @@
-//! Packets of two ports on the parts of a node of threads, of which no job is made.
+//! Packets of two ports at a node of threads, which one thread serves in turn: no job does that.
 
 ghost use Rattle.std.specs.Prelude.{◌≡◌};
 
 use node_parts::{Served, Stop};
-use publish::{Family, Opened};
 use spw::read_line;
 use std::alloc::Global;
 use std::fs;
@@ -11,7 +10,9 @@ use std::marker::Brand;
 use std::rt::Files;
 use std::sync::Wait;
 use std::test::Fail;
-use test_kit::{PlainNode, bank, program};
+use target::{Family, Opened};
+use test_kit::{bank, program};
+use test_kit_ports::LockedNode;
 
 /// The line that `judge` prints of what became of a packet, with the reply that was due.
 fn line_of(alloc: Global, port: u8, what: Served, reply: &[u8]) -> Result<String, Fail> {
@@ -25,7 +26,7 @@ fn line_of(alloc: Global, port: u8, what: Served, reply: &[u8]) -> Result<String
     Ok(format!(in alloc; "{port} {digits} EOP\n")?)
 }
 
-/// What comes of the packet lines of a text, by `serve_packet` at a node whose program says yes, as `judge` prints it.
+/// What comes of the packet lines of a text at a node of threads whose program says yes, as `judge` prints it.
 fn served<J: Family, R: Wait>(
     rt: &R,
     alloc: Global,
@@ -36,17 +37,17 @@ fn served<J: Family, R: Wait>(
 {
     let factory = program(alloc, 0)?;
     let one = [bank(1024)];
-    let mut node = PlainNode::<J, _>::new(alloc, rt, opened, 2, &one, factory)?;
+    let mut node = LockedNode::<J, _>::new(rt, alloc, opened, 2, &one, factory)?;
     let mut text = String::new(alloc);
     for line in lines.lines() {
         let (port, packet) = read_line(alloc, line)?;
-        let what = node.serve(port, packet)?;
+        let what = node.serve(rt, port, packet)?;
         text.push_str(&line_of(alloc, port, what, node.reply())?)?;
     }
     Ok(text)
 }
 
-/// What comes of the packet lines of `packets.txt` on the parts of a node of threads, as `judge` prints it of a node of one
+/// What comes of the packet lines of `packets.txt` at a node of threads, as `judge` prints it of a node of one
 /// thread.
 pub fn printed<R: Files + AllocGlobal + Wait>(rt: &R) -> Result<String, Fail> {
     let lines = fs::read_to_string(rt, "packets.txt")?;

@@ -1,7 +1,6 @@
 //! What the verifier answers to programs.
 
 use bver::{Accessed, Code, Op, Refused, verify};
-use bver_form::check;
 use std::alloc::{AllocError, Global};
 use std::test::Fail;
 use test_kit::{Row, image_of_text, sizes};
@@ -10,55 +9,6 @@ use test_kit::{Row, image_of_text, sizes};
 pub fn refusal(alloc: Global, refused: Refused) -> Result<String, AllocError> {
     let (code, slot) = (refused.number(), refused.slot);
     format!(in alloc; "{code} {slot}")
-}
-
-/// `ok`, or the refusal.
-fn answer<T: Drop>(alloc: Global, found: Result<T, Refused>) -> Result<String, AllocError> {
-    match found {
-        Ok(_) => String::from_str(alloc, "ok"),
-        Err(refused) => refusal(alloc, refused),
-    }
-}
-
-/// The answer to the form of a named program with a budget.
-pub fn form(alloc: Global, given: &str) -> Result<String, Fail> {
-    let mut row = Row::of(given);
-    let _name = row.part()?;
-    let program = row.part()?;
-    let image = image_of_text(alloc, program, row.part()?.parse::<u32>()?)?;
-    Ok(answer(alloc, check(&image))?)
-}
-
-/// The answer to a named program with a budget and the sizes of its maps. What is accepted is accepted in version 2 too,
-/// with the same weight.
-pub fn program(alloc: Global, given: &str) -> Result<String, Fail> {
-    let mut row = Row::of(given);
-    let _name = row.part()?;
-    let program = row.part()?;
-    let budget = row.part()?.parse::<u32>()?;
-    let sizes = sizes(alloc, row.part()?)?;
-    let image = image_of_text(alloc, program, budget)?;
-    let weight = image.weight();
-    if let Err(refused) = verify(alloc, image, &sizes) {
-        return Ok(refusal(alloc, refused)?);
-    }
-    let again = image_of_text(alloc, &format!(in alloc; ".version 2; {program}")?, budget)?;
-    if again.weight() != weight {
-        return Ok(String::from_str(alloc, "another weight in version 2")?);
-    }
-    Ok(answer(alloc, verify(alloc, again, &sizes))?)
-}
-
-/// The weight of a named program, and with a budget of that and the sizes of its maps the answer to it.
-pub fn weighed(alloc: Global, given: &str) -> Result<String, Fail> {
-    let mut row = Row::of(given);
-    let _name = row.part()?;
-    let program = row.part()?;
-    let weight = image_of_text(alloc, program, 1)?.weight();
-    let image = image_of_text(alloc, program, u32::try_from(weight)?)?;
-    let sizes = sizes(alloc, row.part()?)?;
-    let answer = answer(alloc, verify(alloc, image, &sizes))?;
-    Ok(format!(in alloc; "{weight}|{answer}")?)
 }
 
 /// The number and the constant that stand in an operation. Of an instruction that is no load of a constant the second is

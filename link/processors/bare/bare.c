@@ -91,27 +91,7 @@ char *fgets(char *line, int size, FILE *file) {
   return at == 0 ? NULL : line;
 }
 
-/* ---- words of C */
-
-void *memcpy(void *to, const void *from, size_t length) {
-  char *t = to;
-  const char *f = from;
-  for (size_t k = 0; k < length; k += 1) t[k] = f[k];
-  return to;
-}
-
-void *memmove(void *to, const void *from, size_t length) {
-  char *t = to;
-  const char *f = from;
-  if (t < f) return memcpy(to, from, length);
-  for (size_t k = length; k > 0; k -= 1) t[k - 1] = f[k - 1];
-  return to;
-}
-
-void *memset(void *to, int byte, size_t length) {
-  for (size_t k = 0; k < length; k += 1) ((char *)to)[k] = (char)byte;
-  return to;
-}
+/* ---- words of C, beside those of link/board/string.c */
 
 int memcmp(const void *a, const void *b, size_t length) {
   const uint8_t *x = a, *y = b;

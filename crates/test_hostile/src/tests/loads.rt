@@ -2,10 +2,10 @@
 
 ghost use Rattle.std.specs.Prelude.{◌≡◌};
 
-use super::remainders::slow_crc;
 use crate::tests::checks::same;
 use bank::Bank;
 use ports::{NoGate, Report};
+use rcrc::crc;
 use std::alloc::Global;
 use std::marker::Brand;
 use std::process::Abort;
@@ -53,7 +53,7 @@ fn sent(alloc: Global) -> Result<Vec<&'static str>, Fail> {
 fn generation(reply: &[u8]) -> Option<u32> {
     let data = reply.strip_prefix(&TOLD)?;
     match data {
-        [0, 0, 0, 0, a, b, c, d, crc] if slow_crc(&[0, 0, 0, 0, *a, *b, *c, *d]) == *crc => {
+        [0, 0, 0, 0, a, b, c, d, sum] if crc(&[0, 0, 0, 0, *a, *b, *c, *d]) == *sum => {
             Some(u32::from_be_bytes([*a, *b, *c, *d]))
         }
         _ => None,

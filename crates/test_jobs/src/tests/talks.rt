@@ -1,9 +1,9 @@
-//! Talks: what is sent, and when.
+//! Talks that fail, and a talk over a writer that notes when it is flushed.
 
 ghost use Rattle.std.specs.Prelude.{⊤};
 
-use super::printing::node_named;
 use crate::tests::checks::{check, same};
+use crate::tests::nodes::node_named;
 use commands::{Cannot, HostTalk, Status, Talk, WriteFault, live};
 use std::alloc::Global;
 use std::io::{self, Write};
@@ -29,6 +29,9 @@ const LINES: [(&str, &str); 7] = [
         "journal 0 0 0 0 0 FE016C0067000100A0000010000002411122A3 EOP\njournal 0 1 0 0 0 FE014C0067000200A00000100000024F EOP\njournal 2 entries\n",
     ),
 ];
+
+/// What is sent where no more lines come.
+const LAST: &str = "journal 0 entries\n";
 
 /// A talk that hands a line out only where what is due for the one before it was sent, and that fails at one move.
 #[derive(Drop)]
@@ -111,20 +114,9 @@ fn held<'a>(
 }
 
 #[test]
-fn each_answer_before_the_next_line(rt: HostRuntime) -> Result<(), Fail> {
-    let (talk, done) = held(rt.alloc(), &LINES, usize::MAX).ok_or("no talk")?;
-    same(&rt, "the status", done, Ok(Status::Failed));
-    same(&rt, "answers", talk.sent.len(), LINES.len());
-    for (answer, (line, due)) in talk.sent.iter().zip(&LINES) {
-        same(&rt, line, answer.as_str(), *due);
-    }
-    Ok(())
-}
-
-#[test]
 fn a_talk_that_fails_at_each_move(rt: HostRuntime) -> Result<(), Fail> {
-    // A line is two moves, and the end of the lines is one.
-    for failing in 0..2 * LINES.len() + 1 {
+    // A line is two moves, and so is the end of the lines.
+    for failing in 0..2 * LINES.len() + 2 {
         let (talk, done) = held(rt.alloc(), &LINES, failing).ok_or("no talk")?;
         let what = format!(in rt.alloc(); "move {failing}")?;
         let answered = failing / 2;
@@ -181,83 +173,13 @@ fn each_answer_is_flushed(rt: HostRuntime) -> Result<(), Fail> {
     let done = live(alloc, &node, &mut folder, &mut talk);
     same(&rt, "the status", done, Ok(Status::Failed));
     let (output, _) = talk.into_output();
-    same(&rt, "flushes", output.held.len(), LINES.len());
+    same(&rt, "flushes", output.held.len(), LINES.len() + 1);
     let mut due: usize = 0;
     for (held, (line, answer)) in output.held.iter().zip(&LINES) {
         due = due.saturating_add(answer.len());
         same(&rt, line, *held, due);
     }
-    Ok(())
-}
-
-/// A write, a bad line, and the journal, each with what is due for it.
-const TALK: [(&str, &str); 3] = [
-    (
-        "0 FE016C0067000100A0000010000002411122A3 EOP",
-        "0 67012C00FE00017C EOP\n",
-    ),
-    ("0 FE01 eop", "line 2 fault 3\n"),
-    (
-        "journal",
-        "journal 0 0 0 0 0 FE016C0067000100A0000010000002411122A3 EOP\njournal 1 entries\n",
-    ),
-];
-
-/// What is due for each of those lines where memory is refused to it, and for the journal where it was refused to the write.
-const REFUSED: [&str; 3] = [
-    "line 1 fault 5\n",
-    "line 2 fault 5\n",
-    "journal 0 entries\n",
-];
-
-/// Whether this may be told last, where memory was refused to the talk.
-fn is_last(text: &str) -> bool {
-    text == "no memory\n"
-        || text == "cannot read -\n"
-        || text == "image fault 8 slot 0\n"
-        || text == "refused V17 slot 0\n"
-}
-
-/// How many of the texts that were sent are answers to the lines in turn.
-fn answered(sent: &[String]) -> usize {
-    let mut count: usize = 0;
-    for (text, ((_, due), refused)) in sent.iter().zip(TALK.iter().zip(&REFUSED)) {
-        let text = text.as_str();
-        if text != *due && text != *refused {
-            return count;
-        }
-        count = count.saturating_add(1);
-    }
-    count
-}
-
-/// Whether a talk of those lines may have come to that, where memory may have been refused: to an answer to each line, or to
-/// the answers to the first ones, and then at most a fault.
-fn is_right(sent: &[String], done: Result<Status, WriteFault>) -> bool {
-    let others = sent.len().saturating_sub(answered(sent));
-    let last = sent.last().map_or("", |last| last.as_str());
-    match (done, others) {
-        (Ok(Status::Failed), 0) => sent.len() == TALK.len(),
-        (Ok(Status::Failed), 1) => is_last(last),
-        (Err(WriteFault), 0) => true,
-        _ => false,
-    }
-}
-
-#[test]
-fn memory_refused_to_a_talk(rt: HostRuntime) -> Result<(), Fail> {
-    if let Some((talk, done)) = held(rt.alloc(), &TALK, usize::MAX) {
-        let last = talk
-            .sent
-            .last()
-            .map_or("nothing was sent", |last| last.as_str());
-        check(&rt, last, is_right(&talk.sent, done));
-    }
-    let (talk, done) = held(rt.alloc(), &TALK, usize::MAX).ok_or("memory is refused again")?;
-    same(&rt, "the status", done, Ok(Status::Failed));
-    same(&rt, "answers", talk.sent.len(), TALK.len());
-    for (answer, (line, due)) in talk.sent.iter().zip(&TALK) {
-        same(&rt, line, answer.as_str(), *due);
-    }
+    let last = due.saturating_add(LAST.len());
+    same(&rt, "the journal at the end", output.written.len(), last);
     Ok(())
 }

@@ -1,4 +1,4 @@
-//! `bank`: outside rows.
+//! `bank`: bytes and limits.
 
 use crate::tests::checks::same;
 use bank::{Applied, Bank, BankFault, Journal, Judged, Share};
@@ -6,16 +6,14 @@ use rmap::{Command, ReplyBuf, Status, Windows, header_fault};
 use spw::Packet;
 use std::alloc::Global;
 use std::test::Fail;
-use test_kit::{BASE, PLAIN_READ, PLAIN_WRITE, packet};
-
-const READ_MODIFY_WRITE: &str = "0 FE015C0067000400A000000000000297 F03CEE EOP";
+use test_kit::{BASE, PLAIN_WRITE, packet};
 
 /// A write of 11 22 to the bank's first address, without increment, as a packet line.
 pub const WRITE_TO_ONE_ADDRESS: &str = "0 FE01680067000800A0000000000002BE 1122A3 EOP";
 
 /// Applies the command of a packet at the share's port with a verdict; `None` where the header stops it
 /// or it does not fit.
-pub fn applied(
+fn applied(
     bank: &mut Bank,
     share: &mut Share,
     packet: Packet,
@@ -36,13 +34,6 @@ pub fn applied(
         return None;
     }
     Some(bank.apply(share, judged, reply))
-}
-
-fn success(number: u64) -> Option<Applied> {
-    Some(Applied {
-        status: Status::Success,
-        number: Some(number),
-    })
 }
 
 /// A bank of that size whose journal has that room, and the shares of so many ports.
@@ -89,78 +80,26 @@ impl Applying {
         let packet = packet(self.alloc, line)?;
         self.apply(packet, verdict)
     }
-
-    /// The reply.
-    pub fn reply(&self) -> &[u8] {
-        self.reply.bytes()
-    }
 }
 
+/// A write changes memory and not what stood there before the journal, and no byte stands before the bank's first.
 #[test]
-fn plain_write_then_read(rt: HostRuntime) -> Result<(), Fail> {
-    let alloc = rt.alloc();
-    let mut applying = Applying::new(alloc, 65_536, 4, 2)?;
-    same(&rt, "how many shares", applying.shares.len(), 2);
+fn bytes_behind_a_write(rt: HostRuntime) -> Result<(), Fail> {
+    let mut applying = Applying::new(rt.alloc(), 65_536, 4, 1)?;
     let done = applying.apply_line(PLAIN_WRITE, 0)?;
-    same(&rt, "the write", done, success(0));
-    let wanted = [0x67, 0x01, 0x2C, 0x00, 0xFE, 0x00, 0x00, 0xED].as_slice();
-    same(&rt, "its reply", applying.reply(), wanted);
+    let wanted = Applied {
+        status: Status::Success,
+        number: Some(0),
+    };
+    same(&rt, "the write", done, Some(wanted));
     let bank = &applying.bank;
-    let second = (bank.memory(BASE + 1), bank.base(BASE + 1));
-    same(&rt, "the second byte", second, (Some(0x23), Some(0)));
-    same(&rt, "the byte before", bank.memory(BASE - 1), None);
-    let done = applying.apply_line(PLAIN_READ, 0)?;
-    same(&rt, "the read", done, success(1));
-    let ends = (applying.reply().len(), applying.reply().last());
-    same(&rt, "its reply", ends, (29, Some(&0x56)));
-    same(&rt, "how many entries", applying.bank.entries().len(), 2);
-    Ok(())
-}
-
-#[test]
-fn read_modify_write_and_one_address(rt: HostRuntime) -> Result<(), Fail> {
-    let alloc = rt.alloc();
-    let mut applying = Applying::new(alloc, 65_536, 4, 1)?;
-    same(&rt, "how many shares", applying.shares.len(), 1);
-    for (number, line, first) in [
-        (0, PLAIN_WRITE, 0x01),
-        (1, READ_MODIFY_WRITE, 0x31),
-        (2, WRITE_TO_ONE_ADDRESS, 0x22),
-    ] {
-        let done = applying.apply_line(line, 0)?;
-        same(
-            &rt,
-            line,
-            (done, applying.bank.memory(BASE)),
-            (success(number), Some(first)),
-        );
-    }
-    same(
-        &rt,
-        "the second byte",
-        applying.bank.memory(BASE + 1),
-        Some(0x23),
+    let second = BASE + 1;
+    let found = (
+        bank.memory(second),
+        bank.base(second),
+        bank.memory(BASE - 1),
     );
-    Ok(())
-}
-
-#[test]
-fn refused_commands_leave_memory_and_an_entry(rt: HostRuntime) -> Result<(), Fail> {
-    let alloc = rt.alloc();
-    let mut applying = Applying::new(alloc, 65_536, 2, 1)?;
-    same(&rt, "how many shares", applying.shares.len(), 1);
-    for (verdict, status, number) in [
-        (3, Status::InvalidKey, Some(0)),
-        (10, Status::NotAuthorised, Some(1)),
-        (12, Status::InvalidLogicalAddress, None),
-        (0, Status::GeneralError, None),
-    ] {
-        let done = applying.apply_line(PLAIN_WRITE, verdict)?;
-        let wanted = Some(Applied { status, number });
-        let found = (verdict, done, applying.bank.memory(BASE));
-        same(&rt, "a verdict", found, (verdict, wanted, Some(0)));
-    }
-    same(&rt, "how many entries", applying.bank.entries().len(), 2);
+    same(&rt, "bytes", found, (Some(0x23), Some(0), None));
     Ok(())
 }
 

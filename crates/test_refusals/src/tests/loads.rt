@@ -6,17 +6,15 @@ use super::checks::{check, same};
 use super::marks::{begin, end, tell};
 use brun::Counters;
 use node_parts::Served;
-use publish::{Family, Opened};
-use rmap::{ReplyBuf, Status};
+use rmap::Status;
 use std::alloc::Global;
 use std::marker::Brand;
 use std::process::Abort;
 use std::sync::Wait;
 use std::test::Fail;
-use test_kit::{
-    LOAD, PLAIN_READ, PLAIN_WRITE, PlainNode, STAGE, SpareBank, bank, image_of_text, packet,
-};
-use test_kit_ports::accepted;
+use target::{Family, Opened};
+use test_kit::{LOAD, PLAIN_READ, PLAIN_WRITE, STAGE, bank, image_of_text, packet};
+use test_kit_ports::{LockedNode, accepted};
 
 /// Draws a ticket and says yes.
 const DRAW: &str = "ldmap r1, 0; mov r2, 0; call 2; mov r0, 0; exit";
@@ -43,12 +41,11 @@ struct Parts {
     programs: Vec<(u32, u64)>,
 }
 
-/// A node of one port, and a spare bank, where commands end that are judged and not carried out.
+/// A node of one port.
 #[derive(Drop)]
 struct Loading<J: Family, R: Wait + Drop> {
     alloc: Global,
-    node: PlainNode<J, R>,
-    spare: SpareBank,
+    node: LockedNode<J, R>,
 }
 
 impl<J: Family, R: Wait + Drop> Loading<J, R> {
@@ -60,27 +57,17 @@ impl<J: Family, R: Wait + Drop> Loading<J, R> {
         let one = [bank(16)];
         Ok(Loading {
             alloc,
-            node: PlainNode::new(alloc, rt, opened, 1, &one, factory)?,
-            spare: SpareBank::new(alloc)?,
+            node: LockedNode::new(rt, alloc, opened, 1, &one, factory)?,
         })
     }
 
-    /// The generation and the verdict of the program that judges the packet of a line.
-    fn judged_by(&mut self, line: &str) -> Result<(u32, u64), Fail> {
-        let judged = self.node.judge_line(0, line)?;
-        let found = (judged.generation(), judged.verdict());
-        let mut reply = ReplyBuf::new();
-        self.spare.end(judged, &mut reply);
-        Ok(found)
-    }
-
     /// What is told of the node and its port. The program in the slot of writes draws a ticket.
-    fn parts(&mut self) -> Result<Parts, Fail> {
+    fn parts(&mut self, rt: &impl Wait) -> Result<Parts, Fail> {
         let mut programs = Vec::new(self.alloc);
         for line in [PLAIN_READ, PLAIN_WRITE, MODIFY, RESULT] {
-            programs.push(self.judged_by(line)?)?;
+            programs.push(self.node.judged_by(0, line)?)?;
         }
-        let bank = self.node.bank(0)?;
+        let bank = self.node.bank(0)?.lock(rt);
         let page = bank.pages().first().ok_or("no page")?;
         let staging = self.node.staging(0)?;
         Ok(Parts {
@@ -92,10 +79,10 @@ impl<J: Family, R: Wait + Drop> Loading<J, R> {
     }
 
     /// Loads what is staged: the status, and the load result. Of this all requests are counted.
-    fn load(&mut self) -> Result<(Served, [u8; 8]), Fail> {
+    fn load(&mut self, rt: &impl Wait) -> Result<(Served, [u8; 8]), Fail> {
         let packet = packet(self.alloc, LOAD)?;
         begin(self.alloc)?;
-        let came = self.node.serve(0, packet)?;
+        let came = self.node.serve(rt, 0, packet)?;
         end(self.alloc)?;
         Ok((came, self.node.staging(0)?.load_result()))
     }
@@ -156,21 +143,21 @@ fn load_behind<J: Family, R: Wait + Abort + Print>(
     requires { opened ≡ J.book }
 {
     let mut loading = Loading::<J, _>::new(rt, alloc, opened)?;
-    loading.node.install(1, image_of_text(alloc, DRAW, 6)?)?;
+    loading.node.install(rt, 1, image_of_text(alloc, DRAW, 6)?)?;
     for line in [PLAIN_WRITE, STAGE] {
-        loading.node.serve_line(0, line)?;
+        loading.node.serve_line(rt, 0, line)?;
     }
-    let before = loading.parts()?;
-    let mut load = loading.load()?;
+    let before = loading.parts(rt)?;
+    let mut load = loading.load(rt)?;
     let mut draws = 2;
     if load != published(2) {
-        let after = loading.parts()?;
+        let after = loading.parts(rt)?;
         compare_refused(rt, load, &before, &after)?;
         draws = 3;
-        load = loading.load()?;
+        load = loading.load(rt)?;
     }
     same(rt, "the load", load, published(2));
-    let judged = loading.judged_by(PLAIN_WRITE)?;
+    let judged = loading.node.judged_by(0, PLAIN_WRITE)?;
     same(rt, "the program that was loaded", judged, (2, 0));
     same(rt, "the tickets", loading.tickets()?, draws);
     Ok(())

@@ -7,16 +7,15 @@ ghost use Rattle.test_kit_ports.specs.Desks.{ArePutPasses};
 use super::checks::same;
 use super::marks::{begin, end, tell};
 use ports::{NoGate, Port, PutPass, Replies, Report, ServeFault, Worker, serve};
-use publish::{Family, Opened};
 use std::alloc::Global;
 use std::marker::Brand;
 use std::process::Abort;
 use std::sync::Wait;
 use std::test::Fail;
 use std::thread::Threads;
-use target::Node;
-use test_kit::{PLAIN_READ, PLAIN_WRITE, PlainNode, bank, packet, program};
-use test_kit_ports::{filled_desks, shared_node, text_of};
+use target::{Family, Node, Opened};
+use test_kit::{PLAIN_READ, PLAIN_WRITE, bank, packet, program};
+use test_kit_ports::{LockedNode, filled_desks, shared_node, text_of};
 
 /// Whether the port's queue is full.
 fn is_full(rt: &impl Wait, port: &Port, pass: &mut PutPass) -> bool
@@ -93,7 +92,7 @@ fn compare<J: Family>(
 fn two_served<J: Family + Send + Sync + 'static, R: Threads + Wait + Abort + Print + Sync>(
     rt: &R,
     alloc: Global,
-    opened: target::Opened,
+    opened: Opened,
 ) -> Result<(), Fail>
     requires { opened ≡ J.book }
 {
@@ -123,7 +122,7 @@ fn two_served<J: Family + Send + Sync + 'static, R: Threads + Wait + Abort + Pri
 /// Two ports are served, or memory was refused to `serve`, and then they are served as far as their workers came back.
 #[test]
 fn memory_refused_to_serve(rt: HostRuntime) -> Result<(), Fail> {
-    two_served::<Brand, _>(&rt, rt.alloc(), target::Opened::new())
+    two_served::<Brand, _>(&rt, rt.alloc(), Opened::new())
 }
 
 /// A read-modify-write of length 3, and one of a byte, as packet lines.
@@ -169,14 +168,14 @@ fn four_served<J: Family, R: Wait + Abort>(
 {
     let factory = program(alloc, 0)?;
     let one = [bank(1024)];
-    let mut node = PlainNode::<J, _>::new(alloc, rt, opened, 1, &one, factory)?;
+    let mut node = LockedNode::<J, _>::new(rt, alloc, opened, 1, &one, factory)?;
     let mut packets = Vec::new(alloc);
     for (line, _wanted) in EXCHANGES {
         packets.push(packet(alloc, line)?)?;
     }
     begin(alloc)?;
     for (packet, (line, wanted)) in packets.into_iter().zip(EXCHANGES) {
-        node.serve(0, packet)?;
+        node.serve(rt, 0, packet)?;
         same(rt, line, node.reply(), wanted);
     }
     end(alloc)?;

@@ -1,3 +1,4 @@
+use Rattle.std.proofs.Common.{arith}
 use Rattle.charts.specs.Alike.{DifferWithinLimits}
 use Rattle.charts.specs.Points.{AreAlike, IsDifference}
 use Rattle.charts.specs.Same.{AreSame}
@@ -14,4 +15,4 @@ returns c =
     let old = c.args.old.now in
     let new = c.args.new.now in
     turned_of c.search.result (HoldsAll (AreAlike old new)) (AreSame old new) (IsFound (DifferWithinLimits old new)) (IsDifference old new) (whole old new)
-    (λ p found. record { command = found.command; differ = found.answer c.requires.old_limits c.requires.new_limits }) c.search.ensures
+    (λ p found. record { command = found.command; differ = found.answer (record { limits = c.requires.old_limits; few = omega arith }) (record { limits = c.requires.new_limits; few = omega arith }) }) c.search.ensures

@@ -1,4 +1,4 @@
-use Rattle.std.proofs.Common.{Bool, subst}
+use Rattle.std.proofs.Common.{Bool, arith, subst}
 use Rattle.std.specs.Prelude.{MatchBool}
 use Rattle.charts.specs.Deciders.{DecidesWithinLimits, Matches, NeverMatches}
 use Rattle.regions.specs.Questions.{IsFound}
@@ -14,4 +14,4 @@ returns c =
     let place = c.args.place in
     subst (λ (t : Bool). MatchBool t (NeverMatches rules place) (Matches rules place)) (turned_twice _ _ c.is_none.ensures)
     (none_by c.search.result (NeverMatches rules place) (Matches rules place) (IsFound (DecidesWithinLimits rules place)) c.search.ensures
-    (λ p found. record { point = p; found = record { command = found.command; answer = found.answer c.requires.limits } }))
+    (λ p found. record { point = p; found = record { command = found.command; answer = found.answer (record { limits = c.requires.limits; few = omega arith }) } }))

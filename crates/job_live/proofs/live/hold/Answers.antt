@@ -9,4 +9,4 @@ loop-number-preserved g c =
 pub returns-in_err-is_bad-clause-stops : goal.returns-in_err-is_bad-clause-stops
 returns-in_err-is_bad-clause-stops g c =
     let gone = err_from_is_err_and c.from_residual.result c.from_residual.ensures.1 in
-    rw (gone.1, gone.2) (breaks_off _ _ _ _ _ _ _ _ _ _ _ _ c.loop-number.invariant c.in_err-is_bad.ensures.stops)
+    rw (gone.1, gone.2) (breaks_off _ _ _ _ _ _ _ _ _ _ _ _ _ c.loop-number.invariant c.in_err-is_bad.ensures.stops)

@@ -22,8 +22,8 @@ sinks_of-requires g c =
     subst (λ (ps : List Port). AreOfPorts ps (vec_items c.in_ok-made.made.put_passes) (vec_items c.serve-workers.result.0)) (sym c.deref-2.ensures.value)
     (desk_left c.in_ok-made.ensures.fresh here)
 
-pub returns-clause-served : goal.returns-clause-served
-returns-clause-served g c =
+pub returns : goal.returns
+returns g c =
     let told : HaveServed sent failed c.in_ok-made.made.node c.deref.result.now (vec_items c.in_ok-made.made.workers) (vec_items c.serve-workers.result.0) c.in-Ok.report
     = subst (λ r. IfOk r (λ (total : Report). HaveServed sent failed c.in_ok-made.made.node c.deref.result.now (vec_items c.in_ok-made.made.workers) (vec_items c.serve-workers.result.0) total)) c.in-Ok.is c.serve-workers.ensures.served in
     let here = subst (λ (ps : List Port). HaveServed sent failed c.in_ok-made.made.node ps (vec_items c.in_ok-made.made.workers) (vec_items c.serve-workers.result.0) c.in-Ok.report) c.deref.ensures.value told in

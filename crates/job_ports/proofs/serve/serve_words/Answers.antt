@@ -1,4 +1,4 @@
-use Rattle.std.proofs.Common.{◌≡◌, ◌<◌, ap, arith, length, subst, rules}
+use Rattle.std.proofs.Common.{◌≡◌, ◌<◌, ap, arith, length, refl, subst, rules}
 use Rattle.std.specs.Prelude.{string_bytes}
 use Rattle.std.proofs.lemmas.List.{length-map}
 use Rattle.std.proofs.lemmas.Result.{err_from_is_err_and}
@@ -20,7 +20,7 @@ returns-clause-served g c =
     let same : c.as_str.result.now ≡ string_bytes c.in_ok-text.text = search rules in
     let all : ArriveAll (lines_of (string_bytes c.in_ok-text.text)) c.args.args.now.node.ports c.in_ok-arrivals.arrivals
     = subst (λ t. ArriveAll (lines_of t) c.args.args.now.node.ports c.in_ok-arrivals.arrivals) same c.in_ok-arrivals.ensures.arrive in
-    let each = c.in_ok-served.ensures.served in record {
+    let each = c.in_ok-served.ensures in record {
       text = string_bytes c.in_ok-text.text;
       program = c.in_ok-text.program;
       packets = all.packets;
@@ -35,13 +35,13 @@ returns-clause-served g c =
 pub returns-clause-few : goal.returns-clause-few
 returns-clause-few g c =
     let small : c.args.args.now.node.ports < 256 = search rules in
-    let each = c.in_ok-served.ensures.served in
+    let each = c.in_ok-served.ensures in
     omega (arith, small, each.count, ap (λ l. length l) each.sinks_are, length-map each.ends (λ (end : PortEnd). end.sink))
 
 pub returns-in_err-served-clause-refused : goal.returns-in_err-served-clause-refused
 returns-in_err-served-clause-refused g c =
     let gone = err_from_is_err_and c.from_residual-in_err-served.result c.from_residual-in_err-served.ensures.1 in
-    rw (gone.1, gone.2) (no_memory _ _ _ _ _ _ c.in_ok-text.ensures.given _ c.in_err-served.ensures.refused)
+    rw (gone.1, gone.2) (no_memory _ _ _ _ _ _ c.in_ok-text.ensures.given _ refl)
 
 pub returns-in_err-arrivals-clause-refused : goal.returns-in_err-arrivals-clause-refused
 returns-in_err-arrivals-clause-refused g c =

@@ -1,5 +1,5 @@
-use Rattle.std.specs.Prelude.{IfOk, option_map}
-use Rattle.std.proofs.Common.{◌≡◌, ◌≤◌, List, length, Option, Some, None, Result, Ok, Err, refl, sym, ap, ◌∙◌, subst, arith, le_of_eq}
+use Rattle.std.specs.Prelude.{option_map}
+use Rattle.std.proofs.Common.{◌≡◌, ◌≤◌, List, length, Option, Some, None, refl, sym, ap, ◌∙◌, subst, arith, le_of_eq}
 use Rattle.bpf.specs.Program.{IsProgram, Program}
 use Rattle.bpf.specs.Weight.{weight_of}
 use Rattle.bpf_insn.specs.declared.insn.Insn.{Insn}
@@ -30,20 +30,18 @@ compiled sizes rules none meaning = record {
   cells = cells sizes rules none;
 }
 
-made : (sizes : Maps) (rules : List Rule) (insns : List Insn) (r : Result Program PolicyFault) → IfOk r (IsMadeOf insns) → insns ≡ table_code rules
-    → IsCompiled sizes rules (own_program rules) → IfOk r (IsCompiled sizes rules)
-made sizes rules insns (Ok image) is same all =
+made : (sizes : Maps) (rules : List Rule) (insns : List Insn) (image : Program) → IsMadeOf insns image → insns ≡ table_code rules
+    → IsCompiled sizes rules (own_program rules) → IsCompiled sizes rules image
+made sizes rules insns image is same all =
     let whole : image ≡ own_program rules = is.whole ∙ ap (λ (xs : List Insn). straight_program (length xs) xs) same in
     subst (λ (p : Program). IsCompiled sizes rules p) (sym whole) all
-made sizes rules insns (Err fault) is same all = is
 
 -- and justified, within the limits of the format
-made_justified : (sizes : Maps) (rules : List Rule) (insns : List Insn) (r : Result Program PolicyFault) → IfOk r (IsMadeOf insns) → IfOk r IsProgram → insns ≡ table_code rules
-    → (IsProgram (own_program rules) → IsJustified (own_program rules) sizes) → IfOk r (λ image. IsJustified image sizes)
-made_justified sizes rules insns (Ok image) is limits same all =
+made_justified : (sizes : Maps) (rules : List Rule) (insns : List Insn) (image : Program) → IsMadeOf insns image → IsProgram image → insns ≡ table_code rules
+    → (IsProgram (own_program rules) → IsJustified (own_program rules) sizes) → IsJustified image sizes
+made_justified sizes rules insns image is limits same all =
     let whole : image ≡ own_program rules = is.whole ∙ ap (λ (xs : List Insn). straight_program (length xs) xs) same in
     subst (λ (p : Program). IsJustified p sizes) (sym whole) (all (subst (λ (p : Program). IsProgram p) whole limits))
-made_justified sizes rules insns (Err fault) is limits same all = tt
 
 -- the fault is the first without its place, and there is none where that is none
 told_fault : (found : Option TableFault) (placed : TableFault) (fault : PolicyFault) (first : Option PolicyFault) → option_map policy_fault_of found ≡ first → found ≡ Some placed → fault ≡ policy_fault_of placed
@@ -76,12 +74,12 @@ returns-clause-compiled c =
     let rules : List Rule = c.args.table.now in
     let none : compile_fault c.args.sizes.now rules ≡ None = no_fault _ _ c.fault_for.ensures.fault c.in_default.is in
     let meaning = c.code_has_meaning.ensures rules (length (table_code rules)) c.rules-rules.ensures.fit in
-    made c.args.sizes.now rules _ c.image_of.result c.image_of.ensures.image (cc c.in_ok-insns.ensures) (compiled c.args.sizes.now rules none meaning)
+    made c.args.sizes.now rules _ c.in_ok-image.image c.in_ok-image.ensures.image (cc c.in_ok-insns.ensures) (compiled c.args.sizes.now rules none meaning)
 
 pub returns-clause-justified : goal.returns-clause-justified
 returns-clause-justified c =
     let rules : List Rule = c.args.table.now in
     let none : compile_fault c.args.sizes.now rules ≡ None = no_fault _ _ c.fault_for.ensures.fault c.in_default.is in
     let light : weight_of (own_program rules) ≤ length (table_code rules) = le_of_eq (weighs (table_code rules) (length (table_code rules))) in
-    made_justified c.args.sizes.now rules _ c.image_of.result c.image_of.ensures.image c.image_of.ensures.limits (cc c.in_ok-insns.ensures)
+    made_justified c.args.sizes.now rules _ c.in_ok-image.image c.in_ok-image.ensures.image c.in_ok-image.ensures.limits (cc c.in_ok-insns.ensures)
     (λ limits. c.code_is_justified.ensures c.args.sizes.now rules (length (table_code rules)) c.rules-rules.ensures.fit none limits light)

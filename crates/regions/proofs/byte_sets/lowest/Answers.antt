@@ -7,4 +7,4 @@ use Rattle.regions.proofs.byte_sets.lowest.Goals as goal
 pub returns : goal.returns
 returns c =
     let lowest = bit_at-trailing_zeros w128 c.args.half (omega arith) (omega arith) in
-    (lowest.0, ap (λ x. x == 1) lowest.1)
+    record { inside = lowest.0; set = ap (λ x. x == 1) lowest.1; below = λ j lt. ap (λ x. x == 1) (lowest.2 j lt) }

@@ -1,15 +1,25 @@
-use Rattle.std.proofs.Common.{◌≡◌, ◌≢◌, ℕ, ◌+◌, ◌-◌, ◌<◌, ◌≤◌, ◌∷◌, ◌++◌, ap, [], List, get_or, length, set, sym, ◌∙◌, arith, rules}
+use Rattle.std.proofs.Common.{◌≡◌, ◌≢◌, ℕ, ◌+◌, ◌-◌, ◌<◌, ◌≤◌, ◌∷◌, ◌++◌, ap, [], List, get_or, length, set, subst, sym, ◌∙◌, arith, rules}
 use Rattle.std.proofs.lemmas.List.FromFn.{map-range_with_len_more}
 use Rattle.std.specs.Prelude.{replicate}
 use Rattle.std.proofs.lemmas.List.{length-replicate, length-map, get_or_read, get_or-set_other, replicate_more}
 use Rattle.cells.specs.Seats.{CellSeatValue}
 use Rattle.node_programs.specs.Published.{sizes_of}
 use Rattle.publish.specs.Reached.{Known}
+use Rattle.annals.specs.Chains.{LineValue}
+use Rattle.target.specs.Lines.{IsLineOf}
 use Rattle.target.proofs.Askings.{same_before, same_last}
+use Rattle.target.proofs.Lining.{new_line}
 use Rattle.bank.specs.Records.{ShareValue, first_share}
 use Rattle.node_parts.specs.Passes.{RunContextValue}
 use Rattle.node_parts.specs.Nodes.{range_of, first_pass}
 use Rattle.target.proofs.parts.passes.Goals as goal
+
+-- the line of a port beside its shares, of which nothing was asked
+line_of_new : (port number n : ℕ) (shares : List ShareValue) (line : LineValue) → number ≡ port → shares ≡ replicate n (first_share port) → line ≡ record { port = port; asked = [] } → IsLineOf number shares line
+line_of_new port number n shares line same all is =
+    let long : length shares ≡ n = ap (λ (ss : List ShareValue). length ss) all ∙ length-replicate n (first_share port) in
+    let first : shares ≡ replicate (length shares) (first_share port) = all ∙ ap (λ (m : ℕ). replicate m (first_share port)) (sym long) in
+    subst (λ (m : ℕ). IsLineOf m shares line) (sym same) (subst (λ (l : LineValue). IsLineOf port shares l) (sym is) (new_line port shares first))
 
 -- the shares that are taken are those of the port
 taken : (by_port : List (List ShareValue)) (n ports port from : ℕ) (shares own : List ShareValue) → length by_port ≡ ports → port < ports → from ≡ port → shares ≡ own → own ≡ get_or by_port from own → ((k : ℕ) → port ≤ k → k < ports → get_or by_port k [] ≡ replicate n (first_share k)) → shares ≡ replicate n (first_share port)
@@ -43,11 +53,11 @@ invariant_of-pass g c =
     let seat = last_of ports port _ c.in-Some-Some.seat c.loop-port.seats.items _ c.loop-port-test.true first.seats_are c.in-Some-Some.ensures.items in
     let reader = last_of ports port _ c.in-Some-Some.reader c.loop-port.readers.items _ c.loop-port-test.true first.readers_are c.in-Some-Some.ensures'.items in (
       record {
-        sizes = ap (λ (b : RunContextValue). b.seat.sizes) c.new.ensures ∙ ap (λ (s : CellSeatValue). s.sizes) seat.1 ∙ sym (ap (λ (r : Known). sizes_of r.programs) reader.1);
-        port = rw (c.new.ensures) (omega (arith, c.requires.ports, c.loop-port-test.true));
-        shares = rw (shares, c.new.ensures, c.windows.ensures, length-map banks range_of) (length-replicate (length banks) (first_share port));
+        sizes = ap (λ (b : RunContextValue). b.seat.sizes) c.new-in-loop-port.ensures ∙ ap (λ (s : CellSeatValue). s.sizes) seat.1 ∙ sym (ap (λ (r : Known). sizes_of r.programs) reader.1);
+        port = rw (c.new-in-loop-port.ensures) (omega (arith, c.requires.ports, c.loop-port-test.true));
+        shares = rw (shares, c.new-in-loop-port.ensures, c.windows.ensures, length-map banks range_of) (length-replicate (length banks) (first_share port));
       },
-      tt,
+      line_of_new port _ (length banks) _ _ (ap (λ (b : RunContextValue). b.port) c.new-in-loop-port.ensures) shares c.in-Some.ensures.line,
     )
 
 pub loop-port-preserved : goal.loop-port-preserved
@@ -68,6 +78,8 @@ loop-port-preserved g c =
           let seat = last_of ports port _ c.in-Some-Some.seat c.loop-port.seats.items _ c.loop-port-test.true (first factory home begins).seats_are c.in-Some-Some.ensures.items in
           let reader = last_of ports port _ c.in-Some-Some.reader c.loop-port.readers.items _ c.loop-port-test.true (first factory home begins).readers_are c.in-Some-Some.ensures'.items in
           let more = map-range_with_len_more (first_pass c.args.config.now.address banks factory home) 0 port port (omega arith) in
-          c.in_ok-push.ensures.items ∙ rw (c.loop-port.invariant.passes factory home begins, c.new.ensures, seat.1, c.windows.ensures, reader.1, shares, c.in_ok-new.ensures) (sym more);
+          c.in_ok-push.ensures.items ∙ rw (c.loop-port.invariant.passes factory home begins, c.new-in-loop-port.ensures, seat.1, c.windows.ensures, reader.1, shares, c.in_ok-new.ensures) (sym more);
       rest = later c.loop-port.by_port.items (length banks) ports port c.from.result _ c.from.ensures c.loop-port.invariant.rest;
+      family = search rules;
+      chains = search rules;
     }

@@ -1,4 +1,4 @@
-use Rattle.std.proofs.Common.{◌≡◌, ◌<◌, ◌≤◌, ◌-◌, ℕ, [], length, get_or}
+use Rattle.std.proofs.Common.{◌≡◌, ◌<◌, ◌≤◌, ◌+◌, ◌-◌, ℕ, [], length, get_or}
 use Rattle.std.specs.Prelude.{map, replicate}
 use Rattle.std.specs.List.{range_with_len}
 use Rattle.bver.specs.Justified.{AcceptedValue}
@@ -14,4 +14,6 @@ invariant-loop-port g l = record {
   parts : (factory : AcceptedValue) (home : Gv) → AreFirst factory home l.config.ports l.initial.seats.items l.initial.readers.items → AreFirst factory home (l.config.ports - l.port) l.seats.items l.readers.items;
   passes : (factory : AcceptedValue) (home : Gv) → AreFirst factory home l.config.ports l.initial.seats.items l.initial.readers.items → l.passes.items ≡ map (first_pass l.config.address l.config.banks.now factory home) (range_with_len 0 l.port);
   rest : (k : ℕ) → l.port ≤ k → k < l.config.ports → get_or l.by_port.items k [] ≡ replicate (length l.config.banks.now) (first_share k);
+  family : l.history.0 ≡ g.J.Family.book;
+  chains : l.port + l.history.1 ≡ 32;
 }

@@ -29,8 +29,8 @@ own_passes : (ports : ℕ) (sizes : Maps) (config : NodeConfig) (program : Accep
     → nodes.first_passes config program gnil ≡ first_passes ports program gnil
 own_passes ports sizes config program is = rw (is.address, is.banks, is.ports_are) refl
 
-pub returns-clause-made : goal.returns-clause-made
-returns-clause-made c =
+pub returns : goal.returns
+returns c =
     let own = c.node_config-config.ensures in
     let fresh = c.in-Ok.ensures.fresh in
     same_node _ _ _ _ _ _ _ _ _ _ _ _ (ap (λ (n : SingleNodeValue). n.banks) fresh ∙ own_banks _ _ _ own)

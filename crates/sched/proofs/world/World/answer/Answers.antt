@@ -2,7 +2,8 @@ use Rattle.std.proofs.Common.{◌≡◌, sym, subst, ◌∙◌}
 use Rattle.std.specs.Prelude.{slice_set}
 use Rattle.sched.specs.Answers.{answering}
 use Rattle.sched.specs.Looking.{argument_asked}
-use Rattle.sched.specs.Worlds.{GoesOn, IsWorld, turn_in, word_at}
+use Rattle.sched.specs.Worlds.{GoesOn, IsWorld, turn_in}
+use Rattle.plain_cells.specs.Words.{word_at}
 use Rattle.sched.specs.declared.event.Outcome.TheVariants.{Told}
 use Rattle.sched.specs.contracts.world.World.{the_view}
 use Rattle.sched.proofs.Events.{IsAnswered, IsAsked, IsToldAt, asked_there, helper_none, helper_told, read_again, read_at, written_world}

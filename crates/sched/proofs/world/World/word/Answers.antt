@@ -1,6 +1,7 @@
 use Rattle.std.proofs.Common.{◌≡◌, Some, sym, subst, ◌∙◌}
 use Rattle.machine.specs.Sizes.{IsInside}
-use Rattle.sched.specs.Worlds.{WorldValue, word_at}
+use Rattle.sched.specs.Worlds.{WorldValue}
+use Rattle.plain_cells.specs.Words.{word_at}
 use Rattle.sched.specs.contracts.world.World.{the_view}
 use Rattle.sched.proofs.Keeping.{word_inside}
 use Rattle.sched.proofs.world.World.word.Goals as goal

@@ -1,0 +1,42 @@
+-- How the lines of a chart are read in their order, and what a line is of which some command has a point.
+use Rattle.std.specs.Prelude.{◌≡◌, ◌<◌, ◌^◌, ℕ, Bool, false, true, if◌then◌else◌, List, [], ◌∷◌, Option, Some, None, get_or, length, min, take}
+use Rattle.policy_table.specs.declared.rules.Rule.{Rule}
+use Rattle.regions.specs.Points.{HasCommand}
+use Rattle.regions.specs.Regions.{lies_in}
+use Rattle.regions.specs.declared.points.Point.{Point}
+use Rattle.regions.specs.declared.stretches.Stretch.{Stretch}
+use Rattle.charts.specs.Lines.{IsChart, course, has_point, is_told, lines_of}
+use Rattle.charts.specs.declared.lines.Line.{Line}
+
+-- the first line in whose region a point lies, whatever has the rest
+abbrev pub first_with : List Line → Point → Option Line
+first_with [] p = None
+first_with (line ∷ lines) p = if lies_in line.region p then Some line else first_with lines p
+
+-- some address of 32 bits lies on the stretch: it starts before it ends, and at an address
+abbrev pub HasAddress : Stretch → Type 0
+HasAddress stretch = stretch.start < min stretch.end (2 ^ 32)
+
+-- the line has the point, which lies in no other line, and addresses of 32 bits lie on both of its stretches; so one reads it as
+-- it stands
+pub record IsPlain (lines : List Line) (line : Line) (p : Point) : Type 0 where
+  pub first : HasAddress line.region.first
+  pub last : HasAddress line.region.last
+  pub alone : lines_of [] lines p ≡ line ∷ []
+
+-- the lines of a chart are read in their order: of a point that is told, the first line whose words have it is the line in which
+-- it lies, with the courses of the tables there, and the words of none have a point that is not told
+pub record ChartsAreRead : Type 0 where
+  pub told : (all : Bool) (old new : List Rule) (lines : List Line) → IsChart all old new lines → (p : Point) → HasCommand p
+      → is_told all old new p ≡ true
+      → (line : Line) × (first_with lines p ≡ Some line) × (course old p ≡ course old line.point)
+      × (course new p ≡ course new line.point)
+  pub untold : (all : Bool) (old new : List Rule) (lines : List Line) → IsChart all old new lines → (p : Point) → HasCommand p
+      → is_told all old new p ≡ false → first_with lines p ≡ None
+
+-- the line of a place of a chart is plain, where it has a point of a command
+abbrev pub LinesArePlain : Type 0
+LinesArePlain =
+    (all : Bool) (old new : List Rule) (lines : List Line) → IsChart all old new lines → (place : ℕ) (line : Line)
+    → place < length lines → ((d : Line) → get_or lines place d ≡ line) → (p : Point) → HasCommand p → has_point (take place lines) line p ≡ true
+    → IsPlain lines line p

@@ -1,0 +1,81 @@
+//! What the words of a command line ask for: a work, or a text.
+
+ghost use Rattle.std.specs.Prelude.{IfOk};
+ghost use Rattle.clap.specs.Walk.{texts};
+ghost use Rattle.commands.specs.CommandLine.{AsksFor};
+
+use crate::slips::help;
+use crate::usage::{command_line, words};
+use crate::work::Work;
+use clap::error::ErrorKind;
+use job_parts::usage::UsageFault;
+use std::alloc::{AllocError, Global};
+
+/// What the program does where its command line has no word: it judges standard input.
+pub const WITHOUT_WORDS: [&str; 2] = ["judge", "-"];
+
+/// What is told before standard input is judged, where it is a terminal.
+const JUDGE_WAITS: &str = "judge -: reads packet lines; rmapctl --help has the words";
+
+/// What is told before a talk in lines is held, where standard input is a terminal.
+const LIVE_WAITS: &str =
+    "live: reads packet lines, journal, cells and set ADDRESS..; rmapctl help live has more";
+
+/// What the words of a command line ask for.
+#[derive(Debug, Drop)]
+pub enum Asked {
+    /// A work, which is to be done.
+    Named(Work),
+    /// A text, which is to be printed: that of `help` or `--help`, or the version.
+    Told(String),
+}
+
+/// Whether `clap` refuses words since they ask for its help or the version.
+fn asks_clap(alloc: Global, words: &[&str]) -> Result<bool, AllocError> {
+    match command_line(alloc)?.try_get_matches_from(words) {
+        Ok(_) => Ok(false),
+        Err(refusal) => Ok(matches!(
+            refusal.kind(),
+            ErrorKind::DisplayHelp | ErrorKind::DisplayVersion
+        )),
+    }
+}
+
+/// The text for the user of words that `clap` refuses, if they ask for it; else it is that of a fault.
+fn text_asked(alloc: Global, given: &[&str], text: String) -> Result<Asked, UsageFault>
+    ensures { IfOk result (AsksFor (texts given.now)) }
+{
+    if asks_clap(alloc, given)? {
+        Ok(Asked::Told(text))
+    } else {
+        Err(UsageFault::Parse(text))
+    }
+}
+
+/// What the words of a command line ask for, without the program's own name: `help` and `help WORD` for the text of
+/// `--help`.
+///
+/// Words that ask for nothing are `Parse` with the text of `clap` for the user, `BadOption` where an option or a code is none,
+/// `Memory` where memory was refused.
+pub fn asked_of(alloc: Global, given: &[&str]) -> Result<Asked, UsageFault>
+    ensures { IfOk result (AsksFor (texts given.now)) }
+{
+    if let ["help", topic @ ..] = given {
+        return Ok(Asked::Told(help(alloc, topic)?));
+    }
+    match words(alloc, given) {
+        Ok(work) => Ok(Asked::Named(work)),
+        Err(UsageFault::Parse(text)) => text_asked(alloc, given, text),
+        Err(fault) => Err(fault),
+    }
+}
+
+/// What is told of what words ask for before it waits for standard input, where that is a terminal: of a talk, and where no word
+/// was given.
+pub fn told_wait(asked: &Asked, without_words: bool) -> Option<&'static str> {
+    match asked {
+        Asked::Named(Work::Live(words)) if !words.frames => Some(LIVE_WAITS),
+        Asked::Named(_) if without_words => Some(JUDGE_WAITS),
+        Asked::Named(_) | Asked::Told(_) => None,
+    }
+}

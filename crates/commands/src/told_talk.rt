@@ -1,0 +1,97 @@
+//! A talk that tells on standard error what the faults are that it sends.
+
+ghost use Rattle.std.specs.Prelude.{◌≡◌};
+
+use job_live::talk::Talk;
+use job_parts::bad_lines::BadLine;
+use job_parts::storage::Cannot;
+
+/// What fault 6 of a line of `live` is.
+const NO_PLACE: &str =
+    "no such port, or set has not three words, or its bytes lie outside the bank";
+
+/// A talk, which tells on standard error what a fault is whose line it sends: of each number once, so that what nobody reads
+/// there holds nothing up.
+#[derive(Drop)]
+pub struct ToldTalk<'a, R, T: Drop> {
+    rt: &'a R,
+    talk: T,
+    told: u8,
+}
+
+/// The last line of a text.
+fn last_line(text: &[u8]) -> &str {
+    let text = str::from_utf8(text).unwrap_or("").trim_end();
+    match text.rsplit_once('\n') {
+        Some((_, line)) => line,
+        None => text,
+    }
+}
+
+/// The number of the line and the fault that a line tells, if it tells one: `line K fault C`.
+fn fault_told(line: &str) -> Option<(&str, BadLine)> {
+    let (number, code) = line.strip_prefix("line ")?.split_once(" fault ")?;
+    Some((number, BadLine::from_number(code.parse().ok()?)?))
+}
+
+/// What is told of a fault.
+fn words_for(fault: BadLine) -> &'static str {
+    match fault {
+        BadLine::NoPort | BadLine::NoEvent => NO_PLACE,
+        _ => fault.told(),
+    }
+}
+
+impl<'a, R: Eprint, T: Talk + Drop> ToldTalk<'a, R, T> {
+    /// The talk, with standard error beside it.
+    pub fn new(rt: &'a R, talk: T) -> ToldTalk<'a, R, T> {
+        ToldTalk { rt, talk, told: 0 }
+    }
+
+    /// The talk alone.
+    pub fn into_talk(self) -> T {
+        self.talk
+    }
+
+    /// Tells what the fault is that the last line of a text tells, if it was not told before.
+    fn tell(&mut self, text: &[u8])
+        ensures { self.new.talk ≡ self.old.talk }
+    {
+        let Some((number, fault)) = fault_told(last_line(text)) else {
+            return;
+        };
+        let code = fault.number();
+        let bit = 1u8.checked_shl(u32::from(code)).unwrap_or(0);
+        if self.told & bit != 0 {
+            return;
+        }
+        self.told |= bit;
+        let words = words_for(fault);
+        let _ = self.rt.eprint(&"    line ");
+        let _ = self.rt.eprint(&number);
+        let _ = self.rt.eprint(&" fault ");
+        let _ = self.rt.eprint(&code);
+        let _ = self.rt.eprint(&": ");
+        let _ = self.rt.eprintln(&words);
+    }
+}
+
+impl<R: Eprint, T: Talk + Drop> Talk for ToldTalk<'_, R, T> {
+    ghost came = { λ before line after. T.came before.talk line after.talk };
+
+    ghost sent = { λ before text after. T.sent before.talk text after.talk };
+
+    ghost missed = { λ before after. T.missed before.talk after.talk };
+
+    ghost unsent = { λ before text after. T.unsent before.talk text after.talk };
+
+    fn next(&mut self, line: &mut String) -> Result<bool, Cannot> {
+        self.talk.next(line)
+    }
+
+    fn send(&mut self, text: &[u8]) -> Result<(), Cannot> {
+        let done = self.talk.send(text);
+        self.tell(text);
+        done
+    }
+}

@@ -1,0 +1,20 @@
+use Rattle.std.proofs.Common.{None, Some, refl}
+use Rattle.job_live.proofs.answering.answer_setting.Goals as goal
+
+pub returns-in_ok-set_bytes-in-Ok-clause-answers : goal.returns-in_ok-set_bytes-in-Ok-clause-answers
+returns-in_ok-set_bytes-in-Ok-clause-answers g c = record {
+  fault = None;
+  between = g.W.Write.contents c.set_bytes.new.out;
+  done = (c.in-Ok.setting, c.in-Ok.ensures.ok, c.in_ok-set_bytes-in-Ok.ensures.tells);
+  told = refl;
+  bad = refl;
+}
+
+pub returns-in_ok-print_fault-in-Err-clause-answers : goal.returns-in_ok-print_fault-in-Err-clause-answers
+returns-in_ok-print_fault-in-Err-clause-answers g c = record {
+  fault = Some c.in-Err.fault;
+  between = g.W.Write.contents c.args.out.now;
+  done = (c.in-Err.ensures.err, refl, refl);
+  told = c.in_ok-print_fault-in-Err.ensures;
+  bad = refl;
+}

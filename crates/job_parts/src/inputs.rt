@@ -1,0 +1,91 @@
+//! The files that a job reads, and the one that it writes, as its words name them.
+
+/// What a file that a job reads has to be.
+#[derive(Clone, Copy, Debug, PartialEq, Eq)]
+pub enum Content {
+    /// Lines of packets or of events, as many as there are.
+    Lines,
+    /// The text of a program.
+    Text,
+    /// The table of a policy.
+    Table,
+    /// A BPF image.
+    Image,
+    /// A BPF image, or a text in place of one.
+    ImageOrText,
+    /// Bytes of any kind, of which so many are enough to show that there are too many.
+    Bytes(u64),
+}
+
+/// A file that a job reads.
+#[derive(Clone, Copy, Debug, PartialEq, Eq)]
+pub struct InputFile<'a> {
+    /// Its name.
+    pub name: &'a str,
+    /// What it has to be.
+    pub content: Content,
+}
+
+impl<'a> InputFile<'a> {
+    /// A file of this name, which has to be that.
+    pub fn new(name: &'a str, content: Content) -> InputFile<'a> {
+        InputFile { name, content }
+    }
+}
+
+/// The files that a job reads, in this order, and the one that it writes.
+#[derive(Clone, Copy, Debug, PartialEq, Eq)]
+pub struct Inputs<'a> {
+    /// The file that it reads first, if it reads one.
+    pub first: Option<InputFile<'a>>,
+    /// The file that it reads after that one.
+    pub second: Option<InputFile<'a>>,
+    /// The name of the file that it writes.
+    pub output: Option<&'a str>,
+}
+
+impl<'a> Inputs<'a> {
+    /// No file.
+    pub fn none() -> Inputs<'a> {
+        Inputs {
+            first: None,
+            second: None,
+            output: None,
+        }
+    }
+
+    /// This file alone.
+    pub fn one(first: InputFile<'a>) -> Inputs<'a> {
+        Inputs {
+            first: Some(first),
+            second: None,
+            output: None,
+        }
+    }
+
+    /// This file, and then that one.
+    pub fn two(first: InputFile<'a>, second: InputFile<'a>) -> Inputs<'a> {
+        Inputs {
+            first: Some(first),
+            second: Some(second),
+            output: None,
+        }
+    }
+
+    /// This file, of which the file of that name is made.
+    pub fn made(first: InputFile<'a>, output: &'a str) -> Inputs<'a> {
+        Inputs {
+            first: Some(first),
+            second: None,
+            output: Some(output),
+        }
+    }
+
+    /// The file that is read next; what is read after it stays.
+    pub fn next(&mut self) -> Option<InputFile<'a>> {
+        let next = self.first;
+        self.first = self.second;
+        self.second = None;
+        next
+    }
+}

@@ -1,0 +1,94 @@
+-- Of whose loads a program is asked: initiators and keys.
+use Rattle.std.specs.Prelude.{◌≡◌, ◌==◌, ◌&&◌, ◌||◌, ℕ, zero, suc, Bool, true, false, if◌then◌else◌, List, [], ◌∷◌, ◌++◌, drop, Option, Some, None, codes}
+use Rattle.std.specs.List.{list_any}
+use Rattle.hex.specs.Hex.{encode_upper}
+use Rattle.policy_table.specs.declared.rules.Rule.{Rule}
+use Rattle.job_rehearse.specs.declared.askers.Asker.{Asker}
+use Rattle.job_rehearse.specs.declared.askers.Asking.{Asking}
+use Rattle.job_rehearse.specs.declared.askers.Field.{Field}
+use Rattle.job_rehearse.specs.declared.askers.Field.TheVariants.{Initiator, Key}
+
+-- what a rule wants of a field
+abbrev pub wanted : Field → Rule → Option ℕ
+wanted Initiator rule = rule.initiator
+wanted Key rule = rule.key
+
+-- the value is the one that is wanted
+abbrev pub is_same : Option ℕ → (byte : ℕ) → Bool
+is_same None byte = false
+is_same (Some own) byte = own == byte
+
+-- the rule names the value
+abbrev pub is_wanted : Field → (byte : ℕ) → Rule → Bool
+is_wanted field byte rule = is_same (wanted field rule) byte
+
+-- some rule names the value
+abbrev pub names : List Rule → Field → (byte : ℕ) → Bool
+names rules field byte = list_any (is_wanted field byte) rules
+
+-- some rule names each value below that one
+abbrev pub are_named : List Rule → Field → (byte : ℕ) → Bool
+are_named rules field zero = true
+are_named rules field (suc byte) = are_named rules field byte && names rules field byte
+
+-- a value that a rule names, or that is the least that none names, and stands for all of these
+abbrev pub value_at : (byte : ℕ) → (is_named are_named : Bool) → List Asking
+value_at byte is_named are_named = if is_named || are_named then record { byte = byte; is_named = is_named } ∷ [] else []
+
+-- such values below a number, from the least on
+abbrev pub values_below : List Rule → Field → (count : ℕ) → List Asking
+values_below rules field zero = []
+values_below rules field (suc byte) =
+    values_below rules field byte ++ value_at byte (names rules field byte) (are_named rules field byte)
+
+-- the values of a field that some rule names, and the least that none names
+unfoldable pub values_of : List Rule → Field → List Asking
+values_of rules field = values_below rules field 256
+
+-- the values below a number, each for itself
+abbrev pub each_below : (count : ℕ) → List Asking
+each_below zero = []
+each_below (suc byte) = each_below byte ++ value_at byte true true
+
+-- each value of a byte
+unfoldable pub each_value : List Asking
+each_value = each_below 256
+
+-- an initiator with each of some keys, behind others
+abbrev pub with_keys : (front : List Asker) → Asking → List Asking → List Asker
+with_keys front initiator [] = front
+with_keys front initiator (key ∷ keys) = with_keys (front ++ record { initiator = initiator; key = key } ∷ []) initiator keys
+
+-- each of some initiators with each of some keys, behind others
+abbrev pub with_pairs : (front : List Asker) → (initiators keys : List Asking) → List Asker
+with_pairs front [] keys = front
+with_pairs front (initiator ∷ initiators) keys = with_pairs (with_keys front initiator keys) initiators keys
+
+-- of a table: each initiator and each key that a rule names, and the least that none names
+abbrev pub table_askers : List Rule → List Asker
+table_askers rules = with_pairs [] (values_of rules Initiator) (values_of rules Key)
+
+-- a value that stands for itself
+abbrev pub just : (byte : ℕ) → Asking
+just byte = record { byte = byte; is_named = true }
+
+-- of a program that is of no table: each initiator with key 00, and initiator 67 (103) with each other key
+abbrev pub every_asker : List Asker
+every_asker = with_keys (with_pairs [] each_value (just 0 ∷ [])) (just 103) (drop 1 each_value)
+
+-- of whose loads the program of a policy is asked: of that of a table, if it is of one
+abbrev pub askers_of : Option (List Rule) → List Asker
+askers_of None = every_asker
+askers_of (Some rules) = table_askers rules
+
+-- a value in two digits, or `*` if it stands for all that no rule names
+abbrev pub value_text : Asking → List ℕ
+value_text value = if value.is_named then encode_upper (value.byte ∷ []) else codes "*"
+
+-- the words of an initiator and a key that are written so
+abbrev pub asker_words : (initiator key : List ℕ) → List ℕ
+asker_words initiator key = codes " initiator " ++ initiator ++ codes " key " ++ key
+
+-- the words of an initiator and a key
+abbrev pub asker_text : Asker → List ℕ
+asker_text asker = asker_words (value_text asker.initiator) (value_text asker.key)

@@ -1,0 +1,219 @@
+//! Of whose loads a program is asked: initiators and keys.
+
+ghost use Rattle.std.specs.Prelude.{◌≡◌, ◌++◌, IfOk, OnOk, drop, string_bytes};
+ghost use Rattle.std.specs.List.{list_any};
+ghost use Rattle.job_rehearse.specs.Askers.{asker_text, asker_words, askers_of, each_value, every_asker, is_wanted, table_askers, value_at, value_text, values_of, wanted, with_keys, with_pairs};
+
+use policy::{Rule, Table};
+use std::alloc::{AllocError, Global};
+
+/// A value of a field of a header, of which a program is asked.
+#[derive(Clone, Copy, Debug, PartialEq, Eq)]
+pub struct Asking {
+    /// The value.
+    pub byte: u8,
+    /// Whether it stands for itself; if not it stands for all that no rule names.
+    pub is_named: bool,
+}
+
+/// An initiator and a key, of whose loads a program is asked.
+#[derive(Clone, Copy, Debug, PartialEq, Eq)]
+pub struct Asker {
+    /// The initiator logical address.
+    pub initiator: Asking,
+    /// The key.
+    pub key: Asking,
+}
+
+/// A field of a header that says who loads.
+#[derive(Clone, Copy, Debug, PartialEq, Eq)]
+pub enum Field {
+    /// The initiator logical address.
+    Initiator,
+    /// The key.
+    Key,
+}
+
+/// What a rule wants of a field; `None` agrees with each value.
+fn wanted(field: Field, rule: &Rule) -> Option<u8>
+    ensures { result ≡ wanted field rule.now }
+{
+    match field {
+        Field::Initiator => rule.initiator,
+        Field::Key => rule.key,
+    }
+}
+
+/// Whether a rule wants just this value of a field.
+fn is_wanted(field: Field, byte: u8, rule: &Rule) -> bool
+    ensures { result ≡ is_wanted field byte rule.now }
+{
+    match wanted(field, rule) {
+        Some(own) => own == byte,
+        None => false,
+    }
+}
+
+/// Whether some rule names a value of a field.
+fn names(rules: &[Rule], field: Field, byte: u8) -> bool
+    ensures { result ≡ list_any (is_wanted field byte) rules.now }
+{
+    rules.iter().any(|rule| is_wanted(field, byte, rule))
+}
+
+/// Adds a value, if a rule names it, or if it is the first that none names.
+fn push_value(
+    values: &mut Vec<Asking>,
+    byte: u8,
+    is_named: bool,
+    are_named: bool,
+) -> Result<(), AllocError>
+    ensures { OnOk result (values.new.items
+        ≡ values.old.items ++ value_at byte is_named are_named) }
+{
+    if is_named || are_named {
+        values.push(Asking { byte, is_named })?;
+    }
+    Ok(())
+}
+
+/// The values of a field that some rule names, and the least that none names, from the least on.
+fn values_of(alloc: Global, rules: &[Rule], field: Field) -> Result<Vec<Asking>, AllocError>
+    ensures { IfOk result (λ values. values.items ≡ values_of rules.now field) }
+{
+    let mut values = Vec::new(alloc);
+    let mut are_named = true;
+    for byte in 0..256u16 {
+        let is_named = names(rules, field, byte as u8);
+        push_value(&mut values, byte as u8, is_named, are_named)?;
+        are_named = are_named && is_named;
+    }
+    Ok(values)
+}
+
+/// Each value of a byte, from the least on.
+fn each_value(alloc: Global) -> Result<Vec<Asking>, AllocError>
+    ensures { IfOk result (λ values. values.items ≡ each_value) }
+{
+    let mut values = Vec::new(alloc);
+    for byte in 0..256u16 {
+        push_value(&mut values, byte as u8, true, true)?;
+    }
+    Ok(values)
+}
+
+/// Adds an initiator with each of some keys.
+fn add_keys(askers: &mut Vec<Asker>, initiator: Asking, keys: &[Asking]) -> Result<(), AllocError>
+    ensures { OnOk result (askers.new.items ≡ with_keys askers.old.items initiator keys.now) }
+{
+    for key in keys {
+        askers.push(Asker {
+            initiator,
+            key: *key,
+        })?;
+    }
+    Ok(())
+}
+
+/// Adds each of some initiators with each of some keys.
+fn add_pairs(
+    askers: &mut Vec<Asker>,
+    initiators: &[Asking],
+    keys: &[Asking],
+) -> Result<(), AllocError>
+    ensures { OnOk result (askers.new.items ≡ with_pairs askers.old.items initiators.now keys.now) }
+{
+    for initiator in initiators {
+        add_keys(askers, *initiator, keys)?;
+    }
+    Ok(())
+}
+
+/// Of whose loads the program of a table is asked.
+fn table_askers(alloc: Global, rules: &[Rule]) -> Result<Vec<Asker>, AllocError>
+    ensures { IfOk result (λ askers. askers.items ≡ table_askers rules.now) }
+{
+    let initiators = values_of(alloc, rules, Field::Initiator)?;
+    let keys = values_of(alloc, rules, Field::Key)?;
+    let mut askers = Vec::new(alloc);
+    add_pairs(&mut askers, initiators.as_slice(), keys.as_slice())?;
+    Ok(askers)
+}
+
+/// The values behind the first.
+fn behind_first(values: &[Asking]) -> &[Asking]
+    ensures { result.now ≡ drop 1 values.now }
+{
+    match values {
+        [_, rest @ ..] => rest,
+        [] => values,
+    }
+}
+
+/// Of whose loads a program is asked that is of no table: each initiator with key 00, and initiator 67 with each other key.
+fn every_asker(alloc: Global) -> Result<Vec<Asker>, AllocError>
+    ensures { IfOk result (λ askers. askers.items ≡ every_asker) }
+{
+    let values = each_value(alloc)?;
+    let values = values.as_slice();
+    let key = Asking {
+        byte: 0,
+        is_named: true,
+    };
+    let initiator = Asking {
+        byte: 0x67,
+        is_named: true,
+    };
+    let mut askers = Vec::new(alloc);
+    add_pairs(&mut askers, values, &[key])?;
+    add_keys(&mut askers, initiator, behind_first(values))?;
+    Ok(askers)
+}
+
+/// Of whose loads the program of a policy is asked, of a table if it is of one: each initiator and each key that a rule names,
+/// and the least that none names. Of an image each initiator with key 00, and initiator 67 with each other key.
+pub fn askers_of(alloc: Global, table: &Option<Table>) -> Result<Vec<Asker>, AllocError>
+    ensures { IfOk result (λ askers. askers.items ≡ askers_of table.now) }
+{
+    match table {
+        Some(table) => table_askers(alloc, table.rules()),
+        None => every_asker(alloc),
+    }
+}
+
+/// A value in two digits, or `*` if it stands for all that no rule names.
+fn value_text(alloc: Global, value: Asking) -> Result<String, AllocError>
+    ensures { IfOk result (λ text. string_bytes text ≡ value_text value) }
+{
+    if value.is_named {
+        hex::encode_upper(alloc, &[value.byte])
+    } else {
+        String::from_str(alloc, "*")
+    }
+}
+
+/// Adds the words of an initiator and a key that are written so.
+fn add_words(text: &mut String, initiator: &str, key: &str) -> Result<(), AllocError>
+    ensures { OnOk result (string_bytes text.new
+        ≡ string_bytes text.old ++ asker_words initiator.now key.now) }
+{
+    write!(text, " initiator {initiator} key {key}")
+}
+
+/// The words of an initiator and a key that are written so.
+fn asker_words(alloc: Global, initiator: &str, key: &str) -> Result<String, AllocError>
+    ensures { IfOk result (λ text. string_bytes text ≡ asker_words initiator.now key.now) }
+{
+    let mut text = String::new(alloc);
+    add_words(&mut text, initiator, key)?;
+    Ok(text)
+}
+
+/// The words of an initiator and a key.
+pub fn asker_text(alloc: Global, asker: Asker) -> Result<String, AllocError>
+    ensures { IfOk result (λ text. string_bytes text ≡ asker_text asker) }
+{
+    let initiator = value_text(alloc, asker.initiator)?;
+    let key = value_text(alloc, asker.key)?;
+    asker_words(alloc, initiator.as_str(), key.as_str())
+}

@@ -1,0 +1,170 @@
+//! Who loads: the port, the initiator and the key of the packets of a load.
+
+ghost use Rattle.std.specs.Prelude.{◌≡◌, ◌++◌, IfOk, MatchResult, OnOk, string_bytes, true};
+ghost use Rattle.clap.specs.Walk.{rows_of};
+ghost use Rattle.clap.specs.Matches.{found_of};
+ghost use Rattle.job_packets.specs.HexWords.{Has};
+ghost use Rattle.job_packets.specs.Requests.{has_reply_address};
+ghost use Rattle.job_packets.specs.Slips.{IsBadWord};
+ghost use Rattle.job_parts.specs.Options.{IsBadValue};
+ghost use Rattle.job_rehearse.specs.Loaders.{GivesLoader, GivesLoaders, IsHeaderOf, has_value, is_any_beside, loader_in, loader_text, named_text, named_words, names_loader, ports_in};
+
+use clap::ArgMatches;
+use job_packets::packet_options::{HeaderWords, byte_of, port_of};
+use job_packets::slips::{PacketFault, PacketWord};
+use job_parts::arguments::{is_set, text_of};
+use job_parts::usage::UsageFault;
+use std::alloc::{AllocError, Global};
+
+/// Who loads: the port at which its packets come in, and what their headers say of it.
+#[derive(Clone, Copy, Debug, PartialEq, Eq)]
+pub struct Loader {
+    /// The port, 0 to 31.
+    pub port: u8,
+    /// The initiator logical address.
+    pub initiator: u8,
+    /// The key.
+    pub key: u8,
+}
+
+/// Whose loads are rehearsed.
+#[derive(Clone, Copy, Debug, PartialEq, Eq)]
+pub enum Loaders {
+    /// Those of this one, at a node of 32 ports; without it those of initiator 67 with key 00, at a node of one port.
+    One(Option<Loader>),
+    /// Nobody's: the new policy is asked whose loads it lets pass.
+    Any,
+}
+
+/// Whether an option has a value.
+fn has_value(found: &ArgMatches, name: &str) -> bool
+    ensures { result ≡ has_value name.now (rows_of (found_of found.now)) }
+{
+    text_of(found, name).is_some()
+}
+
+/// Whether an option names who loads.
+fn names_loader(found: &ArgMatches) -> bool
+    ensures { result ≡ names_loader (rows_of (found_of found.now)) }
+{
+    has_value(found, "port") || has_value(found, "initiator") || has_value(found, "key")
+}
+
+/// Whether `--any` is there, and with it an option of loads that are done: who loads, or into which slots.
+pub fn is_any_beside(found: &ArgMatches) -> bool
+    ensures { result ≡ is_any_beside (rows_of (found_of found.now)) }
+{
+    is_set(found, "any") && (names_loader(found) || has_value(found, "slot"))
+}
+
+/// Who loads by `--port`, `--initiator` and `--key`; port 0, initiator 67 and key 00 without them. A slip where one has a value
+/// that it may not have: the first such.
+pub fn loader_of(found: &ArgMatches) -> Result<Loader, PacketFault>
+    ensures { MatchResult result (GivesLoader (rows_of (found_of found.now)))
+        (IsBadWord (Has (GivesLoader (rows_of (found_of found.now))))) }
+{
+    let port = port_of(found)?;
+    let initiator = byte_of(found, "initiator", PacketWord::Initiator, 0x67)?;
+    let key = byte_of(found, "key", PacketWord::Key, 0)?;
+    Ok(Loader {
+        port,
+        initiator,
+        key,
+    })
+}
+
+/// Whose loads are rehearsed by the options. `BadOption` where one has a value that it may not have, or stands beside `--any`.
+pub fn loaders_of(found: &ArgMatches) -> Result<Loaders, UsageFault>
+    ensures { MatchResult result (GivesLoaders (rows_of (found_of found.now)))
+        (IsBadValue (Has (GivesLoaders (rows_of (found_of found.now))))) }
+{
+    if is_any_beside(found) {
+        return Err(UsageFault::BadOption);
+    }
+    if is_set(found, "any") {
+        return Ok(Loaders::Any);
+    }
+    if !names_loader(found) {
+        return Ok(Loaders::One(None));
+    }
+    match loader_of(found) {
+        Ok(loader) => Ok(Loaders::One(Some(loader))),
+        Err(fault) => Err(fault.usage()),
+    }
+}
+
+/// Who loads: the one that is named, or port 0, initiator 67 and key 00.
+pub fn loader_in(named: Option<Loader>) -> Loader
+    ensures { result ≡ loader_in named }
+{
+    match named {
+        Some(loader) => loader,
+        None => Loader {
+            port: 0,
+            initiator: 0x67,
+            key: 0,
+        },
+    }
+}
+
+/// How many ports the node has: 32 where it is named who loads, or else one.
+pub fn ports_in(named: Option<Loader>) -> u8
+    ensures { result ≡ ports_in named }
+{
+    match named {
+        Some(_) => 32,
+        None => 1,
+    }
+}
+
+/// Adds what the last line says of a port, and of an initiator and a key that are written so.
+fn add_named(text: &mut String, port: u8, initiator: &str, key: &str) -> Result<(), AllocError>
+    ensures { OnOk result (string_bytes text.new
+        ≡ string_bytes text.old ++ named_words port initiator.now key.now) }
+{
+    write!(text, " (port {port} initiator {initiator} key {key})")
+}
+
+/// What the last line says of a port, and of an initiator and a key that are written so.
+fn named_words(alloc: Global, port: u8, initiator: &str, key: &str) -> Result<String, AllocError>
+    ensures { IfOk result (λ text. string_bytes text ≡ named_words port initiator.now key.now) }
+{
+    let mut text = String::new(alloc);
+    add_named(&mut text, port, initiator, key)?;
+    Ok(text)
+}
+
+/// What the last line says of a loader.
+fn named_text(alloc: Global, loader: Loader) -> Result<String, AllocError>
+    ensures { IfOk result (λ text. string_bytes text ≡ named_text loader) }
+{
+    let initiator = hex::encode_upper(alloc, &[loader.initiator])?;
+    let key = hex::encode_upper(alloc, &[loader.key])?;
+    named_words(alloc, loader.port, initiator.as_str(), key.as_str())
+}
+
+/// What the last line says of who was named; nothing where nobody was.
+pub fn loader_text(alloc: Global, named: Option<Loader>) -> Result<String, AllocError>
+    ensures { IfOk result (λ text. string_bytes text ≡ loader_text named) }
+{
+    match named {
+        Some(loader) => named_text(alloc, loader),
+        None => Ok(String::new(alloc)),
+    }
+}
+
+/// The words of the headers of a loader: but for its port, initiator and key as `packet` has them without an option.
+pub fn header_of(alloc: Global, loader: Loader) -> HeaderWords
+    ensures given { IsHeaderOf loader result }
+    ensures address { has_reply_address result ≡ true }
+{
+    HeaderWords {
+        port: loader.port,
+        target: 0xFE,
+        key: loader.key,
+        initiator: loader.initiator,
+        transaction: 0,
+        extended: 0,
+        reply_address: Vec::new(alloc),
+    }
+}

@@ -1,0 +1,18 @@
+-- Lines that are told in words, and why one is not.
+use Rattle.std.specs.Prelude.{◌≡◌, ◌⊎◌, ℕ, List, [], ◌∷◌, ◌++◌, codes}
+use Rattle.spw.specs.Line.{HasFault, marker_word}
+use Rattle.spw.specs.declared.faults.LineFault.{LineFault}
+use Rattle.spw.specs.declared.faults.LineFault.TheVariants.{Memory}
+
+-- the text ends in a line feed (10): so it is not empty
+abbrev pub EndsLine : (text : List ℕ) → Type 0
+EndsLine text = (words : List ℕ) × (text ≡ words ++ 10 ∷ [])
+
+-- the first word is `journal`, which is no port
+abbrev pub IsEntry : List (List ℕ) → Type 0
+IsEntry words = (rest : List (List ℕ)) × (words ≡ codes "journal" ∷ rest)
+
+-- a line of these words is not told: memory was refused; it has that fault of a packet line; or it is an entry of a journal, of
+-- whose fault nothing is said. So a packet line is refused for want of memory alone
+abbrev pub IsLineFault : (line : List ℕ) (words : List (List ℕ)) → LineFault → Type 0
+IsLineFault line words fault = (fault ≡ Memory) ⊎ (HasFault marker_word line fault ⊎ IsEntry words)

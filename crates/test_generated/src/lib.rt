@@ -1,5 +1,0 @@
-//! Tests of generated programs: verifier, interpreter and stepper agree on them.
-#![tactic(auto)]
-
-#[cfg(test)]
-mod tests;

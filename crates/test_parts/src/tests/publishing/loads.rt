@@ -1,0 +1,163 @@
+//! Readers beside loads, in threads.
+
+ghost use Rattle.std.specs.Prelude.{◌≡◌, IfSome};
+ghost use mathlib.Core.List.{IsPrefix};
+
+use crate::tests::checks::same;
+use crate::tests::publishing::program;
+use bver::MapSizes;
+use publish::{Family, Opened, Programs, Publisher, Reader, Told};
+use std::alloc::Global;
+use std::marker::Brand;
+use std::process::Abort;
+use std::sync::{Mutex, Wait};
+use std::test::*;
+use std::thread::{Threads, join};
+
+/// The loads of one thread.
+const LOADS: u32 = 50;
+
+/// What one thread met: the generations of its own publishes, in order; how many takes were below the last
+/// of those; and how many takes gave no program.
+#[derive(Drop)]
+struct Met {
+    generations: Vec<u32>,
+    late: u32,
+    unread: u32,
+}
+
+#[test]
+fn two_threads_load(rt: HostRuntime) -> Result<(), Fail> {
+    two_load::<Brand, _>(&rt, rt.alloc(), Opened::new())
+}
+
+#[test]
+fn four_threads_load(rt: HostRuntime) -> Result<(), Fail> {
+    four_load::<Brand, _>(&rt, rt.alloc(), Opened::new())
+}
+
+/// Publishes a program of that budget under the lock, and lets the reader learn of it.
+fn load<J: Family, R: Wait + Drop>(
+    rt: &impl Wait,
+    alloc: Global,
+    publisher: &Mutex<Publisher<J, R>>,
+    reader: &mut Reader<J>,
+    budget: u8,
+) -> Option<Told<J>>
+    ensures { IfSome result (λ told. IsPrefix told reader.new.programs) }
+{
+    let mut publisher = publisher.lock(rt);
+    let program = program(alloc, &publisher.sizes(), budget)?;
+    let told = publisher.install(1, program).ok()?;
+    reader.learn(&told);
+    Some(told)
+}
+
+/// Loads and takes in turn.
+fn loads<J: Family, R: Wait + Drop>(
+    rt: &impl Wait,
+    alloc: Global,
+    publisher: &Mutex<Publisher<J, R>>,
+    mut reader: Reader<J>,
+    budget: u8,
+) -> Met {
+    let mut met = Met {
+        generations: Vec::new(alloc),
+        late: 0,
+        unread: 0,
+    };
+    for _ in 0..LOADS {
+        let Some(told) = load(rt, alloc, publisher, &mut reader, budget) else {
+            return met;
+        };
+        if met.generations.push(told.generation()).is_err() {
+            return met;
+        }
+        match reader.take(1) {
+            Some(taken) => {
+                if taken.generation() < told.generation() {
+                    met.late = met.late.wrapping_add(1);
+                }
+            }
+            None => met.unread = met.unread.wrapping_add(1),
+        }
+    }
+    met
+}
+
+/// Each thread made its loads, saw them, and always took a program; and each generation was told. There are as
+/// many as loads, so each was told once.
+fn check(rt: &impl Abort, loads: u32, met: &[Met]) -> Result<(), Fail> {
+    for met in met {
+        same(
+            rt,
+            "a thread",
+            (met.generations.len(), met.late, met.unread),
+            (50, 0, 0),
+        );
+    }
+    for generation in 1..=loads {
+        let is_told = met.iter().any(|met| met.generations.contains(&generation));
+        same(
+            rt,
+            "a generation",
+            (generation, is_told),
+            (generation, true),
+        );
+    }
+    Ok(())
+}
+
+fn two_load<J: Family + Send + Sync, R: Threads + Wait + Abort + Sync>(
+    rt: &R,
+    alloc: Global,
+    opened: Opened,
+) -> Result<(), Fail>
+    requires { opened ≡ J.book }
+{
+    let factory = program(alloc, &MapSizes::new(&[])?, 2).ok_or("the factory program")?;
+    let (publisher, mut readers) = Programs::new::<J, _>(alloc, rt, opened, factory, 2)?;
+    let publisher = Mutex::new(publisher);
+    let first = readers.pop().ok_or("two readers")?;
+    let second = readers.pop().ok_or("two readers")?;
+    let (a, b) = join(
+        rt,
+        || loads(rt, alloc, &publisher, first, 3),
+        || loads(rt, alloc, &publisher, second, 4),
+    );
+    check(rt, 2 * LOADS, &[a, b])
+}
+
+fn four_load<J: Family + Send + Sync, R: Threads + Wait + Abort + Sync>(
+    rt: &R,
+    alloc: Global,
+    opened: Opened,
+) -> Result<(), Fail>
+    requires { opened ≡ J.book }
+{
+    let factory = program(alloc, &MapSizes::new(&[])?, 2).ok_or("the factory program")?;
+    let (publisher, mut readers) = Programs::new::<J, _>(alloc, rt, opened, factory, 4)?;
+    let publisher = Mutex::new(publisher);
+    let first = readers.pop().ok_or("four readers")?;
+    let second = readers.pop().ok_or("four readers")?;
+    let third = readers.pop().ok_or("four readers")?;
+    let fourth = readers.pop().ok_or("four readers")?;
+    let ((a, b), (c, d)) = join(
+        rt,
+        || {
+            join(
+                rt,
+                || loads(rt, alloc, &publisher, first, 3),
+                || loads(rt, alloc, &publisher, second, 4),
+            )
+        },
+        || {
+            join(
+                rt,
+                || loads(rt, alloc, &publisher, third, 5),
+                || loads(rt, alloc, &publisher, fourth, 6),
+            )
+        },
+    );
+    check(rt, 4 * LOADS, &[a, b, c, d])
+}

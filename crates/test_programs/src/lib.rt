@@ -1,5 +1,0 @@
-//! Tests of instructions, images and their text.
-#![tactic(auto)]
-
-#[cfg(test)]
-mod tests;

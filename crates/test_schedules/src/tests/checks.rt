@@ -1,9 +1,0 @@
-//! Comparisons of tests.
-
-use std::fmt::Debug;
-use std::process::Abort;
-
-/// Ends the test where what was found is not what is wanted. `what` says of which row or call it is.
-pub fn same<T: Copy + PartialEq + Debug>(rt: &impl Abort, what: &str, found: T, wanted: T) {
-    assert_eq!(rt; found, wanted, "at {what}");
-}

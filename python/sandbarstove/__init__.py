@@ -1,0 +1,21 @@
+"""An RMAP target (ECSS-E-ST-50-52C) for benches in Python: the proved node in this process, and clients of one over TCP.
+
+    from sandbarstove import Node, command, reply
+    node = Node()
+    print(reply(node.ask(command("read", 0xA0000000, 16))))
+
+`Node` is the proved library, `libsandbarstove.so`, which SANDBAR_LIBRARY may name. `Lines` and `Frames` are clients of
+`rmapctl live` and `tools/share`. `command`, `reply` and `load` are by the rules of `rmapctl packet` and `rmapctl show`.
+The module stands on Python's standard library alone, 3.11 or later.
+"""
+from .files import NodeFileFault
+from .library import LibraryFault
+from .links import BadLine, Discarded, Frames, Lines, LinkFault
+from .loads import LoadFault, load
+from .node import YES, Bank, Entry, Map, Node, NodeFault, Served, verify
+from .packets import Reply, command, crc, load_packets, reply
+
+__all__ = [
+    "BadLine", "Bank", "Discarded", "Entry", "Frames", "LibraryFault", "Lines", "LinkFault", "LoadFault", "Map", "Node",
+    "NodeFault", "NodeFileFault", "Reply", "Served", "YES", "command", "crc", "load", "load_packets", "reply", "verify",
+]

@@ -1,0 +1,238 @@
+"""A node of the proved library in this process."""
+from __future__ import annotations
+
+from ctypes import byref, c_uint8, c_uint64
+from dataclasses import dataclass
+from pathlib import Path
+from typing import Optional, Sequence, Union
+
+from . import library as c
+from .files import NodeFile, read_node_file
+from .packets import load_packets
+
+#: The image of the program that says yes to every command: `mov r0, 0; exit`.
+YES = bytes.fromhex("42504641010002000200000000000000B7000000000000009500000000000000")
+
+_ENDS = {"EOP": 0, "EEP": 1}
+_KINDS = ("discarded", "answered", "judged")
+_COMMANDS = (None, "read", "write", "rmw")
+_PLACES = (None, "bank", "window")
+_BAD_IMAGE, _REFUSED = 5, 6
+
+
+class NodeFault(Exception):
+    """A call that the library did not do: its code, and of a program that may not judge why, and at which slot."""
+
+    def __init__(self, code: int, why: Optional[c.Why] = None):
+        self.code, self.why, self.slot = code, why.code if why else 0, why.slot if why else 0
+        text = c.TEXTS.get(code, f"code {code}")
+        if code in (_BAD_IMAGE, _REFUSED):
+            text += f": {'image fault ' if code == _BAD_IMAGE else 'V'}{self.why} slot {self.slot}"
+        super().__init__(text)
+
+
+@dataclass(frozen=True)
+class Bank:
+    """Memory that commands read and write. `room` is how many entries its journal takes."""
+    base: int = 0xA0000000
+    size: int = 65536
+    room: int = 1024
+
+
+@dataclass(frozen=True)
+class Map:
+    """Cells that programs share: counters, or peaks."""
+    cells: int
+    peak: bool = False
+
+
+@dataclass(frozen=True)
+class Served:
+    """What became of a packet. Of one that was not judged, the generation and the verdict are 0.
+
+    `kind` is "discarded", "answered" (by a check of its header) or "judged". `status` is the reply's; of a discarded
+    packet it is why, 1 to 4. `room` is how many entries the journal of its bank then still takes: at 0 the bank carries
+    no further command out (status 1) until `rotate`.
+    """
+    kind: str
+    status: int
+    reply: Optional[bytes]
+    generation: int
+    verdict: int
+    command: Optional[str]
+    place: Optional[str]
+    extended: int
+    address: int
+    length: int
+    room: int
+
+
+@dataclass(frozen=True)
+class Entry:
+    """An entry of a journal: a command that was judged."""
+    port: int
+    number: int
+    generation: int
+    verdict: int
+    status: int
+    packet: bytes
+    end: str = "EOP"
+
+
+def _array(kind: type, rows: Sequence[tuple]):
+    """Structs side by side, and one where there is none: no pointer is null."""
+    return (kind * max(len(rows), 1))(*(kind(*row) for row in rows))
+
+
+def verify(image: bytes, maps: Sequence[Map] = ()) -> None:
+    """Tells whether a program may judge in a node with these maps: if not, it raises NodeFault."""
+    why = c.Why()
+    rows = _array(c.MapConfig, [(row.cells, row.peak) for row in maps])
+    code = c.library().sandbar_verify(rows, len(maps), image, len(image), byref(why))
+    if code:
+        raise NodeFault(code, why)
+
+
+class Node:
+    """An RMAP target. One call at a time: who shares it between threads puts a lock round each."""
+
+    def __init__(self, banks: Sequence[Bank] = (Bank(),), maps: Sequence[Map] = (), image: bytes = YES, *,
+                 address: int = 0xFE, ports: int = 1):
+        self._c, self._node, self._reply = c.library(), c.NodeHandle(), (c_uint8 * c.MAX_REPLY)()
+        self._rooms = [bank.room for bank in banks]
+        _numbers(banks, maps, address, ports)
+        why = c.Why()
+        code = self._c.sandbar_open(
+            byref(self._node), address, ports, _array(c.BankConfig, [(bank.base, bank.size, bank.room) for bank in banks]),
+            len(banks), _array(c.MapConfig, [(row.cells, row.peak) for row in maps]), len(maps), image, len(image), byref(why))
+        if code:
+            raise NodeFault(code, why)
+
+    @classmethod
+    def from_file(cls, path: Union[str, Path]) -> Node:
+        """Opens the node that a file says, with the contents of its banks, and its loads done."""
+        return cls._of(read_node_file(path))
+
+    @classmethod
+    def _of(cls, file: NodeFile) -> Node:
+        banks = [Bank(bank.base, bank.size, bank.journal) for bank in file.banks]
+        maps = [Map(row.cells, row.peak) for row in file.maps]
+        try:
+            node = cls(banks, maps, YES if file.program is None else file.program, address=file.address, ports=file.ports)
+        except NodeFault as fault:
+            raise file.fault(f"program: {fault}" if fault.code in (_BAD_IMAGE, _REFUSED) else str(fault)) from None
+        for number, bank in enumerate(file.banks):
+            if bank.contents:
+                node.poke(bank.base, bank.contents, number)
+        for number, row in enumerate(file.loads, 1):
+            status = node._load(row.image, row.slot, file.address)
+            if status:
+                raise file.fault(f"load {number}: status {status}")
+        return node
+
+    def _load(self, image: bytes, slot: int, address: int) -> int:
+        """Does a load as packets at port 0, and gives the status of its control write."""
+        *writes, _ = load_packets(image, slot, target=address)
+        return next((status for status in (self.serve(packet).status for packet in writes) if status), 0)
+
+    def _done(self, code: int) -> None:
+        if code:
+            raise NodeFault(code)
+
+    def serve(self, packet: bytes, port: int = 0, end: str = "EOP") -> Served:
+        """Serves a packet, whole, whose first byte is the target's address, and says what became of it."""
+        told = c.ServedRecord()
+        self._done(self._c.sandbar_serve(byref(self._node), _byte("port", port), bytes(packet), len(packet), _ENDS[end],
+                                         self._reply, c.MAX_REPLY, byref(told)))
+        reply = bytes(self._reply[:told.reply_length]) if told.reply_length else None
+        return Served(_KINDS[told.kind], told.status, reply, told.generation, told.verdict, _COMMANDS[told.command],
+                      _PLACES[told.place], told.extended, told.address, told.length, told.room)
+
+    def ask(self, packet: bytes, port: int = 0) -> Optional[bytes]:
+        """The reply to a packet, or None where none is due."""
+        return self.serve(packet, port).reply
+
+    def journal(self, bank: int = 0) -> list[Entry]:
+        """The entries of the journal of a bank, oldest first. They stay there."""
+        return [self._entry(bank, place) for place in range(self._journal(bank).entries)]
+
+    @property
+    def loaded(self) -> int:
+        """How many programs were loaded."""
+        return self._journal(0).loaded
+
+    def _journal(self, bank: int) -> c.JournalRecord:
+        told = c.JournalRecord()
+        self._done(self._c.sandbar_journal_of(byref(self._node), _byte("bank", bank), byref(told)))
+        return told
+
+    def _entry(self, bank: int, place: int) -> Entry:
+        packet, told = (c_uint8 * c.MAX_PACKET)(), c.EntryRecord()
+        self._done(self._c.sandbar_entry_at(byref(self._node), bank, place, packet, c.MAX_PACKET, byref(told)))
+        end = "EEP" if told.end else "EOP"
+        return Entry(told.port, told.number, told.generation, told.verdict, told.status, bytes(packet[:told.packet_length]), end)
+
+    def rotate(self, bank: int = 0) -> list[Entry]:
+        """Begins a new journal at a bank, and gives the entries of the old one."""
+        entries = self.journal(bank)
+        self._done(self._c.sandbar_rotate(byref(self._node), bank, self._rooms[bank]))
+        return entries
+
+    def peek(self, address: int, length: int, bank: int = 0) -> bytes:
+        """Bytes of a bank, read by the instrument: no command, and no entry."""
+        room = (c_uint8 * max(length, 1))()
+        self._done(self._c.sandbar_peek(byref(self._node), _byte("bank", bank), _word("address", address), room, length))
+        return bytes(room[:length])
+
+    def poke(self, address: int, data: bytes, bank: int = 0) -> list[Entry]:
+        """Puts bytes into a bank, as the instrument does. No entry tells of it, so the bank gets a new journal; the
+        entries of the old one come back."""
+        entries = self.journal(bank)
+        self._done(self._c.sandbar_poke(byref(self._node), bank, _word("address", address), bytes(data), len(data),
+                                        self._rooms[bank]))
+        return entries
+
+    def word(self, map: int, cell: int) -> int:
+        """The word of a cell: how many tickets were drawn from it, or the greatest number that was shown to a peak."""
+        told = c_uint64()
+        self._done(self._c.sandbar_word(byref(self._node), _byte("map", map), _checked("cell", cell, 0xFFFF), byref(told)))
+        return told.value
+
+    def close(self) -> None:
+        """Gives all memory back. Closing twice does nothing."""
+        self._c.sandbar_close(byref(self._node))
+
+    def __enter__(self) -> Node:
+        return self
+
+    def __exit__(self, *_: object) -> None:
+        self.close()
+
+    def __del__(self) -> None:
+        if hasattr(self, "_node"):
+            self.close()
+
+
+def _checked(name: str, value: int, most: int) -> int:
+    """A number that fits: ctypes would cut it."""
+    if not 0 <= value <= most:
+        raise ValueError(f"{name} is {value}: wanted 0 to {most}")
+    return value
+
+
+def _byte(name: str, value: int) -> int:
+    return _checked(name, value, 0xFF)
+
+
+def _word(name: str, value: int) -> int:
+    return _checked(name, value, 0xFFFFFFFF)
+
+
+def _numbers(banks: Sequence[Bank], maps: Sequence[Map], address: int, ports: int) -> None:
+    _byte("address", address)
+    _byte("ports", ports)
+    for bank in banks:
+        for name in ("base", "size", "room"):
+            _word(name, getattr(bank, name))
+    for row in maps:
+        _checked("cells", row.cells, 0xFFFF)

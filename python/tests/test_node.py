@@ -1,0 +1,224 @@
+"""A node of the library, its journal, its memory and its cells; and a node's file."""
+import os
+import re
+import sys
+import tempfile
+import unittest
+from ctypes import sizeof
+from pathlib import Path
+from unittest import mock
+
+import kit
+from sandbarstove import (Bank, LibraryFault, LoadFault, Map, Node, NodeFault, NodeFileFault, Reply, YES, command, load, reply,
+                          verify)
+from sandbarstove import library as c
+
+READ = bytes.fromhex("FE014C0067000100A0000000000010C9")
+WRITE = command("write", 0xA0000010, b"\x11\x22", transaction=2)
+# One ticket of cell 0 of map 0 for each command; the first passes.
+ONE = """.budget 8
+ldmap r1, 0
+mov r2, 0
+call 2
+jlt r0, 1, +2
+mov r0, 10
+exit
+mov r0, 0
+exit
+"""
+FILE = """
+address = 0x42
+ports = 2
+program = "yes.img"
+
+[[bank]]
+base = 0xA000_0000
+size = 256
+journal = 8
+contents = "science.bin"
+
+[[bank]]
+base = 0x1000
+size = 16
+
+[[map]]
+cells = 5
+[[map]]
+cells = 2
+peak = true
+
+[[load]]
+slot = 1
+image = "deny.img"
+"""
+# (the text, the refusal) of files that no node can be of.
+BAD_FILES = [
+    ("address = 256", "address 256: wanted 0 to 255"),
+    ("adress = 1", "adress: no such key"),
+    ("ports = 0", "ports 0: wanted 1 to 32"),
+    ("ports = true", "ports True: wanted 1 to 32"),
+    ("[[bank]]\nsize = 0", "bank 1 size 0: wanted 1 to 1048576"),
+    ("[[bank]]\n[[bank]]\nbase = 0xFFFFFFFF\nsize = 2", "bank 2 size 2: it goes past address FFFFFFFF"),
+    ("[[bank]]\njournal = 65537", "bank 1 journal 65537: wanted 1 to 65536"),
+    ("[[bank]]\nsize = 1\ncontents = 'science.bin'", "bank 1 contents: 4 bytes, and the bank has 1"),
+    ("[[bank]]\ncontents = 'none.bin'", "bank 1 contents none.bin: No such file or directory"),
+    ("[bank]\nsize = 1", "bank: wanted [[bank]]"),
+    ("bank = [1]", "bank 1 wanted a table"),
+    ("[[bank]]\n" * 9, "bank: wanted at most 8 tables"),
+    ("[[map]]", "map 1 cells is missing"),
+    ("[[map]]\ncells = 2\npeak = 1", "map 1 peak 1: wanted true or false"),
+    ("[[map]]\ncells = 200\n[[map]]\ncells = 57", "map: 257 cells, wanted at most 256"),
+    ("program = 'science.bin'", "program: the bytes are no image"),
+    ("program = 5", "program 5: wanted a name"),
+    ("[[load]]\nslot = 4\nimage = 'yes.img'", "load 1 slot 4: wanted 0 to 3"),
+    ("[[load]]\nslot = 1", "load 1 image is missing"),
+    ("[[load]]\nslot = 1\nimage = 'science.bin'", "load 1: status 1"),
+    ("address = ", "Invalid value (at end of document)"),
+]
+
+
+class Nodes(unittest.TestCase):
+    def test_packets(self):
+        with Node() as node:
+            served = node.serve(READ)
+            self.assertEqual((served.kind, served.status, served.command, served.place), ("judged", 0, "read", "bank"))
+            self.assertEqual((served.address, served.length, served.extended, served.room), (0xA0000000, 16, 0, 1023))
+            self.assertEqual(reply(served.reply).data, bytes(16))
+            self.assertEqual(reply(node.ask(WRITE)), Reply("write", 0, 0x67, 0xFE, 2))
+            self.assertIsNone(node.ask(command("write", 0xA0000000, b"z", reply=False)))
+            self.assertEqual(node.serve(b"\xfe\1").kind, "discarded")
+            self.assertEqual(node.serve(command("read", 0, 1)).kind, "answered")
+            self.assertEqual(node.serve(WRITE, end="EEP").status, 7)
+            self.assertEqual(node.peek(0xA0000010, 2), b"\x11\x22")
+
+    def test_journal(self):
+        with Node([Bank(0x100, 16, 2)], ports=2) as node:
+            packet = command("read", 0x100, 1)
+            self.assertEqual([node.serve(packet, port).room for port in (0, 1)], [1, 0])
+            self.assertEqual(node.serve(packet, 1).status, 1)
+            entries = node.journal()
+            self.assertEqual([(entry.port, entry.number, entry.status) for entry in entries], [(0, 0, 0), (1, 0, 0)])
+            self.assertEqual([entry.packet for entry in entries], [packet] * 2)
+            self.assertEqual(node.rotate(), entries)
+            self.assertEqual(node.journal(), [])
+            self.assertEqual(node.serve(packet, 1, "EEP").status, 7)
+            self.assertEqual([(entry.number, entry.end) for entry in node.poke(0x104, b"\x55")], [(1, "EEP")])
+            self.assertEqual((node.peek(0x104, 1), node.journal()), (b"\x55", []))
+
+    def test_cells(self):
+        image = self.image(ONE, "1")
+        with Node(maps=[Map(1), Map(2, peak=True)], image=image) as node:
+            self.assertEqual([node.serve(READ).status for _ in range(3)], [0, 10, 10])
+            self.assertEqual((node.word(0, 0), node.word(1, 1)), (3, 0))
+            self.assertRaisesRegex(NodeFault, "no such map or cell", node.word, 0, 1)
+
+    def image(self, text, maps):
+        if not kit.program():
+            self.skipTest("there is no rmapctl")
+        with tempfile.TemporaryDirectory() as room:
+            path = os.path.join(room, "program")
+            Path(path).write_text(text, encoding="ascii")
+            kit.run("asm", path, path + ".img")
+            return Path(path + ".img").read_bytes()
+
+    def test_faults(self):
+        node = Node()
+        rows = [(lambda: node.serve(READ, 1), "no such port"), (lambda: node.serve(bytes(4201)), "too many bytes"),
+                (lambda: node.journal(1), "no such bank"), (lambda: node.peek(0, 1), "outside the bank"),
+                (lambda: node.poke(0xA000FFFF, b"12"), "outside the bank"), (lambda: Node([]), "outside their limits"),
+                (lambda: Node(ports=0), "outside their limits"), (lambda: Node(maps=[Map(0)]), "the maps are none"),
+                (lambda: Node(image=b""), "the bytes are no image: image fault 1 slot 0"),
+                (lambda: Node(image=YES[:8] + b"\1" + YES[9:]), "the verifier refuses the program: V15 slot 0")]
+        for call, text in rows:
+            with self.subTest(text):
+                self.assertRaisesRegex(NodeFault, text, call)
+        for call in (lambda: Node(address=256), lambda: Node([Bank(-1)]), lambda: node.peek(1 << 32, 1), lambda: node.word(256, 0)):
+            self.assertRaises(ValueError, call)
+        node.close()
+        node.close()
+        self.assertRaisesRegex(NodeFault, "the node is not open", node.serve, READ)
+        verify(YES)
+        self.assertRaisesRegex(NodeFault, "no image", verify, b"")
+
+    def test_library(self):
+        for path in ("/nowhere.so", c.__file__):
+            with mock.patch.dict(os.environ, {c.VARIABLE: path}):
+                self.assertRaisesRegex(LibraryFault, "cannot be loaded", Node)
+        with mock.patch.object(c, "VERSION", 0), mock.patch.dict(c._loaded, clear=True):
+            self.assertRaisesRegex(LibraryFault, "has version .*, and this module is for version 0", Node)
+
+    @unittest.skipUnless((kit.TOP / "include/sandbarstove.h").exists(), "there is no header")
+    def test_header(self):
+        header = (kit.TOP / "include/sandbarstove.h").read_text(encoding="utf-8")
+        self.assertEqual(int(re.search(r"#define SANDBAR_VERSION (\d+)", header)[1]), c.VERSION)
+        structs = re.findall(r"(\d+)(?:\s|\*(?!/))+bytes\. \*/\s*typedef struct (\w+)|(\d+)(?:\s|\*(?!/))+bytes\.\s*\*/\s*typedef struct (\w+)", header)
+        found = {name or other: int(size or more) for size, name, more, other in structs}
+        self.assertEqual(found, {name: sizeof(struct) for name, struct in c.STRUCTS.items()})
+        text = (kit.TOP / "include/sandbarstove_text.h").read_text(encoding="utf-8")
+        told = re.findall(r'return "([^"]*)"', text)[:-1]
+        self.assertEqual(told, list(c.TEXTS.values()))
+
+
+@unittest.skipUnless(sys.version_info >= (3, 11), "this Python has no tomllib")
+class Files(unittest.TestCase):
+    def setUp(self):
+        self.room = tempfile.TemporaryDirectory()
+        self.addCleanup(self.room.cleanup)
+        for name, data in (("yes.img", YES), ("deny.img", kit.DENY), ("science.bin", b"\1\2\3\4")):
+            Path(self.room.name, name).write_bytes(data)
+
+    def file(self, text):
+        path = Path(self.room.name, "node.toml")
+        path.write_text(text, encoding="utf-8")
+        return path
+
+    def test_node(self):
+        with Node.from_file(self.file(FILE)) as node:
+            first = command("read", 0xA0000000, 5, target=0x42)
+            self.assertEqual(reply(node.ask(first, 1)).data, b"\1\2\3\4\0")
+            self.assertEqual(reply(node.ask(command("read", 0x100F, 1, target=0x42, extended=1))).status, 0)
+            self.assertEqual(node.serve(command("write", 0x1000, b"x", target=0x42, extended=1)).status, 10)
+            self.assertEqual((node.loaded, node.word(0, 4), node.word(1, 1)), (1, 0, 0))
+            self.assertEqual(node.serve(READ).status, 12)
+
+    def test_empty(self):
+        with Node.from_file(self.file("")) as node:
+            self.assertEqual(reply(node.ask(READ)).status, 0)
+
+    def test_refused(self):
+        for text, wanted in BAD_FILES:
+            with self.subTest(wanted), self.assertRaises(NodeFileFault) as caught:
+                Node.from_file(self.file(text))
+            self.assertIn(f"node.toml: {wanted}", str(caught.exception))
+        self.assertRaisesRegex(NodeFileFault, "No such file", Node.from_file, "/nowhere/node.toml")
+
+
+class Loads(unittest.TestCase):
+    def test_generations(self):
+        with Node(ports=2) as node:
+            self.assertEqual(load(node, kit.DENY, [0, 2], 1), [1, 2])
+            self.assertEqual([node.serve(packet).status for packet in (READ, WRITE)], [10, 0])
+            self.assertEqual(load(node, YES, "all"), [3, 4, 5, 6])
+            self.assertEqual(node.serve(READ).status, 0)
+
+    def test_refused(self):
+        with Node() as node:
+            with self.assertRaises(LoadFault) as caught:
+                load(node, YES[:8] + b"\1" + YES[9:], 1)
+            self.assertEqual((caught.exception.code, caught.exception.place, caught.exception.stands), (15, 0, False))
+            with self.assertRaises(LoadFault) as caught:
+                load(node, b"no image", 1)
+            self.assertEqual((caught.exception.slot, caught.exception.code), (1, 33))
+
+    def test_last_load(self):
+        with Node() as node:
+            with self.assertRaises(LoadFault) as caught:
+                load(node, kit.DENY, "all")
+            self.assertEqual((caught.exception.slot, caught.exception.stands, caught.exception.reply.status), (3, True, 10))
+            with self.assertRaises(LoadFault) as caught:
+                load(node, YES, 0)
+            self.assertEqual((caught.exception.stands, caught.exception.reply.status, node.loaded), (False, 10, 4))
+
+
+if __name__ == "__main__":
+    unittest.main()

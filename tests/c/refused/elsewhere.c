@@ -1,0 +1,6 @@
+#include "sandbarstove_bpf.h"
+
+uint64_t passes(const struct tail *tail);
+uint64_t authorise(const struct front *f, const struct tail *t, uint64_t port) {
+  return passes(t) ? YES : NOT_AUTHORISED;
+}

@@ -1,0 +1,7 @@
+#include "sandbarstove_bpf.h"
+
+COUNTERS(0, first, 200);
+COUNTERS(1, second, 57);
+uint64_t authorise(const struct front *f, const struct tail *t, uint64_t port) {
+  return ticket(&first, 0) > 4;
+}
