@@ -2,17 +2,15 @@
 
 use crate::hints::told_fault;
 use crate::jobs::{Job, JobEnd};
+use crate::line_paths::LinePaths;
 use crate::slips::{told_misuse, told_output};
 use crate::told_files::{Cause, ToldFiles};
-use initiator::Seen;
 use job_codes::forms::form_line;
 use job_parts::bad_lines::BadLine;
 use job_parts::faults::Fault;
 use job_parts::options::NodeWords;
-use job_parts::paths::{add_path, path_in_front};
 use job_parts::status::Status;
-use rmap::Flaw;
-use spw::{LineFault, lines_of, read_line};
+use spw::{LineFault, lines_of};
 use std::alloc::{AllocError, Global};
 use std::rt;
 
@@ -93,31 +91,6 @@ fn packet_part<'a>(job: &Job, line: &'a str) -> &'a str {
     }
 }
 
-/// Adds the path that stands before the packet of a line, which has that number, if one does: then the packet is discarded.
-/// Tells whether one does.
-fn add_line_path(
-    text: &mut String,
-    alloc: Global,
-    line: &str,
-    number: usize,
-) -> Result<bool, AllocError> {
-    let Ok((_, packet)) = read_line(alloc, line) else {
-        return Ok(false);
-    };
-    let path = path_in_front(packet.bytes());
-    let is_other = match Seen::of(&packet) {
-        Seen::Discarded { flaw, .. } => matches!(flaw, Flaw::OtherProtocol { .. }),
-        _ => false,
-    };
-    if path.is_empty() || !is_other {
-        return Ok(false);
-    }
-    write!(text, "    line {number}: ")?;
-    add_path(text, path)?;
-    text.push('\n')?;
-    Ok(true)
-}
-
 /// Adds the first path that stands before the packet of a line.
 fn add_first_path(
     text: &mut String,
@@ -125,10 +98,9 @@ fn add_first_path(
     job: &Job,
     lines: &str,
 ) -> Result<(), AllocError> {
-    let mut number: usize = 0;
+    let mut paths = LinePaths::new();
     for line in lines_of(lines) {
-        number = number.saturating_add(1);
-        if add_line_path(text, alloc, packet_part(job, line), number)? {
+        if paths.take(alloc, packet_part(job, line), text)? {
             return Ok(());
         }
     }

@@ -6,6 +6,7 @@ mod dumps;
 mod ends;
 mod hints;
 mod jobs;
+mod line_paths;
 mod shows;
 mod slips;
 mod told_files;

@@ -100,7 +100,7 @@ fn talk_lines<R: rt::Files + Input + Print + Eprint>(
         Ok(input) => input,
         Err(_) => return refuse(rt, &UsageFault::Memory),
     };
-    let mut talk = ToldTalk::new(rt, HostTalk::new(alloc, input, io::writer(rt)));
+    let mut talk = ToldTalk::new(rt, alloc, HostTalk::new(input, io::writer(rt)));
     let mut files = ToldFiles::new(rt, node.inputs());
     let done = live(alloc, node, &mut files, &mut talk);
     tell(rt, told_node(alloc, node, &files));
@@ -113,7 +113,7 @@ fn show_input<R: Input + Print + Eprint>(rt: &R, alloc: Global, words: &ShowWord
         Ok(input) => input,
         Err(_) => return refuse(rt, &UsageFault::Memory),
     };
-    let told = ToldTalk::new(rt, HostTalk::new(alloc, input, io::writer(rt)));
+    let told = ToldTalk::new(rt, alloc, HostTalk::new(input, io::writer(rt)));
     let mut talk = DumpTalk::new(alloc, told, words.raw);
     let done = show_talk(alloc, &mut talk);
     end_talk(rt, done, talk.into_talk().into_talk().into_output().1)
