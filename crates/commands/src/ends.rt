@@ -3,8 +3,8 @@
 use crate::hints::told_fault;
 use crate::jobs::{Job, JobEnd};
 use crate::line_paths::LinePaths;
+use crate::noted::{Cause, Noted};
 use crate::slips::{told_misuse, told_output};
-use crate::told_files::{Cause, ToldFiles};
 use job_codes::forms::form_line;
 use job_parts::bad_lines::BadLine;
 use job_parts::faults::Fault;
@@ -12,7 +12,6 @@ use job_parts::options::NodeWords;
 use job_parts::status::Status;
 use spw::{LineFault, lines_of};
 use std::alloc::{AllocError, Global};
-use std::rt;
 
 /// What an event line lacks that has no end marker.
 const WHOLE_MARKER: &str = "no end marker: EOP or EEP, since an event has a whole packet";
@@ -60,22 +59,22 @@ fn add_bad_line(
 }
 
 /// Adds what is told of a job that failed.
-fn add_failed<R: rt::Files + Input>(
+fn add_failed(
     text: &mut String,
     alloc: Global,
     job: &Job,
     fault: &Option<Fault<'_>>,
-    files: &ToldFiles<'_, R>,
+    noted: &Noted<'_>,
 ) -> Result<(), AllocError> {
     match fault {
-        Some(Fault::CannotRead(name)) => add_cause(text, *name, files.cause()),
-        Some(Fault::CannotWrite(name)) => match files.cause() {
+        Some(Fault::CannotRead(name)) => add_cause(text, *name, noted.cause()),
+        Some(Fault::CannotWrite(name)) => match noted.cause() {
             Some(cause) => add_cause(text, *name, Some(cause)),
             None => text.push_str(told_output(job)),
         },
         Some(Fault::BadLine { number, fault }) => add_bad_line(text, job, *number, *fault),
-        Some(Fault::BadImage(_)) => add_form(text, alloc, files.last()),
-        Some(Fault::BadText(_) | Fault::BadTable(_)) | None => match files.text() {
+        Some(Fault::BadImage(_)) => add_form(text, alloc, noted.last()),
+        Some(Fault::BadText(_) | Fault::BadTable(_)) | None => match noted.text() {
             Some(read) => text.push_str(told_fault(alloc, job, read)?.as_str()),
             None => Ok(()),
         },
@@ -126,19 +125,19 @@ fn add_full(text: &mut String, full: Option<usize>) -> Result<(), AllocError> {
 /// # Errors
 ///
 /// Where memory was refused.
-pub fn told_end<R: rt::Files + Input>(
+pub fn told_end(
     alloc: Global,
     job: &Job,
     end: &JobEnd<'_>,
-    files: &ToldFiles<'_, R>,
+    noted: &Noted<'_>,
 ) -> Result<String, AllocError> {
     let mut text = String::new(alloc);
     match end.status {
         Status::Done => {}
         Status::Misused => text.push_str(told_misuse(job))?,
-        Status::Failed => add_failed(&mut text, alloc, job, &end.fault, files)?,
+        Status::Failed => add_failed(&mut text, alloc, job, &end.fault, noted)?,
     }
-    if let Some(lines) = files.lines() {
+    if let Some(lines) = noted.lines() {
         add_first_path(&mut text, alloc, job, lines)?;
     }
     add_full(&mut text, end.full)?;
@@ -151,15 +150,11 @@ pub fn told_end<R: rt::Files + Input>(
 /// # Errors
 ///
 /// Where memory was refused.
-pub fn told_node<R: rt::Files + Input>(
-    alloc: Global,
-    node: &NodeWords,
-    files: &ToldFiles<'_, R>,
-) -> Result<String, AllocError> {
+pub fn told_node(alloc: Global, node: &NodeWords, noted: &Noted<'_>) -> Result<String, AllocError> {
     let mut text = String::new(alloc);
-    match (&node.image, files.cause()) {
+    match (&node.image, noted.cause()) {
         (Some(name), Some(cause)) => add_cause(&mut text, name.as_str(), Some(cause))?,
-        _ => add_form(&mut text, alloc, files.last())?,
+        _ => add_form(&mut text, alloc, noted.last())?,
     }
     Ok(text)
 }

@@ -11,7 +11,7 @@ use Rattle.job_rehearse.specs.declared.policies.Images.{Images}
 use Rattle.job_rehearse.specs.declared.policies.NoPolicy.{NoPolicy}
 use Rattle.job_rehearse.specs.declared.policies.NoPolicy.TheVariants.{BadTable, Ended}
 use Rattle.job_rehearse.specs.declared.rehearse.RehearseWords.{RehearseWords}
-use Rattle.test_kit_jobs.specs.Folders.{FolderReads, FolderValue}
+use Rattle.folders.specs.Folders.{FolderReads, FolderValue}
 
 -- a file that gave no policy
 no_policy : (before : FolderValue) (name : List ℕ) (sizes : Maps) (after : FolderValue) (none : NoPolicy)
