@@ -20,9 +20,9 @@ impl<'a> Speech<'a> {
     pub fn new(alloc: Global, slate: &'a Slate, given: &'a [u8], is_dump: bool) -> Speech<'a>
         ensures { result.out.items ≡ [] }
     {
-        let lines = HostTalk::new(alloc, given, Vec::new(alloc));
+        let lines = HostTalk::new(given, Vec::new(alloc));
         Speech {
-            heard: ToldTalk::new(slate, DumpTalk::new(alloc, lines, is_dump)),
+            heard: ToldTalk::new(slate, alloc, DumpTalk::new(alloc, lines, is_dump)),
             out: Vec::new(alloc),
         }
     }
