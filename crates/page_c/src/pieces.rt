@@ -101,7 +101,7 @@ fn words_of(
 {
     let mut words = Vec::new(alloc);
     let mut rest = bytes;
-    for _ in 0..count {
+    for _word in 0..count {
         let Some((word, after)) = text_of(rest) else {
             return Ok(None);
         };
