@@ -8,7 +8,7 @@ abbrev pub number_bytes : ℕ → List ℕ
 number_bytes number = to_le_bytes w32 number
 
 -- a piece: its length, and then its bytes
-unfoldable pub piece_bytes : List ℕ → List ℕ
+abbrev pub piece_bytes : List ℕ → List ℕ
 piece_bytes piece = number_bytes (length piece) ++ piece
 
 -- pieces, one behind the other
