@@ -2,6 +2,7 @@
 
 ghost use Rattle.std.specs.Prelude.{◌≡◌, IfOk};
 ghost use Rattle.clap.specs.Walk.{texts};
+ghost use Rattle.commands.specs.CommandLine.{NamesWork};
 ghost use Rattle.doing.specs.Alone.{IsAlone};
 ghost use Rattle.doing.specs.Doings.{DoesJob, DoesOnce, DoesWords, DoesWork, HoldsLines, IsQuiet, ShowsInput, words_given};
 
@@ -172,6 +173,19 @@ fn do_work<'a>(alloc: Global, work: &Work, folder: Folder<'a>) -> Result<Left<'a
     }
 }
 
+/// Does the work, which these words name.
+fn do_named<'a>(
+    alloc: Global,
+    _given: &[&str],
+    work: &Work,
+    folder: Folder<'a>,
+) -> Result<Left<'a>, AllocError>
+    requires { NamesWork (texts _given.now) work.now }
+    ensures { IfOk result (DoesWords (texts _given.now) folder.entry) }
+{
+    do_work(alloc, work, folder)
+}
+
 /// What is told of words that ask for nothing.
 fn refuse<'a>(
     alloc: Global,
@@ -198,7 +212,7 @@ fn do_given<'a>(alloc: Global, given: &[&str], folder: Folder<'a>) -> Result<Lef
     ensures { IfOk result (DoesWords (texts given.now) folder.entry) }
 {
     match asked_of(alloc, given) {
-        Ok(Asked::Named(work)) => do_work(alloc, &work, folder),
+        Ok(Asked::Named(work)) => do_named(alloc, given, &work, folder),
         Ok(Asked::Told(text)) => {
             let done = Done {
                 status: 0,

@@ -29,7 +29,7 @@ impl<'a> Speech<'a> {
 
     /// All that was sent.
     pub fn into_out(self) -> Vec<u8>
-        ensures { result ≡ self.entry.out }
+        ensures { result.items ≡ self.entry.out.items }
     {
         self.out
     }

@@ -1,0 +1,19 @@
+use Rattle.std.proofs.Common.{◌∙◌, ap}
+use Rattle.commands.specs.Notes.{reads_dump}
+use Rattle.doing.proofs.doing.talk_lines.Goals as goal
+
+pub returns : goal.returns
+returns c = record {
+  start = c.new-desk.result;
+  stop = c.live.new.files;
+  first = c.new-speech.result;
+  last = c.live.new.talk;
+  status = c.in-Ok.status;
+  begun = c.new-desk.ensures.folder;
+  dump = ap reads_dump c.new-desk.ensures.noted ∙ c.new.ensures;
+  silent = c.new-speech.ensures;
+  lives = c.in-Ok.ensures.lives;
+  printed = c.into_out-out.ensures;
+  ended = c.into_folder.ensures;
+  code = c.code.ensures;
+}
