@@ -80,12 +80,22 @@ fn is_refused(served: Served) -> bool {
     }
 }
 
+/// Whether the journal of one of the banks has room for no more entries.
+fn is_any_full(node: &JobNode) -> bool {
+    for bank in 0..node.banks() {
+        if node.is_full(bank) {
+            return true;
+        }
+    }
+    false
+}
+
 impl Judging {
     /// Notes the line that was taken last, if its command is the first that met a full journal.
     fn note(&mut self, served: Served)
         ensures { self.new ≡ self.old }
     {
-        if self.full.is_none() && is_refused(served) && self.node.is_full() {
+        if self.full.is_none() && is_refused(served) && is_any_full(&self.node) {
             self.full = Some(self.taken);
         }
     }
