@@ -25,7 +25,6 @@ use Rattle.bver.specs.Justified.{AcceptedValue}
 use Rattle.machine.specs.Sizes.{Maps}
 use Rattle.spw.specs.Cargo.{Cargo}
 use Rattle.node_programs.specs.declared.publishes.Publish.{Publish}
-use Rattle.node_parts.specs.declared.config.BankConfig.{BankConfig}
 use Rattle.node_parts.specs.declared.config.NodeConfig.{NodeConfig}
 use Rattle.node_parts.specs.declared.served.Served.{Served}
 use Rattle.node_parts.specs.Nodes.{bank_of, first_pass, first_passes as all_first_passes, first_programs, fresh_banks}
@@ -34,7 +33,8 @@ use Rattle.plain_cells.specs.Words.{zero_words}
 use Rattle.single_node.specs.Nodes.{Rotates, SetsMemory, SingleNodeValue, room_in, single_node}
 use Rattle.single_node.specs.Serving.{Serves as ServesAlone}
 use Rattle.job_nodes.specs.Feeds.{IsFed, IsNotFed}
-use Rattle.job_nodes.specs.declared.node.TheConstants.{BANK_BASE, BANK_ROOM, BANK_SIZE, NODE_ADDRESS}
+pub use Rattle.job_config.specs.OwnNodes.{own_bank}
+use Rattle.job_config.specs.declared.own_node.TheConstants.{NODE_ADDRESS}
 use Rattle.job_parts.specs.declared.bad_lines.BadLine.{BadLine}
 
 -- the node's banks, the words of its cells, the programs that were published of it, what each port has of it, the bytes
@@ -52,10 +52,6 @@ abbrev pub job_node : List BankValue → (words : List (List ℕ)) → List Publ
     → List ℕ → JobNodeValue
 job_node banks words programs passes held reply =
     record { banks = banks; words = words; programs = programs; passes = passes; held = held; reply = reply }
-
--- logical address FE, and one bank of 65,536 zero bytes at A0000000 with room for 1,024 entries
-abbrev pub own_bank : BankConfig
-own_bank = record { base = BANK_BASE; size = BANK_SIZE; room = BANK_ROOM }
 
 -- how many entries the journal of each bank has room for
 abbrev pub rooms_of : List BankValue → List ℕ

@@ -10,32 +10,14 @@ ghost use Rattle.single_node.specs.Nodes.{covers_in};
 use crate::feeds::Feeds;
 use bank::Entry;
 use bver::{Accepted, MapSizes};
+use job_config::own_node::{NODE_ADDRESS, OWN_BANK};
 use job_parts::bad_lines::BadLine;
-use node_parts::{BankConfig, NodeConfig, Served};
+use node_parts::{NodeConfig, Served};
 use rmap::{MAX_REPLY, ReplyBuf};
 use single_node::SingleNode;
 use spw::Packet;
 use std::alloc::{AllocError, Global};
 use std::marker::Model;
-
-/// The logical address of the node.
-pub const NODE_ADDRESS: u8 = 0xFE;
-
-/// The first address of the bank of the node.
-pub const BANK_BASE: u32 = 0xA000_0000;
-
-/// How many bytes the bank of the node has.
-pub const BANK_SIZE: u32 = 0x1_0000;
-
-/// How many entries the journal of the bank has room for.
-pub const BANK_ROOM: u32 = 1024;
-
-/// The bank of the node.
-const BANK: BankConfig = BankConfig {
-    base: BANK_BASE,
-    size: BANK_SIZE,
-    room: BANK_ROOM,
-};
 
 /// The configuration of the node of the jobs, with so many ports and with maps of these sizes.
 pub fn node_config(ports: u8, sizes: MapSizes) -> NodeConfig<'static>
@@ -44,7 +26,7 @@ pub fn node_config(ports: u8, sizes: MapSizes) -> NodeConfig<'static>
     NodeConfig {
         address: NODE_ADDRESS,
         ports,
-        banks: &[BANK],
+        banks: &[OWN_BANK],
         sizes,
     }
 }
@@ -73,7 +55,11 @@ impl JobNode {
     /// program that was accepted for the maps of the configuration.
     ///
     /// `AllocError` where memory was refused, and where [`SingleNode::new`] refuses the configuration.
-    pub fn of(alloc: Global, config: &NodeConfig, program: Accepted) -> Result<JobNode, AllocError>
+    pub fn fresh(
+        alloc: Global,
+        config: &NodeConfig,
+        program: Accepted,
+    ) -> Result<JobNode, AllocError>
         requires { program.sizes ≡ config.now.sizes }
         ensures { IfOk result (IsFreshOf config.now program) }
     {
@@ -95,7 +81,7 @@ impl JobNode {
     {
         // Memory alone can be refused to it: the command line gives no other number of ports than a node has.
         let config = node_config(ports, program.sizes());
-        JobNode::of(alloc, &config, program)
+        JobNode::fresh(alloc, &config, program)
     }
 
     /// How many ports the node has.
