@@ -5,4 +5,14 @@
 //! loaded before the first packet.
 #![tactic(auto)]
 
+mod banks;
+pub mod configuration;
+pub mod faults;
+mod keys;
+mod maps;
+mod names;
+mod numbers;
 pub mod own_node;
+pub mod places;
+pub mod reading;
+mod tables;

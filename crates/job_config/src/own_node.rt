@@ -141,6 +141,29 @@ impl OwnNode {
         })
     }
 
+    /// The node of these: banks within their limits, and for each the bytes at its beginning, no more than it has.
+    pub fn of_parts(
+        address: u8,
+        ports: u8,
+        banks: Vec<BankConfig>,
+        contents: Vec<Contents>,
+        sizes: MapSizes,
+        loads: Vec<OwnLoad>,
+    ) -> OwnNode
+        requires within { are_within banks.items ≡ true }
+        requires fits { fit banks.items contents.items ≡ true }
+        ensures { result ≡ own_node address ports banks.items contents.items sizes loads.items }
+    {
+        OwnNode {
+            address,
+            ports,
+            banks,
+            contents,
+            sizes,
+            loads,
+        }
+    }
+
     /// The configuration of the node for [`single_node`] and `target`.
     pub fn config(&self) -> NodeConfig<'_>
         ensures { IsConfigOf self.now result }
