@@ -7,6 +7,7 @@ use Rattle.clap.specs.declared.error.kind.ErrorKind.{ErrorKind}
 use Rattle.clap.specs.declared.error.kind.ErrorKind.TheVariants.{OutOfMemory}
 use Rattle.job_charts.specs.CompareJob.{compare_app, NamesCompare, SpoilsCompare}
 use Rattle.job_charts.specs.MapJob.{map_app, NamesMap, SpoilsMap}
+use Rattle.job_config.specs.NodeLines.{NamesNodeLines, SpoilsNodeLines}
 use Rattle.job_decide.specs.DecideJob.{decide_app, NamesDecide, SpoilsDecide}
 use Rattle.job_live.specs.Words.{live_app, NamesLive, SpoilsLive}
 use Rattle.job_rehearse.specs.RehearseJob.{rehearse_app, NamesRehearse, SpoilsRehearse}
@@ -96,7 +97,7 @@ Names None work = ⊥
 Names (Some found) (Once (Assemble words)) = (found.0 ≡ codes "asm") × NamesAsm found.1 words
 Names (Some found) (Once (Disassemble words)) = (found.0 ≡ codes "dis") × NamesDis found.1 words
 Names (Some found) (Once (Verify args)) = (found.0 ≡ codes "verify") × NamesImage found.1 args
-Names (Some found) (Once (Judge args)) = (found.0 ≡ codes "judge") × NamesLines found.1 args
+Names (Some found) (Once (Judge args)) = (found.0 ≡ codes "judge") × NamesNodeLines found.1 args
 Names (Some found) (Once (Policy words)) = (found.0 ≡ codes "policy") × NamesPolicy found.1 words
 Names (Some found) (Once (Serve args)) = (found.0 ≡ codes "serve") × NamesLines found.1 args
 Names (Some found) (Once (Simulate args)) = (found.0 ≡ codes "sim") × NamesLines found.1 args
@@ -124,7 +125,7 @@ pub record IsSpoiled (found : Text × List Row) : Type 0 where
   pub asm : found.0 ≡ codes "asm" → (first_of (codes "text") found.1 ≡ None) ⊎ (first_of (codes "image") found.1 ≡ None)
   pub dis : found.0 ≡ codes "dis" → first_of (codes "image") found.1 ≡ None
   pub verify : found.0 ≡ codes "verify" → SpoilsImage found.1
-  pub judge : found.0 ≡ codes "judge" → SpoilsLines found.1
+  pub judge : found.0 ≡ codes "judge" → SpoilsNodeLines found.1
   pub policy : found.0 ≡ codes "policy" → SpoilsPolicy found.1
   pub serve : found.0 ≡ codes "serve" → SpoilsLines found.1
   pub sim : found.0 ≡ codes "sim" → SpoilsLines found.1

@@ -6,9 +6,9 @@ use crate::slips::{told_misuse, told_output};
 use crate::told_files::{Cause, ToldFiles};
 use initiator::Seen;
 use job_codes::forms::form_line;
+use job_config::sources::NodeSource;
 use job_parts::bad_lines::BadLine;
 use job_parts::faults::Fault;
-use job_parts::options::NodeWords;
 use job_parts::paths::{add_path, path_in_front};
 use job_parts::status::Status;
 use rmap::Flaw;
@@ -61,6 +61,11 @@ fn add_bad_line(
     write!(text, "    line {number} fault {code}: {told}\n")
 }
 
+/// Adds where a node's file has its fault, and what is wanted there.
+fn add_place(text: &mut String, place: &str) -> Result<(), AllocError> {
+    write!(text, "    {place}\n")
+}
+
 /// Adds what is told of a job that failed.
 fn add_failed<R: rt::Files + Input>(
     text: &mut String,
@@ -76,6 +81,7 @@ fn add_failed<R: rt::Files + Input>(
             None => text.push_str(told_output(job)),
         },
         Some(Fault::BadLine { number, fault }) => add_bad_line(text, job, *number, *fault),
+        Some(Fault::BadNode { place, .. }) => add_place(text, place.as_str()),
         Some(Fault::BadImage(_)) => add_form(text, alloc, files.last()),
         Some(Fault::BadText(_) | Fault::BadTable(_)) | None => match files.text() {
             Some(read) => text.push_str(told_fault(alloc, job, read)?.as_str()),
@@ -173,21 +179,35 @@ pub fn told_end<R: rt::Files + Input>(
     Ok(text)
 }
 
-/// What is told of a talk whose node could not be made of these words, after its fault was sent: why the image could not be read,
-/// or what it is that is none. It is empty where there is nothing to tell.
+/// Adds why the first file of a node could not be read, or what it is that is none.
+fn add_unread<R: rt::Files + Input>(
+    text: &mut String,
+    alloc: Global,
+    node: &NodeSource,
+    files: &ToldFiles<'_, R>,
+) -> Result<(), AllocError> {
+    match (node.input(), files.cause()) {
+        (Some(file), Some(cause)) => add_cause(text, file.name, Some(cause)),
+        _ => add_form(text, alloc, files.last()),
+    }
+}
+
+/// What is told of a talk whose node could not be made of this source, after its fault was sent: where the node's file has its
+/// fault, why a file could not be read, or what it is that is none. It is empty where there is nothing to tell.
 ///
 /// # Errors
 ///
 /// Where memory was refused.
 pub fn told_node<R: rt::Files + Input>(
     alloc: Global,
-    node: &NodeWords,
+    node: &NodeSource,
+    place: Option<&str>,
     files: &ToldFiles<'_, R>,
 ) -> Result<String, AllocError> {
     let mut text = String::new(alloc);
-    match (&node.image, files.cause()) {
-        (Some(name), Some(cause)) => add_cause(&mut text, name.as_str(), Some(cause))?,
-        _ => add_form(&mut text, alloc, files.last())?,
+    match place {
+        Some(place) => add_place(&mut text, place)?,
+        None => add_unread(&mut text, alloc, node, files)?,
     }
     Ok(text)
 }

@@ -8,6 +8,7 @@ use job_charts::compare::{CompareWords, compare_file};
 use job_charts::map::{MapWords, map_file};
 use job_codes::explain::{ExplainWords, explain};
 use job_codes::why::why_file;
+use job_config::node_lines::NodeLines;
 use job_decide::decide::{DecideWords, decide_file};
 use job_nodes::judge::judge_file;
 use job_nodes::sim::sim_file;
@@ -40,7 +41,7 @@ use target::{Family, Opened};
 #[derive(Debug, Drop)]
 pub enum Job {
     /// Judges each packet line of a file, and prints what comes of it.
-    Judge(LinesArgs),
+    Judge(NodeLines),
     /// Serves the packet lines of a file on all ports at once, and prints the replies by port.
     Serve(LinesArgs),
     /// Steps through the events of a file, and prints what each comes to.
@@ -79,9 +80,8 @@ impl Job {
     /// What the job reads and writes.
     pub fn inputs(&self) -> Inputs<'_> {
         match self {
-            Job::Judge(args) | Job::Serve(args) | Job::Simulate(args) | Job::Trace(args) => {
-                args.inputs()
-            }
+            Job::Judge(args) => args.inputs(),
+            Job::Serve(args) | Job::Simulate(args) | Job::Trace(args) => args.inputs(),
             Job::Assemble(words) => words.inputs(),
             Job::Disassemble(words) => words.inputs(),
             Job::Verify(args) => args.inputs(),

@@ -19,6 +19,8 @@ pub use ends::{told_end, told_node};
 pub use job_charts::compare::CompareWords;
 pub use job_charts::map::MapWords;
 pub use job_codes::explain::ExplainWords;
+pub use job_config::node_lines::NodeLines;
+pub use job_config::sources::NodeSource;
 pub use job_decide::decide::DecideWords;
 pub use job_frames::holding::live_frames;
 pub use job_frames::host::HostLink;

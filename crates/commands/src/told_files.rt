@@ -71,7 +71,7 @@ pub fn is_image(bytes: &[u8]) -> bool {
 fn most_of(content: Content) -> u64 {
     match content {
         Content::Lines => u64::MAX,
-        Content::Text | Content::Table | Content::ImageOrText => MAX_TEXT + 1,
+        Content::Text | Content::Table | Content::ImageOrText | Content::Node => MAX_TEXT + 1,
         Content::Image => MAX_IMAGE,
         Content::Bytes(enough) => enough,
     }
@@ -82,7 +82,7 @@ fn most_of(content: Content) -> u64 {
 fn no_content(content: Content, bytes: &[u8]) -> Option<Cause> {
     match content {
         Content::Lines => no_text(bytes),
-        Content::Text | Content::Table => match too_long(bytes) {
+        Content::Text | Content::Table | Content::Node => match too_long(bytes) {
             Some(cause) => Some(cause),
             None => no_text(bytes),
         },
@@ -242,7 +242,8 @@ impl<R: rt::Files + Input> Files for ToldFiles<'_, R> {
     fn read(&mut self, alloc: Global, name: &str) -> Result<Vec<u8>, Cannot> {
         let content = match self.inputs.next() {
             Some(input) => input.content,
-            None => Content::Bytes(u64::MAX),
+            // A file that the node's own names: no bank has more bytes.
+            None => Content::Bytes(MAX_TEXT + 1),
         };
         match self.content(alloc, name, content) {
             Ok(bytes) => {

@@ -14,6 +14,7 @@ use job_charts::compare::{compare_command, compare_job};
 use job_charts::map::{map_command, map_job};
 use job_codes::explain::{explain_command, explain_job};
 use job_codes::why::why_command;
+use job_config::node_lines::node_lines;
 use job_decide::decide::{decide_command, decide_job};
 use job_live::words::{live_command, live_job};
 use job_nodes::judge::judge_command;
@@ -139,7 +140,7 @@ fn work_of(alloc: Global, found: &ArgMatches) -> Result<Work, UsageFault>
         return Ok(Work::Once(Job::Verify(image_args(alloc, verify)?)));
     }
     if let Some(judge) = found.subcommand_matches("judge") {
-        return Ok(Work::Once(Job::Judge(lines_args(alloc, judge)?)));
+        return Ok(Work::Once(Job::Judge(node_lines(alloc, judge)?)));
     }
     if let Some(policy) = found.subcommand_matches("policy") {
         return Ok(Work::Once(Job::Policy(policy_job(alloc, policy)?)));

@@ -4,6 +4,7 @@ ghost use Rattle.std.specs.Prelude.{◌≡◌, ◌<◌, ◌≤◌, [], ◌∷◌
 ghost use Rattle.job_config.specs.OwnNodes.{IsConfigOf, IsOwnNode, fit, load, own_bank, plain_node};
 ghost use Rattle.machine.specs.Sizes.{listed_maps};
 ghost use Rattle.node_parts.specs.Nodes.{are_within};
+ghost use Rattle.rmap.specs.declared.boot.TheConstants.{STAGING_SIZE};
 
 use bver::MapSizes;
 use node_parts::{BankConfig, NodeConfig};
@@ -67,16 +68,21 @@ pub struct OwnLoad {
 }
 
 impl Model for OwnLoad {
+    ghost use Rattle.std.specs.Prelude.{◌≤◌, length};
     ghost use Rattle.job_config.specs.OwnNodes.{LoadValue, load};
+    ghost use Rattle.rmap.specs.declared.boot.TheConstants.{STAGING_SIZE};
 
     ghost Value = { LoadValue };
 
     ghost view = { λ l. load l.slot l.image.items };
+
+    ghost invariant = { λ l. length l.image.items ≤ STAGING_SIZE };
 }
 
 impl OwnLoad {
-    /// The load of these bytes into that slot.
+    /// The load of these bytes into that slot. The condition is no more bytes than the staging has.
     pub fn new(slot: u8, image: Vec<u8>) -> OwnLoad
+        requires { length image.items ≤ STAGING_SIZE }
         ensures { result ≡ load slot image.items }
     {
         OwnLoad { slot, image }
@@ -89,9 +95,10 @@ impl OwnLoad {
         self.slot
     }
 
-    /// The bytes of the image.
+    /// The bytes of the image, no more than the staging has.
     pub fn image(&self) -> &[u8]
-        ensures { result.now ≡ self.now.image }
+        ensures image { result.now ≡ self.now.image }
+        ensures short { length result.now ≤ STAGING_SIZE }
     {
         self.image.as_slice()
     }

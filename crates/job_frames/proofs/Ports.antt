@@ -1,11 +1,10 @@
 -- The ports of a node stay as many.
-use Rattle.std.proofs.Common.{◌≡◌, ◌<◌, ℕ, zero, suc, Bool, true, false, List, Option, length, ap, arith, ◌∙◌}
+use Rattle.std.proofs.Common.{◌≡◌, ℕ, zero, suc, Bool, true, false, List, Option, length, ap, ◌∙◌}
 use Rattle.std.proofs.lemmas.List.{length-set}
-use Rattle.bver.specs.Justified.{AcceptedValue}
 use Rattle.spw.specs.Cargo.{Cargo}
 use Rattle.node_parts.specs.declared.served.Served.{Served}
 use Rattle.single_node.specs.Nodes.{SingleNodeValue}
-use Rattle.job_nodes.specs.JobNode.{IsFresh, JobNodeValue, Serves}
+use Rattle.job_nodes.specs.JobNode.{JobNodeValue, Serves}
 use Rattle.job_live.specs.Answering.{IsReady}
 use Rattle.job_live.specs.Journals.{TellsJournals, Turns, TurnsOne}
 
@@ -29,9 +28,3 @@ told_ports each before after old new told = turned_ports each _ before after tol
 
 pub ready_ports : (words : List ℕ) (end : ℕ) (before after : JobNodeValue) (old new : List ℕ) → IsReady words end before after old new → length after.passes ≡ length before.passes
 ready_ports words end before after old new ready = told_ports false before after _ _ ready.room
-
--- a fresh node with one port has one
-pub fresh_ports : (program : AcceptedValue) (node : JobNodeValue) → IsFresh 1 program node → 0 < length node.passes
-fresh_ports program node is =
-    let one : length node.passes ≡ 1 = ap (λ (s : JobNodeValue). length s.passes) is in
-    omega (arith, one)

@@ -11,6 +11,7 @@ use Rattle.std.specs.Prelude.{
   ◌≤◌,
   All,
   slice_get,
+  slice_index_or,
   replicate,
   Bool,
   false,
@@ -25,12 +26,13 @@ use Rattle.bver.specs.Justified.{AcceptedValue}
 use Rattle.machine.specs.Sizes.{Maps}
 use Rattle.spw.specs.Cargo.{Cargo}
 use Rattle.node_programs.specs.declared.publishes.Publish.{Publish}
+use Rattle.node_programs.specs.Staged.{Staged}
 use Rattle.node_parts.specs.declared.config.NodeConfig.{NodeConfig}
 use Rattle.node_parts.specs.declared.served.Served.{Served}
 use Rattle.node_parts.specs.Nodes.{bank_of, first_pass, first_passes as all_first_passes, first_programs, fresh_banks}
 use Rattle.node_parts.specs.Passes.{PassValue}
 use Rattle.plain_cells.specs.Words.{zero_words}
-use Rattle.single_node.specs.Nodes.{Rotates, SetsMemory, SingleNodeValue, room_in, single_node}
+use Rattle.single_node.specs.Nodes.{Rotates, SetsMemory, SingleNodeValue, room_in, single_node, staging_in}
 use Rattle.single_node.specs.Serving.{Serves as ServesAlone}
 use Rattle.job_nodes.specs.Feeds.{IsFed, IsNotFed}
 pub use Rattle.job_config.specs.OwnNodes.{own_bank}
@@ -57,8 +59,9 @@ job_node banks words programs passes held reply =
 abbrev pub rooms_of : List BankValue → List ℕ
 rooms_of banks = map (λ (b : BankValue). b.journal.room) banks
 
--- the journal of each bank has room for an entry or more, and each port holds some bytes
+-- the journal of each bank has room for an entry or more, there is a port, and each port holds some bytes
 pub record IsJobNode (s : JobNodeValue) : Type 0 where
+  pub some : 1 ≤ length s.passes
   pub rooms : All (λ room. 1 ≤ room) (rooms_of s.banks)
   pub ports : length s.held ≡ length s.passes
 
@@ -134,6 +137,15 @@ journal_of (Some b) = b.journal
 abbrev pub first_of : Option BankValue → ℕ
 first_of None = 0
 first_of (Some b) = b.first
+
+-- the first byte of the load result of a port, if there is one, in which its reason is
+abbrev pub reason_of : Option Staged → ℕ
+reason_of None = 0
+reason_of (Some staged) = slice_index_or staged.load_result 0 0
+
+-- that of port 0
+abbrev pub load_reason : JobNodeValue → ℕ
+load_reason node = reason_of (staging_in (slice_get node.passes 0))
 
 -- the journal of a bank, if there is one, has room for no more entries
 abbrev pub is_full : Option BankValue → Bool

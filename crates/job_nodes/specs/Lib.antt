@@ -7,3 +7,4 @@ pub mod Lines
 pub mod Making
 pub mod SimJob
 pub mod Simulated
+pub mod Sources

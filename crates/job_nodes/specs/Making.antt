@@ -25,7 +25,6 @@ use Rattle.std.specs.Prelude.{
 }
 use Rattle.bver.specs.Justified.{AcceptedValue}
 use Rattle.rmap.specs.Codes.{status_code}
-use Rattle.rmap.specs.declared.boot.TheConstants.{STAGING_SIZE}
 use Rattle.rmap.specs.declared.status.Status.{Status}
 use Rattle.rmap.specs.declared.status.Status.TheVariants.{GeneralError}
 use Rattle.spw.specs.Line.{lines_of}
@@ -40,10 +39,10 @@ use Rattle.job_packets.specs.Loads.{with_loads}
 use Rattle.job_packets.specs.declared.packet_options.HeaderWords.{HeaderWords}
 use Rattle.job_parts.specs.Turns.{AreTaken, SeesEnd}
 use Rattle.job_parts.specs.declared.stops.LineEnd.TheVariants.{Bad, NoMemory}
-use Rattle.job_nodes.specs.JobNode.{IsFreshOf, JobNodeValue, RefusesLine, SetsBytes, TakesLine, first_of}
+use Rattle.job_nodes.specs.JobNode.{IsFreshOf, JobNodeValue, RefusesLine, SetsBytes, TakesLine, first_of, load_reason}
 use Rattle.job_nodes.specs.declared.making.Loading.{Loading}
 use Rattle.job_nodes.specs.declared.making.Unmade.{Unmade}
-use Rattle.job_nodes.specs.declared.making.Unmade.TheVariants.{Memory, Refused, TooLong}
+use Rattle.job_nodes.specs.declared.making.Unmade.TheVariants.{Memory, Refused}
 
 -- ---- contents
 
@@ -134,19 +133,21 @@ abbrev pub told_refusal : Option Status → Status
 told_refusal None = GeneralError
 told_refusal (Some status) = status
 
--- the packets of a load were served, but its image was not loaded: this is the first status of them that is not 0
-pub record IsRefusedLoad (address : ℕ) (load : LoadValue) (before : JobNodeValue) (status : Status) : Type 0 where
-  pub last : Loading
-  pub taken : TakesLoad address load before last
-  pub unloaded : length last.node.programs ≤ length before.programs
-  pub is_status : status ≡ told_refusal last.refused
+-- the packets of a load were served, but its image was not loaded: this is the first status of them that is not 0, and the
+-- first byte of the load result at their port
+pub record IsRefusedLoad (address : ℕ) (load : LoadValue) (before : JobNodeValue) (status : Status) (reason : ℕ) : Type 0
+  where
+    pub last : Loading
+    pub taken : TakesLoad address load before last
+    pub unloaded : length last.node.programs ≤ length before.programs
+    pub is_status : status ≡ told_refusal last.refused
+    pub is_reason : reason ≡ load_reason last.node
 
--- why the load of that number was not done: its image has more bytes than the staging, or was refused; or memory was refused
+-- why the load of that number was not done: its image was refused; or memory was
 abbrev pub IsUnloaded : (address : ℕ) → LoadValue → (number : ℕ) → (before : JobNodeValue) → Unmade → Type 0
 IsUnloaded address load number before Memory = Unit {0}
-IsUnloaded address load number before (TooLong place) = (place ≡ number) × (STAGING_SIZE < length load.image)
-IsUnloaded address load number before (Refused place status) =
-    (place ≡ number) × IsRefusedLoad address load before status
+IsUnloaded address load number before (Refused place status reason) =
+    (place ≡ number) × IsRefusedLoad address load before status reason
 
 -- loads were done in turn up to one, which was not: they are counted from 1
 pub record StopsLoads (address : ℕ) (loads : List LoadValue) (before : JobNodeValue) (unmade : Unmade) : Type 0 where

@@ -7,3 +7,4 @@ pub mod judge;
 pub mod making;
 pub mod node;
 pub mod sim;
+pub mod sources;

@@ -1,7 +1,6 @@
 //! The node of a configuration: its banks begin with their contents, and images are loaded before the first packet.
 
 ghost use Rattle.std.specs.Prelude.{◌≡◌, ◌≤◌, ◌<◌, [], IfErr, IfOk, OnOk, None, length, slice_index_or, true};
-ghost use Rattle.rmap.specs.declared.boot.TheConstants.{STAGING_SIZE};
 ghost use Rattle.job_packets.specs.Requests.{has_reply_address};
 ghost use Rattle.job_nodes.specs.Making.{Fills, FillsOne, IsFilled, IsNoLoadLine, IsNodeOf, IsOwnHeader, IsUnloaded, IsUnmade, Loads, LoadsAll, StopsLoads, TakesLoad, TakesLoadLine, refusal_behind, refusal_of, told_refusal, unless_done};
 ghost use Rattle.job_nodes.specs.declared.making.Unmade.TheVariants.{Memory};
@@ -14,7 +13,7 @@ use job_packets::packet_options::HeaderWords;
 use job_parts::stops::LineHalt;
 use job_parts::turns::{TakesLines, take_lines};
 use node_parts::{Served, Stop};
-use rmap::{STAGING_SIZE, Status};
+use rmap::Status;
 use std::alloc::{AllocError, Global};
 use std::io::Write;
 
@@ -26,17 +25,14 @@ const OWN_INITIATOR: u8 = 0x67;
 pub enum Unmade {
     /// Memory was refused.
     Memory,
-    /// The image of the load of this number, from 1, has more bytes than the staging.
-    TooLong {
-        /// The number of the load.
-        number: usize,
-    },
     /// The image of the load of this number, from 1, was not loaded.
     Refused {
         /// The number of the load.
         number: usize,
         /// The first status of its packets that is not 0.
         status: Status,
+        /// The first byte of the load result behind it, in which its reason is.
+        reason: u8,
     },
 }
 
@@ -119,15 +115,14 @@ fn own_header(alloc: Global, address: u8) -> HeaderWords
     }
 }
 
-/// Lets the node of that logical address take the packets of a load. The condition is an image that the staging has room for.
+/// Lets the node of that logical address take the packets of a load. The condition is that none was refused yet.
 fn take_load(
     alloc: Global,
     loading: &mut Loading,
     address: u8,
     load: &OwnLoad,
 ) -> Result<(), AllocError>
-    requires unrefused { loading.old.refused ≡ None }
-    requires short { length load.now.image ≤ STAGING_SIZE }
+    requires { loading.old.refused ≡ None }
     ensures { OnOk result (TakesLoad address load.now loading.old.node loading.new) }
 {
     let header = own_header(alloc, address);
@@ -159,9 +154,6 @@ fn load_one(
     ensures loads { OnOk result (Loads address load.now loading.old.node loading.new.node) }
     ensures unloaded { IfErr result (IsUnloaded address load.now number loading.old.node) }
 {
-    if load.image().len() > STAGING_SIZE as usize {
-        return Err(Unmade::TooLong { number });
-    }
     let before = loading.node.loaded();
     loading.refused = None;
     take_load(alloc, loading, address, load)?;
@@ -169,7 +161,12 @@ fn load_one(
         Ok(())
     } else {
         let status = told_refusal(loading.refused);
-        Err(Unmade::Refused { number, status })
+        let reason = loading.node.load_reason();
+        Err(Unmade::Refused {
+            number,
+            status,
+            reason,
+        })
     }
 }
 
@@ -242,8 +239,8 @@ impl JobNode {
     /// that what is loaded, as if the packets of its loads had come in at port 0. The condition is a program that was accepted
     /// for the maps of the configuration.
     ///
-    /// `Memory` where memory was refused, and where [`JobNode::fresh`] refuses the configuration; `TooLong` and `Refused` at the
-    /// first load that is not done.
+    /// `Memory` where memory was refused, and where [`JobNode::fresh`] refuses the configuration; `Refused` at the first load that
+    /// is not done.
     pub fn of(alloc: Global, own: &OwnNode, program: Accepted) -> Result<JobNode, Unmade>
         requires { program.sizes ≡ own.now.sizes }
         ensures node { IfOk result (IsNodeOf own.now program) }

@@ -1,7 +1,7 @@
 //! The node that the jobs run.
 
 ghost use Rattle.std.specs.Prelude.{◌≡◌, ◌≤◌, ◌<◌, ◌+◌, ◌↔◌, IfErr, IfOk, IsSome, length, slice_get, true};
-ghost use Rattle.job_nodes.specs.JobNode.{HandsOut, IsConfig, IsFresh, IsFreshOf, RefusesLine, Serves, SetsBytes, TakesLine, first_of, is_full, journal_of};
+ghost use Rattle.job_nodes.specs.JobNode.{HandsOut, IsConfig, IsFresh, IsFreshOf, RefusesLine, Serves, SetsBytes, TakesLine, first_of, is_full, journal_of, load_reason};
 ghost use Rattle.machine.specs.Sizes.{IsInside};
 ghost use Rattle.node_programs.specs.Published.{sizes_of};
 ghost use Rattle.plain_cells.specs.Words.{word_in};
@@ -84,9 +84,10 @@ impl JobNode {
         JobNode::fresh(alloc, &config, program)
     }
 
-    /// How many ports the node has.
+    /// How many ports the node has: 1 to 32.
     pub fn ports(&self) -> u8
-        ensures { result ≡ length self.now.passes }
+        ensures value { result ≡ length self.now.passes }
+        ensures some { 1 ≤ result }
     {
         self.node.ports()
     }
@@ -201,6 +202,13 @@ impl JobNode {
     {
         let room = self.node.room(bank);
         self.node.turn_and_set(bank, address, bytes, room);
+    }
+
+    /// The first byte of the load result of port 0, in which its reason is.
+    pub fn load_reason(&self) -> u8
+        ensures { result ≡ load_reason self.now }
+    {
+        self.node.staging(0).load_result()[0]
     }
 
     /// How many programs were loaded.
