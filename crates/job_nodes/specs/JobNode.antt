@@ -9,7 +9,7 @@ use Rattle.std.specs.Prelude.{
   map,
   nat_le,
   ◌≤◌,
-  All,
+  true,
   slice_get,
   slice_index_or,
   replicate,
@@ -19,7 +19,7 @@ use Rattle.std.specs.Prelude.{
   None,
   Some,
 }
-use Rattle.std.specs.List.{range_with_len}
+use Rattle.std.specs.List.{list_all, range_with_len}
 use base.Stored.{Gv, gnil}
 use Rattle.bank.specs.Records.{BankValue, JournalValue, empty_journal}
 use Rattle.bver.specs.Justified.{AcceptedValue}
@@ -62,7 +62,7 @@ rooms_of banks = map (λ (b : BankValue). b.journal.room) banks
 -- the journal of each bank has room for an entry or more, there is a port, and each port holds some bytes
 pub record IsJobNode (s : JobNodeValue) : Type 0 where
   pub some : 1 ≤ length s.passes
-  pub rooms : All (λ room. 1 ≤ room) (rooms_of s.banks)
+  pub rooms : list_all (λ room. nat_le 1 room) (rooms_of s.banks) ≡ true
   pub ports : length s.held ≡ length s.passes
 
 -- the configuration of the node with so many ports, and maps of these sizes

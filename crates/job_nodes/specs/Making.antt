@@ -96,24 +96,25 @@ refusal_behind (Some status) came = Some status
 refusal_behind None None = None
 refusal_behind None (Some came) = refusal_of came.1
 
--- the node took a line of a load; nothing is printed
+-- the node took a line of a load
 pub record TakesLoadLine (line : List ℕ) (before after : Loading) (old new : Option (List ℕ)) : Type 0 where
   pub came : Option (ℕ × Served)
   pub taken : TakesLine line came before.node after.node
   pub refused : after.refused ≡ refusal_behind before.refused came
-  pub same : new ≡ old
 
 -- the node did not take the line, with which this is wrong
 abbrev pub IsNoLoadLine : List ℕ → SeesEnd Loading
 IsNoLoadLine line before after old new (Bad fault) = RefusesLine line fault before.node after.node
 IsNoLoadLine line before after old new NoMemory = ⊥
 
--- the node of that logical address took the packet lines of a load in turn: those that `packet load` prints
+-- the node of that logical address took the packet lines of a load in turn: those that `packet load` prints. What was printed
+-- of them is dropped
 pub record TakesLoad (address : ℕ) (load : LoadValue) (before : JobNodeValue) (last : Loading) : Type 0 where
   pub header : HeaderWords
   pub is_header : IsOwnHeader address header
+  pub dropped : Option (List ℕ)
   pub taken : AreTaken TakesLoadLine (lines_of (with_loads [] header 0 (load.slot ∷ []) load.image))
-      (record { node = before; refused = None }) last (Some []) (Some [])
+      (record { node = before; refused = None }) last (Some []) dropped
 
 -- the same, and the image was loaded
 pub record Loads (address : ℕ) (load : LoadValue) (before after : JobNodeValue) : Type 0 where

@@ -1,7 +1,9 @@
 //! The node of a configuration: its banks begin with their contents, and images are loaded before the first packet.
 
-ghost use Rattle.std.specs.Prelude.{◌≡◌, ◌≤◌, ◌<◌, [], IfErr, IfOk, OnOk, None, length, slice_index_or, true};
+ghost use Rattle.std.specs.Prelude.{◌≡◌, ◌<◌, [], ℕ, IfErr, IfOk, OnOk, None, length, slice_index_or, true};
 ghost use Rattle.job_packets.specs.Requests.{has_reply_address};
+ghost use Rattle.job_config.specs.OwnNodes.{plain_node};
+ghost use Rattle.job_nodes.specs.JobNode.{IsFresh};
 ghost use Rattle.job_nodes.specs.Making.{Fills, FillsOne, IsFilled, IsNoLoadLine, IsNodeOf, IsOwnHeader, IsUnloaded, IsUnmade, Loads, LoadsAll, StopsLoads, TakesLoad, TakesLoadLine, refusal_behind, refusal_of, told_refusal, unless_done};
 ghost use Rattle.job_nodes.specs.declared.making.Unmade.TheVariants.{Memory};
 
@@ -207,9 +209,11 @@ fn fill_one(node: &mut JobNode, bank: u8, bytes: &[u8])
 fn contents_at(contents: &[Contents], bank: u8) -> &[u8]
     ensures { result.now ≡ slice_index_or contents.now bank [] }
 {
-    match contents.get(usize::from(bank)) {
-        Some(own) => own.bytes(),
-        None => &[],
+    let place = usize::from(bank);
+    if place < contents.len() {
+        contents[place].bytes()
+    } else {
+        &[]
     }
 }
 
@@ -245,6 +249,9 @@ impl JobNode {
         requires { program.sizes ≡ own.now.sizes }
         ensures node { IfOk result (IsNodeOf own.now program) }
         ensures unmade { IfErr result (IsUnmade own.now program) }
+        // If no file says anything of it, it is the node of the words of a command line.
+        ensures plain { (ports : ℕ) → own.now ≡ plain_node ports program.sizes
+            → IfOk result (IsFresh ports program) }
     {
         let mut loading = Loading {
             node: filled(alloc, own, program)?,
@@ -252,5 +259,14 @@ impl JobNode {
         };
         load_all(alloc, &mut loading, own.address(), own.loads())?;
         Ok(loading.node)
+    }
+
+    /// The node of which no file says anything: with so many ports, of zero bytes, at each of which this program judges at first.
+    pub fn new(alloc: Global, ports: u8, program: Accepted) -> Result<JobNode, AllocError>
+        ensures { IfOk result (IsFresh ports program) }
+    {
+        // Memory alone can be refused to it: the command line gives no other number of ports than a node has, and nothing is loaded.
+        let own = OwnNode::plain(alloc, ports, program.sizes())?;
+        JobNode::of(alloc, &own, program).map_err(|_| AllocError)
     }
 }

@@ -1,7 +1,7 @@
 //! The node that the jobs run.
 
 ghost use Rattle.std.specs.Prelude.{◌≡◌, ◌≤◌, ◌<◌, ◌+◌, ◌↔◌, IfErr, IfOk, IsSome, length, slice_get, true};
-ghost use Rattle.job_nodes.specs.JobNode.{HandsOut, IsConfig, IsFresh, IsFreshOf, RefusesLine, Serves, SetsBytes, TakesLine, first_of, is_full, journal_of, load_reason};
+ghost use Rattle.job_nodes.specs.JobNode.{HandsOut, IsConfig, IsFreshOf, RefusesLine, Serves, SetsBytes, TakesLine, first_of, is_full, journal_of, load_reason};
 ghost use Rattle.machine.specs.Sizes.{IsInside};
 ghost use Rattle.node_programs.specs.Published.{sizes_of};
 ghost use Rattle.plain_cells.specs.Words.{word_in};
@@ -72,16 +72,6 @@ impl JobNode {
             feeds,
             reply: ReplyBuf::new(),
         })
-    }
-
-    /// The node of the jobs without a configuration of its own: with so many ports, of zero bytes, and at each port this program
-    /// judges at first.
-    pub fn new(alloc: Global, ports: u8, program: Accepted) -> Result<JobNode, AllocError>
-        ensures { IfOk result (IsFresh ports program) }
-    {
-        // Memory alone can be refused to it: the command line gives no other number of ports than a node has.
-        let config = node_config(ports, program.sizes());
-        JobNode::fresh(alloc, &config, program)
     }
 
     /// How many ports the node has: 1 to 32.
