@@ -60,7 +60,8 @@ pub fn source_arguments<'a>(alloc: Global, command: Command<'a>) -> Result<Comma
     ensures shape { IfOk result (λ c. app_of c ≡ with_source_options (app_of command.entry)) }
     ensures local { IfOk result (λ c. (fields_of c).has_globals ≡ false) }
 {
-    node_arguments(alloc, command)?.arg(node_option(alloc))
+    let node = node_option(alloc);
+    node_arguments(alloc, command)?.arg(node)
 }
 
 /// Whether an option has no value.

@@ -107,14 +107,19 @@ abbrev pub IsNoLoadLine : List ℕ → SeesEnd Loading
 IsNoLoadLine line before after old new (Bad fault) = RefusesLine line fault before.node after.node
 IsNoLoadLine line before after old new NoMemory = ⊥
 
--- the node of that logical address took the packet lines of a load in turn: those that `packet load` prints. What was printed
--- of them is dropped
+-- the node of that logical address took the packet lines of a load in turn: those that `packet load` prints. What is printed of
+-- them is dropped
 pub record TakesLoad (address : ℕ) (load : LoadValue) (before : JobNodeValue) (last : Loading) : Type 0 where
   pub header : HeaderWords
-  pub is_header : IsOwnHeader address header
+  pub text : List ℕ
+  pub start : Loading
+  pub shown : Option (List ℕ)
   pub dropped : Option (List ℕ)
-  pub taken : AreTaken TakesLoadLine (lines_of (with_loads [] header 0 (load.slot ∷ []) load.image))
-      (record { node = before; refused = None }) last (Some []) dropped
+  pub is_header : IsOwnHeader address header
+  pub lines : text ≡ with_loads [] header header.transaction (load.slot ∷ []) load.image
+  pub node : start.node ≡ before
+  pub unrefused : start.refused ≡ None
+  pub taken : AreTaken TakesLoadLine (lines_of text) start last shown dropped
 
 -- the same, and the image was loaded
 pub record Loads (address : ℕ) (load : LoadValue) (before after : JobNodeValue) : Type 0 where

@@ -17,7 +17,7 @@ use job_parts::turns::{TakesLines, take_lines};
 use node_parts::{Served, Stop};
 use rmap::Status;
 use std::alloc::{AllocError, Global};
-use std::io::Write;
+use std::io::{self, Write};
 
 /// The initiator logical address of what is loaded before the first packet.
 const OWN_INITIATOR: u8 = 0x67;
@@ -130,9 +130,8 @@ fn take_load(
     let header = own_header(alloc, address);
     let mut text = String::new(alloc);
     add_loads(&mut text, alloc, &header, &[load.slot()], load.image())?;
-    let mut printed = Vec::new(alloc);
-    // Memory alone can be refused to it: the lines are those of packets, and what they print stays in memory.
-    take_lines(alloc, loading, text.as_str(), &mut printed).map_err(|_| AllocError)
+    // Memory alone can be refused to it: the lines are those of packets, and nothing is printed.
+    take_lines(alloc, loading, text.as_str(), &mut io::sink()).map_err(|_| AllocError)
 }
 
 /// The status that is told of a load that was not done.
