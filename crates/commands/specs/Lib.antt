@@ -1,3 +1,4 @@
 pub mod CommandLine
+pub mod Notes
 pub mod Performed
 pub mod ShownTalk

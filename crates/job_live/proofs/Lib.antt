@@ -1,5 +1,6 @@
 mod CellRows
 mod EntryLines
+mod HostReading
 mod Journals
 mod LinesInTurn
 mod PutText

@@ -74,7 +74,7 @@ fn do_job<R: rt::Files + Input + Print + Eprint + Threads + Wait + Sync>(
     // What was held back fails again where it failed before, with the reason.
     match (done, out.flush()) {
         (Ok(end), Ok(())) => {
-            tell(rt, told_end(alloc, job, &end, &files));
+            tell(rt, told_end(alloc, job, &end, files.noted()));
             end.status.code()
         }
         (_, flushed) => lose_output(rt, flushed),
@@ -100,11 +100,11 @@ fn talk_lines<R: rt::Files + Input + Print + Eprint>(
         Ok(input) => input,
         Err(_) => return refuse(rt, &UsageFault::Memory),
     };
-    let mut talk = ToldTalk::new(rt, HostTalk::new(alloc, input, io::writer(rt)));
+    let mut talk = ToldTalk::new(rt, alloc, HostTalk::new(input, io::writer(rt)));
     let mut files = ToldFiles::new(rt, node.inputs());
     let mut place = None;
     let done = live(alloc, node, &mut files, &mut talk, &mut place);
-    tell(rt, told_node(alloc, node, place.as_deref(), &files));
+    tell(rt, told_node(alloc, node, place.as_deref(), files.noted()));
     end_talk(rt, done, talk.into_talk().into_output().1)
 }
 
@@ -114,7 +114,7 @@ fn show_input<R: Input + Print + Eprint>(rt: &R, alloc: Global, words: &ShowWord
         Ok(input) => input,
         Err(_) => return refuse(rt, &UsageFault::Memory),
     };
-    let told = ToldTalk::new(rt, HostTalk::new(alloc, input, io::writer(rt)));
+    let told = ToldTalk::new(rt, alloc, HostTalk::new(input, io::writer(rt)));
     let mut talk = DumpTalk::new(alloc, told, words.raw);
     let done = show_talk(alloc, &mut talk);
     end_talk(rt, done, talk.into_talk().into_talk().into_output().1)
@@ -130,7 +130,7 @@ fn talk_frames<R: rt::Files + Input + Print + Eprint>(
     let mut files = ToldFiles::new(rt, node.inputs());
     let mut place = None;
     let done = live_frames(alloc, node, &mut files, &mut link, &mut place);
-    tell(rt, told_node(alloc, node, place.as_deref(), &files));
+    tell(rt, told_node(alloc, node, place.as_deref(), files.noted()));
     let untold = link.untold();
     if untold > 0 {
         let _ = rt.eprint(&"texts that standard error did not take: ");

@@ -4,7 +4,7 @@ use Rattle.std.specs.Prelude.{Some, if◌then◌else◌}
 use Rattle.std.specs.Bool.{Decides}
 use Rattle.std.specs.Str.{bytes_eq}
 use Rattle.std.proofs.lemmas.Slice.Eq.{bytes_eq-Decides}
-use Rattle.test_kit_jobs.specs.Folders.{FolderValue, Sets, content_of}
+use Rattle.folders.specs.Folders.{FolderValue, Sets, content_of}
 
 -- names that differ are told apart
 apart : (name other : List ℕ) (is_same : Bool) → Decides is_same (name ≡ other) → other ≢ name → is_same ≡ false

@@ -1,8 +1,8 @@
 -- Files that are kept in memory.
 use Rattle.std.specs.Prelude.{◌≡◌, ◌≢◌, ℕ, List, [], ◌∷◌, Option, Some, None, Bool, true, false, if◌then◌else◌, map}
 use Rattle.std.specs.Str.{bytes_eq}
-use Rattle.test_kit_jobs.specs.declared.folder.Sheet.{Sheet}
-use Rattle.test_kit_jobs.specs.Sheets.{pair_of}
+use Rattle.folders.specs.declared.folder.Sheet.{Sheet}
+use Rattle.folders.specs.Sheets.{pair_of}
 
 -- the names and bytes that were written, the newest first
 abbrev pub FolderValue : Type 0

@@ -1,6 +1,6 @@
 -- A sheet of a folder.
 use Rattle.std.specs.Prelude.{ℕ, List, string_bytes}
-use Rattle.test_kit_jobs.specs.declared.folder.Sheet.{Sheet}
+use Rattle.folders.specs.declared.folder.Sheet.{Sheet}
 
 -- the name and the bytes
 abbrev pub pair_of : Sheet → List ℕ × List ℕ
