@@ -6,7 +6,7 @@ ghost use Rattle.job_config.specs.declared.faults.ConfigFault.TheVariants.{Memor
 
 use crate::places::{Kind, NameKey, NumberKey, Place};
 use bpf::ImageFault;
-use bver::Refused;
+use bver::{Refusal, Refused};
 use job_parts::node_codes::NodeCode;
 use rmap::Status;
 use std::alloc::{AllocError, AllocFailed, Global};
@@ -65,6 +65,17 @@ pub enum Trouble {
     NoImage(ImageFault),
     /// Its program may not judge on the node's maps.
     Refused(Refused),
+}
+
+impl Trouble {
+    /// Whether it is want of memory.
+    pub(crate) fn is_memory(self) -> bool {
+        match self {
+            Trouble::NoImage(fault) => fault == ImageFault::Memory,
+            Trouble::Refused(refused) => refused.code == Refusal::Memory,
+            Trouble::Unread | Trouble::TooLong { .. } => false,
+        }
+    }
 }
 
 /// What is wrong with a node's file.

@@ -7,7 +7,8 @@ use crate::numbers::number_at;
 use crate::own_node::{Contents, OwnLoad, OwnNode};
 use crate::places::{Kind, NameKey, NumberKey, Place};
 use crate::tables::{OWN, list_at, table_in};
-use bver::{Accepted, MapSizes};
+use bpf::Image;
+use bver::{Accepted, MapSizes, verify};
 use job_parts::factory::judging_program;
 use job_parts::faults::Fault;
 use job_parts::programs::{bytes_in, program_in, text_in};
@@ -41,6 +42,9 @@ fn bad_file(
     name: &str,
     trouble: Trouble,
 ) -> Result<ConfigFault, AllocError> {
+    if trouble.is_memory() {
+        return Ok(ConfigFault::Memory);
+    }
     let name = Word::new(alloc, name)?;
     Ok(ConfigFault::BadFile {
         place,
@@ -173,6 +177,18 @@ fn first_program<F: Files>(
     }
 }
 
+/// Why bytes are no image that may judge on a node with these maps, if they are none.
+fn trouble_in(alloc: Global, bytes: &[u8], sizes: MapSizes) -> Option<Trouble> {
+    let image = match Image::read(alloc, bytes) {
+        Ok(image) => image,
+        Err(fault) => return Some(Trouble::NoImage(fault)),
+    };
+    match verify(alloc, image, &sizes) {
+        Ok(_) => None,
+        Err(refused) => Some(Trouble::Refused(refused)),
+    }
+}
+
 /// The load of a table.
 fn load_in<F: Files>(
     alloc: Global,
@@ -180,13 +196,18 @@ fn load_in<F: Files>(
     files: &mut F,
     item: &Value,
     place: Place,
+    sizes: MapSizes,
 ) -> Result<OwnLoad, ConfigFault> {
     let table = table_in(item, place)?;
     let slot = number_at(table, place, NumberKey::Slot, 0, u32::from(LAST_SLOT))?;
     let name = name_in(table, place, NameKey::Image)?;
     let most = STAGING_SIZE as usize;
-    let image = bytes_beside(alloc, source, files, place, NameKey::Image, name, most)?;
-    Ok(OwnLoad::new(slot as u8, image))
+    let key = NameKey::Image;
+    let image = bytes_beside(alloc, source, files, place, key, name, most)?;
+    match trouble_in(alloc, image.as_slice(), sizes) {
+        Some(trouble) => Err(bad_file(alloc, place, key, name, trouble)?),
+        None => Ok(OwnLoad::new(slot as u8, image)),
+    }
 }
 
 /// What is loaded before the first packet.
@@ -194,6 +215,7 @@ fn loads_of<F: Files>(
     alloc: Global,
     source: Source<'_>,
     files: &mut F,
+    sizes: MapSizes,
 ) -> Result<Vec<OwnLoad>, ConfigFault> {
     let list = match list_at(source.table, Kind::Load)? {
         Some(list) => list,
@@ -205,7 +227,7 @@ fn loads_of<F: Files>(
             kind: Kind::Load,
             number: loads.len() + 1,
         };
-        let load = load_in(alloc, source, files, item, place)?;
+        let load = load_in(alloc, source, files, item, place, sizes)?;
         loads.push(load)?;
     }
     Ok(loads)
@@ -226,7 +248,7 @@ fn node_with<F: Files>(
     } = configuration;
     let contents = all_contents(alloc, source, files, banks.as_slice())?;
     let program = first_program(alloc, source, files, sizes)?;
-    let loads = loads_of(alloc, source, files)?;
+    let loads = loads_of(alloc, source, files, sizes)?;
     let node = OwnNode::of_parts(address, ports, banks, contents, sizes, loads);
     Ok(ReadNode { node, program })
 }
