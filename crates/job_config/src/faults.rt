@@ -8,7 +8,6 @@ use crate::places::{Kind, NameKey, NumberKey, Place};
 use bpf::ImageFault;
 use bver::{Refusal, Refused};
 use job_parts::node_codes::NodeCode;
-use rmap::Status;
 use std::alloc::{AllocError, AllocFailed, Global};
 use std::fmt;
 use std::marker::Model;
@@ -143,8 +142,10 @@ pub enum ConfigFault {
     NotLoaded {
         /// Its number, from 1.
         number: usize,
-        /// The status of the first of its packets that was not carried out.
-        status: Status,
+        /// The first status of its packets that is not 0; 0 where there is none.
+        status: u8,
+        /// The first byte of the load result.
+        load: u8,
     },
 }
 
@@ -298,10 +299,11 @@ impl fmt::Display for ConfigFault {
                 let (key, name) = (key.word(), name.text.escape_debug());
                 write!(f, "{place}{key} {name}{trouble}")
             }
-            ConfigFault::NotLoaded { number, status } => {
-                let status = status.code();
-                write!(f, "load {number}: status {status}")
-            }
+            ConfigFault::NotLoaded {
+                number,
+                status,
+                load,
+            } => write!(f, "load {number}: status {status}, load fault {load}"),
         }
     }
 }

@@ -1,10 +1,8 @@
 //! A node as a header of C.
 
 use crate::c_bytes::print_c_bytes;
-use bver::Accepted;
 use job_config::own_node::OwnNode;
 use job_parts::replies::print_hex;
-use job_parts::stops::Halt;
 use machine::{MapKind, MapSizes};
 use node_parts::BankConfig;
 use std::io::{self, Write};
@@ -110,17 +108,12 @@ fn print_loads<W: Write>(out: &mut W, node: &OwnNode) -> io::Result<()> {
 }
 
 /// Prints the header of a node, with the image that judges in all slots at first.
-pub fn print_header<'a, W: Write>(
-    out: &mut W,
-    node: &OwnNode,
-    program: &Accepted,
-) -> Result<(), Halt<'a>> {
-    let image = program.image().write()?;
+pub fn print_header<W: Write>(out: &mut W, node: &OwnNode, image: &[u8]) -> io::Result<()> {
     print_numbers(out, node)?;
     print_banks(out, node.banks())?;
     print_maps(out, &node.sizes())?;
-    print_array(out, "node_image", image.as_slice())?;
+    print_array(out, "node_image", image)?;
     print_contents(out, node)?;
     print_loads(out, node)?;
-    Ok(writeln!(out, "\n#endif")?)
+    writeln!(out, "\n#endif")
 }

@@ -3,5 +3,5 @@
 
 mod c_bytes;
 mod c_header;
-mod node_lines;
 pub mod node_file;
+mod node_lines;

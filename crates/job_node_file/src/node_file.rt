@@ -1,7 +1,18 @@
 //! The job `node`.
 
+ghost use Rattle.std.specs.Prelude.{◌≡◌, IfErr, IfOk, codes, false, string_bytes};
+ghost use Rattle.clap.specs.Matches.{found_of};
+ghost use Rattle.clap.specs.Simple.{app_of};
+ghost use Rattle.clap.specs.Walk.{rows_of};
+ghost use Rattle.clap.specs.declared.builder.command.Command.TheViews.{out-Command as fields_of};
+ghost use Rattle.job_node_file.specs.NodeFileJob.{NamesNodeFile, node_file_app};
+ghost use Rattle.job_node_file.specs.Printed.{IsNotTold, PrintsNodeFile};
+ghost use Rattle.job_parts.specs.Arguments.{Lacks};
+ghost use Rattle.job_parts.specs.Statuses.{IsDoneWith};
+ghost use Rattle.job_parts.specs.Stops.{StopsBy};
+
 use crate::c_header::print_header;
-use crate::node_lines::print_node;
+use crate::node_lines::{print_node, weights_of};
 use clap::{ArgMatches, Command};
 use job_config::reading::{ReadNode, node_in};
 use job_parts::arguments::{file, flag, is_set, name_of};
@@ -25,12 +36,15 @@ pub struct NodeFileWords {
 impl NodeFileWords {
     /// What the job reads: the node's file; those beside it are named there.
     pub fn inputs(&self) -> Inputs<'_> {
-        Inputs::one(InputFile::new(self.node.as_str(), Content::Text))
+        Inputs::one(InputFile::new(self.node.as_str(), Content::Node))
     }
 }
 
 /// `node FILE [--c]`.
-pub fn node_file_command<'a>(alloc: Global) -> Result<Command<'a>, AllocError> {
+pub fn node_file_command<'a>(alloc: Global) -> Result<Command<'a>, AllocError>
+    ensures shape { IfOk result (λ c. app_of c ≡ node_file_app) }
+    ensures local { IfOk result (λ c. (fields_of c).has_globals ≡ false) }
+{
     let about = "Prints the node of a node's file, to be checked, or as a header of C";
     let help = "The node's file, or - for standard input";
     let node = file(alloc, "node", "FILE", help);
@@ -43,7 +57,10 @@ pub fn node_file_command<'a>(alloc: Global) -> Result<Command<'a>, AllocError> {
 }
 
 /// The words of `node` with these matches.
-pub fn node_file_job(alloc: Global, found: &ArgMatches) -> Result<NodeFileWords, UsageFault> {
+pub fn node_file_job(alloc: Global, found: &ArgMatches) -> Result<NodeFileWords, UsageFault>
+    ensures ok { IfOk result (NamesNodeFile (rows_of (found_of found.now))) }
+    ensures err { IfErr result (Lacks (codes "node") (rows_of (found_of found.now))) }
+{
     let node = name_of(alloc, found, "node")?;
     let header = is_set(found, "c");
     Ok(NodeFileWords { node, header })
@@ -57,12 +74,20 @@ pub fn print_node_file<'a, F: Files, W: Write>(
     words: &'a NodeFileWords,
     files: &mut F,
     out: &mut W,
-) -> Result<Status, Halt<'a>> {
+) -> Result<Status, Halt<'a>>
+    ensures done { IfOk result (IsDoneWith (PrintsNodeFile F.reads words.now files.old files.new
+        (W.contents out.old) (W.contents out.new))) }
+    ensures stops { IfErr result (StopsBy (λ fault.
+        IsNotTold F.reads words.now files.old files.new fault)) }
+    ensures quiet { IfErr result (StopsBy (λ _. W.contents out.new ≡ W.contents out.old)) }
+{
     let ReadNode { node, program } = node_in(alloc, files, words.node.as_str())?;
     if words.header {
-        print_header(out, &node, &program)?;
+        let image = program.image().write()?;
+        print_header(out, &node, image.as_slice())?;
     } else {
-        print_node(alloc, out, &node, &program)?;
+        let weights = weights_of(alloc, node.loads())?;
+        print_node(out, &node, program.image().weight(), weights.as_slice())?;
     }
     Ok(Status::Done)
 }

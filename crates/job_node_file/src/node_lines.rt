@@ -1,14 +1,11 @@
 //! The lines of a node, for who checks them.
 
 use bpf::Image;
-use bver::Accepted;
 use job_config::own_node::{OwnLoad, OwnNode};
-use job_parts::faults::Fault;
 use job_parts::replies::print_hex;
-use job_parts::stops::Halt;
 use machine::{MapKind, MapSizes};
 use node_parts::BankConfig;
-use std::alloc::Global;
+use std::alloc::{AllocError, Global};
 use std::io::{self, Write};
 
 /// Prints where a bank lies, and what its journal has room for: `bank EXTENDED FIRST LAST size N journal N`, and `contents N`
@@ -55,40 +52,49 @@ fn print_maps<W: Write>(out: &mut W, sizes: &MapSizes) -> io::Result<()> {
     Ok(())
 }
 
-/// Prints a load: `load N slot N weight N`.
-fn print_load<'a, W: Write>(
-    alloc: Global,
-    out: &mut W,
-    number: usize,
-    load: &OwnLoad,
-) -> Result<(), Halt<'a>> {
-    let image = match Image::read(alloc, load.image()) {
-        Ok(image) => image,
-        Err(_) => return Err(Halt::Ended(Fault::NoMemory)),
-    };
-    let (slot, weight) = (load.slot(), image.weight());
-    Ok(writeln!(out, "load {number} slot {slot} weight {weight}")?)
+/// What a run of the program of an image costs at most.
+fn weight_of(alloc: Global, load: &OwnLoad) -> Result<u64, AllocError> {
+    match Image::read(alloc, load.image()) {
+        Ok(image) => Ok(image.weight()),
+        // The node's file was read with an image that may judge: memory alone was refused.
+        Err(_) => Err(AllocError),
+    }
+}
+
+/// What a run of each program that is loaded costs at most.
+pub fn weights_of(alloc: Global, loads: &[OwnLoad]) -> Result<Vec<u64>, AllocError> {
+    let mut weights = Vec::new(alloc);
+    for load in loads {
+        weights.push(weight_of(alloc, load)?)?;
+    }
+    Ok(weights)
+}
+
+/// Prints the loads, in this order, with these weights: `load N slot N weight N`.
+fn print_loads<W: Write>(out: &mut W, loads: &[OwnLoad], weights: &[u64]) -> io::Result<()> {
+    let mut number: usize = 0;
+    for (load, weight) in loads.iter().zip(weights) {
+        number += 1;
+        let slot = load.slot();
+        writeln!(out, "load {number} slot {slot} weight {weight}")?;
+    }
+    Ok(())
 }
 
 /// Prints the lines of a node: its logical address, how many ports it has, its banks and maps, what the program costs at most that
-/// judges at first, and what is loaded before the first packet.
-pub fn print_node<'a, W: Write>(
-    alloc: Global,
+/// judges at first, and what is loaded before the first packet, with these weights.
+pub fn print_node<W: Write>(
     out: &mut W,
     node: &OwnNode,
-    program: &Accepted,
-) -> Result<(), Halt<'a>> {
-    let (ports, weight) = (node.ports(), program.image().weight());
+    weight: u64,
+    weights: &[u64],
+) -> io::Result<()> {
+    let ports = node.ports();
     write!(out, "address ")?;
     print_hex(out, &[node.address()])?;
     writeln!(out, "\nports {ports}")?;
     print_banks(out, node)?;
     print_maps(out, &node.sizes())?;
     writeln!(out, "program weight {weight}")?;
-    let mut number: usize = 0;
-    for load in node.loads() {
-        number += 1;
-        print_load(alloc, out, number, load)?;
-    }
-    Ok(())
+    print_loads(out, node.loads(), weights)
 }
