@@ -10,6 +10,7 @@ use Rattle.job_charts.specs.MapJob.{map_app, NamesMap, SpoilsMap}
 use Rattle.job_config.specs.NodeLines.{NamesNodeLines, SpoilsNodeLines}
 use Rattle.job_decide.specs.DecideJob.{decide_app, NamesDecide, SpoilsDecide}
 use Rattle.job_live.specs.Words.{live_app, NamesLive, SpoilsLive}
+use Rattle.job_node_file.specs.NodeFileJob.{NamesNodeFile, node_file_app}
 use Rattle.job_rehearse.specs.RehearseJob.{rehearse_app, NamesRehearse, SpoilsRehearse}
 use Rattle.job_parts.specs.Lines.{NamesLines, SpoilsLines}
 use Rattle.job_texts.specs.AsmJob.{asm_app, NamesAsm}
@@ -39,6 +40,7 @@ use Rattle.commands.specs.declared.jobs.Job.TheVariants.{
   Explain,
   Why,
   Weigh,
+  Node,
   Packet,
   Show,
   Decide,
@@ -83,9 +85,9 @@ unfoldable pub rmapctl_app : App
 rmapctl_app =
     with_chart_jobs
     (with_packet_jobs
-    (with_subcommand (with_subcommand (with_subcommand (with_subcommand
+    (with_subcommand (with_subcommand (with_subcommand (with_subcommand (with_subcommand
     (with_subcommand (with_subcommand (with_first_jobs (on_top rmapctl_shape (new_app (codes "rmapctl"))))
-    serve_app.top) sim_app.top) live_app.top) explain_app.top) why_app.top) weigh_app.top))
+    serve_app.top) sim_app.top) live_app.top) explain_app.top) why_app.top) weigh_app.top) node_file_app.top))
 
 -- the subcommand that clap finds in the words, with its matches
 abbrev pub subcommand_in : List Text → Option (Text × List Row)
@@ -105,6 +107,7 @@ Names (Some found) (Live words) = (found.0 ≡ codes "live") × NamesLive found.
 Names (Some found) (Once (Explain words)) = (found.0 ≡ codes "explain") × NamesExplain found.1 words
 Names (Some found) (Once (Why args)) = (found.0 ≡ codes "why") × NamesImage found.1 args
 Names (Some found) (Once (Weigh words)) = (found.0 ≡ codes "weigh") × NamesWeigh found.1 words
+Names (Some found) (Once (Node words)) = (found.0 ≡ codes "node") × NamesNodeFile found.1 words
 Names (Some found) (Once (Packet words)) = (found.0 ≡ codes "packet") × NamesPacket found.1 words
 Names (Some found) (Once (Show words)) = (found.0 ≡ codes "show") × NamesShow found.1 words
 Names (Some found) (Once (Decide words)) = (found.0 ≡ codes "decide") × NamesDecide found.1 words
@@ -133,6 +136,7 @@ pub record IsSpoiled (found : Text × List Row) : Type 0 where
   pub explain : found.0 ≡ codes "explain" → SpoilsExplain found.1
   pub why : found.0 ≡ codes "why" → SpoilsImage found.1
   pub weigh : found.0 ≡ codes "weigh" → SpoilsWeigh found.1
+  pub node : found.0 ≡ codes "node" → first_of (codes "node") found.1 ≡ None
   pub packet : found.0 ≡ codes "packet" → SpoilsPacket found.1
   pub show : found.0 ≡ codes "show" → first_of (codes "lines") found.1 ≡ None
   pub decide : found.0 ≡ codes "decide" → SpoilsDecide found.1

@@ -10,6 +10,7 @@ use job_codes::explain::{ExplainWords, explain};
 use job_codes::why::why_file;
 use job_config::node_lines::NodeLines;
 use job_decide::decide::{DecideWords, decide_file};
+use job_node_file::node_file::{NodeFileWords, print_node_file};
 use job_nodes::judge::judge_file;
 use job_nodes::sim::sim_file;
 use job_packets::made_packets::packet_file;
@@ -62,6 +63,8 @@ pub enum Job {
     Why(ImageArgs),
     /// Verifies a BPF image, and prints what a run of it costs at most.
     Weigh(WeighWords),
+    /// Prints the node of a node's file, as lines or as a header of C.
+    Node(NodeFileWords),
     /// Makes packet lines: of a command, or of a load.
     Packet(PacketWords),
     /// Prints in words what packet lines are.
@@ -88,6 +91,7 @@ impl Job {
             Job::Why(args) => args.told_inputs(),
             Job::Policy(words) => words.inputs(),
             Job::Weigh(words) => words.inputs(),
+            Job::Node(words) => words.inputs(),
             Job::Packet(words) => words.inputs(),
             Job::Show(words) => words.inputs(),
             Job::Decide(words) => words.inputs(),
@@ -140,6 +144,7 @@ fn attempt<'a, J: Family + Send + Sync + 'static, R: Threads + Wait + Sync, F: F
         Job::Explain(words) => explain(alloc, words, out),
         Job::Why(args) => why_file(alloc, args, files, out),
         Job::Weigh(words) => weigh_file(alloc, words, files, out),
+        Job::Node(words) => print_node_file(alloc, words, files, out),
         Job::Packet(words) => packet_file(alloc, words, files, out),
         Job::Show(words) => show_file(alloc, words.lines.as_str(), files, out),
         Job::Decide(words) => decide_file(alloc, words, files, out),

@@ -31,6 +31,7 @@ pub use job_live::host::HostTalk;
 pub use job_live::live::live;
 pub use job_live::talk::Talk;
 pub use job_live::words::LiveWords;
+pub use job_node_file::node_file::NodeFileWords;
 pub use job_packets::orders::{Order, Source};
 pub use job_packets::packet::PacketWords;
 pub use job_packets::packet_options::HeaderWords;

@@ -17,6 +17,7 @@ use job_codes::why::why_command;
 use job_config::node_lines::node_lines;
 use job_decide::decide::{decide_command, decide_job};
 use job_live::words::{live_command, live_job};
+use job_node_file::node_file::{node_file_command, node_file_job};
 use job_nodes::judge::judge_command;
 use job_nodes::sim::sim_command;
 use job_packets::packet::{packet_command, packet_job};
@@ -92,6 +93,7 @@ pub(crate) fn command_line<'a>(alloc: Global) -> Result<Command<'a>, AllocError>
     let explain = explain_command(alloc)?;
     let why = why_command(alloc)?;
     let weigh = weigh_command(alloc)?;
+    let node = node_file_command(alloc)?;
     let rmapctl = Command::new(alloc, "rmapctl").bin_name("rmapctl")?;
     let about = "An RMAP target whose commands are judged by BPF programs";
     let top = rmapctl
@@ -106,7 +108,8 @@ pub(crate) fn command_line<'a>(alloc: Global) -> Result<Command<'a>, AllocError>
         .subcommand(live)?
         .subcommand(explain)?
         .subcommand(why)?
-        .subcommand(weigh)?;
+        .subcommand(weigh)?
+        .subcommand(node)?;
     let told = with_packet_jobs(alloc, all)?;
     with_chart_jobs(alloc, told)
 }
@@ -162,6 +165,9 @@ fn work_of(alloc: Global, found: &ArgMatches) -> Result<Work, UsageFault>
     }
     if let Some(weigh) = found.subcommand_matches("weigh") {
         return Ok(Work::Once(Job::Weigh(weigh_job(alloc, weigh)?)));
+    }
+    if let Some(node) = found.subcommand_matches("node") {
+        return Ok(Work::Once(Job::Node(node_file_job(alloc, node)?)));
     }
     if let Some(packet) = found.subcommand_matches("packet") {
         return Ok(Work::Once(Job::Packet(packet_job(alloc, packet)?)));

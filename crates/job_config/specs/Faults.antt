@@ -56,7 +56,7 @@ code_of (NoTable place) = Some (kind_code place.kind)
 code_of (BadCount kind count) = Some (kind_code kind)
 code_of (NoName place key) = Some (name_code key)
 code_of (BadFile place key name trouble) = Some (name_code key)
-code_of (NotLoaded number status) = Some codes.Load
+code_of (NotLoaded number status load) = Some codes.Load
 
 -- the next step of a reading, unless a fault was found
 infixl 10 ◌>>=◌

@@ -1,7 +1,7 @@
 //! The configuration of a node by the text of its file.
 
-ghost use Rattle.std.specs.Prelude.{◌≡◌, IfErr, IfOk, true};
-ghost use Rattle.job_config.specs.Configured.{IsBadConfiguration, IsConfiguration};
+ghost use Rattle.std.specs.Prelude.{◌≡◌, IfErr, IfOk, Ok, true};
+ghost use Rattle.job_config.specs.Configured.{IsBadConfiguration, IsConfiguration, banks_at};
 ghost use Rattle.node_parts.specs.Nodes.{are_within};
 ghost use Rattle.toml.specs.View.{table_view};
 
@@ -38,6 +38,7 @@ pub struct Configuration {
 pub fn configuration_of(alloc: Global, table: &Table) -> Result<Configuration, ConfigFault>
     ensures says { IfOk result (IsConfiguration (table_view table.now)) }
     ensures bad { IfErr result (IsBadConfiguration (table_view table.now)) }
+    ensures banks { IfOk result (λ c. banks_at (table_view table.now) ≡ Ok c.banks.items) }
     ensures within { IfOk result (λ c. are_within c.banks.items ≡ true) }
 {
     check_keys(alloc, table)?;

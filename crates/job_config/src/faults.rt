@@ -6,9 +6,8 @@ ghost use Rattle.job_config.specs.declared.faults.ConfigFault.TheVariants.{Memor
 
 use crate::places::{Kind, NameKey, NumberKey, Place};
 use bpf::ImageFault;
-use bver::Refused;
+use bver::{Refusal, Refused};
 use job_parts::node_codes::NodeCode;
-use rmap::Status;
 use std::alloc::{AllocError, AllocFailed, Global};
 use std::fmt;
 use std::marker::Model;
@@ -65,6 +64,17 @@ pub enum Trouble {
     NoImage(ImageFault),
     /// Its program may not judge on the node's maps.
     Refused(Refused),
+}
+
+impl Trouble {
+    /// Whether it is want of memory.
+    pub(crate) fn is_memory(self) -> bool {
+        match self {
+            Trouble::NoImage(fault) => fault == ImageFault::Memory,
+            Trouble::Refused(refused) => refused.code == Refusal::Memory,
+            Trouble::Unread | Trouble::TooLong { .. } => false,
+        }
+    }
 }
 
 /// What is wrong with a node's file.
@@ -132,8 +142,10 @@ pub enum ConfigFault {
     NotLoaded {
         /// Its number, from 1.
         number: usize,
-        /// The status of the first of its packets that was not carried out.
-        status: Status,
+        /// The first status of its packets that is not 0; 0 where there is none.
+        status: u8,
+        /// The first byte of the load result.
+        load: u8,
     },
 }
 
@@ -287,10 +299,11 @@ impl fmt::Display for ConfigFault {
                 let (key, name) = (key.word(), name.text.escape_debug());
                 write!(f, "{place}{key} {name}{trouble}")
             }
-            ConfigFault::NotLoaded { number, status } => {
-                let status = status.code();
-                write!(f, "load {number}: status {status}")
-            }
+            ConfigFault::NotLoaded {
+                number,
+                status,
+                load,
+            } => write!(f, "load {number}: status {status}, load fault {load}"),
         }
     }
 }
