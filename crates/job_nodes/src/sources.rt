@@ -1,12 +1,12 @@
 //! The node that a job runs on: that of the words of its command line, or that of a file.
 
 ghost use Rattle.std.specs.Prelude.{IfErr, IfOk};
-ghost use Rattle.job_nodes.specs.Sources.{HoldsNoNode, HoldsNode, IsFileNode, IsNoFileNode, IsNoPlainNode, IsPlainNode};
+ghost use Rattle.job_nodes.specs.Sources.{EndsUnmade, HoldsNoNode, HoldsNode, IsFileNode, IsNoFileNode, IsNoPlainNode, IsPlainNode};
 
 use crate::making::Unmade;
 use crate::node::JobNode;
 use job_config::faults::ConfigFault;
-use job_config::reading::{fault_of, node_in};
+use job_config::reading::{ReadNode, fault_of, node_in};
 use job_config::sources::NodeSource;
 use job_parts::factory::judging_program;
 use job_parts::faults::Fault;
@@ -28,8 +28,10 @@ fn plain_node<'a, F: Files>(
     Ok(JobNode::new(alloc, words.ports, program)?)
 }
 
-/// Why there is no node of the node's file of this name.
-fn unmade<'a>(alloc: Global, name: &str, why: Unmade) -> Fault<'a> {
+/// What ends a job whose node was not made of the node's file of this name.
+fn unmade<'a>(alloc: Global, name: &str, why: Unmade) -> Fault<'a>
+    ensures { EndsUnmade why result }
+{
     match why {
         Unmade::Memory => Fault::NoMemory,
         Unmade::Refused {
@@ -61,9 +63,12 @@ fn file_node<'a, F: Files>(
     alloc: Global,
     name: &'a str,
     files: &mut F,
-) -> Result<JobNode, Fault<'a>> {
-    let read = node_in(alloc, files, name)?;
-    match JobNode::of(alloc, &read.node, read.program) {
+) -> Result<JobNode, Fault<'a>>
+    ensures node { IfOk result (λ node. IsFileNode F.reads name.now files.old node files.new) }
+    ensures none { IfErr result (IsNoFileNode F.reads name.now files.old files.new) }
+{
+    let ReadNode { node: own, program } = node_in(alloc, files, name)?;
+    match JobNode::of(alloc, &own, program) {
         Ok(node) => Ok(node),
         Err(why) => Err(unmade(alloc, name, why)),
     }
