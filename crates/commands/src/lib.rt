@@ -36,7 +36,6 @@ pub use job_packets::orders::{Order, Source};
 pub use job_packets::packet::PacketWords;
 pub use job_packets::packet_options::HeaderWords;
 pub use job_parts::faults::Fault;
-pub use job_parts::options::NodeWords;
 pub use job_parts::status::Status;
 pub use job_parts::stops::WriteFault;
 pub use job_parts::storage::{Cannot, Files};
