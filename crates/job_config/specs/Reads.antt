@@ -50,7 +50,7 @@ use Rattle.job_config.specs.Configured.{
   table_in,
 }
 use Rattle.job_config.specs.Faults.{code_of}
-use Rattle.job_config.specs.Names.{IsBeside, name_at}
+use Rattle.job_config.specs.Names.{IsBeside, IsPathOf, name_at}
 use Rattle.job_config.specs.Numbers.{number_at}
 use Rattle.job_config.specs.OwnNodes.{LoadValue, OwnNodeValue}
 use Rattle.job_config.specs.Places.{place}
@@ -151,11 +151,6 @@ module _ {S : Type 0} (reads : Reads S) (file : List ℕ) where
     pub listed : list_at table Bank ≡ Ok list
     pub held : HoldsContents list banks before contents after
 
-  -- the path of the file that the name is of, if there is a name
-  abbrev pub IsPathOf : Option (List ℕ) → Option (List ℕ) → Type 0
-  IsPathOf None path = path ≡ None
-  IsPathOf (Some name) path = (own : List ℕ) × IsBeside file name own × (path ≡ Some own)
-
   -- the load of a table: its slot, and the bytes of its image, which the staging has room for
   pub record HoldsLoad (at : Place) (value : Data) (before : S) (load : LoadValue) (after : S) : Type 0 where
     pub table : Members
@@ -185,7 +180,7 @@ module _ {S : Type 0} (reads : Reads S) (file : List ℕ) where
     pub name : Option (List ℕ)
     pub path : Option (List ℕ)
     pub named : name_at table own_place Program ≡ Ok name
-    pub path_of : IsPathOf name path
+    pub path_of : IsPathOf file name path
     pub held : HoldsProgram reads before path program.program after
     pub justified : IsJustified program.program program.sizes
     pub safe : IsSafe program.program program.sizes

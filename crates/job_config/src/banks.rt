@@ -1,9 +1,11 @@
 //! The banks of a node's file.
 
-ghost use Rattle.std.specs.Prelude.{◌≡◌, ◌∷◌, [], IfErr, IfOk, Ok};
+ghost use Rattle.std.specs.Prelude.{◌≡◌, ◌∷◌, [], IfErr, IfOk, Ok, length, true};
 ghost use Rattle.job_config.specs.Configured.{bank_in, banks_at, each, greatest_size, next_bank};
 ghost use Rattle.job_config.specs.Faults.{IsFaultOf};
 ghost use Rattle.job_config.specs.OwnNodes.{own_bank};
+ghost use Rattle.node_parts.specs.Nodes.{are_within, is_within};
+ghost use Rattle.std.specs.List.{list_all};
 ghost use Rattle.toml.specs.View.{items_view, table_view, view};
 
 use crate::faults::ConfigFault;
@@ -31,7 +33,8 @@ fn greatest_size(base: u32) -> u32
 
 /// The bank of a table.
 fn bank_in(item: &Value, number: usize) -> Result<BankConfig, ConfigFault>
-    ensures { result ≡ bank_in number (view item.now) }
+    ensures value { result ≡ bank_in number (view item.now) }
+    ensures within { IfOk result (λ bank. is_within bank ≡ true) }
 {
     let place = Place {
         kind: Kind::Bank,
@@ -48,6 +51,8 @@ fn bank_in(item: &Value, number: usize) -> Result<BankConfig, ConfigFault>
 fn banks_in(alloc: Global, list: &[Value]) -> Result<Vec<BankConfig>, ConfigFault>
     ensures ok { IfOk result (λ banks. each next_bank [] (items_view list.now) ≡ Ok banks.items) }
     ensures err { IfErr result (IsFaultOf (each next_bank [] (items_view list.now))) }
+    ensures within { IfOk result (λ banks. list_all is_within banks.items ≡ true) }
+    ensures count { IfOk result (λ banks. length banks.items ≡ length list.now) }
 {
     let mut banks = Vec::new(alloc);
     for item in list {
@@ -70,6 +75,7 @@ fn own_banks(alloc: Global) -> Result<Vec<BankConfig>, AllocError>
 pub fn banks_of(alloc: Global, table: &Table) -> Result<Vec<BankConfig>, ConfigFault>
     ensures ok { IfOk result (λ banks. banks_at (table_view table.now) ≡ Ok banks.items) }
     ensures err { IfErr result (IsFaultOf (banks_at (table_view table.now))) }
+    ensures within { IfOk result (λ banks. are_within banks.items ≡ true) }
 {
     let Some(list) = list_at(table, Kind::Bank)? else {
         return Ok(own_banks(alloc)?);

@@ -6,7 +6,7 @@ ghost use Rattle.toml.specs.View.{items_view, table_view};
 
 use crate::faults::{ConfigFault, Word};
 use crate::places::{Kind, Place};
-use crate::tables::OWN;
+use crate::tables::{OWN, held};
 use std::alloc::Global;
 use toml::{Table, Value};
 
@@ -14,7 +14,7 @@ use toml::{Table, Value};
 fn unknown_key(table: &Table, kind: Kind) -> Option<&str>
     ensures { option_map (λ key. key.now) result ≡ unknown_key kind (table_view table.now) }
 {
-    for key in table.keys() {
+    for (key, _value) in table.iter() {
         if !kind.knows(key.as_str()) {
             return Some(key.as_str());
         }
@@ -56,7 +56,10 @@ fn check_kind(alloc: Global, table: &Table, kind: Kind) -> Result<(), ConfigFaul
     ensures ok { IfOk result (λ _. unknown_of_kind (table_view table.now) kind ≡ None) }
     ensures err { IfErr result (IsKeyFault (unknown_of_kind (table_view table.now) kind)) }
 {
-    match table.get(kind.word()).and_then(Value::as_array) {
+    let Some(value) = held(table, kind.word()) else {
+        return Ok(());
+    };
+    match value.as_array() {
         Some(list) => check_list(alloc, list.as_slice(), kind),
         None => Ok(()),
     }

@@ -1,15 +1,16 @@
 //! The maps of a node's file.
 
-ghost use Rattle.std.specs.Prelude.{◌≡◌, [], codes, IfErr, IfOk, Ok};
+ghost use Rattle.std.specs.Prelude.{◌≡◌, ◌≤◌, [], codes, IfErr, IfOk, Ok, length};
 ghost use Rattle.job_config.specs.Configured.{each, kind_in, map_in, maps_at, next_map};
 ghost use Rattle.job_config.specs.Faults.{IsFaultOf};
+ghost use Rattle.machine.specs.Sizes.{AreSizes, listed_maps};
 ghost use Rattle.toml.specs.Data.{get_member};
 ghost use Rattle.toml.specs.View.{items_view, table_view, view};
 
 use crate::faults::ConfigFault;
 use crate::numbers::number_at;
 use crate::places::{Kind, NumberKey, Place};
-use crate::tables::{list_at, table_in};
+use crate::tables::{held, list_at, table_in};
 use bver::MapSizes;
 use machine::{MAX_CELLS, MAX_MAPS, MapKind};
 use std::alloc::Global;
@@ -19,7 +20,7 @@ use toml::{Table, Value};
 fn kind_of(table: &Table, place: Place) -> Result<MapKind, ConfigFault>
     ensures { result ≡ kind_in place (get_member (codes "peak") (table_view table.now)) }
 {
-    let Some(value) = table.get("peak") else {
+    let Some(value) = held(table, "peak") else {
         return Ok(MapKind::Counter);
     };
     match value.as_bool() {
@@ -31,7 +32,9 @@ fn kind_of(table: &Table, place: Place) -> Result<MapKind, ConfigFault>
 
 /// The map of a table, where so many cells are left to it.
 fn map_in(item: &Value, number: usize, left: u16) -> Result<(u16, MapKind), ConfigFault>
-    ensures { result ≡ map_in number left (view item.now) }
+    requires { left ≤ 256 }
+    ensures value { result ≡ map_in number left (view item.now) }
+    ensures range { IfOk result (λ map. (1 ≤ map.0) × (map.0 ≤ left)) }
 {
     let place = Place {
         kind: Kind::Map,
@@ -47,6 +50,8 @@ fn map_in(item: &Value, number: usize, left: u16) -> Result<(u16, MapKind), Conf
 fn maps_in(alloc: Global, list: &[Value]) -> Result<Vec<(u16, MapKind)>, ConfigFault>
     ensures ok { IfOk result (λ maps. each next_map [] (items_view list.now) ≡ Ok maps.items) }
     ensures err { IfErr result (IsFaultOf (each next_map [] (items_view list.now))) }
+    ensures sizes { IfOk result (λ maps.
+        length list.now ≤ 8 → AreSizes (listed_maps maps.items)) }
 {
     let mut maps = Vec::new(alloc);
     let mut left = MAX_CELLS;

@@ -6,6 +6,7 @@ ghost use Rattle.toml.specs.View.{table_view};
 
 use crate::faults::ConfigFault;
 use crate::places::{NameKey, Place};
+use crate::tables::held;
 use std::alloc::{AllocError, Global};
 use toml::Table;
 
@@ -14,7 +15,7 @@ pub fn name_at(table: &Table, place: Place, key: NameKey) -> Result<Option<&str>
     ensures ok { IfOk result (λ name. name_at (table_view table.now) place key ≡ Ok (option_map (λ n. n.now) name)) }
     ensures err { IfErr result (λ fault. name_at (table_view table.now) place key ≡ Err fault) }
 {
-    let Some(value) = table.get(key.word()) else {
+    let Some(value) = held(table, key.word()) else {
         return Ok(None);
     };
     match value.as_str() {

@@ -1,18 +1,19 @@
 //! Numbers of a node's file.
 
-ghost use Rattle.std.specs.Prelude.{◌≡◌};
+ghost use Rattle.std.specs.Prelude.{◌≡◌, ◌≤◌, IfOk, IfSome};
 ghost use Rattle.job_config.specs.Numbers.{found_at, number_at, number_or, within};
 ghost use Rattle.toml.specs.View.{table_view};
 
 use crate::faults::{ConfigFault, Found};
 use crate::places::{NumberKey, Place};
+use crate::tables::held;
 use toml::Table;
 
 /// What a key of a table holds, where a number is wanted.
 fn found_at(table: &Table, key: NumberKey) -> Found
     ensures { result ≡ found_at (table_view table.now) key }
 {
-    match table.get(key.word()) {
+    match held(table, key.word()) {
         Some(value) => match value.as_integer() {
             Some(number) => Found::Number(number),
             None => Found::Other,
@@ -23,7 +24,8 @@ fn found_at(table: &Table, key: NumberKey) -> Found
 
 /// The number that was found, if it is one from `least` to `most`.
 fn within(found: Found, least: u32, most: u32) -> Option<u32>
-    ensures { result ≡ within least most found }
+    ensures value { result ≡ within least most found }
+    ensures range { IfSome result (λ number. (least ≤ number) × (number ≤ most)) }
 {
     match found {
         Found::Number(number) if i64::from(least) <= number && number <= i64::from(most) => {
@@ -41,7 +43,8 @@ pub fn number_at(
     least: u32,
     most: u32,
 ) -> Result<u32, ConfigFault>
-    ensures { result ≡ number_at (table_view table.now) place key least most }
+    ensures value { result ≡ number_at (table_view table.now) place key least most }
+    ensures range { IfOk result (λ number. (least ≤ number) × (number ≤ most)) }
 {
     let found = found_at(table, key);
     match within(found, least, most) {
@@ -65,7 +68,9 @@ pub fn number_or(
     most: u32,
     other: u32,
 ) -> Result<u32, ConfigFault>
-    ensures { result ≡ number_or (table_view table.now) place key least most other }
+    requires { (least ≤ other) × (other ≤ most) }
+    ensures value { result ≡ number_or (table_view table.now) place key least most other }
+    ensures range { IfOk result (λ number. (least ≤ number) × (number ≤ most)) }
 {
     if let Found::Missing = found_at(table, key) {
         return Ok(other);

@@ -1,7 +1,7 @@
 //! What a node takes of its configuration.
 
 ghost use Rattle.std.specs.Prelude.{◌≡◌, ◌<◌, ◌≤◌, [], ◌∷◌, IfOk, length, slice_index_or, true};
-ghost use Rattle.job_config.specs.OwnNodes.{IsConfigOf, IsOwnNode, fit, load, own_bank, plain_node};
+ghost use Rattle.job_config.specs.OwnNodes.{IsConfigOf, fit, load, own_bank, own_node, plain_node};
 ghost use Rattle.machine.specs.Sizes.{listed_maps};
 ghost use Rattle.node_parts.specs.Nodes.{are_within};
 ghost use Rattle.rmap.specs.declared.boot.TheConstants.{STAGING_SIZE};

@@ -3,7 +3,8 @@
 ghost use Rattle.std.specs.Prelude.{◌≡◌, ◌≤◌, ◌⊎◌, ◌∷◌, [], IfErr, IfOk, None, Ok, Some, length, option_map, string_bytes, true};
 ghost use Rattle.job_config.specs.Configured.{IsConfiguration, banks_at};
 ghost use Rattle.job_config.specs.Faults.{code_of};
-ghost use Rattle.job_config.specs.Reads.{BeginWith, BeginsWith, Ends, HoldLoads, HoldsBanks, HoldsBeside, HoldsFirst, HoldsLoad, HoldsLoads, HoldsParts, IsBadNode, IsNoTable, IsPathOf, ReadsNoNode, ReadsNode, SomeRead};
+ghost use Rattle.job_config.specs.Names.{IsPathOf};
+ghost use Rattle.job_config.specs.Reads.{BeginWith, BeginsWith, Ends, HoldLoads, HoldsBanks, HoldsBeside, HoldsFirst, HoldsLoad, HoldsLoads, HoldsParts, IsBadNode, IsNoTable, ReadsNoNode, ReadsNode, SomeRead};
 ghost use Rattle.job_config.specs.OwnNodes.{fit};
 ghost use Rattle.job_config.specs.declared.faults.ConfigFault.TheVariants.{Memory};
 ghost use Rattle.job_parts.specs.declared.node_codes.NodeCode.TheVariants.{Text};
