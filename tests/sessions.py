@@ -58,7 +58,7 @@ class Part:
             self.empty += 1
         elif count := re.fullmatch(r"\((\d+) times\)", line):
             self.repeat(int(count[1]))
-        elif line.startswith("[") and line.endswith("]"):
+        elif self.is_job and line.startswith("[") and line.endswith("]"):
             self.status = status_of(line)
         else:
             self.last = line

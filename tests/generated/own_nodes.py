@@ -22,7 +22,7 @@ from rmapctl import Differs, Room
 NODES, PACKETS = 60, 40
 
 # What the runs have to come to, and how often.
-KINDS = {"banks": 150, "loads": 20, "loads refused": 3, "full journals": 20, "bytes set": 100, "contents": 20, "replies": 1_500,
+KINDS = {"banks": 150, "loads": 20, "loads refused": 3, "full journals": 20, "bytes set": 50, "contents": 20, "replies": 600,
          "nodes of more than one port": 15, "commands at a bank behind the first": 300}
 
 # Programs that need no map, and those that draw tickets or ask for the greatest of a cell.
@@ -147,8 +147,6 @@ def judged(random: Random, file: File, seen: Counter[str]) -> None:
         lines.append(packet.line(port))
         wanted.append(node.judge(port, packet))
         seen["replies"] += wanted[-1].endswith("EOP")
-        if packet.discard() is None and packet.header_status() is None:
-            seen["commands at a bank behind the first"] += 0
         seen["commands at a bank behind the first"] += packet.discard() is None and 0 < packet.extended < len(node.banks)
     file.room.put("lines", "\n".join(lines) + "\n")
     same_lines("judge", file.room.printed("judge", "lines", "--node", "node.toml"), wanted)
