@@ -6,9 +6,9 @@ use crate::line_paths::LinePaths;
 use crate::noted::{Cause, Noted};
 use crate::slips::{told_misuse, told_output};
 use job_codes::forms::form_line;
+use job_config::sources::NodeSource;
 use job_parts::bad_lines::BadLine;
 use job_parts::faults::Fault;
-use job_parts::options::NodeWords;
 use job_parts::status::Status;
 use spw::{LineFault, lines_of};
 use std::alloc::{AllocError, Global};
@@ -58,6 +58,11 @@ fn add_bad_line(
     write!(text, "    line {number} fault {code}: {told}\n")
 }
 
+/// Adds where a node's file has its fault, and what is wanted there.
+fn add_place(text: &mut String, place: &str) -> Result<(), AllocError> {
+    write!(text, "    {place}\n")
+}
+
 /// Adds what is told of a job that failed.
 fn add_failed(
     text: &mut String,
@@ -73,6 +78,7 @@ fn add_failed(
             None => text.push_str(told_output(job)),
         },
         Some(Fault::BadLine { number, fault }) => add_bad_line(text, job, *number, *fault),
+        Some(Fault::BadNode { place, .. }) => add_place(text, place.as_str()),
         Some(Fault::BadImage(_)) => add_form(text, alloc, noted.last()),
         Some(Fault::BadText(_) | Fault::BadTable(_)) | None => match noted.text() {
             Some(read) => text.push_str(told_fault(alloc, job, read)?.as_str()),
@@ -144,17 +150,35 @@ pub fn told_end(
     Ok(text)
 }
 
-/// What is told of a talk whose node could not be made of these words, after its fault was sent: why the image could not be read,
-/// or what it is that is none. It is empty where there is nothing to tell.
+/// Adds why the first file of a node could not be read, or what it is that is none.
+fn add_unread(
+    text: &mut String,
+    alloc: Global,
+    node: &NodeSource,
+    noted: &Noted<'_>,
+) -> Result<(), AllocError> {
+    match (node.input(), noted.cause()) {
+        (Some(file), Some(cause)) => add_cause(text, file.name, Some(cause)),
+        _ => add_form(text, alloc, noted.last()),
+    }
+}
+
+/// What is told of a talk whose node could not be made of this source, after its fault was sent: where the node's file has its
+/// fault, why a file could not be read, or what it is that is none. It is empty where there is nothing to tell.
 ///
 /// # Errors
 ///
 /// Where memory was refused.
-pub fn told_node(alloc: Global, node: &NodeWords, noted: &Noted<'_>) -> Result<String, AllocError> {
+pub fn told_node(
+    alloc: Global,
+    node: &NodeSource,
+    place: Option<&str>,
+    noted: &Noted<'_>,
+) -> Result<String, AllocError> {
     let mut text = String::new(alloc);
-    match (&node.image, noted.cause()) {
-        (Some(name), Some(cause)) => add_cause(&mut text, name.as_str(), Some(cause))?,
-        _ => add_form(&mut text, alloc, noted.last())?,
+    match place {
+        Some(place) => add_place(&mut text, place)?,
+        None => add_unread(&mut text, alloc, node, noted)?,
     }
     Ok(text)
 }

@@ -1,6 +1,7 @@
 mod CellRows
 mod EntryLines
 mod HostReading
+mod Journals
 mod LinesInTurn
 mod PutText
 mod SetLines

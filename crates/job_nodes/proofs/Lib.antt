@@ -1,3 +1,4 @@
+mod Banks
 mod Continuing
-mod OneBank
+mod Making
 mod Simulating

@@ -14,6 +14,7 @@ use Rattle.commands.specs.declared.jobs.Job.TheVariants.{
   Explain,
   Why,
   Weigh,
+  Node,
   Packet,
   Show,
   Decide,
@@ -63,6 +64,7 @@ Leaves (Serve words) before after status = after ≡ before
 Leaves (Explain words) before after status = after ≡ before
 Leaves (Why words) before after status = after ≡ before
 Leaves (Weigh words) before after status = after ≡ before
+Leaves (Node words) before after status = after ≡ before
 Leaves (Packet words) before after status = after ≡ before
 Leaves (Show words) before after status = after ≡ before
 Leaves (Decide words) before after status = after ≡ before
