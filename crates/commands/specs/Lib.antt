@@ -2,3 +2,4 @@ pub mod CommandLine
 pub mod Notes
 pub mod Performed
 pub mod ShownTalk
+pub mod Words

@@ -13,6 +13,7 @@ mod slips;
 mod told_files;
 mod told_talk;
 mod usage;
+mod word;
 mod work;
 
 pub use asked::{Asked, WITHOUT_WORDS, asked_of, told_wait};

@@ -17,9 +17,9 @@ pub struct Speech<'a> {
 impl<'a> Speech<'a> {
     /// A talk over these bytes, whose lines are those of a dump or are told as they are.
     pub fn new(alloc: Global, slate: &'a Slate, given: &'a [u8], is_dump: bool) -> Speech<'a> {
-        let lines = HostTalk::new(alloc, given, Vec::new(alloc));
+        let lines = HostTalk::new(given, Vec::new(alloc));
         Speech {
-            heard: ToldTalk::new(slate, DumpTalk::new(alloc, lines, is_dump)),
+            heard: ToldTalk::new(slate, alloc, DumpTalk::new(alloc, lines, is_dump)),
             out: Vec::new(alloc),
         }
     }

@@ -114,8 +114,8 @@ fn show_input<R: Input + Print + Eprint>(rt: &R, alloc: Global, words: &ShowWord
         Ok(input) => input,
         Err(_) => return refuse(rt, &UsageFault::Memory),
     };
-    let told = ToldTalk::new(rt, alloc, HostTalk::new(input, io::writer(rt)));
-    let mut talk = DumpTalk::new(alloc, told, words.raw);
+    let lines = DumpTalk::new(alloc, HostTalk::new(input, io::writer(rt)), words.raw);
+    let mut talk = ToldTalk::new(rt, alloc, lines);
     let done = show_talk(alloc, &mut talk);
     end_talk(rt, done, talk.into_talk().into_talk().into_output().1)
 }

@@ -7,7 +7,6 @@ use Rattle.job_rehearse.specs.Policies.{AreImages, AreNoImages, GivesNoPolicy, H
 use Rattle.job_rehearse.specs.Rehearsed.{DoesNot, Does, IsNotRehearsed, RehearsesFile}
 use Rattle.job_rehearse.specs.declared.loaders.Loaders.TheVariants.{Any, One}
 use Rattle.job_rehearse.specs.declared.loaders.Loaders.{Loaders}
-use Rattle.job_rehearse.specs.declared.policies.Images.{Images}
 use Rattle.job_rehearse.specs.declared.policies.NoPolicy.{NoPolicy}
 use Rattle.job_rehearse.specs.declared.policies.NoPolicy.TheVariants.{BadTable, Ended}
 use Rattle.job_rehearse.specs.declared.rehearse.RehearseWords.{RehearseWords}
@@ -22,7 +21,7 @@ no_policy before name sizes after (BadTable own fault) (inl is) = absurd is
 no_policy before name sizes after (BadTable own fault) (inr is) = is.read.0
 
 -- two files that gave policies
-images : (words : RehearseWords) (before : FolderValue) (given : Images) (after : FolderValue)
+images : (words : RehearseWords) (before : FolderValue) (given : _) (after : FolderValue)
     → AreImages FolderReads words before given after → after ≡ before
 images words before given after are = are.second.read.0 ∙ are.first.1.read.0
 

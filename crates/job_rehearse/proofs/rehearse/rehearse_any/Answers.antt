@@ -1,5 +1,6 @@
-use Rattle.std.proofs.Common.{inl, refl, rules}
-use Rattle.std.proofs.lemmas.Result.{IfOk-weaker}
+use Rattle.std.proofs.Common.{inl, inr, subst, sym}
+use Rattle.std.proofs.lemmas.Result.{IfErr-weaker, IfOk-weaker}
+use Rattle.job_rehearse.proofs.Stopping.{bad_more, stops_more}
 use Rattle.job_rehearse.proofs.rehearse.rehearse_any.Goals as goal
 
 pub returns-in-Ok-clause-done : goal.returns-in-Ok-clause-done
@@ -12,5 +13,14 @@ returns-in-Ok-clause-done g c =
     }))
     c.ask_any.ensures.done
 
-pub returns-in-Err-Ended-clause-stops : goal.returns-in-Err-Ended-clause-stops
-returns-in-Err-Ended-clause-stops g c = (refl, inl (search rules))
+pub returns-in-Err-clause-done : goal.returns-in-Err-clause-done
+returns-in-Err-clause-done g c =
+    IfOk-weaker c.tell_none.result _ _
+    (λ status told. inr (bad_more _ _ (λ none is. subst _ (sym is) c.in-Err.ensures.none) _ _ status told))
+    c.tell_none.ensures.told
+
+pub returns-in-Err-clause-stops : goal.returns-in-Err-clause-stops
+returns-in-Err-clause-stops g c =
+    IfErr-weaker c.tell_none.result _ _
+    (λ halt stops. stops_more _ _ (λ fault is. (is.1, inl (subst _ is.0 c.in-Err.ensures.none))) halt stops)
+    c.tell_none.ensures.stops
