@@ -1,7 +1,7 @@
 mod CellRows
 mod EntryLines
+mod HandingOut
 mod HostReading
-mod Journals
 mod LinesInTurn
 mod PutText
 mod SetLines

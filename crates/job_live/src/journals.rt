@@ -3,7 +3,7 @@
 ghost use Rattle.std.specs.Prelude.{◌≡◌, ◌<◌, OnOk, length, slice_get};
 ghost use Rattle.job_nodes.specs.JobNode.{first_of};
 ghost use Rattle.job_parts.specs.Printed.{Prints};
-ghost use Rattle.job_live.specs.Journals.{Turns, bank_line, bank_text, due_text, has_several, heading, is_due, journals_text};
+ghost use Rattle.job_live.specs.Journals.{Turns, TurnsOne, bank_line, bank_text, due_text, has_several, heading, is_due, journals_text};
 
 use crate::telling::print_journal;
 use job_nodes::node::JobNode;
@@ -73,14 +73,23 @@ pub fn print_journals<W: Write>(out: &mut W, node: &JobNode, each: bool) -> io::
     Ok(())
 }
 
+/// Begins an empty journal in the place of that of a bank, if it is handed out. The condition is a bank of the node.
+fn turn_due(node: &mut JobNode, each: bool, bank: u8)
+    requires { bank < length node.old.banks }
+    ensures turns { TurnsOne (is_due each node.old.banks bank) bank node.old node.new }
+    ensures banks { length node.new.banks ≡ length node.old.banks }
+{
+    if is_due(node, each, bank) {
+        node.turn(bank);
+    }
+}
+
 /// Begins an empty journal in the place of each, or of those that are full.
 pub fn turn_journals(node: &mut JobNode, each: bool)
     ensures { Turns each (length node.old.banks) node.old node.new }
 {
     let banks = node.banks();
     for bank in 0..banks {
-        if is_due(node, each, bank) {
-            node.turn(bank);
-        }
+        turn_due(node, each, bank);
     }
 }

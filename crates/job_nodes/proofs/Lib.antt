@@ -1,4 +1,4 @@
 mod Banks
 mod Continuing
-mod Making
+mod Loaded
 mod Simulating

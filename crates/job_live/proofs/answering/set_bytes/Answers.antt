@@ -1,6 +1,6 @@
 use Rattle.std.proofs.Common.{sym, ◌∙◌}
 use Rattle.job_live.specs.Answering.{is_inside}
-use Rattle.job_live.proofs.Journals.{covered_bank}
+use Rattle.job_live.proofs.HandingOut.{covered_bank}
 use Rattle.job_live.proofs.answering.set_bytes.Goals as goal
 
 pub print_bank-requires : goal.print_bank-requires
