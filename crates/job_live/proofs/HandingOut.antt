@@ -10,7 +10,8 @@ use Rattle.job_live.specs.Journals.{Turns, TurnsOne, is_due}
 pub turns_more : (each due : Bool) (count : ℕ) (a b c : JobNodeValue) → Turns each count a b → due ≡ is_due each b.banks count → TurnsOne due count b c
     → Turns each (count + 1) a c
 turns_more each due count a b c all is one =
-    subst (λ (n : ℕ). Turns each n a c) (omega arith) (b, all, subst (λ (t : Bool). TurnsOne t count b c) is one)
+    let same : suc count ≡ count + 1 = omega arith in
+    subst (λ (n : ℕ). Turns each n a c) same (b, all, subst (λ (t : Bool). TurnsOne t count b c) is one)
 
 -- bytes that lie in a bank lie in one that is there
 pub covered_bank : (banks : List BankValue) (k address count : ℕ) → covers_in (slice_get banks k) address count ≡ true → k < length banks

@@ -130,7 +130,7 @@ rooms_within ports (b ∷ banks) h =
 
 pub fresh_rooms : (config : NodeConfig) → are_within config.banks.now ≡ true → list_all (λ room. nat_le 1 room) (rooms_of (fresh_banks config)) ≡ true
 fresh_rooms config h =
-    rooms_within config.ports config.banks.now (both (nat_le (length config.banks.now) 8) _ (both (nat_le 1 (length config.banks.now)) _ h).1).1
+    rooms_within config.ports config.banks.now (both _ (list_all is_within config.banks.now) h).1
 
 -- there is a port within the limits
 pub some_port : (ports : ℕ) → is_ports ports ≡ true → 1 ≤ ports

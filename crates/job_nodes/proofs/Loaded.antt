@@ -14,8 +14,8 @@ use Rattle.job_nodes.specs.declared.making.Unmade.{Unmade}
 pub fills_more : (contents : List (List ℕ)) (count : ℕ) (a b c : JobNodeValue) (bytes : List ℕ) → Fills contents count a b → FillsOne count bytes b c
     → bytes ≡ slice_index_or contents count [] → Fills contents (count + 1) a c
 fills_more contents count a b c bytes all one is =
-    subst (λ (n : ℕ). Fills contents n a c) (omega arith)
-    (b, all, subst (λ (own : List ℕ). FillsOne count own b c) is one)
+    let same : suc count ≡ count + 1 = omega arith in
+    subst (λ (n : ℕ). Fills contents n a c) same (b, all, subst (λ (own : List ℕ). FillsOne count own b c) is one)
 
 -- one load more, behind those that were done
 loads_behind : (address : ℕ) (loads : List LoadValue) (load : LoadValue) (a b c : JobNodeValue) → LoadsAll address loads a b → Loads address load b c

@@ -131,7 +131,10 @@ fn take_load(
     let mut text = String::new(alloc);
     add_loads(&mut text, alloc, &header, &[load.slot()], load.image())?;
     // Memory alone can be refused to it: the lines are those of packets, and nothing is printed.
-    take_lines(alloc, loading, text.as_str(), &mut io::sink()).map_err(|_| AllocError)
+    match take_lines(alloc, loading, text.as_str(), &mut io::sink()) {
+        Ok(()) => Ok(()),
+        Err(_) => Err(AllocError),
+    }
 }
 
 /// The status that is told of a load that was not done.
@@ -244,6 +247,7 @@ impl JobNode {
     ///
     /// `Memory` where memory was refused, and where [`JobNode::fresh`] refuses the configuration; `Refused` at the first load that
     /// is not done.
+    #[tactic(auto, using(crate::proofs::Loaded::plain_fresh))]
     pub fn of(alloc: Global, own: &OwnNode, program: Accepted) -> Result<JobNode, Unmade>
         requires { program.sizes ≡ own.now.sizes }
         ensures node { IfOk result (IsNodeOf own.now program) }

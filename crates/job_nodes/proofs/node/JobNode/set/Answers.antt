@@ -8,7 +8,7 @@ pub turn_and_set-requires-clause-some : goal.turn_and_set-requires-clause-some
 turn_and_set-requires-clause-some c =
     let own = c.self.inside in
     let low = covered_bank own.node.banks c.args.bank c.args.address _ (search rules) in
-    subst (λ (n : ℕ). 1 ≤ n) (sym c.room.ensures) (some_room own.node.banks c.args.bank c.self.invariant.rooms low)
+    subst (λ (n : ℕ). 1 ≤ n) (sym c.room-room.ensures) (some_room own.node.banks c.args.bank c.self.invariant.rooms low)
 
 pub invariant_of-self : goal.invariant_of-self
 invariant_of-self c =
@@ -17,5 +17,5 @@ invariant_of-self c =
     let node = c.turn_and_set.new.self in
     let after = job_node node.banks node.words node.programs node.passes own.feeds own.reply in
     let bytes = c.args.bytes.now in
-    let set = subst (λ (n : ℕ). SetsAlone c.args.bank c.args.address bytes n (alone before) (alone after)) c.room.ensures c.turn_and_set.ensures in
+    let set = subst (λ (n : ℕ). SetsAlone c.args.bank c.args.address bytes n (alone before) (alone after)) c.room-room.ensures c.turn_and_set.ensures in
     set_stays c.args.bank c.args.address bytes before after _ (set_turned c.args.bank c.args.address bytes before after set (record { held = refl; reply = refl })) c.self.invariant
