@@ -314,8 +314,8 @@ const picture = (() => {
   function drawnDifference(one, room) {
     const drawing = new Drawing(`${one.sign} ${one.fields.join(' ')} ${one.addresses}`, `old ${one.old}, new ${one.new}`), left = 40;
     const axis = axisOf(one.ranges, Math.max(220, room - left - 12));
-    drawAxis(drawing, axis, left, 28);
-    let y = 38;
+    drawAxis(drawing, axis, left, 32);
+    let y = 42;
     for (const name of ['old', 'new']) {
       const course = one[name], own = one.ranges, height = STEP * steps(course).length;
       drawing.text(2, y + 15, name, 'word');

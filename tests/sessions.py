@@ -11,8 +11,8 @@ done before each. Lines with a sign in front begin a part of a case:
   `$ hex NAME` prints the bytes of a file, or `no file`. Between jobs there may be ` | `, and behind the last ` > NAME`.
   Of `live --frames` a line `sent` and digits is printed for each frame, and what standard error tells between them.
 
-A line `(N times)` repeats the line above it, and in a line `{DIGITS*N}` repeats the digits; other braces may stand in comments of
-programs alone, behind `;`. A line that begins with `#` says something, and empty lines at the end of a part do not count.
+A line `(N times)` repeats the line above it, and in a line `{DIGITS*N}` repeats the digits; a brace with digits alone is
+refused before `;`, and other braces stand for themselves. A line that begins with `#` says something, and empty lines at the end of a part do not count.
 """
 from __future__ import annotations
 
@@ -92,7 +92,7 @@ def status_of(line: str) -> int:
 def spelled(line: str) -> str:
     """The line that is written so, with its end."""
     line = re.sub(r"\{([^{*]*)\*(\d+)\}", lambda it: it[1] * int(it[2]), line)
-    if "{" in line.partition(";")[0]:
+    if re.search(r"\{([0-9A-Fa-f]+(\*|\}|$)|\*)", line.partition(";")[0]):
         raise BadCase(f"a brace without a star and a number: {line}")
     return line + "\n"
 

@@ -7,6 +7,7 @@ use crate::noted::{Cause, Noted};
 use crate::slips::{told_misuse, told_output};
 use job_codes::forms::form_line;
 use job_config::sources::NodeSource;
+use job_packets::orders::Order;
 use job_parts::bad_lines::BadLine;
 use job_parts::faults::Fault;
 use job_parts::status::Status;
@@ -124,6 +125,14 @@ fn add_full(text: &mut String, full: Option<usize>) -> Result<(), AllocError> {
     text.push_str("a command for it has status 1 in place of 0; live has no such end\n")
 }
 
+/// Whether the job makes the packets of loads, and so does not look whether their file is an image.
+fn is_load(job: &Job) -> bool {
+    match job {
+        Job::Packet(words) => matches!(words.order, Order::Load { .. }),
+        _ => false,
+    }
+}
+
 /// What is told of a job that ended so, after what it printed: the cause of its fault, as what the system says of a file, what the
 /// line of a text holds, or what a file is that is none of what it has to be; the first path that stands before a packet; and that
 /// `judge` found the journal full. It is empty where there is nothing to tell.
@@ -139,6 +148,7 @@ pub fn told_end(
 ) -> Result<String, AllocError> {
     let mut text = String::new(alloc);
     match end.status {
+        Status::Done if is_load(job) => add_form(&mut text, alloc, noted.last())?,
         Status::Done => {}
         Status::Misused => text.push_str(told_misuse(job))?,
         Status::Failed => add_failed(&mut text, alloc, job, &end.fault, noted)?,

@@ -1,5 +1,6 @@
 //! The files of a folder, as a job reads them.
 
+ghost use Rattle.std.specs.Prelude.{◌≡◌};
 ghost use Rattle.doing.specs.Desks.{DeskReads, DeskWrites};
 
 use commands::{Cannot, Cause, Files, Noted};
@@ -19,7 +20,10 @@ pub struct Desk<'a, 'b> {
 
 impl<'a, 'b> Desk<'a, 'b> {
     /// The files of the folder, of which those are read.
-    pub fn new(folder: Folder<'a>, noted: Noted<'b>) -> Desk<'a, 'b> {
+    pub fn new(folder: Folder<'a>, noted: Noted<'b>) -> Desk<'a, 'b>
+        ensures folder { result.folder ≡ folder.entry }
+        ensures noted { result.noted ≡ noted.entry }
+    {
         Desk { folder, noted }
     }
 
@@ -29,7 +33,9 @@ impl<'a, 'b> Desk<'a, 'b> {
     }
 
     /// The folder.
-    pub fn into_folder(self) -> Folder<'a> {
+    pub fn into_folder(self) -> Folder<'a>
+        ensures { result ≡ self.entry.folder }
+    {
         self.folder
     }
 }

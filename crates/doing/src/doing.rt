@@ -1,5 +1,10 @@
 //! What the words of a command line come to.
 
+ghost use Rattle.std.specs.Prelude.{◌≡◌, IfOk};
+ghost use Rattle.clap.specs.Walk.{texts};
+ghost use Rattle.doing.specs.Alone.{IsAlone};
+ghost use Rattle.doing.specs.Doings.{DoesJob, DoesOnce, DoesWords, DoesWork, HoldsLines, IsQuiet, ShowsInput, words_given};
+
 use crate::alone::perform_alone;
 use crate::desk::Desk;
 use crate::slate::Slate;
@@ -49,7 +54,10 @@ fn told<'a>(
     folder: Folder<'a>,
     status: u8,
     text: &str,
-) -> Result<Left<'a>, AllocError> {
+) -> Result<Left<'a>, AllocError>
+    ensures quiet { IfOk result (IsQuiet folder.entry) }
+    ensures status { IfOk result (λ left. left.done.status ≡ status) }
+{
     let done = Done {
         status,
         out: Vec::new(alloc),
@@ -59,7 +67,10 @@ fn told<'a>(
 }
 
 /// Does a job over the files of a folder.
-fn do_job<'a>(alloc: Global, job: &Job, folder: Folder<'a>) -> Result<Left<'a>, AllocError> {
+fn do_job<'a>(alloc: Global, job: &Job, folder: Folder<'a>) -> Result<Left<'a>, AllocError>
+    requires { IsAlone job.now }
+    ensures { IfOk result (DoesJob job.now folder.entry) }
+{
     let mut desk = Desk::new(folder, Noted::of_job(job));
     let mut out = Vec::new(alloc);
     let Ok(end) = perform_alone(alloc, job, &mut desk, &mut out) else {
@@ -90,10 +101,12 @@ fn talk_lines<'a>(
     alloc: Global,
     words: &LiveWords,
     folder: Folder<'a>,
-) -> Result<Left<'a>, AllocError> {
-    let given = input_of(alloc, &folder)?;
+) -> Result<Left<'a>, AllocError>
+    ensures { IfOk result (HoldsLines words.now folder.entry) }
+{
+    let input = input_of(alloc, &folder)?;
     let slate = Slate::new(alloc);
-    let mut speech = Speech::new(alloc, &slate, given.as_slice(), false);
+    let mut speech = Speech::new(alloc, &slate, input.as_slice(), false);
     let mut desk = Desk::new(folder, Noted::new(words.node.inputs()));
     let mut place = None;
     let Ok(status) = live(alloc, &words.node, &mut desk, &mut speech, &mut place) else {
@@ -119,10 +132,12 @@ fn show_input<'a>(
     alloc: Global,
     words: &ShowWords,
     folder: Folder<'a>,
-) -> Result<Left<'a>, AllocError> {
-    let given = input_of(alloc, &folder)?;
+) -> Result<Left<'a>, AllocError>
+    ensures { IfOk result (ShowsInput folder.entry) }
+{
+    let input = input_of(alloc, &folder)?;
     let slate = Slate::new(alloc);
-    let mut speech = Speech::new(alloc, &slate, given.as_slice(), words.raw);
+    let mut speech = Speech::new(alloc, &slate, input.as_slice(), words.raw);
     let Ok(status) = show_talk(alloc, &mut speech) else {
         return Err(AllocError);
     };
@@ -136,7 +151,9 @@ fn show_input<'a>(
 }
 
 /// Does a job: `show -` as a talk, `serve` not at all, and each other over the files of the folder.
-fn do_once<'a>(alloc: Global, job: &Job, folder: Folder<'a>) -> Result<Left<'a>, AllocError> {
+fn do_once<'a>(alloc: Global, job: &Job, folder: Folder<'a>) -> Result<Left<'a>, AllocError>
+    ensures { IfOk result (DoesOnce job.now folder.entry) }
+{
     match job {
         Job::Serve(_) => told(alloc, folder, LEFT_OUT, SERVE_LEFT_OUT),
         Job::Show(words) if words.lines.as_str() == STANDARD_INPUT => {
@@ -147,7 +164,9 @@ fn do_once<'a>(alloc: Global, job: &Job, folder: Folder<'a>) -> Result<Left<'a>,
 }
 
 /// Does the work that words name.
-fn do_work<'a>(alloc: Global, work: &Work, folder: Folder<'a>) -> Result<Left<'a>, AllocError> {
+fn do_work<'a>(alloc: Global, work: &Work, folder: Folder<'a>) -> Result<Left<'a>, AllocError>
+    ensures { IfOk result (DoesWork work.now folder.entry) }
+{
     match work {
         Work::Once(job) => do_once(alloc, job, folder),
         Work::Live(words) if words.frames => told(alloc, folder, LEFT_OUT, FRAMES_LEFT_OUT),
@@ -158,15 +177,17 @@ fn do_work<'a>(alloc: Global, work: &Work, folder: Folder<'a>) -> Result<Left<'a
 /// What is told of words that ask for nothing.
 fn refuse<'a>(
     alloc: Global,
-    texts: &[&str],
+    given: &[&str],
     fault: &UsageFault,
     folder: Folder<'a>,
-) -> Result<Left<'a>, AllocError> {
+) -> Result<Left<'a>, AllocError>
+    ensures { IfOk result (IsQuiet folder.entry) }
+{
     let status = fault.status();
     match fault {
         UsageFault::Parse(text) => told(alloc, folder, status, text.as_str()),
         UsageFault::BadOption => {
-            let more = told_option(alloc, texts)?;
+            let more = told_option(alloc, given)?;
             let text = format!(in alloc; "{fault}\n{more}")?;
             told(alloc, folder, status, text.as_str())
         }
@@ -175,8 +196,10 @@ fn refuse<'a>(
 }
 
 /// Does what these words ask for.
-fn do_given<'a>(alloc: Global, texts: &[&str], folder: Folder<'a>) -> Result<Left<'a>, AllocError> {
-    match asked_of(alloc, texts) {
+fn do_given<'a>(alloc: Global, given: &[&str], folder: Folder<'a>) -> Result<Left<'a>, AllocError>
+    ensures { IfOk result (DoesWords (texts given.now) folder.entry) }
+{
+    match asked_of(alloc, given) {
         Ok(Asked::Named(work)) => do_work(alloc, &work, folder),
         Ok(Asked::Told(text)) => {
             let done = Done {
@@ -186,7 +209,7 @@ fn do_given<'a>(alloc: Global, texts: &[&str], folder: Folder<'a>) -> Result<Lef
             };
             Ok(Left { done, folder })
         }
-        Err(fault) => refuse(alloc, texts, &fault, folder),
+        Err(fault) => refuse(alloc, given, &fault, folder),
     }
 }
 
@@ -199,12 +222,14 @@ fn do_given<'a>(alloc: Global, texts: &[&str], folder: Folder<'a>) -> Result<Lef
 /// Where memory was refused.
 pub fn do_words<'a>(
     alloc: Global,
-    texts: &[&str],
+    given: &[&str],
     folder: Folder<'a>,
-) -> Result<Left<'a>, AllocError> {
-    if texts.is_empty() {
+) -> Result<Left<'a>, AllocError>
+    ensures { IfOk result (DoesWords (words_given (texts given.now)) folder.entry) }
+{
+    if given.is_empty() {
         do_given(alloc, &WITHOUT_WORDS, folder)
     } else {
-        do_given(alloc, texts, folder)
+        do_given(alloc, given, folder)
     }
 }

@@ -6,6 +6,7 @@ use std::fmt::Display;
 use std::io::{self, Eprint};
 
 /// What was told on standard error, in the order in which it was told.
+#[derive(Drop)]
 pub struct Slate {
     told: RefCell<String>,
 }
@@ -26,13 +27,13 @@ impl Slate {
 
 impl Eprint for Slate {
     fn eprint<D: Display + Drop>(&self, value: D) -> io::Result<()> {
-        let mut told = self.told.borrow_mut();
+        let mut told = self.told.try_borrow_mut()?;
         write!(told, "{value}")?;
         Ok(())
     }
 
     fn eprintln<D: Display + Drop>(&self, value: D) -> io::Result<()> {
-        let mut told = self.told.borrow_mut();
+        let mut told = self.told.try_borrow_mut()?;
         write!(told, "{value}\n")?;
         Ok(())
     }

@@ -1,6 +1,7 @@
 //! A talk in memory.
 
-ghost use Rattle.std.specs.Prelude.{◌≡◌, ◌++◌, ⊤};
+ghost use Rattle.std.specs.Prelude.{◌≡◌, []};
+ghost use Rattle.doing.specs.Speeches.{SpeechHears, SpeechLoses, SpeechMisses, SpeechSends};
 
 use crate::slate::Slate;
 use commands::{Cannot, DumpTalk, HostTalk, Talk, ToldTalk};
@@ -16,7 +17,9 @@ pub struct Speech<'a> {
 
 impl<'a> Speech<'a> {
     /// A talk over these bytes, whose lines are those of a dump or are told as they are.
-    pub fn new(alloc: Global, slate: &'a Slate, given: &'a [u8], is_dump: bool) -> Speech<'a> {
+    pub fn new(alloc: Global, slate: &'a Slate, given: &'a [u8], is_dump: bool) -> Speech<'a>
+        ensures { result.out.items ≡ [] }
+    {
         let lines = HostTalk::new(given, Vec::new(alloc));
         Speech {
             heard: ToldTalk::new(slate, alloc, DumpTalk::new(alloc, lines, is_dump)),
@@ -25,19 +28,21 @@ impl<'a> Speech<'a> {
     }
 
     /// All that was sent.
-    pub fn into_out(self) -> Vec<u8> {
+    pub fn into_out(self) -> Vec<u8>
+        ensures { result ≡ self.entry.out }
+    {
         self.out
     }
 }
 
 impl Talk for Speech<'_> {
-    ghost came = { λ before _ after. after.out ≡ before.out };
+    ghost came = { SpeechHears };
 
-    ghost sent = { λ before text after. after.out.items ≡ before.out.items ++ text };
+    ghost sent = { SpeechSends };
 
-    ghost missed = { λ before after. after.out ≡ before.out };
+    ghost missed = { SpeechMisses };
 
-    ghost unsent = { λ _ _ _. ⊤ };
+    ghost unsent = { SpeechLoses };
 
     fn next(&mut self, line: &mut String) -> Result<bool, Cannot> {
         self.heard.next(line)

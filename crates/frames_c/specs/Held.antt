@@ -1,21 +1,6 @@
--- What a handle owns.
-use Rattle.std.specs.Prelude.{ℕ, Option, None, Some}
-use mir.Syntax.{Ty}
-use base.Fml.{Fml, fsep, feq}
-use denote.RattleType.{RattleType}
-use denote.RawPtr.{Ptr}
-use Rattle.std_alloc.specs.Box.Ownership.{box_owns}
-use Rattle.std.specs.contracts.impls.GlobalAllocator.TheImpl.{ghosts}
+-- What a handle of a reader holds.
+use Rattle.std.specs.Prelude.{ℕ}
 
 -- what is in `live` of a handle that holds a reader: another number than in the handle of a node
 abbrev pub mark : ℕ
 mark = 938
-
--- the right to free a block of the heap, of which there is one
-abbrev pub may_free : Ty → Ptr → Fml
-may_free = ghosts.dealloc_token (record { memory = record { seal = tt } })
-
--- nothing and a 0 in `live`, or the mark and the block of the value
-abbrev pub held : (R : RattleType) → Ptr → ℕ → Option R.Denot → Fml
-held R p live None = feq ℕ live 0
-held R p live (Some x) = fsep (feq ℕ live mark) (box_owns may_free R p x)

@@ -24,10 +24,11 @@ pub struct FramesHandle {
 }
 
 impl Model for FramesHandle {
-    ghost use Rattle.frames_c.specs.Held.{held};
+    ghost use Rattle.loose.specs.Held.{held};
+    ghost use Rattle.frames_c.specs.Held.{mark};
     ghost use Rattle.frames_c.specs.contracts.reader.Frames.{the_row};
 
-    ghost also_owns = { λ h. held the_row h.inside h.live h.kept };
+    ghost also_owns = { λ h. held mark the_row h.inside h.live h.kept };
 }
 
 impl FramesHandle {

@@ -32,6 +32,7 @@ fn greatest_size(base: u32) -> u32
 }
 
 /// The bank of a table.
+#[tactic(auto, unfolding(crate::specs::Configured::bank_in))]
 fn bank_in(item: &Value, number: usize) -> Result<BankConfig, ConfigFault>
     ensures value { result ≡ bank_in number (view item.now) }
     ensures within { IfOk result (λ bank. is_within bank ≡ true) }
@@ -72,6 +73,7 @@ fn own_banks(alloc: Global) -> Result<Vec<BankConfig>, AllocError>
 }
 
 /// The banks of a file, by their extended address.
+#[tactic(auto, using(crate::proofs::Each::count_view), unfolding(crate::specs::Configured::banks_at))]
 pub fn banks_of(alloc: Global, table: &Table) -> Result<Vec<BankConfig>, ConfigFault>
     ensures ok { IfOk result (λ banks. banks_at (table_view table.now) ≡ Ok banks.items) }
     ensures err { IfErr result (IsFaultOf (banks_at (table_view table.now))) }

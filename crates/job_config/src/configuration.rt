@@ -35,6 +35,7 @@ pub struct Configuration {
 /// The configuration that a table says.
 ///
 /// Faults are found in this order: a key that is unknown, the address, the ports, the banks, the maps.
+#[tactic(auto, unfolding(crate::specs::Configured::numbers_at))]
 pub fn configuration_of(alloc: Global, table: &Table) -> Result<Configuration, ConfigFault>
     ensures says { IfOk result (IsConfiguration (table_view table.now)) }
     ensures bad { IfErr result (IsBadConfiguration (table_view table.now)) }

@@ -31,6 +31,7 @@ fn kind_of(table: &Table, place: Place) -> Result<MapKind, ConfigFault>
 }
 
 /// The map of a table, where so many cells are left to it.
+#[tactic(auto, unfolding(crate::specs::Configured::map_in))]
 fn map_in(item: &Value, number: usize, left: u16) -> Result<(u16, MapKind), ConfigFault>
     requires { left ≤ 256 }
     ensures value { result ≡ map_in number left (view item.now) }
@@ -47,6 +48,7 @@ fn map_in(item: &Value, number: usize, left: u16) -> Result<(u16, MapKind), Conf
 }
 
 /// The maps of a list of tables.
+#[tactic(auto, using(crate::proofs::Maps::sizes_of_maps))]
 fn maps_in(alloc: Global, list: &[Value]) -> Result<Vec<(u16, MapKind)>, ConfigFault>
     ensures ok { IfOk result (λ maps. each next_map [] (items_view list.now) ≡ Ok maps.items) }
     ensures err { IfErr result (IsFaultOf (each next_map [] (items_view list.now))) }
@@ -64,6 +66,7 @@ fn maps_in(alloc: Global, list: &[Value]) -> Result<Vec<(u16, MapKind)>, ConfigF
 }
 
 /// The maps of a file.
+#[tactic(auto, using(crate::proofs::Each::count_view), unfolding(crate::specs::Configured::maps_at))]
 pub fn maps_of(alloc: Global, table: &Table) -> Result<MapSizes, ConfigFault>
     ensures ok { IfOk result (λ sizes. maps_at (table_view table.now) ≡ Ok sizes) }
     ensures err { IfErr result (IsFaultOf (maps_at (table_view table.now))) }

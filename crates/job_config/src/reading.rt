@@ -10,6 +10,7 @@ ghost use Rattle.job_config.specs.declared.faults.ConfigFault.TheVariants.{Memor
 ghost use Rattle.job_parts.specs.declared.node_codes.NodeCode.TheVariants.{Text};
 ghost use Rattle.node_parts.specs.Nodes.{are_within};
 ghost use Rattle.toml.specs.Data.{Members};
+ghost use Rattle.toml.specs.Errors.{IsMemory};
 ghost use Rattle.toml.specs.Parse.{parse_document};
 ghost use Rattle.toml.specs.View.{items_view, table_view, view};
 
@@ -61,6 +62,7 @@ fn bad_file(
 }
 
 /// The bytes of the file that a key names, at most so many.
+#[tactic(auto, using(crate::proofs::Chains::one_read))]
 fn bytes_beside<F: Files>(
     alloc: Global,
     file: &str,
@@ -146,6 +148,7 @@ fn no_contents(alloc: Global) -> Result<Vec<Contents>, AllocError>
 }
 
 /// The bytes that each of these banks begins with, which are those of the table.
+#[tactic(auto, using(crate::proofs::Each::banks_count, crate::proofs::Each::banks_none, crate::proofs::Each::count_view))]
 fn all_contents<F: Files>(
     alloc: Global,
     file: &str,
@@ -200,6 +203,7 @@ fn bad_program(
 }
 
 /// The program that judges in all slots at first.
+#[tactic(auto, using(crate::proofs::Chains::program_read, crate::proofs::Chains::no_program_read))]
 fn first_program<F: Files>(
     alloc: Global,
     file: &str,
@@ -300,6 +304,7 @@ fn loads_of<F: Files>(
 }
 
 /// The node of this configuration, which is that of the table, with what stands in the files that the table names.
+#[tactic(auto, using(crate::proofs::Chains::some_read))]
 fn node_with<F: Files>(
     alloc: Global,
     file: &str,
@@ -341,7 +346,7 @@ fn line_at(text: &str, place: usize) -> usize {
 
 /// Why a text is no TOML.
 fn no_toml(alloc: Global, text: &str, fault: &toml::de::Error) -> Result<ConfigFault, AllocError>
-    ensures { IfOk result (λ bad. (bad ≡ Memory) ⊎ (code_of bad ≡ Some Text)) }
+    ensures { IfOk result (λ bad. (bad ≡ Memory) ⊎ (¬ IsMemory fault.now × (code_of bad ≡ Some Text))) }
 {
     match fault.span() {
         Some(span) => Ok(ConfigFault::NoToml {
@@ -353,6 +358,7 @@ fn no_toml(alloc: Global, text: &str, fault: &toml::de::Error) -> Result<ConfigF
 }
 
 /// The table that a text is.
+#[tactic(auto, using(crate::proofs::Texts::no_table))]
 fn table_of(alloc: Global, text: &str) -> Result<Table, ConfigFault>
     ensures table { IfOk result (λ table. parse_document text.now ≡ Some (table_view table)) }
     ensures none { IfErr result (IsNoTable text.now) }

@@ -3,24 +3,28 @@
 use job_parts::replies::print_hex;
 use std::io::{self, Write};
 
-/// How many bytes stand in a line.
+/// How many bytes stand in a row.
 const ROW: usize = 16;
 
-/// Prints a byte, `0xHH,`, and behind it a line feed at the end of a row, and else a space.
-fn print_byte<W: Write>(out: &mut W, place: usize, byte: u8) -> io::Result<()> {
+/// Prints a byte, `0xHH,`, and behind it a line feed where its row ends, and else a space.
+fn print_byte<W: Write>(out: &mut W, byte: u8, ends: bool) -> io::Result<()> {
     write!(out, "0x")?;
     print_hex(out, &[byte])?;
-    if place % ROW == ROW - 1 {
-        write!(out, ",\n")
+    if ends {
+        writeln!(out, ",")
     } else {
         write!(out, ", ")
     }
 }
 
-/// Prints bytes, each with a comma behind it, 16 in a row.
+/// Prints the bytes of an array, 16 in a row, and its end. An array of C is not empty: no bytes are a zero.
 pub fn print_c_bytes<W: Write>(out: &mut W, bytes: &[u8]) -> io::Result<()> {
-    for place in 0..bytes.len() {
-        print_byte(out, place, bytes[place])?;
+    if bytes.is_empty() {
+        writeln!(out, "0")?;
     }
-    Ok(())
+    for place in 0..bytes.len() {
+        let ends = place % ROW == ROW - 1 || place + 1 == bytes.len();
+        print_byte(out, bytes[place], ends)?;
+    }
+    writeln!(out, "}};")
 }

@@ -56,23 +56,12 @@ fn print_maps<W: Write>(out: &mut W, sizes: &MapSizes) -> io::Result<()> {
     writeln!(out, "}};")
 }
 
-/// Prints an array of bytes. No bytes are one zero, since an array of C is not empty.
-fn print_array<W: Write>(out: &mut W, name: &str, bytes: &[u8]) -> io::Result<()> {
-    writeln!(out, "\nstatic const uint8_t {name}[] = {{")?;
-    print_c_bytes(out, bytes)?;
-    if bytes.is_empty() {
-        write!(out, "0")?;
-    }
-    writeln!(out, "\n}};")
-}
-
 /// Prints the bytes that banks begin with, and a row for each bank.
 fn print_contents<W: Write>(out: &mut W, node: &OwnNode) -> io::Result<()> {
     let contents = node.contents();
     for place in 0..contents.len() {
         writeln!(out, "\nstatic const uint8_t node_contents_{place}[] = {{")?;
         print_c_bytes(out, contents[place].bytes())?;
-        writeln!(out, "0\n}};")?;
     }
     writeln!(
         out,
@@ -91,7 +80,6 @@ fn print_loads<W: Write>(out: &mut W, node: &OwnNode) -> io::Result<()> {
     for place in 0..loads.len() {
         writeln!(out, "\nstatic const uint8_t node_load_{place}[] = {{")?;
         print_c_bytes(out, loads[place].image())?;
-        writeln!(out, "0\n}};")?;
     }
     writeln!(
         out,
@@ -112,7 +100,8 @@ pub fn print_header<W: Write>(out: &mut W, node: &OwnNode, image: &[u8]) -> io::
     print_numbers(out, node)?;
     print_banks(out, node.banks())?;
     print_maps(out, &node.sizes())?;
-    print_array(out, "node_image", image)?;
+    writeln!(out, "\nstatic const uint8_t node_image[] = {{")?;
+    print_c_bytes(out, image)?;
     print_contents(out, node)?;
     print_loads(out, node)?;
     writeln!(out, "\n#endif")

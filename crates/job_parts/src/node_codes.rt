@@ -10,39 +10,40 @@ The node's file is no TOML: its line, and what stands there that TOML has not, a
 Keys of the node stand before the first `[[bank]]`, `[[map]]` or `[[load]]`; a name of a file stands in quotes.";
 
 const KEY: &str = "\
-The node's file has a key that a node has not: of the node, of a bank, of a map or of a load. The first by its bytes is told.
-A node has address, ports, program, bank, map and load; a bank base, size, journal and contents; a map cells and
-peak; a load slot and image.";
+The node's file has a key that a node has not: of the node, of a bank, of a map or of a load. The first by its
+bytes is told. A node has address, ports, program, bank, map and load; a bank base, size, journal and contents;
+a map cells and peak; a load slot and image.";
 
 const ADDRESS: &str = "\
-The key address of a node's file is no number from 0 to 255: it is the logical address of the target, 254 without it.
-Give the address of the instrument, as 0x42 or 66.";
+The key address of a node's file is no number from 0 to 255: it is the logical address of the target, 254
+without it. Give the address of the instrument, as 0x42 or 66.";
 
 const PORTS: &str = "\
-The key ports of a node's file is no number from 1 to 32. Without it there is one port.
-Give as many ports as the instrument has links.";
+The key ports of a node's file is no number from 1 to 32. Without it there is one port. Give as many ports as
+the instrument has links.";
 
 const BANK: &str = "\
-A node's file has no bank or more than 8, or a bank without a base, a size or a journal in their limits: a base is an
-address of 32 bits, a size 1 to 1,048,576 bytes of which none is past the last address, a journal 1 to 65,536 entries.
-Give each `[[bank]]` the three; two banks may have the same addresses, since the extended address names them.";
+A node's file has no bank or more than 8, or a bank without a base, a size or a journal in their limits: a base
+is an address of 32 bits, a size 1 to 1,048,576 bytes of which none is past the last address, a journal 1 to
+65,536 entries. Give each `[[bank]]` the three; two banks may have the same addresses, since the extended
+address names them.";
 
 const MAP: &str = "\
-A node's file has more than 8 maps, or a map without cells, or more than 256 cells in all; or peak is not true or false.
-Give each `[[map]]` its cells; `peak = true` makes it a map of the greatest numbers.";
+A node's file has more than 8 maps, or a map without cells, or more than 256 cells in all; or peak is not true
+or false. Give each `[[map]]` its cells; `peak = true` makes it a map of the greatest numbers.";
 
 const CONTENTS: &str = "\
 The file that a bank begins with cannot be read, or is longer than the bank; or contents is no name in quotes.
 Its name is beside the node's file. Give a shorter file, or a larger bank.";
 
 const PROGRAM: &str = "\
-The program of a node's file cannot be read, is no image, or may not judge on the node's maps; or program is no name in
-quotes. Its name is beside the node's file.
-`rmapctl why FILE --maps LIST` tells why an image is refused.";
+The program of a node's file cannot be read, is no image, or may not judge on the node's maps; or program is no
+name in quotes. Its name is beside the node's file. `rmapctl why FILE --maps LIST` tells why an image is
+refused.";
 
 const LOAD: &str = "\
-A load of a node's file has no slot from 0 to 3, or its image cannot be read or is longer than 16,384 bytes, or it was
-not carried out: the status of its reply, and the code of its load result, are printed on standard error.
+A load of a node's file has no slot from 0 to 3, or its image cannot be read or is longer than 16,384 bytes, or
+it was not carried out: the status of its reply, and the code of its load result, are printed on standard error.
 The image's name is beside the node's file. A program in slot 3 that was loaded before judges each load.";
 
 /// What is wrong with a node's file: the first of these that is found.

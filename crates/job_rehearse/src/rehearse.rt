@@ -209,9 +209,9 @@ fn rehearse<'a, W: Write>(
 /// Tells why there are no policies, if a table has a fault; any other fault ends the job.
 fn tell_none<'a, W: Write>(none: NoPolicy<'a>, out: &mut W) -> Result<Status, Halt<'a>>
     ensures told { IfOk result
-        (TellsBad (λ it. it ≡ none) (W.contents out.old) (W.contents out.new)) }
+        (TellsBad (λ it. it ≡ none.entry) (W.contents out.old) (W.contents out.new)) }
     ensures stops { IfErr result (StopsBy (λ fault.
-        (none ≡ Ended fault) × (W.contents out.new ≡ W.contents out.old))) }
+        (none.entry ≡ Ended fault) × (W.contents out.new ≡ W.contents out.old))) }
 {
     match none {
         NoPolicy::Ended(fault) => Err(Halt::Ended(fault)),

@@ -1,0 +1,67 @@
+-- Banks that begin with bytes, one after the other.
+use Rattle.std.proofs.Common.{◌≡◌, ◌≤◌, ◌<◌, ◌+◌, ◌++◌, ◌∷◌, ◌&&◌, [], ℕ, List, Bool, true, drop, take, length, get_or, nat_le, refl, ap, false, ◌∙◌, sym, subst, arith, append_assoc, le-leb}
+use Rattle.std.proofs.lemmas.Bool.{and_parts}
+use Rattle.std.proofs.lemmas.List.{drop_more, take_more}
+use Rattle.node_parts.specs.declared.config.BankConfig.{BankConfig}
+use Rattle.toml.specs.Data.{Data, Items, item}
+use Rattle.toml.specs.View.{items_view, view}
+use Rattle.toml.specs.declared.value.Value.{Value}
+use Rattle.toml.proofs.Views.{items_view-drop}
+use Rattle.job_parts.specs.Files.{Reads}
+use Rattle.job_config.specs.OwnNodes.{LoadValue, fit}
+use Rattle.job_config.specs.Places.{place}
+use Rattle.job_config.specs.Reads.{BeginWith, BeginsWith, HoldLoads, HoldsLoad}
+use Rattle.job_config.specs.declared.places.Kind.TheVariants.{Bank, Load}
+
+-- one more bank has contents that fit it
+pub fit_more : (banks : List BankConfig) (contents : List (List ℕ)) (bank : BankConfig) (bytes : List ℕ)
+    → fit banks contents ≡ true → length bytes ≤ bank.size → fit (banks ++ bank ∷ []) (contents ++ bytes ∷ []) ≡ true
+fit_more [] [] bank bytes h short = rw (le-leb (length bytes) bank.size short) refl
+fit_more [] (c ∷ cs) bank bytes h short = absurd cc
+fit_more (b ∷ bs) [] bank bytes h short = absurd cc
+fit_more (b ∷ bs) (c ∷ cs) bank bytes h short =
+    let (here, others) = and_parts (nat_le (length c) b.size) (fit bs cs) h in
+    rw (here, fit_more bs cs bank bytes others short) refl
+
+module _ {S : Type 0} (reads : Reads S) (file : List ℕ) where
+  -- what was read of the banks so far goes on by what is read of the others
+  abbrev pub GoesOn : (list : List Value) (banks : List BankConfig) (index : ℕ) (before now : S) → List (List ℕ) → Type 0
+  GoesOn list banks index before now contents = (others : List (List ℕ)) (after : S)
+      → BeginWith reads file index (items_view (drop index list)) (drop index banks) now others after
+      → BeginWith reads file 0 (items_view list) banks before (contents ++ others) after
+
+  -- the next bank begins with its bytes
+  pub goes_further : (list : List Value) (banks : List BankConfig) (index : ℕ) (before now next : S) (contents : List (List ℕ))
+      (value : Value) (bank : BankConfig) (bytes : List ℕ) → index < length list → index < length banks
+      → get_or list index value ≡ value → get_or banks index bank ≡ bank
+      → BeginsWith reads file (place Bank (index + 1)) (view value) bank.size now bytes next
+      → GoesOn list banks index before now contents → GoesOn list banks (index + 1) before next (contents ++ bytes ∷ [])
+  goes_further list banks index before now next contents value bank bytes in_list in_banks at_value at_bank begins so_far others after more =
+      let items : items_view (drop index list) ≡ item (view value) (items_view (drop (index + 1) list)) =
+      items_view-drop list index value in_list ∙ ap (λ (v : Value). item (view v) (items_view (drop (index + 1) list))) at_value in
+      let rest : drop index banks ≡ bank ∷ drop (index + 1) banks = drop_more banks index bank in_banks ∙ ap (λ (b : BankConfig). b ∷ drop (index + 1) banks) at_bank in
+      let all : BeginWith reads file index (items_view (drop index list)) (drop index banks) now (bytes ∷ others) after =
+      subst (λ (i : Items). BeginWith reads file index i (drop index banks) now (bytes ∷ others) after) (sym items)
+      (subst (λ (b : List BankConfig). BeginWith reads file index (item (view value) (items_view (drop (index + 1) list))) b now (bytes ∷ others) after)
+      (sym rest) (next, begins, more)) in
+      subst (λ (c : List (List ℕ)). BeginWith reads file 0 (items_view list) banks before c after)
+      (sym (append_assoc contents (bytes ∷ []) others)) (so_far (bytes ∷ others) after all)
+
+  -- the same of loads
+  abbrev pub LoadsGoOn : (list : List Value) (index : ℕ) (before now : S) → List LoadValue → Type 0
+  LoadsGoOn list index before now loads = (others : List LoadValue) (after : S)
+      → HoldLoads reads file index (items_view (drop index list)) now others after
+      → HoldLoads reads file 0 (items_view list) before (loads ++ others) after
+
+  -- the next load
+  pub loads_go_further : (list : List Value) (index : ℕ) (before now next : S) (loads : List LoadValue) (value : Value)
+      (load : LoadValue) → index < length list → get_or list index value ≡ value
+      → HoldsLoad reads file (place Load (index + 1)) (view value) now load next
+      → LoadsGoOn list index before now loads → LoadsGoOn list (index + 1) before next (loads ++ load ∷ [])
+  loads_go_further list index before now next loads value load in_list at_value holds so_far others after more =
+      let items : items_view (drop index list) ≡ item (view value) (items_view (drop (index + 1) list)) =
+      items_view-drop list index value in_list ∙ ap (λ (v : Value). item (view v) (items_view (drop (index + 1) list))) at_value in
+      let all : HoldLoads reads file index (items_view (drop index list)) now (load ∷ others) after =
+      subst (λ (i : Items). HoldLoads reads file index i now (load ∷ others) after) (sym items) (next, holds, more) in
+      subst (λ (l : List LoadValue). HoldLoads reads file 0 (items_view list) before l after)
+      (sym (append_assoc loads (load ∷ []) others)) (so_far (load ∷ others) after all)
