@@ -50,7 +50,7 @@ READ = "0 FE014C0067000100A0000000000010C9 EOP\n"
 REPLY = "0 67010C00FE0001000000106D0000000000000000000000000000000000 EOP\n"
 
 # Faults of memory, but those of lines.
-FAULTS = re.compile(r"no memory|node fault 9|cannot read \S+|cannot write (?:\S+|standard output)|image fault 8 slot 0|refused V17 slot 0|"
+FAULTS = re.compile(r"no memory|node fault [789]|cannot read \S+|cannot write (?:\S+|standard output)|image fault 8 slot 0|refused V17 slot 0|"
                     r"policy fault 3|line (\d+) fault 5")
 
 
