@@ -1,4 +1,4 @@
-use Rattle.std.proofs.Common.{◌≡◌, ◌≤◌, ℕ, refl, sym, subst, rules}
+use Rattle.std.proofs.Common.{◌≡◌, ◌≤◌, ℕ, length, refl, sym, subst, rules}
 use Rattle.single_node.specs.Nodes.{SetsBytes as SetsAlone}
 use Rattle.job_nodes.specs.JobNode.{alone, job_node}
 use Rattle.job_nodes.proofs.Banks.{covered_bank, set_stays, set_turned, some_room}
@@ -7,7 +7,7 @@ use Rattle.job_nodes.proofs.node.JobNode.set.Goals as goal
 pub turn_and_set-requires-clause-some : goal.turn_and_set-requires-clause-some
 turn_and_set-requires-clause-some c =
     let own = c.self.inside in
-    let low = covered_bank own.node.banks c.args.bank c.args.address _ (search rules) in
+    let low = covered_bank own.node.banks c.args.bank c.args.address (length c.args.bytes.now) (search rules) in
     subst (λ (n : ℕ). 1 ≤ n) (sym c.room-room.ensures) (some_room own.node.banks c.args.bank c.self.invariant.rooms low)
 
 pub invariant_of-self : goal.invariant_of-self
