@@ -1,5 +1,5 @@
 pub mod Chains
 pub mod Contents
 pub mod Each
-pub mod Maps
+pub mod MapLimits
 pub mod Texts

@@ -48,7 +48,7 @@ fn map_in(item: &Value, number: usize, left: u16) -> Result<(u16, MapKind), Conf
 }
 
 /// The maps of a list of tables.
-#[tactic(auto, using(crate::proofs::Maps::sizes_of_maps))]
+#[tactic(auto, using(crate::proofs::MapLimits::sizes_of_maps))]
 fn maps_in(alloc: Global, list: &[Value]) -> Result<Vec<(u16, MapKind)>, ConfigFault>
     ensures ok { IfOk result (λ maps. each next_map [] (items_view list.now) ≡ Ok maps.items) }
     ensures err { IfErr result (IsFaultOf (each next_map [] (items_view list.now))) }

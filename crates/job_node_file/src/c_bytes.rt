@@ -1,30 +1,24 @@
 //! Bytes as a C program has them.
 
-use job_parts::replies::print_hex;
-use std::io::{self, Write};
+use std::alloc::AllocError;
 
 /// How many bytes stand in a row.
 const ROW: usize = 16;
 
-/// Prints a byte, `0xHH,`, and behind it a line feed where its row ends, and else a space.
-fn print_byte<W: Write>(out: &mut W, byte: u8, ends: bool) -> io::Result<()> {
-    write!(out, "0x")?;
-    print_hex(out, &[byte])?;
-    if ends {
-        writeln!(out, ",")
-    } else {
-        write!(out, ", ")
-    }
+/// Adds a byte, `0xHH,`, and behind it a line feed where its row ends, and else a space.
+fn add_byte(text: &mut String, byte: u8, ends: bool) -> Result<(), AllocError> {
+    let behind = if ends { '\n' } else { ' ' };
+    write!(text, "0x{byte:02X},{behind}")
 }
 
-/// Prints the bytes of an array, 16 in a row, and its end. An array of C is not empty: no bytes are a zero.
-pub fn print_c_bytes<W: Write>(out: &mut W, bytes: &[u8]) -> io::Result<()> {
+/// Adds the bytes of an array, 16 in a row, and its end. An array of C is not empty: no bytes are a zero.
+pub fn add_c_bytes(text: &mut String, bytes: &[u8]) -> Result<(), AllocError> {
     if bytes.is_empty() {
-        writeln!(out, "0")?;
+        text.push_str("0\n")?;
     }
     for place in 0..bytes.len() {
         let ends = place % ROW == ROW - 1 || place + 1 == bytes.len();
-        print_byte(out, bytes[place], ends)?;
+        add_byte(text, bytes[place], ends)?;
     }
-    writeln!(out, "}};")
+    text.push_str("};\n")
 }

@@ -11,12 +11,13 @@ ghost use Rattle.job_parts.specs.Arguments.{Lacks};
 ghost use Rattle.job_parts.specs.Statuses.{IsDoneWith};
 ghost use Rattle.job_parts.specs.Stops.{StopsBy};
 
-use crate::c_header::print_header;
-use crate::node_lines::{print_node, weights_of};
+use crate::c_header::header_text;
+use crate::node_lines::node_text;
 use clap::{ArgMatches, Command};
 use job_config::reading::{ReadNode, node_in};
 use job_parts::arguments::{file, flag, is_set, name_of};
 use job_parts::inputs::{Content, InputFile, Inputs};
+use job_parts::printing::print_text;
 use job_parts::status::Status;
 use job_parts::stops::Halt;
 use job_parts::storage::Files;
@@ -82,12 +83,11 @@ pub fn print_node_file<'a, F: Files, W: Write>(
     ensures quiet { IfErr result (StopsBy (λ _. W.contents out.new ≡ W.contents out.old)) }
 {
     let ReadNode { node, program } = node_in(alloc, files, words.node.as_str())?;
-    if words.header {
-        let image = program.image().write()?;
-        print_header(out, &node, image.as_slice())?;
+    let text = if words.header {
+        header_text(alloc, &node, &program)?
     } else {
-        let weights = weights_of(alloc, node.loads())?;
-        print_node(out, &node, program.image().weight(), weights.as_slice())?;
-    }
+        node_text(alloc, &node, &program)?
+    };
+    print_text(out, text.as_str())?;
     Ok(Status::Done)
 }
