@@ -1,13 +1,13 @@
 -- Banks that are filled in turn, and images that are loaded in turn.
-use Rattle.std.proofs.Common.{◌≡◌, ◌<◌, ◌+◌, ◌∙◌, ℕ, zero, suc, List, [], ◌∷◌, ◌++◌, length, take, drop, get_or, None, inr, refl, sym, ap, subst, arith}
-use Rattle.std.specs.Prelude.{replicate, slice_index_or}
+use Rattle.std.proofs.Common.{◌≡◌, ◌<◌, ◌+◌, ◌∙◌, ℕ, zero, suc, List, [], ◌∷◌, ◌++◌, length, take, drop, get_or, refl, sym, ap, subst, arith}
+use Rattle.std.specs.Prelude.{slice_index_or}
 use Rattle.std.proofs.lemmas.List.{take_more}
 use Rattle.bver.specs.Justified.{AcceptedValue}
 use Rattle.machine.specs.Sizes.{Maps}
 use Rattle.node_parts.specs.declared.config.NodeConfig.{NodeConfig}
 use Rattle.job_config.specs.OwnNodes.{IsConfigOf, LoadValue, OwnNodeValue, plain_node}
 use Rattle.job_nodes.specs.JobNode.{IsFresh, IsFreshOf, JobNodeValue}
-use Rattle.job_nodes.specs.Making.{Fills, FillsOne, IsFilled, IsNodeOf, IsUnloaded, Loads, LoadsAll, StopsLoads}
+use Rattle.job_nodes.specs.Making.{Fills, FillsOne, IsNodeOf, IsUnloaded, Loads, LoadsAll, StopsLoads}
 use Rattle.job_nodes.specs.declared.making.Unmade.{Unmade}
 
 -- one bank more

@@ -1,4 +1,4 @@
-use Rattle.std.proofs.Common.{◌<◌, ◌≡◌, ℕ, suc, length, arith, rules}
+use Rattle.std.proofs.Common.{◌<◌, length, arith, rules}
 use Rattle.std.proofs.lemmas.Result.{err_from_is_err_and}
 use Rattle.job_nodes.proofs.Loaded.{loads_more, stops_loads}
 use Rattle.job_nodes.proofs.making.load_all.Goals as goal

@@ -1,4 +1,4 @@
-use Rattle.std.proofs.Common.{◌≡◌, ◌≤◌, ℕ, length, refl, sym, subst, rules}
+use Rattle.std.proofs.Common.{◌≤◌, ℕ, length, refl, sym, subst, rules}
 use Rattle.single_node.specs.Nodes.{SetsBytes as SetsAlone}
 use Rattle.job_nodes.specs.JobNode.{alone, job_node}
 use Rattle.job_nodes.proofs.Banks.{covered_bank, set_stays, set_turned, some_room}

@@ -1,8 +1,7 @@
-use Rattle.std.proofs.Common.{◌≡◌, ◌≤◌, ℕ, refl, sym, subst, rules}
-use Rattle.std.specs.Prelude.{slice_get}
-use Rattle.single_node.specs.Nodes.{RotatesTo, room_in}
-use Rattle.job_nodes.specs.JobNode.{HandsOut, JobNodeValue, alone, job_node, journal_of}
-use Rattle.job_nodes.proofs.Banks.{some_room, turned, turned_banks, turned_stays}
+use Rattle.std.proofs.Common.{◌≤◌, ℕ, refl, sym, subst, rules}
+use Rattle.single_node.specs.Nodes.{RotatesTo}
+use Rattle.job_nodes.specs.JobNode.{alone, job_node}
+use Rattle.job_nodes.proofs.Banks.{some_room, turned, turned_stays}
 use Rattle.job_nodes.proofs.node.JobNode.turn.Goals as goal
 
 pub turn-requires-clause-some : goal.turn-requires-clause-some
