@@ -1,5 +1,5 @@
 -- Journals that are handed out in turn.
-use Rattle.std.proofs.Common.{◌≡◌, ◌<◌, ◌+◌, ℕ, zero, suc, Bool, true, List, [], ◌∷◌, length, sym, subst, arith}
+use Rattle.std.proofs.Common.{◌≡◌, ◌<◌, ◌+◌, ℕ, zero, suc, Bool, true, List, [], ◌∷◌, length, subst, arith}
 use Rattle.std.specs.Prelude.{slice_get}
 use Rattle.bank.specs.Records.{BankValue}
 use Rattle.single_node.specs.Nodes.{covers_in}

@@ -1,4 +1,3 @@
-use Rattle.std.proofs.Common.{sym, ◌∙◌}
 use Rattle.job_live.specs.Answering.{is_inside}
 use Rattle.job_live.proofs.HandingOut.{covered_bank}
 use Rattle.job_live.proofs.answering.set_bytes.Goals as goal
