@@ -103,7 +103,7 @@ enum sandbar_place {
 typedef struct sandbar_node {
   uint64_t inside; /* where what it has is (at 0) */
   uint32_t live;   /* at 8 */
-  uint32_t unused; /* at 12 */
+  uint32_t unused; /* at 12; the C source has a check of `inside` here */
 } sandbar_node;
 
 /** One bank of memory, which commands read and write. 12 bytes. */

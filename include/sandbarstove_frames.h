@@ -33,7 +33,7 @@ enum sandbar_came_kind {
 typedef struct sandbar_frames {
   uint64_t inside; /* where what it has is (at 0) */
   uint32_t live;   /* at 8 */
-  uint32_t unused; /* at 12 */
+  uint32_t unused; /* at 12; the C source has a check of `inside` here */
 } sandbar_frames;
 
 /** What bytes brought. 16 bytes. */

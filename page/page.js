@@ -506,7 +506,7 @@ function listen() {
   }
   for (const id of ['maps', 'both']) $(id).addEventListener('input', soon);
   for (const name of Object.keys(EXAMPLES)) $('example').append(new Option(name));
-  $('example').addEventListener('input', () => begin(ofExample(EXAMPLES[$('example').value])));
+  $('example').addEventListener('input', () => { $('notice').hidden = true; begin(ofExample(EXAMPLES[$('example').value])); });
   for (const what of ['keyup', 'click', 'focus']) $('new').addEventListener(what, pointRule);
   $('map').addEventListener('pointerover', (event) => { if (event.target.classList.contains('frame')) point(event.target); });
   $('map').addEventListener('keydown', pointByKey);

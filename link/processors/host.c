@@ -101,8 +101,15 @@ static void end(struct inside *inside) {
   rattle_dealloc(inside);
 }
 
+/* What is in `unused` of a handle that is live: its pointer, folded. A handle of which a bit flipped is none, and its pointer is not
+ * followed. */
+static uint32_t check_of(uint64_t inside) {
+  return (uint32_t)inside ^ (uint32_t)(inside >> 32) ^ 0x5A3C96E1u;
+}
+
 static struct inside *inside_of(const sandbar_node *node) {
-  return node->live == LIVE ? (struct inside *)(uintptr_t)node->inside : NULL;
+  bool is_whole = node->live == LIVE && node->unused == check_of(node->inside);
+  return is_whole ? (struct inside *)(uintptr_t)node->inside : NULL;
 }
 
 /* ---- what is verified */
@@ -190,6 +197,7 @@ uint32_t sandbar_open(sandbar_node *node, uint8_t address, uint8_t ports, const 
   }
   node->inside = (uint64_t)(uintptr_t)inside;
   node->live = LIVE;
+  node->unused = check_of(node->inside);
   return code;
 }
 
@@ -200,6 +208,7 @@ uint32_t sandbar_close(sandbar_node *node) {
   end(inside);
   node->inside = 0;
   node->live = 0;
+  node->unused = 0;
   return code;
 }
 
@@ -336,7 +345,8 @@ uint32_t sandbar_word(sandbar_node *node, uint8_t map, uint16_t cell, uint64_t *
 /* ---- frames */
 
 static struct inside *reader_of(const sandbar_frames *frames) {
-  return frames->live == FRAMES_LIVE ? (struct inside *)(uintptr_t)frames->inside : NULL;
+  bool is_whole = frames->live == FRAMES_LIVE && frames->unused == check_of(frames->inside);
+  return is_whole ? (struct inside *)(uintptr_t)frames->inside : NULL;
 }
 
 uint32_t sandbar_frames_open(sandbar_frames *frames) {
@@ -351,6 +361,7 @@ uint32_t sandbar_frames_open(sandbar_frames *frames) {
   }
   frames->inside = (uint64_t)(uintptr_t)inside;
   frames->live = FRAMES_LIVE;
+  frames->unused = check_of(frames->inside);
   return code;
 }
 
@@ -386,6 +397,7 @@ uint32_t sandbar_frames_close(sandbar_frames *frames) {
   end(inside);
   frames->inside = 0;
   frames->live = 0;
+  frames->unused = 0;
   return code;
 }
 

@@ -89,7 +89,7 @@ archived() {
     options=()
     over "$name" "$2-gcc" "qemu-$1" "/usr/$2" 1 "$work/$1.a" "$here/heap.c"
     echo "    $(bytes "$2-size" "$work/$1.a") bytes of code and constants"
-    computed "$name" --painted "$work/painted" --outside 256 "$work/$1.a"
+    computed "$name" --painted "$work/painted" --outside 384 "$work/$1.a"
 }
 
 # computed NAME WORD..: how much stack each call takes at most, by link/stack.

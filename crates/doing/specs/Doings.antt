@@ -1,5 +1,5 @@
 -- What the words of a command line come to over the files of a folder.
-use Rattle.std.specs.Prelude.{◌≡◌, ◌⊎◌, ℕ, List, [], ◌∷◌, Option, Some, string_bytes, codes, true, false}
+use Rattle.std.specs.Prelude.{◌≡◌, ◌⊎◌, ℕ, List, [], ◌∷◌, Some, string_bytes, codes, true, false}
 use Rattle.commands.specs.CommandLine.{NamesWork}
 use Rattle.commands.specs.Notes.{is_dump, reads_dump}
 use Rattle.commands.specs.Performed.{Performs}
@@ -32,7 +32,6 @@ use Rattle.job_live.specs.LiveJob.{Lives}
 use Rattle.job_live.specs.declared.words.LiveWords.{LiveWords}
 use Rattle.job_parts.specs.Statuses.{status_code}
 use Rattle.job_parts.specs.declared.status.Status.{Status}
-use Rattle.job_show.specs.declared.show.ShowWords.{ShowWords}
 use Rattle.clap.specs.Walk.{Text}
 use Rattle.doing.specs.Desks.{DeskReads, DeskWrites}
 use Rattle.doing.specs.Speeches.{SpeechHears, SpeechLoses, SpeechMisses, SpeechSends}

@@ -1,5 +1,5 @@
 -- What ends a job, told in other words.
-use Rattle.std.specs.Prelude.{ℕ, List, Option}
+use Rattle.std.proofs.Common.{◌≡◌, ℕ, List, Option, subst, sym}
 use Rattle.job_parts.specs.Stops.{StopsBy}
 use Rattle.job_parts.specs.declared.faults.Fault.{Fault}
 use Rattle.job_parts.specs.declared.stops.Halt.{Halt}
@@ -12,7 +12,13 @@ pub stops_more : (P Q : Fault → Type 0) → ((fault : Fault) → P fault → Q
 stops_more P Q more (Ended fault) h = more fault h
 stops_more P Q more (Unwritten refused) h = h
 
--- the fault of a table that was told, of what holds more often
-pub bad_more : (P Q : NoPolicy → Type 0) → ((none : NoPolicy) → P none → Q none)
-    → (old new : Option (List ℕ)) (status : Status) → TellsBad P old new status → TellsBad Q old new status
-bad_more P Q more old new status h = record { file = h.file; fault = h.fault; bad = more _ h.bad; told = h.told; failed = h.failed }
+-- the fault of a table that was told, where that is why there are no policies
+pub tells_none : (holds : NoPolicy → Type 0) (none : NoPolicy) (old new : Option (List ℕ)) (status : Status)
+    → holds none → TellsBad (λ it. it ≡ none) old new status → TellsBad holds old new status
+tells_none holds none old new status held told = record {
+  file = told.file;
+  fault = told.fault;
+  bad = subst holds (sym told.bad) held;
+  told = told.told;
+  failed = told.failed;
+}
