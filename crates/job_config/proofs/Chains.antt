@@ -1,5 +1,5 @@
 -- Files that are read one after the other.
-use Rattle.std.proofs.Common.{◌≡◌, ◌++◌, ◌∷◌, [], ℕ, List, Option, Some, None, inl, inr, refl, subst, sym}
+use Rattle.std.proofs.Common.{◌≡◌, ◌++◌, ◌∷◌, [], ℕ, IfErr, IfOk, List, MatchResult, Option, Result, Ok, Err, Some, None, inl, inr, refl, subst, sym}
 use Rattle.bpf.specs.Program.{Program}
 use Rattle.machine.specs.Sizes.{Maps}
 use Rattle.job_parts.specs.Files.{Reads}
@@ -41,3 +41,17 @@ module _ {S : Type 0} (reads : Reads S) where
       one_read name (Some holds.bytes) before after holds.read
   no_program_read (Some name) maps before after fault (inr (refused, is, holds)) =
       one_read name (Some holds.image.bytes) before after holds.image.read
+
+  -- a file was asked for
+  pub asked_read : {A E : Type 0} (r : Result A E) (bytes : A → List ℕ) (name : List ℕ) (before after : S)
+      → MatchResult r (λ x. reads before name (Some (bytes x)) after) (λ _. reads before name None after)
+      → SomeRead reads before after
+  asked_read (Ok x) bytes name before after h = one_read name (Some (bytes x)) before after h
+  asked_read (Err e) bytes name before after h = one_read name None before after h
+
+  -- a program was asked for
+  pub asked_program : {A : Type 0} (r : Result A Fault) (program : A → Program) (name : Option (List ℕ)) (maps : Maps) (before after : S)
+      → IfOk r (λ x. HoldsProgram reads before name (program x) after)
+      → IfErr r (HoldsNoProgram reads before name maps after) → SomeRead reads before after
+  asked_program (Ok x) program name maps before after held none = program_read name (program x) before after held
+  asked_program (Err fault) program name maps before after held none = no_program_read name maps before after fault none

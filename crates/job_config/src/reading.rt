@@ -1,12 +1,16 @@
 //! A node by its file and the files beside it.
 
-ghost use Rattle.std.specs.Prelude.{◌≡◌, ◌≤◌, ◌⊎◌, ◌∷◌, [], IfErr, IfOk, None, Ok, Some, length, option_map, string_bytes, true};
+ghost use Rattle.std.specs.Prelude.{◌≡◌, ◌≤◌, ◌⊎◌, ◌∷◌, [], IfErr, IfOk, IfSome, None, Ok, Some, length, option_map, string_bytes, true};
 ghost use Rattle.job_config.specs.Configured.{IsConfiguration, banks_at};
 ghost use Rattle.job_config.specs.Faults.{code_of};
 ghost use Rattle.job_config.specs.Names.{IsPathOf};
 ghost use Rattle.job_config.specs.Reads.{BeginWith, BeginsWith, Ends, HoldLoads, HoldsBanks, HoldsBeside, HoldsFirst, HoldsLoad, HoldsLoads, HoldsParts, IsBadNode, IsNoTable, ReadsNoNode, ReadsNode, SomeRead};
 ghost use Rattle.job_config.specs.OwnNodes.{fit};
 ghost use Rattle.job_config.specs.declared.faults.ConfigFault.TheVariants.{Memory};
+ghost use Rattle.bver.specs.Justified.{IsJustified};
+ghost use Rattle.job_parts.specs.Arguments.{name_in};
+ghost use Rattle.job_parts.specs.Given.{HoldsProgram};
+ghost use Rattle.machine.specs.Runs.{IsSafe};
 ghost use Rattle.job_parts.specs.declared.node_codes.NodeCode.TheVariants.{Text};
 ghost use Rattle.node_parts.specs.Nodes.{are_within};
 ghost use Rattle.toml.specs.Data.{Members};
@@ -61,8 +65,18 @@ fn bad_file(
     })
 }
 
+/// The bytes of the file of this name, if it can be read.
+fn read_bytes<F: Files>(alloc: Global, files: &mut F, path: &str) -> Option<Vec<u8>>
+    ensures gave { IfSome result (λ bytes. F.reads files.old path.now (Some bytes.items) files.new) }
+    ensures read { SomeRead F.reads files.old files.new }
+{
+    match bytes_in(alloc, files, path) {
+        Ok(bytes) => Some(bytes),
+        Err(_) => None,
+    }
+}
+
 /// The bytes of the file that a key names, at most so many.
-#[tactic(auto, using(crate::proofs::Chains::one_read))]
 fn bytes_beside<F: Files>(
     alloc: Global,
     file: &str,
@@ -77,7 +91,7 @@ fn bytes_beside<F: Files>(
     ensures read { SomeRead F.reads files.old files.new }
 {
     let path = beside(alloc, file, name)?;
-    let Ok(bytes) = bytes_in(alloc, files, path.as_str()) else {
+    let Some(bytes) = read_bytes(alloc, files, path.as_str()) else {
         return Err(bad_file(alloc, place, key, name, Trouble::Unread)?);
     };
     let count = bytes.len();
@@ -202,8 +216,24 @@ fn bad_program(
     }
 }
 
+/// The program of the image file of this name, or the factory program where there is no name.
+fn read_program<'a, F: Files>(
+    alloc: Global,
+    files: &mut F,
+    path: Option<&'a str>,
+    sizes: MapSizes,
+) -> Result<Accepted, Fault<'a>>
+    ensures held { IfOk result (λ program.
+        HoldsProgram F.reads files.old (name_in path.entry) program.program files.new) }
+    ensures sizes { IfOk result (λ program. program.sizes ≡ sizes) }
+    ensures justified { IfOk result (λ program. IsJustified program.program sizes) }
+    ensures safe { IfOk result (λ program. IsSafe program.program sizes) }
+    ensures read { SomeRead F.reads files.old files.new }
+{
+    judging_program(alloc, files, path, sizes)
+}
+
 /// The program that judges in all slots at first.
-#[tactic(auto, using(crate::proofs::Chains::program_read, crate::proofs::Chains::no_program_read))]
 fn first_program<F: Files>(
     alloc: Global,
     file: &str,
@@ -218,7 +248,7 @@ fn first_program<F: Files>(
 {
     let name = name_at(table, OWN, NameKey::Program)?;
     let path = path_of(alloc, file, name)?;
-    match judging_program(alloc, files, path.as_deref(), sizes) {
+    match read_program(alloc, files, path.as_deref(), sizes) {
         Ok(program) => Ok(program),
         Err(fault) => Err(bad_program(alloc, name, &fault)?),
     }
@@ -304,7 +334,6 @@ fn loads_of<F: Files>(
 }
 
 /// The node of this configuration, which is that of the table, with what stands in the files that the table names.
-#[tactic(auto, using(crate::proofs::Chains::some_read))]
 fn node_with<F: Files>(
     alloc: Global,
     file: &str,
