@@ -2,7 +2,7 @@
 use Rattle.std.proofs.Common.{◌≡◌, ◌++◌, ◌∷◌, [], ℕ, IfErr, IfOk, List, MatchResult, Option, Result, Ok, Err, Some, None, inl, inr, refl, subst, sym}
 use Rattle.bpf.specs.Program.{Program}
 use Rattle.machine.specs.Sizes.{Maps}
-use Rattle.job_parts.specs.Files.{Reads}
+use Rattle.job_parts.specs.Files.{HoldsNoText, Reads}
 use Rattle.job_parts.specs.Given.{HoldsNoProgram, HoldsProgram}
 use Rattle.job_parts.specs.declared.faults.Fault.{Fault}
 use Rattle.job_config.specs.Reads.{AreRead, SomeRead}
@@ -55,3 +55,10 @@ module _ {S : Type 0} (reads : Reads S) where
       → IfErr r (HoldsNoProgram reads before name maps after) → SomeRead reads before after
   asked_program (Ok x) program name maps before after held none = program_read name (program x) before after held
   asked_program (Err fault) program name maps before after held none = no_program_read name maps before after fault none
+
+  -- a text was asked for
+  pub asked_text : {A E : Type 0} (r : Result A E) (bytes : A → List ℕ) (name : List ℕ) (before after : S)
+      → MatchResult r (λ x. reads before name (Some (bytes x)) after) (λ _. HoldsNoText reads before name after)
+      → SomeRead reads before after
+  asked_text (Ok x) bytes name before after h = one_read name (Some (bytes x)) before after h
+  asked_text (Err e) bytes name before after h = one_read name h.given before after h.read

@@ -196,7 +196,8 @@ module _ {S : Type 0} (reads : Reads S) (file : List ℕ) where
     pub sizes : program.sizes ≡ own.sizes
     pub loads : HoldsLoads table judged own.loads after
 
-  -- the node of the node's file, and the program that judges in all slots at first
+  -- the node of the node's file, and the program that judges in all slots at first; and files were read, and nothing else was done
+  -- to them
   pub record ReadsNode (before : S) (own : OwnNodeValue) (program : AcceptedValue) (after : S) : Type 0 where
     pub text : List ℕ
     pub table : Members
@@ -205,8 +206,9 @@ module _ {S : Type 0} (reads : Reads S) (file : List ℕ) where
     pub utf8 : IsUtf8 text
     pub is_table : parse_document text ≡ Some table
     pub parts : HoldsParts table begun own program after
+    pub only_reads : SomeRead reads before after
 
-  -- the node's file was read, and there is no node of it
+  -- the node's file was read, and there is no node of it; and nothing else was done to files
   pub record ReadsBadNode (before : S) (end : Fault) (after : S) : Type 0 where
     pub text : List ℕ
     pub begun : S
@@ -215,6 +217,7 @@ module _ {S : Type 0} (reads : Reads S) (file : List ℕ) where
     pub utf8 : IsUtf8 text
     pub bad : IsBadNode reads text begun fault after
     pub ends : Ends (code_of fault) end
+    pub only_reads : SomeRead reads before after
 
   -- there is no node of the node's file: it cannot be read, or it is bad
   abbrev pub ReadsNoNode : (before : S) → Fault → (after : S) → Type 0

@@ -10,6 +10,8 @@ ghost use Rattle.job_config.specs.declared.faults.ConfigFault.TheVariants.{Memor
 ghost use Rattle.bver.specs.Justified.{IsJustified};
 ghost use Rattle.job_parts.specs.Arguments.{name_in};
 ghost use Rattle.job_parts.specs.Given.{HoldsProgram};
+ghost use Rattle.job_parts.specs.Reading.{TextUnread};
+ghost use Rattle.std.specs.Str.{IsUtf8};
 ghost use Rattle.machine.specs.Runs.{IsSafe};
 ghost use Rattle.job_parts.specs.declared.node_codes.NodeCode.TheVariants.{Text};
 ghost use Rattle.node_parts.specs.Nodes.{are_within};
@@ -408,6 +410,7 @@ fn node_of_text<F: Files>(
     ensures held { IfOk result (λ made. (table : Members) × (parse_document text.now ≡ Some table)
         × HoldsParts F.reads file.now table files.old made.node made.program files.new) }
     ensures bad { IfErr result (λ fault. IsBadNode F.reads text.now files.old fault files.new) }
+    ensures read { SomeRead F.reads files.old files.new }
 {
     let table = table_of(alloc, text)?;
     let configuration = configuration_of(alloc, &table)?;
@@ -427,6 +430,16 @@ pub fn fault_of<'a>(alloc: Global, name: &str, fault: &ConfigFault) -> Fault<'a>
     }
 }
 
+/// The text of the file of this name.
+fn read_text<'a, F: Files>(alloc: Global, files: &mut F, name: &'a str) -> Result<String, Fault<'a>>
+    ensures gave { IfOk result (λ text. F.reads files.old name.now (Some (string_bytes text)) files.new) }
+    ensures utf8 { IfOk result (λ text. IsUtf8 (string_bytes text)) }
+    ensures none { IfErr result (TextUnread F.reads files.old name.now files.new) }
+    ensures read { SomeRead F.reads files.old files.new }
+{
+    text_in(alloc, files, name)
+}
+
 /// The node of the node's file of this name, with what stands in the files beside it that it names, and the program that judges
 /// in all slots at first.
 ///
@@ -441,7 +454,7 @@ pub fn node_in<'a, F: Files>(
         ReadsNode F.reads name.now files.old made.node made.program files.new) }
     ensures none { IfErr result (λ fault. ReadsNoNode F.reads name.now files.old fault files.new) }
 {
-    let text = text_in(alloc, files, name)?;
+    let text = read_text(alloc, files, name)?;
     match node_of_text(alloc, name, text.as_str(), files) {
         Ok(node) => Ok(node),
         Err(fault) => Err(fault_of(alloc, name, &fault)),
