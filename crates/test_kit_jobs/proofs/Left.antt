@@ -30,6 +30,7 @@ use Rattle.commands.specs.declared.jobs.Job.TheVariants.{
   Explain,
   Why,
   Weigh,
+  Node,
   Packet,
   Show,
   Decide,
@@ -41,6 +42,7 @@ use Rattle.commands.specs.declared.jobs.Job.TheVariants.{
 use Rattle.test_kit_jobs.proofs.ChartsLeft.{compares_file, maps_file, uncompared, unmapped}
 use Rattle.test_kit_jobs.proofs.DecidesLeft.{decides_file, undecided}
 use Rattle.test_kit_jobs.proofs.RehearsesLeft.{rehearses_file, unrehearsed}
+use Rattle.test_kit_jobs.proofs.NodesLeft.{some_read, untold}
 use Rattle.test_kit_jobs.proofs.PacketsLeft.{made_file, unmade, unshown}
 use Rattle.folders.specs.Folders.{FolderReads, FolderValue, FolderWrites, Sets}
 use Rattle.test_kit_jobs.specs.Jobs.{AssemblesIn, CompilesIn, Leaves}
@@ -178,6 +180,7 @@ done_leaves (Simulate args) before after old new status done = given_all args be
 done_leaves (Explain words) before after old new status done = done.0
 done_leaves (Why args) before after old new status done = done.read.0
 done_leaves (Weigh words) before after old new status done = done.1.image.read.0
+done_leaves (Node words) before after old new status done = some_read before after done.1.read.only_reads
 done_leaves (Packet words) before after old new status done = made_file words before after old new status done
 done_leaves (Show words) before after old new status done = done.1.read.0
 done_leaves (Decide words) before after old new status done = decides_file words before after old new status done
@@ -199,6 +202,7 @@ ended_leaves (Simulate args) before after old new fault ended = unsimulated args
 ended_leaves (Explain words) before after old new fault ended = ended.1
 ended_leaves (Why args) before after old new fault ended = ended.0.unread
 ended_leaves (Weigh words) before after old new fault ended = unfit before _ words.sizes after fault ended.0
+ended_leaves (Node words) before after old new fault ended = untold words before after fault ended.0
 ended_leaves (Packet words) before after old new fault ended = unmade words before after fault ended.0
 ended_leaves (Show words) before after old new fault ended = unshown before _ after old new fault ended
 ended_leaves (Decide words) before after old new fault ended = undecided words before after old new fault ended
