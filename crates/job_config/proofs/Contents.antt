@@ -17,8 +17,8 @@ use Rattle.job_config.specs.declared.places.Kind.TheVariants.{Bank, Load}
 pub fit_more : (banks : List BankConfig) (contents : List (List ℕ)) (bank : BankConfig) (bytes : List ℕ)
     → fit banks contents ≡ true → length bytes ≤ bank.size → fit (banks ++ bank ∷ []) (contents ++ bytes ∷ []) ≡ true
 fit_more [] [] bank bytes h short = rw (le-leb (length bytes) bank.size short) refl
-fit_more [] (c ∷ cs) bank bytes h short = absurd cc
-fit_more (b ∷ bs) [] bank bytes h short = absurd cc
+fit_more [] (c ∷ cs) bank bytes h short = absurd (cc h)
+fit_more (b ∷ bs) [] bank bytes h short = absurd (cc h)
 fit_more (b ∷ bs) (c ∷ cs) bank bytes h short =
     let (here, others) = and_parts (nat_le (length c) b.size) (fit bs cs) h in
     rw (here, fit_more bs cs bank bytes others short) refl
@@ -36,7 +36,7 @@ module _ {S : Type 0} (reads : Reads S) (file : List ℕ) where
       → get_or list index value ≡ value → get_or banks index bank ≡ bank
       → BeginsWith reads file (place Bank (index + 1)) (view value) bank.size now bytes next
       → GoesOn list banks index before now contents → GoesOn list banks (index + 1) before next (contents ++ bytes ∷ [])
-  goes_further list banks index before now next contents value bank bytes in_list in_banks at_value at_bank begins so_far others after more =
+  goes_further list banks index before now next contents value bank bytes in_list in_banks at_value at_bank begins so_far = λ others after more.
       let items : items_view (drop index list) ≡ item (view value) (items_view (drop (index + 1) list)) =
       items_view-drop list index value in_list ∙ ap (λ (v : Value). item (view v) (items_view (drop (index + 1) list))) at_value in
       let rest : drop index banks ≡ bank ∷ drop (index + 1) banks = drop_more banks index bank in_banks ∙ ap (λ (b : BankConfig). b ∷ drop (index + 1) banks) at_bank in
@@ -58,7 +58,7 @@ module _ {S : Type 0} (reads : Reads S) (file : List ℕ) where
       (load : LoadValue) → index < length list → get_or list index value ≡ value
       → HoldsLoad reads file (place Load (index + 1)) (view value) now load next
       → LoadsGoOn list index before now loads → LoadsGoOn list (index + 1) before next (loads ++ load ∷ [])
-  loads_go_further list index before now next loads value load in_list at_value holds so_far others after more =
+  loads_go_further list index before now next loads value load in_list at_value holds so_far = λ others after more.
       let items : items_view (drop index list) ≡ item (view value) (items_view (drop (index + 1) list)) =
       items_view-drop list index value in_list ∙ ap (λ (v : Value). item (view v) (items_view (drop (index + 1) list))) at_value in
       let all : HoldLoads reads file index (items_view (drop index list)) now (load ∷ others) after =
