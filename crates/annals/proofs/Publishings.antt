@@ -2,8 +2,9 @@
 use Rattle.std.proofs.Common.{◌≡◌, ℕ, List, [], ◌∷◌, ◌++◌, refl, ap, sym, ◌∙◌, subst}
 use mathlib.Core.List.{IsPrefix}
 use Rattle.node_programs.specs.declared.publishes.Publish.{Publish}
+use Rattle.annals.specs.declared.deed.Act.TheVariants.{Leaves, Sets, Rotates, Publishes}
 use Rattle.annals.specs.declared.deed.Deed.{Deed}
-use Rattle.annals.specs.declared.deed.Deed.TheVariants.{Opens, Does, Sets, Asks, Publishes}
+use Rattle.annals.specs.declared.deed.Deed.TheVariants.{Opens, Does, Asks}
 use Rattle.annals.specs.declared.deed.Link.{Link}
 use Rattle.annals.specs.Chains.{chain_of, link, IsFirst}
 use Rattle.annals.specs.Publishes.{with_publish, publishes_in, publishes_of, publishes_chain}
@@ -11,10 +12,11 @@ use Rattle.annals.proofs.Dues.{chain_prefix, own_snoc}
 
 with_publishes : (d : Deed) (ps qs : List Publish) → with_publish d (ps ++ qs) ≡ with_publish d ps ++ qs
 with_publishes (Opens x) ps qs = refl
-with_publishes (Does x) ps qs = refl
-with_publishes (Sets x) ps qs = refl
+with_publishes (Does (Leaves e)) ps qs = refl
+with_publishes (Does (Sets x)) ps qs = refl
+with_publishes (Does (Rotates x)) ps qs = refl
+with_publishes (Does (Publishes x)) ps qs = refl
 with_publishes (Asks x) ps qs = refl
-with_publishes (Publishes p) ps qs = refl
 
 publishes_append : (ls ms : List Link) → publishes_in (ls ++ ms) ≡ publishes_in ls ++ publishes_in ms
 publishes_append [] ms = refl
@@ -28,12 +30,12 @@ pub publishes_begin : (xs ys : List Link) → IsPrefix xs ys → IsPrefix (publi
 publishes_begin xs ys p = publishes_prefix (chain_of publishes_chain xs) (chain_of publishes_chain ys) (chain_prefix publishes_chain xs ys p)
 
 -- a publish that was added to a chain is one more
-pub publishes_more : (c : ℕ) (old before log : List Link) (place next : ℕ) (publish : Publish)
+pub publishes_more : (c : ℕ) (old before log : List Link) (place next by : ℕ) (publish : Publish)
     → chain_of c before ≡ chain_of c old
-    → log ≡ before ++ link c place (Publishes publish) next ∷ []
+    → log ≡ before ++ link c place (Does (Publishes (by, publish))) next ∷ []
     → publishes_in (chain_of c log) ≡ publishes_in (chain_of c old) ++ publish ∷ []
-publishes_more c old before log place next publish same more =
-    let l = link c place (Publishes publish) next in
+publishes_more c old before log place next by publish same more =
+    let l = link c place (Does (Publishes (by, publish))) next in
     ap (λ (ls : List Link). publishes_in (chain_of c ls)) more
     ∙ (ap publishes_in (own_snoc c before l refl)
     ∙ (publishes_append (chain_of c before) (l ∷ [])

@@ -3,22 +3,29 @@ use Rattle.std.specs.Prelude.{◌≡◌, ℕ, List, [], ◌∷◌}
 use mathlib.Core.List.{IsPrefix}
 use Rattle.logbook.specs.Pages.{Book}
 use Rattle.node_programs.specs.declared.publishes.Publish.{Publish}
+use Rattle.annals.specs.declared.deed.Act.{Act}
+use Rattle.annals.specs.declared.deed.Act.TheVariants.{Leaves, Sets, Rotates, Publishes}
 use Rattle.annals.specs.declared.deed.Deed.{Deed}
-use Rattle.annals.specs.declared.deed.Deed.TheVariants.{Opens, Does, Sets, Asks, Publishes}
+use Rattle.annals.specs.declared.deed.Deed.TheVariants.{Opens, Does, Asks}
 use Rattle.annals.specs.declared.deed.Link.{Link}
-use Rattle.annals.specs.Chains.{chain_of}
+use Rattle.annals.specs.Chains.{Due, at_chain, chain_of, done_for}
 
 -- the number of the chain of the publishes: that behind the chains of banks
 abbrev pub publishes_chain : ℕ
 publishes_chain = 8
 
+-- the publish that an act is, if it is one, before those
+abbrev pub with_published : Act → List Publish → List Publish
+with_published (Leaves entry) publishes = publishes
+with_published (Sets setting) publishes = publishes
+with_published (Rotates room) publishes = publishes
+with_published (Publishes publish) publishes = publish.1 ∷ publishes
+
 -- the publish that a deed is, if it is one, before those
 abbrev pub with_publish : Deed → List Publish → List Publish
-with_publish (Opens extent) publishes = publishes
-with_publish (Does entry) publishes = publishes
-with_publish (Sets setting) publishes = publishes
+with_publish (Opens opening) publishes = publishes
+with_publish (Does act) publishes = with_published act publishes
 with_publish (Asks due) publishes = publishes
-with_publish (Publishes publish) publishes = publish ∷ publishes
 
 -- the publishes among those deeds, in order
 abbrev pub publishes_in : List Link → List Publish
@@ -28,6 +35,19 @@ publishes_in (l ∷ ls) = with_publish l.deed (publishes_in ls)
 -- the programs that were published, in order: the place of each is its generation
 abbrev pub publishes_of : List Link → List Publish
 publishes_of log = publishes_in (chain_of publishes_chain log)
+
+-- the publishes among those acts, in order
+abbrev pub published_in : List Act → List Publish
+published_in [] = []
+published_in (act ∷ acts) = with_published act (published_in acts)
+
+-- the publishes that are asked for
+abbrev pub loads_in : List Due → List Publish
+loads_in dues = published_in (at_chain publishes_chain dues)
+
+-- those of a line's owner, in order
+abbrev pub loads_by : ℕ → List Link → List Publish
+loads_by owner log = loads_in (done_for owner log)
 
 -- a beginning of the history of that book
 pub record BeginningValue : Type 0 where
