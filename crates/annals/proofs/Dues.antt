@@ -83,7 +83,7 @@ done_more owner chain place next log a is =
 
 -- ---- at one chain
 
-acts_append : (k : ℕ) (xs ys : List Due) → at_chain k (xs ++ ys) ≡ at_chain k xs ++ at_chain k ys
+pub acts_append : (k : ℕ) (xs ys : List Due) → at_chain k (xs ++ ys) ≡ at_chain k xs ++ at_chain k ys
 acts_append k xs ys =
     ap (map (λ (d : Due). d.1)) (filter-append (λ (d : Due). d.0 == k) xs ys)
     ∙ map-append (λ (d : Due). d.1) (filter (λ (d : Due). d.0 == k) xs) (filter (λ (d : Due). d.0 == k) ys)

@@ -2,7 +2,7 @@
 
 ghost use Rattle.std.specs.Prelude.{◌⊎◌};
 ghost use mathlib.Core.List.{IsPrefix};
-ghost use Rattle.annals.specs.Publishes.{PublishesGrow};
+ghost use Rattle.annals.specs.Publishes.{EntriesAreNoLoads, LoadsAreListed, LoadsAreNoEntries, PublishesGrow};
 
 use crate::chains::{Family, Front};
 
@@ -16,4 +16,12 @@ pub fn share_one_history<J: Family>(one: &Front<J>, other: &Front<J>)
 /// What begins a history has the publishes that begin the history's.
 pub fn publishes_grow()
     ensures { PublishesGrow }
+{}
+
+/// What a line asks for at banks and what it asks to publish are apart, and what it asks to publish last is the last of its
+/// publishes.
+pub fn loads_are_apart()
+    ensures loads { LoadsAreNoEntries }
+    ensures entries { EntriesAreNoLoads }
+    ensures listed { LoadsAreListed }
 {}

@@ -6,8 +6,8 @@ ghost use mathlib.Core.List.{IsPrefix};
 ghost use Rattle.node_programs.specs.Histories.{entry, longer_history};
 ghost use Rattle.annals.specs.declared.deed.Act.TheVariants.{Publishes};
 ghost use Rattle.annals.specs.declared.deed.Deed.TheVariants.{Does};
-ghost use Rattle.annals.specs.Chains.{IsLast, line_with};
-ghost use Rattle.annals.specs.Publishes.{publishes_chain, publishes_of};
+ghost use Rattle.annals.specs.Chains.{IsLast};
+ghost use Rattle.annals.specs.Publishes.{line_loading, publishes_chain, publishes_of};
 
 use crate::beginning::Beginning;
 use crate::chains::{Chain, Family, Opened};
@@ -45,8 +45,8 @@ impl<J: Family> Chain<J> {
             (Does (Publishes (line.old.port, entry publish.now.0 (arc_value publish.now.1)))) }
         ensures published { publishes_of self.new.log
             ≡ longer_history (publishes_of self.old.log) publish.now.0 (arc_value publish.now.1) }
-        ensures asked { line.new ≡ line_with line.old publishes_chain
-            (Publishes (line.old.port, entry publish.now.0 (arc_value publish.now.1))) }
+        ensures asked { line.new
+            ≡ line_loading line.old (entry publish.now.0 (arc_value publish.now.1)) }
     {
         let mut front = self.beginning().front();
         let by = line.port();
