@@ -100,6 +100,11 @@ IsDue chain (Asks due) log = Unit {0}
 abbrev pub AreAsked : List Link → Type 0
 AreAsked log = (owner : ℕ) → IsPrefix (done_for owner log) (asked_by owner log)
 
+-- what begins a history has of each line's owner the acts that begin those which the history has of him
+abbrev pub ActsGrow : Type 0
+ActsGrow =
+    (owner : ℕ) (known reached : List Link) → IsPrefix known reached → IsPrefix (done_for owner known) (done_for owner reached)
+
 -- the cell whose pen adds to the chain
 abbrev pub next_of : List Link → ℕ
 next_of [] = 0

@@ -21,6 +21,6 @@ pub use beginning::Beginning;
 pub use chains::{Chain, Family, Front, Opened};
 pub use deed::{Act, Deed, Link};
 pub use kept::Kept;
-pub use laws::{loads_are_apart, publishes_grow, share_one_history};
+pub use laws::{acts_grow, loads_are_apart, publishes_grow, share_one_history};
 pub use line::Line;
 pub use publishes::BANK_CHAINS;
