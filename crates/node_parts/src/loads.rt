@@ -1,6 +1,6 @@
 //! Loads: a program that was staged is verified and published.
 
-ghost use Rattle.std.specs.Prelude.{◌≡◌, ◌⊎◌, None, IfErr, IfOk, List, OnErr, length};
+ghost use Rattle.std.specs.Prelude.{◌≡◌, ◌⊎◌, None, IfErr, IfOk, List, OnErr, OnOk, length};
 ghost use mathlib.Core.List.{IsPrefix};
 ghost use Rattle.bank.specs.Records.{ShareValue};
 ghost use Rattle.bpf.specs.Program.{IsProgram, image_bytes};

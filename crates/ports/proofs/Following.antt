@@ -35,6 +35,7 @@ pub record Stays (h after : PassValue) : Type 0 where
   pub port : after.port ≡ h.port
   pub windows : after.windows ≡ h.windows
   pub sizes : after.seat.sizes ≡ h.seat.sizes
+  pub home : after.seat.home ≡ h.seat.home
   pub count : length after.shares ≡ length h.shares
 
 stays_same : (h after : PassValue) → after ≡ h → Stays h after
@@ -43,6 +44,7 @@ stays_same h after same = record {
   port = ap (λ (x : PassValue). x.port) same;
   windows = ap (λ (x : PassValue). x.windows) same;
   sizes = ap (λ (x : PassValue). x.seat.sizes) same;
+  home = ap (λ (x : PassValue). x.seat.home) same;
   count = ap (λ (x : PassValue). length x.shares) same;
 }
 
@@ -52,6 +54,7 @@ stays_on h between after a b = record {
   port = b.port ∙ a.port;
   windows = b.windows ∙ a.windows;
   sizes = b.sizes ∙ a.sizes;
+  home = b.home ∙ a.home;
   count = b.count ∙ a.count;
 }
 
@@ -62,6 +65,7 @@ run_stays h between p j is = record {
   port = ap (λ (x : PassValue). x.port) is.asked;
   windows = ap (λ (x : PassValue). x.windows) is.asked;
   sizes = ap (λ (x : PassValue). x.seat.sizes) is.asked;
+  home = ap (λ (x : PassValue). x.seat.home) is.asked;
   count = ap (λ (x : PassValue). length x.shares) is.asked;
 }
 
@@ -71,6 +75,7 @@ end_stays j between after end = let keeps = end_keeps j between after end in rec
   port = keeps.port;
   windows = keeps.windows;
   sizes = ap (λ (s : SeatValue). s.sizes) keeps.seat;
+  home = ap (λ (s : SeatValue). s.home) keeps.seat;
   count = keeps.count;
 }
 
@@ -283,4 +288,5 @@ shares_count h after ps ds w = let stays = worked_stays h after ps ds w in recor
   port = stays.port;
   windows = stays.windows;
   sizes = stays.sizes;
+  home = stays.home;
 }

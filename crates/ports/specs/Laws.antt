@@ -73,6 +73,7 @@ pub record SharesCount (h after : PassValue) (deeds : List Deed) : Type 0 where
   pub port : after.port ≡ h.port
   pub windows : after.windows ≡ h.windows
   pub sizes : after.seat.sizes ≡ h.seat.sizes
+  pub home : after.seat.home ≡ h.seat.home
 
 -- the shares of a port grew by the entries that its commands left
 abbrev pub WorkersSharesCount : Type 0

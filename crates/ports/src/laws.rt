@@ -36,7 +36,7 @@ pub fn workers_entries_are_all()
     ensures { WorkersEntriesAreAll }
 {}
 
-/// A history that has of a worker's port what it asked for, and nothing else ([`Pass::tell`](target::Pass::tell),
+/// A law and no work: a history that has of a worker's port what it asked for, and nothing else ([`Pass::tell`](target::Pass::tell),
 /// [`Pass::knows_entries`](target::Pass::knows_entries)), has of its publishes, behind those that it had asked for at first, those
 /// of the worker's loads that published, in the order of their packets, each once, and no others.
 pub fn workers_publishes_are_all()

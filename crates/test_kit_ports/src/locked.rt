@@ -2,7 +2,7 @@
 
 ghost use Rattle.std.specs.Prelude.{◌≡◌};
 
-use crate::nodes::shared_node;
+use crate::nodes::node_and_line;
 use bank::{Applied, Judged};
 use bpf::Image;
 use bver::{Accepted, verify};
@@ -102,7 +102,7 @@ impl<J: Family, R: Wait + Drop> LockedNode<J, R> {
     ) -> Result<LockedNode<J, R>, Fail>
         requires { opened ≡ J.book }
     {
-        let (node, passes, instrument) = shared_node(rt, alloc, opened, ports, banks, factory)?;
+        let (node, passes, instrument) = node_and_line(rt, alloc, opened, ports, banks, factory)?;
         Ok(LockedNode {
             alloc,
             node,

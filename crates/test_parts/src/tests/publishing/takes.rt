@@ -53,7 +53,9 @@ fn a_program_is_shown<J: Family, R: Wait + Abort>(
 {
     let sizes = MapSizes::new(&[])?;
     let factory = program(alloc, &sizes, 2).ok_or("the factory program")?;
-    let (mut publisher, mut readers, mut line) = Programs::new::<J, _>(alloc, rt, opened, factory, 1)?;
+    let (mut publisher, mut readers, mut line) = Programs::new::<J, _>(
+        alloc, rt, opened, factory, 1,
+    )?;
     let mut reader = readers.pop().ok_or("a reader")?;
     for slot in 0..4u8 {
         same(
@@ -92,7 +94,9 @@ fn another_publish_is_shown<J: Family, R: Wait + Abort>(
 {
     let sizes = MapSizes::new(&[])?;
     let factory = program(alloc, &sizes, 2).ok_or("the factory program")?;
-    let (mut publisher, mut readers, mut line) = Programs::new::<J, _>(alloc, rt, opened, factory, 2)?;
+    let (mut publisher, mut readers, mut line) = Programs::new::<J, _>(
+        alloc, rt, opened, factory, 2,
+    )?;
     let mut untold = readers.pop().ok_or("two readers")?;
     let first = program(alloc, &publisher.sizes(), 3).ok_or("a program")?;
     publisher.install(&mut line, 3, first)?;
