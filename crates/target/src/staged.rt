@@ -1,5 +1,6 @@
 //! Commands to a port's own staging, and reads of the result of its last load.
 
+ghost use Rattle.std.specs.Prelude.{◌≡◌};
 ghost use Rattle.node_parts.specs.Stagings.{IsStagingPlace};
 ghost use Rattle.node_parts.specs.Served.{IsStagedAt};
 

@@ -33,8 +33,8 @@ returns-clause-asked g c =
     let old = c.readers_know_a_beginning.new.publisher in
     let new = c.load.new.store in
     let is : HasAskedForLoad port old new line.asked after.asked = elim c.load.ensures.noted [
-      | inl noted ↦ (Some noted.publish, noted.longer, asked_longer port inside.shares.items line after noted.publish c.pass.invariant.1 noted.noted)
-      | inr same ↦ (None, same.0, ap (λ l. l.line.asked) same.1)
+      | inl noted ↦ (Some noted.publish, (noted.longer, asked_longer port inside.shares.items line after noted.publish c.pass.invariant.1 noted.noted))
+      | inr same ↦ (None, (same.0, ap (λ l. l.line.asked) same.1))
     ] in
     subst (λ (l : List Publish). HasAskedForLoad c.args.pass.now.pass.port l c.load.new.store c.args.pass.now.asked c.load.new.reader.line.asked) c.readers_know_a_beginning.ensures.same
     (subst (λ (h : PortPass). HasAskedForLoad h.pass.port c.readers_know_a_beginning.new.publisher c.load.new.store h.asked c.load.new.reader.line.asked) c.pass.view_is is)
