@@ -27,7 +27,8 @@ use Rattle.ports.specs.declared.worker.Worker.{Worker}
 use Rattle.job_nodes.specs.JobNode.{first_passes, own_bank}
 use Rattle.job_ports.specs.Arrivals.{ArriveAll}
 use Rattle.job_ports.specs.Queues.{AreBeginnings, AreFew, AreFilled, AreOfPorts, IsBeginning, ServeEach, new_worker}
-use Rattle.job_ports.specs.ServedFile.{BeginOneHistory, EndsSo, PortEnd, ServePackets, no_replies}
+use Rattle.job_ports.specs.Ends.{PortEnd}
+use Rattle.job_ports.specs.ServedFile.{BeginOneHistory, EndsSo, ServePackets, no_replies}
 
 -- the packet in front of some items
 abbrev packet_first : Cargo → List Item → Cargo
