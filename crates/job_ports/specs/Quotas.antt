@@ -36,10 +36,14 @@ pub record AreTakenBack {J : Type 0} (before after : CellsValue) (workers : List
   pub calls : calls_back after
       ≡ calls_back before ++ flat_map (λ (w : Worker J SinkValue). w.pass.pass.seat.asked) workers
 
--- the tickets of each cell of that map, if it counts, are numbered
+-- if there is such a cell and it counts, its tickets are numbered
+abbrev pub IsNumberedAt : CellsValue → (map key : ℕ) → Type 0
+IsNumberedAt it map key =
+    IsInside it.sizes map key → kind_of_map it.sizes map ≡ Counter → (n : ℕ) × AreNumbered it map key n
+
+-- so it is with each cell of that map
 abbrev pub AreNumberedIn : CellsValue → (map : ℕ) → Type 0
-AreNumberedIn it map =
-    (key : ℕ) → IsInside it.sizes map key → kind_of_map it.sizes map ≡ Counter → (n : ℕ) × AreNumbered it map key n
+AreNumberedIn it map = (key : ℕ) → IsNumberedAt it map key
 
 -- the tickets of each cell of a counter map are numbered
 abbrev pub AreAllNumbered : CellsValue → Type 0

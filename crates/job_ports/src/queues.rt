@@ -1,8 +1,10 @@
 //! Packets that wait in the queues of a node's ports, and what its workers do with them.
 
-ghost use Rattle.std.specs.Prelude.{◌≡◌, ◌≤◌, IfOk, length, map, vec_len, zip};
+ghost use Rattle.std.specs.Prelude.{◌≡◌, ◌<◌, ◌≤◌, IfOk, false, length, map, true, vec_len, zip};
 ghost use Rattle.cells.specs.Seats.{IsWhole};
-ghost use Rattle.job_ports.specs.Quotas.{AreAllNumbered, AreNumberedIn, AreSeated, AreTakenBack, IsSeated, IsTakenBack};
+ghost use Rattle.machine.specs.Sizes.{kind_of_map};
+ghost use Rattle.machine.specs.declared.kinds.MapKind.TheVariants.{Counter};
+ghost use Rattle.job_ports.specs.Quotas.{AreAllNumbered, AreNumberedIn, AreSeated, AreTakenBack, IsNumberedAt, IsSeated, IsTakenBack};
 ghost use Rattle.job_ports.specs.Queues.{AreBeginnings, AreFew, AreFilled, AreOfPorts, IsDesk, IsFilled, ServeEach, new_worker};
 ghost use Rattle.ports.specs.Serves.{AreServed};
 
@@ -130,17 +132,40 @@ fn sinks_of<J: Family>(
     Ok(sinks)
 }
 
+/// Whether the cells of a map count.
+fn counts(sizes: &MapSizes, map: u8) -> bool
+    ensures yes { result ≡ true → kind_of_map sizes.now map ≡ Counter }
+    ensures no { result ≡ false → map < length sizes.now.cells
+        → kind_of_map sizes.now map ≡ Counter → ⊥ }
+{
+    match sizes.kind(map) {
+        Some(MapKind::Counter) => true,
+        Some(MapKind::Peak) | None => false,
+    }
+}
+
+/// How many tickets were drawn from a cell that counts.
+fn tell_cell(cells: &mut Cells, sizes: &MapSizes, map: u8, key: u16)
+    requires { sizes.now ≡ cells.old.sizes }
+    ensures same { cells.new ≡ cells.old }
+    ensures numbered { IsWhole cells.old → IsNumberedAt cells.old map key }
+{
+    if sizes.contains(map, key) && counts(sizes, map) {
+        cells.drawn(map, key);
+    }
+}
+
 /// How many tickets were drawn from each cell of a map that counts.
-fn tell_tickets_of(cells: &mut Cells, sizes: &MapSizes, map: u8)
+fn tell_map(cells: &mut Cells, sizes: &MapSizes, map: u8)
     requires { sizes.now ≡ cells.old.sizes }
     ensures same { cells.new ≡ cells.old }
     ensures numbered { IsWhole cells.old → AreNumberedIn cells.old map }
 {
-    let (Some(count), Some(MapKind::Counter)) = (sizes.cells(map), sizes.kind(map)) else {
+    let Some(count) = sizes.cells(map) else {
         return;
     };
     for key in 0..count {
-        cells.drawn(map, key);
+        tell_cell(cells, sizes, map, key);
     }
 }
 
@@ -151,7 +176,7 @@ fn tell_tickets(cells: &mut Cells, sizes: &MapSizes)
     ensures numbered { IsWhole cells.old → AreAllNumbered cells.old }
 {
     for map in 0..sizes.maps() {
-        tell_tickets_of(cells, sizes, map);
+        tell_map(cells, sizes, map);
     }
 }
 
