@@ -13,3 +13,11 @@ pub mod TableFaults
 pub mod Tickets
 pub mod Counts
 pub mod Walked
+pub mod Ports
+pub mod Ranges
+pub mod StatementFaults
+pub mod TextFaults
+pub mod Statements
+pub mod Drafts
+pub mod Slots
+pub mod Policies
