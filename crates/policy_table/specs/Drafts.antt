@@ -9,7 +9,6 @@ use Rattle.std.specs.Prelude.{
   false,
   ◌==◌,
   bytes_eq,
-  slice_index,
   if◌then◌else◌,
   List,
   [],
@@ -83,12 +82,23 @@ abbrev pub begins_with_point : List ℕ → Bool
 begins_with_point [] = false
 begins_with_point (c ∷ cs) = c == 46
 
+-- the word is `.range`
+abbrev pub IsRangeWord : List ℕ → Type 0
+IsRangeWord word = bytes_eq word (codes ".range") ≡ true
+
+-- the word begins with a point and is not `.range`
+abbrev pub IsDirective : List ℕ → Type 0
+IsDirective word = (bytes_eq word (codes ".range") ≡ false) × (begins_with_point word ≡ true)
+
+-- the word begins with no point
+abbrev pub IsOtherWord : List ℕ → Type 0
+IsOtherWord word = (bytes_eq word (codes ".range") ≡ false) × (begins_with_point word ≡ false)
+
 -- what the words of a line say is taken: no words say nothing, `.range` defines a range, and else they are a rule
 abbrev pub TakesWords : (line : ℕ) → (words : List (List ℕ)) → (old new : DraftValue) → Type 0
 TakesWords line [] old new = new ≡ old
 TakesWords line (first ∷ rest) old new =
-    if bytes_eq first (codes ".range") then TakesRange line rest old new
-    else (if begins_with_point first then ⊥ else TakesRule line (first ∷ rest) old new)
+    (IsRangeWord first × TakesRange line rest old new) ⊎ (IsOtherWord first × TakesRule line (first ∷ rest) old new)
 
 -- the line of this number is taken
 abbrev pub TakesLine : (line : ℕ) → (text : List ℕ) → (old new : DraftValue) → Type 0
@@ -100,8 +110,8 @@ TakesLine line text old new = TakesWords line (statement_words text) old new
 abbrev pub IsNoStatement : DraftValue → (words : List (List ℕ)) → StatementFault → Type 0
 IsNoStatement d [] fault = ⊥
 IsNoStatement d (first ∷ rest) fault =
-    if bytes_eq first (codes ".range") then IsNoRange d.ranges rest fault
-    else (if begins_with_point first then (fault ≡ Directive) else IsNoRuleLine d.ranges (first ∷ rest) fault)
+    (IsRangeWord first × IsNoRange d.ranges rest fault)
+    ⊎ ((IsDirective first × (fault ≡ Directive)) ⊎ (IsOtherWord first × IsNoRuleLine d.ranges (first ∷ rest) fault))
 
 -- why the words after `.range` in the line of this number are not taken
 abbrev pub IsUnreadRange : (line : ℕ) → (words : List (List ℕ)) → DraftValue → TextFault → Type 0

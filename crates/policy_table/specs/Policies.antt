@@ -52,11 +52,6 @@ policy_value version reversed rules = record { version = version; reversed = rev
 
 -- ---- what a text writes
 
--- the first of the lines is `.version 2`
-abbrev pub is_two : (lines : List (List ℕ)) → Bool
-is_two [] = false
-is_two (first ∷ rest) = begins_two first
-
 -- the lines are a table of version 1: rules that are asked at every port, one a line
 pub record WritesOne (lines : List (List ℕ)) (policy : PolicyValue) : Type 0 where
   pub rules : List Rule
@@ -72,7 +67,8 @@ pub record WritesTwo (rest : List (List ℕ)) (policy : PolicyValue) : Type 0 wh
 -- the lines are a table of the version that the first of them says
 abbrev pub WritesPolicy : (lines : List (List ℕ)) → PolicyValue → Type 0
 WritesPolicy [] policy = WritesOne [] policy
-WritesPolicy (first ∷ rest) policy = if begins_two first then WritesTwo rest policy else WritesOne (first ∷ rest) policy
+WritesPolicy (first ∷ rest) policy =
+    ((begins_two first ≡ true) × WritesTwo rest policy) ⊎ ((begins_two first ≡ false) × WritesOne (first ∷ rest) policy)
 
 -- why the lines are no table of version 1
 abbrev pub IsUnreadOne : (lines : List (List ℕ)) → TextFault → Type 0
@@ -85,7 +81,8 @@ IsUnreadOne lines (Line line fault) = ⊥
 abbrev pub IsUnreadPolicy : (lines : List (List ℕ)) → TextFault → Type 0
 IsUnreadPolicy [] fault = IsUnreadOne [] fault
 IsUnreadPolicy (first ∷ rest) fault =
-    if begins_two first then HasBadLine 2 rest empty_draft fault else IsUnreadOne (first ∷ rest) fault
+    ((begins_two first ≡ true) × HasBadLine 2 rest empty_draft fault)
+    ⊎ ((begins_two first ≡ false) × IsUnreadOne (first ∷ rest) fault)
 
 -- ---- tables that are not compiled
 

@@ -1,5 +1,5 @@
 -- What a table with ports means: at each port it is the table of the rules that are asked there.
-use Rattle.std.specs.Prelude.{◌<◌, ◌×◌, ℕ, suc, if◌then◌else◌, false, List, [], ◌∷◌, Option, Some, None}
+use Rattle.std.specs.Prelude.{◌<◌, ℕ, suc, if◌then◌else◌, false, List, [], ◌∷◌, Option, Some, None}
 use Rattle.machine.specs.declared.calls.Call.{Call}
 use Rattle.machine.specs.Memory.{Header}
 use Rattle.policy_table.specs.Limits.{FitsFields}

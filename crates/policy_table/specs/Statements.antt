@@ -3,6 +3,7 @@
 use Rattle.std.specs.Prelude.{
   ◌≡◌,
   ℕ,
+  suc,
   Bool,
   true,
   false,
@@ -45,6 +46,7 @@ use Rattle.policy_table.specs.declared.statement_faults.StatementFault.TheVarian
 }
 use Rattle.policy_table.specs.declared.statements.RuleParts.{RuleParts}
 use Rattle.policy_table.specs.declared.statements.Span.{Span}
+use Rattle.policy_table.specs.declared.words.RuleWord.{RuleWord}
 
 -- ---- words
 
@@ -219,7 +221,7 @@ pub record IsNew (ranges : List RangeText) (words : List (List ℕ)) (range : Ra
 -- the third is no address
 abbrev pub IsNoRange : List RangeText → List (List ℕ) → StatementFault → Type 0
 IsNoRange ranges words Directive = ⊥
-IsNoRange ranges words (RangeCount count) = (three_words words ≡ None) × (count ≡ length words)
+IsNoRange ranges words (RangeCount count) = (three_words words ≡ None) × (count ≡ suc (length words))
 IsNoRange ranges words RangeName = (range : RangeText) × (three_words words ≡ Some range) × (is_name range.name ≡ false)
 IsNoRange ranges words RangeTwice = (range : RangeText) × (three_words words ≡ Some range) × (is_name range.name ≡ true)
     × IsSome (range_named ranges range.name)

@@ -1,7 +1,7 @@
 //! What is wrong with a line of a table of version 2.
 
 ghost use Rattle.std.specs.Prelude.{◌≡◌, Some};
-ghost use Rattle.policy_table.specs.StatementFaults.{policy_fault_in, statement_fault_text};
+ghost use Rattle.policy_table.specs.StatementFaults.{policy_fault_in, port_place, rule_form, statement_fault_text, word_place};
 
 use crate::faults::PolicyFault;
 use crate::words::RuleWord;
@@ -12,7 +12,7 @@ use std::fmt;
 pub enum StatementFault {
     /// The first word begins with a point, and is not `.range`.
     Directive,
-    /// `.range` has so many words after it, and not three.
+    /// The line of a range has so many words, with `.range`, and not four.
     RangeCount(usize),
     /// The name of a range is no name, or reads as an address.
     RangeName,
@@ -64,6 +64,86 @@ impl StatementFault {
             | StatementFault::Port { .. } => PolicyFault::BadLine,
             StatementFault::RangeOrder | StatementFault::RuleOrder => PolicyFault::BadRange,
             StatementFault::NoCell { .. } => PolicyFault::NoCell,
+        }
+    }
+}
+
+/// The number of a word of a rule in its line.
+fn word_place(word: RuleWord, named: bool) -> u8
+    ensures { result ≡ word_place word named }
+{
+    let number = word.number();
+    if named && number > 5 {
+        number - 1
+    } else {
+        number
+    }
+}
+
+/// The number of the word after the verdict.
+fn port_place(named: bool) -> u8
+    ensures { result ≡ port_place named }
+{
+    if named { 8 } else { 9 }
+}
+
+/// The form of a word of a rule.
+fn rule_form(word: RuleWord, named: bool) -> &'static str
+    ensures { result.now ≡ rule_form word named }
+{
+    if word != RuleWord::Low {
+        return word.form();
+    }
+    if named {
+        "NAME is of no range above"
+    } else {
+        "LOW is eight hexadecimal digits, or the NAME of a range above"
+    }
+}
+
+impl fmt::Display for StatementFault {
+    ghost output = { λ fault. Some (statement_fault_text fault) };
+
+    fn fmt<W: fmt::Write>(&self, f: &mut fmt::Formatter<W>) -> fmt::Result {
+        match self {
+            StatementFault::Directive => write!(
+                f,
+                "word 1: .range NAME LOW HIGH gives a name to a range, and .version 2 stands in line 1 only"
+            ),
+            StatementFault::RangeCount(words) => {
+                write!(
+                    f,
+                    "ends after word {words}, and .range NAME LOW HIGH after word 4"
+                )
+            }
+            StatementFault::RangeName => write!(
+                f,
+                "word 2: NAME is a letter, then letters, digits and underscores, and not eight hexadecimal digits"
+            ),
+            StatementFault::RangeTwice => write!(f, "word 2: NAME is of a range above"),
+            StatementFault::RangeLow => write!(f, "word 3: LOW is eight hexadecimal digits"),
+            StatementFault::RangeHigh => write!(f, "word 4: HIGH is eight hexadecimal digits"),
+            StatementFault::RuleCount(words) => {
+                write!(f, "ends after word {words}, and a rule after VERDICT")
+            }
+            StatementFault::Word { word, named } => {
+                let number = word_place(*word, *named);
+                let form = rule_form(*word, *named);
+                write!(f, "word {number}: {form}")
+            }
+            StatementFault::Port { named } => {
+                let number = port_place(*named);
+                write!(
+                    f,
+                    "word {number}: after VERDICT stands nothing, or port P with P from 0 to 31"
+                )
+            }
+            StatementFault::RangeOrder => write!(f, "word 3: LOW is above HIGH"),
+            StatementFault::RuleOrder => write!(f, "word 5: LOW is above HIGH"),
+            StatementFault::NoCell { named } => {
+                let number = word_place(RuleWord::Quota, *named);
+                write!(f, "word {number}: QUOTA is of no cell of a counter map")
+            }
         }
     }
 }

@@ -1,7 +1,7 @@
 //! Why a table of either version is refused, and where.
 
-ghost use Rattle.std.specs.Prelude.{◌≡◌};
-ghost use Rattle.policy_table.specs.TextFaults.{text_fault_of};
+ghost use Rattle.std.specs.Prelude.{◌≡◌, Some};
+ghost use Rattle.policy_table.specs.TextFaults.{text_fault_of, text_fault_text};
 ghost use Rattle.policy_table.specs.declared.text_faults.TextFault.TheVariants.{Plain};
 ghost use Rattle.policy_table.specs.declared.table_faults.TableFault.TheVariants.{Memory};
 
@@ -9,6 +9,7 @@ use crate::faults::PolicyFault;
 use crate::statement_faults::StatementFault;
 use crate::table_faults::TableFault;
 use std::alloc::AllocError;
+use std::fmt;
 
 /// Why a table of either version is refused, and where. Lines count from 1.
 #[derive(Clone, Copy, Debug, PartialEq, Eq)]
@@ -52,5 +53,22 @@ impl From<AllocError> for TextFault {
 
     fn from(_refused: AllocError) -> TextFault {
         TextFault::Plain(TableFault::Memory)
+    }
+}
+
+impl fmt::Display for TextFault {
+    ghost output = { λ fault. Some (text_fault_text fault) };
+
+    fn fmt<W: fmt::Write>(&self, f: &mut fmt::Formatter<W>) -> fmt::Result {
+        match self {
+            TextFault::Plain(fault) => write!(f, "{fault}"),
+            TextFault::TooLong(slots) => {
+                write!(
+                    f,
+                    "the program has {slots} slots more than the 512 of an image"
+                )
+            }
+            TextFault::Line { line, fault } => write!(f, "line {line} {fault}"),
+        }
     }
 }
