@@ -24,7 +24,7 @@ use job_parts::status::Status;
 use job_parts::stops::Halt;
 use job_parts::storage::Files;
 use job_parts::usage::UsageFault;
-use policy::{Table, compile};
+use policy::{Policy, compile_policy};
 use std::alloc::{AllocError, Global};
 use std::io::{self, Write};
 
@@ -79,13 +79,16 @@ pub fn policy_job(alloc: Global, found: &ArgMatches) -> Result<PolicyWords, Usag
     })
 }
 
-/// The table in the file of this name.
-fn table_in<'a, F: Files>(alloc: Global, files: &mut F, name: &'a str) -> Result<Table, Fault<'a>>
+/// The table, of either version, in the file of this name.
+fn table_in<'a, F: Files>(alloc: Global, files: &mut F, name: &'a str) -> Result<Policy, Fault<'a>>
     ensures table { IfOk result (λ table. HoldsTable F.reads files.old name.now table files.new) }
     ensures refused { IfErr result (IsNoTable F.reads files.old name.now files.new) }
 {
     let text = text_in(alloc, files, name)?;
-    Ok(Table::read(alloc, text.as_str())?)
+    match Policy::read(alloc, text.as_str()) {
+        Ok(table) => Ok(table),
+        Err(fault) => Err(Fault::BadTable(fault.fault())),
+    }
 }
 
 /// The image of the table in the file of this name.
@@ -100,7 +103,10 @@ fn compiled<'a, F: Files>(
     ensures refused { IfErr result (IsNoPolicy F.reads files.old name.now sizes files.new) }
 {
     let table = table_in(alloc, files, name)?;
-    Ok(compile(alloc, &table, &sizes)?)
+    match compile_policy(alloc, &table, &sizes) {
+        Ok(image) => Ok(image),
+        Err(fault) => Err(Fault::BadTable(fault.fault())),
+    }
 }
 
 /// Prints how many slots an image has: `slots S`.

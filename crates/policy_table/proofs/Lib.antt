@@ -10,3 +10,4 @@ mod Walks
 mod Placing
 mod FirstMatches
 mod BadLines
+mod PortRules

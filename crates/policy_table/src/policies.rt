@@ -54,9 +54,8 @@ pub fn on_lines(alloc: Global, rules: &[Rule]) -> Result<Vec<PortRule>, AllocErr
     ensures { IfOk result (λ all. all.items ≡ on_lines 1 rules.now) }
 {
     let mut all = Vec::with_capacity(alloc, rules.len())?;
-    let mut line = 0;
     for rule in rules {
-        line += 1;
+        let line = all.len() + 1;
         all.push(PortRule {
             rule: *rule,
             port: None,
