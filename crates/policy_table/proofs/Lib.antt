@@ -11,3 +11,4 @@ mod Placing
 mod FirstMatches
 mod BadLines
 mod PortRules
+mod PortsFit

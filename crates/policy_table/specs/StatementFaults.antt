@@ -47,7 +47,7 @@ abbrev pub statement_fault_text : StatementFault → List ℕ
 statement_fault_text Directive =
     codes "word 1: .range NAME LOW HIGH gives a name to a range, and .version 2 stands in line 1 only"
 statement_fault_text (RangeCount words) =
-    codes "ends after word " ++ decimal words ++ codes ", and .range NAME LOW HIGH after word 4"
+    codes "has " ++ decimal words ++ codes " words after .range, and a range has 3: NAME LOW HIGH"
 statement_fault_text RangeName =
     codes "word 2: NAME is a letter, then letters, digits and underscores, and not eight hexadecimal digits"
 statement_fault_text RangeTwice = codes "word 2: NAME is of a range above"

@@ -3,7 +3,6 @@
 use Rattle.std.specs.Prelude.{
   ◌≡◌,
   ℕ,
-  suc,
   Bool,
   true,
   false,
@@ -221,7 +220,7 @@ pub record IsNew (ranges : List RangeText) (words : List (List ℕ)) (range : Ra
 -- the third is no address
 abbrev pub IsNoRange : List RangeText → List (List ℕ) → StatementFault → Type 0
 IsNoRange ranges words Directive = ⊥
-IsNoRange ranges words (RangeCount count) = (three_words words ≡ None) × (count ≡ suc (length words))
+IsNoRange ranges words (RangeCount count) = (three_words words ≡ None) × (count ≡ length words)
 IsNoRange ranges words RangeName = (range : RangeText) × (three_words words ≡ Some range) × (is_name range.name ≡ false)
 IsNoRange ranges words RangeTwice = (range : RangeText) × (three_words words ≡ Some range) × (is_name range.name ≡ true)
     × IsSome (range_named ranges range.name)

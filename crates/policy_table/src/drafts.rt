@@ -1,6 +1,6 @@
 //! A table of version 2, line by line.
 
-ghost use Rattle.std.specs.Prelude.{◌≡◌, OnOk, IfErr, IfOk};
+ghost use Rattle.std.specs.Prelude.{◌≡◌, ◌<◌, ◌^◌, OnOk, IfErr, IfOk, length};
 ghost use Rattle.spw.specs.Line.{words_of};
 ghost use Rattle.policy_table.specs.Drafts.{HasBadLine, IsUnreadLine, IsUnreadRange, IsUnreadRule, LinesWrite, TakesLine, TakesRange, TakesRule, empty_draft};
 
@@ -110,6 +110,7 @@ impl<'a> Draft<'a> {
 
 /// What the lines after the first say.
 pub fn read_lines<'a>(alloc: Global, lines: TextLines<'a>) -> Result<Draft<'a>, TextFault>
+    requires { length lines < 2 ^ 63 }
     ensures read { IfOk result (LinesWrite 2 lines.entry empty_draft) }
     ensures fault { IfErr result (HasBadLine 2 lines.entry empty_draft) }
 {

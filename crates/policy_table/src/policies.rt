@@ -1,7 +1,8 @@
 //! Tables of either version.
 
-ghost use Rattle.std.specs.Prelude.{◌≡◌, All, IfErr, IfOk, None, Some};
+ghost use Rattle.std.specs.Prelude.{◌≡◌, ◌<◌, ◌^◌, All, IfErr, IfOk, None, Some, length};
 ghost use Rattle.spw.specs.Line.{lines_of};
+ghost use Rattle.policy_table.specs.Limits.{FitsFields};
 ghost use Rattle.policy_table.specs.Policies.{IsPolicyFault, IsUnreadOne, IsUnreadPolicy, WritesOne, WritesPolicy, WritesTwo, is_before, length_told, policy_fault, reversed_told, rule_told, rules_told};
 ghost use Rattle.policy_table.specs.Drafts.{HasBadLine, empty_draft};
 ghost use Rattle.policy_table.specs.Ports.{FitsPort, on_lines};
@@ -51,7 +52,8 @@ impl Model for Policy {
 
 /// Rules that are asked at every port, one a line.
 pub fn on_lines(alloc: Global, rules: &[Rule]) -> Result<Vec<PortRule>, AllocError>
-    ensures { IfOk result (λ all. all.items ≡ on_lines 1 rules.now) }
+    ensures lines { IfOk result (λ all. all.items ≡ on_lines 1 rules.now) }
+    ensures fit { IfOk result (λ all. All FitsFields rules.now → All FitsPort all.items) }
 {
     let mut all = Vec::with_capacity(alloc, rules.len())?;
     for rule in rules {
@@ -82,6 +84,7 @@ fn read_one(alloc: Global, text: &str) -> Result<Policy, TextFault>
 
 /// A table of version 2, of which these lines stand after the first.
 fn read_two(alloc: Global, lines: TextLines<'_>) -> Result<Policy, TextFault>
+    requires { length lines < 2 ^ 63 }
     ensures read { IfOk result (WritesTwo lines.entry) }
     ensures fault { IfErr result (HasBadLine 2 lines.entry empty_draft) }
 {

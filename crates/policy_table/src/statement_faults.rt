@@ -12,7 +12,7 @@ use std::fmt;
 pub enum StatementFault {
     /// The first word begins with a point, and is not `.range`.
     Directive,
-    /// The line of a range has so many words, with `.range`, and not four.
+    /// `.range` has so many words after it, and not three.
     RangeCount(usize),
     /// The name of a range is no name, or reads as an address.
     RangeName,
@@ -113,7 +113,7 @@ impl fmt::Display for StatementFault {
             StatementFault::RangeCount(words) => {
                 write!(
                     f,
-                    "ends after word {words}, and .range NAME LOW HIGH after word 4"
+                    "has {words} words after .range, and a range has 3: NAME LOW HIGH"
                 )
             }
             StatementFault::RangeName => write!(

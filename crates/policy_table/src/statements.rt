@@ -191,7 +191,7 @@ pub fn read_range<'a>(
         (IsNoRange (range_texts ranges.now) (words_of text.now)) }
 {
     let Some(range) = three_words(text) else {
-        return Err(StatementFault::RangeCount(words_in(text) + 1));
+        return Err(StatementFault::RangeCount(words_in(text)));
     };
     if !is_name(range.name) {
         return Err(StatementFault::RangeName);

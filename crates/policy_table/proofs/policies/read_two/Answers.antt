@@ -1,0 +1,4 @@
+use Rattle.policy_table.proofs.policies.read_two.Goals as goal
+
+pub invariant_of-result : goal.invariant_of-result
+invariant_of-result c = ?
