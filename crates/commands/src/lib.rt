@@ -4,6 +4,7 @@
 mod asked;
 mod dumps;
 mod ends;
+mod further_faults;
 mod hints;
 mod jobs;
 mod shows;
