@@ -14,10 +14,9 @@ use Rattle.rmap.specs.Verdict.{verdict_number}
 use Rattle.policy.specs.Compiled.{HasCells, HasPortCells, IsCompileFault, IsOfCounter}
 use Rattle.policy.specs.Meant.{HaveCells}
 use Rattle.policy_table.specs.FirstFault.{compile_fault, has_cell, quota_fault, rule_fault, rules_fault}
-use Rattle.policy_table.specs.Limits.{FitsFields}
 use Rattle.policy_table.specs.Meaning.{agrees, decision, draw, holds, ruled}
 use Rattle.policy_table.specs.Policies.{PolicyValue, is_before, length_told, policy_fault, reversed_told, rule_told, rules_told}
-use Rattle.policy_table.specs.Ports.{FitsPort, at_every_port, on_lines, rules_at}
+use Rattle.policy_table.specs.Ports.{at_every_port, on_lines, rules_at}
 use Rattle.policy_table.specs.Slots.{asks_ports, field_slots, kind_slots, quota_slots, rules_slots, table_slots}
 use Rattle.policy_table.specs.TableFaults.{rule_fault_at}
 use Rattle.policy_table.specs.declared.faults.PolicyFault.{PolicyFault}
@@ -291,11 +290,6 @@ table_fits sizes rules none =
     few_fit (on_lines 1 rules) short
 
 -- ---- rules that are asked at every port
-
-pub lines_fit : (line : ℕ) (rules : List Rule) → All FitsFields rules → All FitsPort (on_lines line rules)
-lines_fit line [] fits = All-nil FitsPort
-lines_fit line (rule ∷ rules) fits =
-    All-cons FitsPort (at_every_port line rule) (on_lines (suc line) rules) (record { rule = All-head FitsFields rule rules fits; port = tt }) (lines_fit (suc line) rules (All-tail FitsFields rule rules fits))
 
 -- at each port they are the rules
 pub lines_at : (port line : ℕ) (rules : List Rule) → rules_at port (on_lines line rules) ≡ rules

@@ -18,7 +18,7 @@ use Rattle.policy_table.specs.declared.port_rules.PortRule.{PortRule}
 use Rattle.policy_table.specs.declared.rules.Rule.{Rule}
 use Rattle.policy_table.specs.declared.table_faults.TableFault.{TableFault}
 use Rattle.policy.proofs.Made.{made, made_justified, own_program, plain_cells, plain_meaning}
-use Rattle.policy.proofs.Refused.{is_told, lines_fit, port_cells, table_cells, table_fits}
+use Rattle.policy.proofs.Refused.{is_told, port_cells, table_cells, table_fits}
 use Rattle.policy.proofs.Weighing.{weighs}
 use Rattle.policy.proofs.compiler.compile.Goals as goal
 
@@ -47,21 +47,24 @@ returns-in-Some-clause-fault c =
 pub image_of_rules-requires-clause-room : goal.image_of_rules-requires-clause-room
 image_of_rules-requires-clause-room c =
     let none : compile_fault c.args.sizes.now c.args.table.now ≡ None = no_fault _ _ c.fault_for.ensures.fault c.in_default.is in
-    let same : c.as_slice.result.now ≡ on_lines 1 c.args.table.now = cc (c.as_slice.ensures.value, c.in_ok-rules.ensures, c.rules.ensures.rules) in
+    let same : c.as_slice.result.now ≡ on_lines 1 c.args.table.now = cc (c.as_slice.ensures.value, c.in_ok-rules.ensures.lines, c.rules.ensures.rules) in
     subst (λ (rules : List PortRule). table_slots rules ≤ 512) (sym same) (table_fits c.args.sizes.now c.args.table.now none)
 
 pub image_of_rules-requires-clause-fit : goal.image_of_rules-requires-clause-fit
 image_of_rules-requires-clause-fit c =
-    let same : c.as_slice.result.now ≡ on_lines 1 c.args.table.now = cc (c.as_slice.ensures.value, c.in_ok-rules.ensures, c.rules.ensures.rules) in
-    subst (λ (rules : List PortRule). All FitsPort rules) (sym same) (lines_fit 1 c.args.table.now c.rules.ensures.fit)
+    let fields : All FitsFields c.rules.result.now = subst (λ (rules : List Rule). All FitsFields rules) (sym c.rules.ensures.rules) c.rules.ensures.fit in
+    subst (λ (rules : List PortRule). All FitsPort rules) (sym c.as_slice.ensures.value) (c.in_ok-rules.ensures.fit fields)
 
 pub returns-clause-compiled : goal.returns-clause-compiled
 returns-clause-compiled c =
     let rules : List Rule = c.args.table.now in
     let all : List PortRule = on_lines 1 rules in
     let none : compile_fault c.args.sizes.now rules ≡ None = no_fault _ _ c.fault_for.ensures.fault c.in_default.is in
-    let same : c.as_slice.result.now ≡ all = cc (c.as_slice.ensures.value, c.in_ok-rules.ensures, c.rules.ensures.rules) in
-    let meaning = c.code_has_meaning.ensures all (length (table_code all)) (lines_fit 1 rules c.rules.ensures.fit) in
+    let same : c.as_slice.result.now ≡ all = cc (c.as_slice.ensures.value, c.in_ok-rules.ensures.lines, c.rules.ensures.rules) in
+    let fields : All FitsFields c.rules.result.now = subst (λ (rs : List Rule). All FitsFields rs) (sym c.rules.ensures.rules) c.rules.ensures.fit in
+    let items : c.in_ok-rules.rules.items ≡ all = cc (c.in_ok-rules.ensures.lines, c.rules.ensures.rules) in
+    let fits : All FitsPort all = subst (λ (rs : List PortRule). All FitsPort rs) items (c.in_ok-rules.ensures.fit fields) in
+    let meaning = c.code_has_meaning.ensures all (length (table_code all)) fits in
     made (IsCompiled c.args.sizes.now rules) _ all c.in_ok-image.image c.in_ok-image.ensures.image same (compiled c.args.sizes.now rules none meaning)
 
 pub returns-clause-justified : goal.returns-clause-justified
@@ -69,7 +72,10 @@ returns-clause-justified c =
     let rules : List Rule = c.args.table.now in
     let all : List PortRule = on_lines 1 rules in
     let none : compile_fault c.args.sizes.now rules ≡ None = no_fault _ _ c.fault_for.ensures.fault c.in_default.is in
-    let same : c.as_slice.result.now ≡ all = cc (c.as_slice.ensures.value, c.in_ok-rules.ensures, c.rules.ensures.rules) in
+    let same : c.as_slice.result.now ≡ all = cc (c.as_slice.ensures.value, c.in_ok-rules.ensures.lines, c.rules.ensures.rules) in
+    let fields : All FitsFields c.rules.result.now = subst (λ (rs : List Rule). All FitsFields rs) (sym c.rules.ensures.rules) c.rules.ensures.fit in
+    let items : c.in_ok-rules.rules.items ≡ all = cc (c.in_ok-rules.ensures.lines, c.rules.ensures.rules) in
+    let fits : All FitsPort all = subst (λ (rs : List PortRule). All FitsPort rs) items (c.in_ok-rules.ensures.fit fields) in
     let light : weight_of (own_program all) ≤ length (table_code all) = le_of_eq (weighs (table_code all) (length (table_code all))) in
     made_justified c.args.sizes.now _ all c.in_ok-image.image c.in_ok-image.ensures.image c.in_ok-image.ensures.limits same
-    (λ limits. c.code_is_justified.ensures c.args.sizes.now all (length (table_code all)) (lines_fit 1 rules c.rules.ensures.fit) (table_cells c.args.sizes.now rules none) limits light)
+    (λ limits. c.code_is_justified.ensures c.args.sizes.now all (length (table_code all)) fits (table_cells c.args.sizes.now rules none) limits light)
