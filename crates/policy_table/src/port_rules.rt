@@ -1,8 +1,5 @@
 //! Rules that are asked at one port, or at each.
 
-ghost use Rattle.std.specs.Prelude.{◌≡◌};
-ghost use Rattle.policy_table.specs.Meaning.{agrees};
-
 use crate::rules::Rule;
 
 /// A rule of a table, the port at which it is asked, and the line that writes it.
@@ -16,16 +13,4 @@ pub struct PortRule {
     pub line: usize,
     /// Whether the line has a name for the range, which is one word in place of two.
     pub named: bool,
-}
-
-impl PortRule {
-    /// Whether the rule is asked of the commands of a port.
-    pub fn is_asked(&self, port: u8) -> bool
-        ensures { result ≡ agrees self.now.port port }
-    {
-        match self.port {
-            Some(own) => own == port,
-            None => true,
-        }
-    }
 }
