@@ -88,7 +88,8 @@ fn read_two(alloc: Global, lines: TextLines<'_>) -> Result<Policy, TextFault>
     ensures read { IfOk result (WritesTwo lines.entry) }
     ensures fault { IfErr result (HasBadLine 2 lines.entry empty_draft) }
 {
-    let (reversed, rules) = read_lines(alloc, lines)?.into_rules();
+    let draft = read_lines(alloc, lines)?;
+    let (reversed, rules) = draft.into_rules();
     Ok(Policy {
         version: TableVersion::Two,
         reversed,
