@@ -1,6 +1,6 @@
 -- Compiled tables: a rule by its tests, the rules from the last, and what comes before them.
 use Rattle.std.specs.Prelude.{◌≢◌, pos, is_some, ◌||◌, ◌/◌, ◌&&◌, ◌==◌, not, bit_and, if◌then◌else◌, slice_index}
-use Rattle.std.proofs.Common.{◌≡◌, ◌<◌, ◌^◌, ◌+◌, ◌-◌, ◌%◌, ℕ, suc, Bool, true, false, List, [], ◌∷◌, ◌++◌, length, Option, Some, None, refl, sym, ap, ◌∙◌, subst, arith, append_assoc}
+use Rattle.std.proofs.Common.{◌≡◌, ◌<◌, ◌^◌, ◌+◌, ◌-◌, ◌%◌, ℕ, zero, suc, Bool, true, false, List, [], ◌∷◌, ◌++◌, length, Option, Some, None, refl, sym, ap, ◌∙◌, subst, arith, append_assoc}
 use Rattle.std.specs.Prelude.{All}
 use Rattle.std.proofs.lemmas.List.Elements.{All-head, All-tail}
 use Rattle.bpf.specs.declared.version.Version.TheVariants.{One}
@@ -240,13 +240,13 @@ pub rules_decide : (m : Setting) (port slot : ℕ) (rules : List PortRule) → (
     → StandAt m.program slot (rules_code rules) → RulesEnd m slot (rules_at port rules)
 rules_decide m port slot [] held fits code = record { ends = λ told words. verdict_given m slot 10 (omega arith) code }
 rules_decide m port slot (own ∷ rules) held fits code =
-    let at : ℕ = slot + field_slots own.port in
-    let end : ℕ = end_of at own.rule in
+    let begins : ℕ = slot + field_slots own.port in
+    let end : ℕ = end_of begins own.rule in
     let parts = cut_at m.program slot end (port_rule_code own) (rules_code rules) (port_rule_after slot own) code in
-    let both = cut_at m.program slot at (port_test own.port (rule_slots own.rule)) (rule_code own.rule) (port_after slot own.port (rule_slots own.rule)) parts.0 in
+    let both = cut_at m.program slot begins (port_test own.port (rule_slots own.rule)) (rule_code own.rule) (port_after slot own.port (rule_slots own.rule)) parts.0 in
     let own_fits : FitsPort own = All-head FitsPort own rules fits in
     let later : RulesEnd m end (rules_at port rules) = rules_decide m port end rules (λ asked. held (later_asks (is_some own.port) (asks_ports rules) asked)) (All-tail FitsPort own rules fits) parts.1 in
-    let met : RulesEnd m at (own.rule ∷ rules_at port rules) = rule_decides m at own.rule (rules_at port rules) own_fits.rule (rule_stands m.program at own.rule both.1) later in
+    let met : RulesEnd m begins (own.rule ∷ rules_at port rules) = rule_decides m begins own.rule (rules_at port rules) own_fits.rule (rule_stands m.program begins own.rule both.1) later in
     record {
       ends = λ told words.
           let asked : Decision = decision (own.rule ∷ rules_at port rules) m.header told in
@@ -286,9 +286,14 @@ moved_last held first last other registers stack h = record {
   port = h.port;
 }
 
+-- so many slots after one
+abbrev pub at : (slot count : ℕ) → ℕ
+at slot zero = slot
+at slot (suc count) = at slot count + 1
+
 -- the address, and where it is when the rules begin
 start : (m : Setting) (b port : ℕ) (stack : ℕ → Option ℕ) (d : Decision) → Keeps m.held stack → StandAt m.program b address_code
-    → ((registers : ℕ → Value) → Stands m.held (address_of (fields_of m.header)) (address_of (fields_of m.header)) registers stack → Finishes m.program m.header (state (b + 5) registers stack) d)
+    → ((registers : ℕ → Value) → Stands m.held (address_of (fields_of m.header)) (address_of (fields_of m.header)) registers stack → Finishes m.program m.header (state (at b 5) registers stack) d)
     → Finishes m.program m.header (state b (entry_register port) stack) d
 start m b port stack d keeps code rest =
     let header : Header = m.header in
@@ -301,48 +306,48 @@ start m b port stack d keeps code rest =
     let r3 : ℕ → Value = register_after r2 8 (Num word) in
     let r4 : ℕ → Value = register_after r3 8 (Num address) in
     let r5 : ℕ → Value = register_after r4 9 (Num address) in
-    let load : perform header (state (b + 2) r2 stack) (loaded LoadWord 8 7 4) ≡ Next (state (b + 3) r3 stack) =
-    ap (λ (o : Option Value). writes (state (b + 2) r2 stack) (b + 3) 8 o) (word_loaded header m.is_header 4 (omega arith) refl (state (b + 2) r2 stack)) in
+    let load : perform header (state (at b 2) r2 stack) (loaded LoadWord 8 7 4) ≡ Next (state (at b 3) r3 stack) =
+    ap (λ (o : Option Value). writes (state (at b 2) r2 stack) (at b 3) 8 o) (word_loaded header m.is_header 4 (omega arith) refl (state (at b 2) r2 stack)) in
     let big : swapped_bytes ToBig Swap32 word ≡ address =
     word_swapped _ _ _ _ (tail_byte header m.is_header 4 (omega arith)) (tail_byte header m.is_header 5 (omega arith)) (tail_byte header m.is_header 6 (omega arith)) (tail_byte header m.is_header 7 (omega arith))
     ∙ sym (big_word tail) in
-    let swap : perform header (state (b + 3) r3 stack) (swapped 8) ≡ Next (state (b + 4) r4 stack) =
-    ap (λ (k : ℕ). writes (state (b + 3) r3 stack) (b + 4) 8 (Some (Num k))) big in
-    next m.program header (state b r0 stack) (state (b + 1) r1 stack) (applied Mov 6 (FromRegister 1)) d m.performs code.0 refl refl
-    (next m.program header (state (b + 1) r1 stack) (state (b + 2) r2 stack) (applied Mov 7 (FromRegister 2)) d m.performs code.1.0 refl refl
-    (next m.program header (state (b + 2) r2 stack) (state (b + 3) r3 stack) (loaded LoadWord 8 7 4) d m.performs code.1.1.0 refl load
-    (next m.program header (state (b + 3) r3 stack) (state (b + 4) r4 stack) (swapped 8) d m.performs code.1.1.1.0 refl swap
-    (next m.program header (state (b + 4) r4 stack) (state (b + 5) r5 stack) (applied Mov 9 (FromRegister 8)) d m.performs code.1.1.1.1.0 refl refl
+    let swap : perform header (state (at b 3) r3 stack) (swapped 8) ≡ Next (state (at b 4) r4 stack) =
+    ap (λ (k : ℕ). writes (state (at b 3) r3 stack) (at b 4) 8 (Some (Num k))) big in
+    next m.program header (state b r0 stack) (state (at b 1) r1 stack) (applied Mov 6 (FromRegister 1)) d m.performs code.0 refl refl
+    (next m.program header (state (at b 1) r1 stack) (state (at b 2) r2 stack) (applied Mov 7 (FromRegister 2)) d m.performs code.1.0 refl refl
+    (next m.program header (state (at b 2) r2 stack) (state (at b 3) r3 stack) (loaded LoadWord 8 7 4) d m.performs code.1.1.0 refl load
+    (next m.program header (state (at b 3) r3 stack) (state (at b 4) r4 stack) (swapped 8) d m.performs code.1.1.1.0 refl swap
+    (next m.program header (state (at b 4) r4 stack) (state (at b 5) r5 stack) (applied Mov 9 (FromRegister 8)) d m.performs code.1.1.1.1.0 refl refl
     (rest r5 (record { front = refl; tail = refl; first_address = refl; last_address = refl; frame = refl; port = keeps }))))))
 
 -- the last address where there is a length
 long : (m : Setting) (b : ℕ) (registers : ℕ → Value) (stack : ℕ → Option ℕ) (address length last : ℕ) (d : Decision) → Stands m.held address address registers stack
     → registers 0 ≡ Num length → length ≢ 0 → address < 2 ^ 32 → length < 2 ^ 24 → address + length - 1 ≡ last
-    → insn_at m.program (b + 12) ≡ Some (applied Add 9 (FromRegister 0)) → insn_at m.program (b + 13) ≡ Some (applied Sub 9 (Immediate (pos 1)))
-    → ((after : ℕ → Value) → Stands m.held address last after stack → Finishes m.program m.header (state (b + 14) after stack) d)
-    → Finishes m.program m.header (state (b + 12) registers stack) d
+    → insn_at m.program (at b 12) ≡ Some (applied Add 9 (FromRegister 0)) → insn_at m.program (at b 13) ≡ Some (applied Sub 9 (Immediate (pos 1)))
+    → ((after : ℕ → Value) → Stands m.held address last after stack → Finishes m.program m.header (state (at b 14) after stack) d)
+    → Finishes m.program m.header (state (at b 12) registers stack) d
 long m b registers stack address length last d stands value some address_fits length_fits is first second rest =
     let header : Header = m.header in
     let r1 : ℕ → Value = register_after registers 9 (Num (address + length)) in
     let r2 : ℕ → Value = register_after r1 9 (Num last) in
-    let s : State = state (b + 12) registers stack in
-    let t : State = state (b + 13) r1 stack in
+    let s : State = state (at b 12) registers stack in
+    let t : State = state (at b 13) r1 stack in
     let sum : (address + length) % 2 ^ 64 ≡ address + length = omega arith in
     let less : (address + length + (2 ^ 64 - 1)) % 2 ^ 64 ≡ last = omega (arith, is) in
     let add : perform header s (applied Add 9 (FromRegister 0)) ≡ Next t =
-    ap (λ (v : Value). writes s (b + 13) 9 (alu Add Bits64 v (registers 0))) stands.last_address
-    ∙ ap (λ (v : Value). writes s (b + 13) 9 (alu Add Bits64 (Num address) v)) value
-    ∙ ap (λ (k : ℕ). writes s (b + 13) 9 (Some (Num k))) sum in
-    let sub : perform header t (applied Sub 9 (Immediate (pos 1))) ≡ Next (state (b + 14) r2 stack) =
-    ap (λ (k : ℕ). writes t (b + 14) 9 (Some (Num k))) less in
+    ap (λ (v : Value). writes s (at b 13) 9 (alu Add Bits64 v (registers 0))) stands.last_address
+    ∙ ap (λ (v : Value). writes s (at b 13) 9 (alu Add Bits64 (Num address) v)) value
+    ∙ ap (λ (k : ℕ). writes s (at b 13) 9 (Some (Num k))) sum in
+    let sub : perform header t (applied Sub 9 (Immediate (pos 1))) ≡ Next (state (at b 14) r2 stack) =
+    ap (λ (k : ℕ). writes t (at b 14) 9 (Some (Num k))) less in
     let then_one : Stands m.held address (address + length) r1 stack = moved_last m.held address address (address + length) registers stack stands in
     next m.program header s t (applied Add 9 (FromRegister 0)) d m.performs first refl add
-    (next m.program header t (state (b + 14) r2 stack) (applied Sub 9 (Immediate (pos 1))) d m.performs second refl sub
+    (next m.program header t (state (at b 14) r2 stack) (applied Sub 9 (Immediate (pos 1))) d m.performs second refl sub
     (rest r2 (moved_last m.held address (address + length) last r1 stack then_one)))
 
 -- the last address
-finish : (m : Setting) (b : ℕ) (registers : ℕ → Value) (stack : ℕ → Option ℕ) (d : Decision) → StandAt m.program (b + 5) last_address_code
-    → Stands m.held (address_of (fields_of m.header)) (address_of (fields_of m.header)) registers stack → EndsFrom m (b + 14) d → Finishes m.program m.header (state (b + 5) registers stack) d
+finish : (m : Setting) (b : ℕ) (registers : ℕ → Value) (stack : ℕ → Option ℕ) (d : Decision) → StandAt m.program (at b 5) last_address_code
+    → Stands m.held (address_of (fields_of m.header)) (address_of (fields_of m.header)) registers stack → EndsFrom m (at b 14) d → Finishes m.program m.header (state (at b 5) registers stack) d
 finish m b registers stack d code stands there =
     let header : Header = m.header in
     let tail : List ℕ = header.tail in
@@ -372,30 +377,30 @@ finish m b registers stack d code stands there =
     let stands_3 : Stands m.held address address r3 stack = kept m.held address address r2 stack (Num word) stands_2 in
     let stands_4 : Stands m.held address address r4 stack = kept m.held address address r3 stack (Num high) stands_3 in
     let stands_5 : Stands m.held address address r5 stack = kept m.held address address r4 stack (Num length) stands_4 in
-    let load : perform header (state (b + 5) registers stack) (loaded LoadByte 0 6 2) ≡ Next (state (b + 6) r1 stack) =
-    ap (λ (v : Value). writes (state (b + 5) registers stack) (b + 6) 0 (loads header (state (b + 5) registers stack) LoadByte v (pos 2))) stands.front
-    ∙ ap (λ (o : Option Value). writes (state (b + 5) registers stack) (b + 6) 0 o) (front_loaded header m.is_header 2 (omega arith) refl (state (b + 5) registers stack)) in
-    let load_length : perform header (state (b + 8) r2 stack) (loaded LoadWord 0 7 8) ≡ Next (state (b + 9) r3 stack) =
-    ap (λ (v : Value). writes (state (b + 8) r2 stack) (b + 9) 0 (loads header (state (b + 8) r2 stack) LoadWord v (pos 8))) stands_2.tail
-    ∙ ap (λ (o : Option Value). writes (state (b + 8) r2 stack) (b + 9) 0 o) (word_loaded header m.is_header 8 (omega arith) refl (state (b + 8) r2 stack)) in
-    let swap : perform header (state (b + 9) r3 stack) (swapped 0) ≡ Next (state (b + 10) r4 stack) =
-    ap (λ (k : ℕ). writes (state (b + 9) r3 stack) (b + 10) 0 (Some (Num k))) (word_swapped _ _ _ _ b8 b9 b10 b11) in
-    let shift : perform header (state (b + 10) r4 stack) (applied Rsh 0 (Immediate (pos 8))) ≡ Next (state (b + 11) r5 stack) =
-    ap (λ (k : ℕ). writes (state (b + 10) r4 stack) (b + 11) 0 (Some (Num k))) (big_three tail b11) in
+    let load : perform header (state (at b 5) registers stack) (loaded LoadByte 0 6 2) ≡ Next (state (at b 6) r1 stack) =
+    ap (λ (v : Value). writes (state (at b 5) registers stack) (at b 6) 0 (loads header (state (at b 5) registers stack) LoadByte v (pos 2))) stands.front
+    ∙ ap (λ (o : Option Value). writes (state (at b 5) registers stack) (at b 6) 0 o) (front_loaded header m.is_header 2 (omega arith) refl (state (at b 5) registers stack)) in
+    let load_length : perform header (state (at b 8) r2 stack) (loaded LoadWord 0 7 8) ≡ Next (state (at b 9) r3 stack) =
+    ap (λ (v : Value). writes (state (at b 8) r2 stack) (at b 9) 0 (loads header (state (at b 8) r2 stack) LoadWord v (pos 8))) stands_2.tail
+    ∙ ap (λ (o : Option Value). writes (state (at b 8) r2 stack) (at b 9) 0 o) (word_loaded header m.is_header 8 (omega arith) refl (state (at b 8) r2 stack)) in
+    let swap : perform header (state (at b 9) r3 stack) (swapped 0) ≡ Next (state (at b 10) r4 stack) =
+    ap (λ (k : ℕ). writes (state (at b 9) r3 stack) (at b 10) 0 (Some (Num k))) (word_swapped _ _ _ _ b8 b9 b10 b11) in
+    let shift : perform header (state (at b 10) r4 stack) (applied Rsh 0 (Immediate (pos 8))) ≡ Next (state (at b 11) r5 stack) =
+    ap (λ (k : ℕ). writes (state (at b 10) r4 stack) (at b 11) 0 (Some (Num k))) (big_three tail b11) in
     let address_small : address < 2 ^ 32 = omega (arith, big_word tail, b4, b5, b6, b7) in
     let length_small : length < 2 ^ 24 = omega (arith, big_three tail b11, b8, b9, b10, b11) in
     let inc = is_increment byte (front_byte header m.is_header 2 (omega arith)) in
-    next m.program header (state (b + 5) registers stack) (state (b + 6) r1 stack) (loaded LoadByte 0 6 2) d m.performs code.0 refl load
-    (next m.program header (state (b + 6) r1 stack) (state (b + 7) r2 stack) (applied And 0 (Immediate (pos 4))) d m.performs code.1.0 refl refl
-    (branched m.program header (b + 7) 6 (b + 14) r2 stack (skips_if Equal 0 (Immediate (pos 0)) 6) d (bit_and byte 4 == 0) m.performs code.1.1.0 refl refl refl
+    next m.program header (state (at b 5) registers stack) (state (at b 6) r1 stack) (loaded LoadByte 0 6 2) d m.performs code.0 refl load
+    (next m.program header (state (at b 6) r1 stack) (state (at b 7) r2 stack) (applied And 0 (Immediate (pos 4))) d m.performs code.1.0 refl refl
+    (branched m.program header (at b 7) 6 (at b 14) r2 stack (skips_if Equal 0 (Immediate (pos 0)) 6) d (bit_and byte 4 == 0) m.performs code.1.1.0 refl refl (omega arith)
     (λ zero.
     let same : address ≡ last = sym (plain_last grows (not (length == 0)) far address (sym inc ∙ zero)) in
     there.from r2 stack (with_last m.held address address r2 stack stands_2 last same))
     (λ one.
-    next m.program header (state (b + 8) r2 stack) (state (b + 9) r3 stack) (loaded LoadWord 0 7 8) d m.performs code.1.1.1.0 refl load_length
-    (next m.program header (state (b + 9) r3 stack) (state (b + 10) r4 stack) (swapped 0) d m.performs code.1.1.1.1.0 refl swap
-    (next m.program header (state (b + 10) r4 stack) (state (b + 11) r5 stack) (applied Rsh 0 (Immediate (pos 8))) d m.performs code.1.1.1.1.1.0 refl shift
-    (branched m.program header (b + 11) 2 (b + 14) r5 stack (skips_if Equal 0 (Immediate (pos 0)) 2) d (length == 0) m.performs code.1.1.1.1.1.1.0 refl refl refl
+    next m.program header (state (at b 8) r2 stack) (state (at b 9) r3 stack) (loaded LoadWord 0 7 8) d m.performs code.1.1.1.0 refl load_length
+    (next m.program header (state (at b 9) r3 stack) (state (at b 10) r4 stack) (swapped 0) d m.performs code.1.1.1.1.0 refl swap
+    (next m.program header (state (at b 10) r4 stack) (state (at b 11) r5 stack) (applied Rsh 0 (Immediate (pos 8))) d m.performs code.1.1.1.1.1.0 refl shift
+    (branched m.program header (at b 11) 2 (at b 14) r5 stack (skips_if Equal 0 (Immediate (pos 0)) 2) d (length == 0) m.performs code.1.1.1.1.1.1.0 refl refl (omega arith)
     (λ zero.
     let same : address ≡ last = sym (empty_last grows (length == 0) far address zero) in
     there.from r5 stack (with_last m.held address address r5 stack stands_5 last same))
@@ -416,7 +421,7 @@ held_where : (asked : Bool) (port : ℕ) → asked ≡ true → held_for asked p
 held_where true port h = refl
 held_where false port h = cc
 
-pub keep_slots : (asked : Bool) → ℕ
+abbrev pub keep_slots : (asked : Bool) → ℕ
 keep_slots true = 1
 keep_slots false = 0
 
@@ -451,9 +456,9 @@ whole_ends performs rules budget fits header port told is_header small words =
     let code : StandAt p 0 (table_code rules) = stand p [] (table_code rules) refl in
     let apart : StandAt p 0 (keep_code asked ++ (address_code ++ (last_address_code ++ rules_code rules))) = subst (λ (insns : List Insn). StandAt p 0 insns) (four_parts (keep_code asked) address_code last_address_code (rules_code rules)) code in
     let keep = cut_at p 0 b (keep_code asked) (address_code ++ (last_address_code ++ rules_code rules)) (keep_after asked) apart in
-    let one = cut_at p b (b + 5) address_code (last_address_code ++ rules_code rules) refl keep.1 in
-    let two = cut_at p (b + 5) (b + 14) last_address_code (rules_code rules) refl one.1 in
-    let there : EndsFrom m (b + 14) d = (rules_decide m port (b + 14) rules (held_where asked port) fits two.1).ends told words in
+    let one = cut_at p b (at b 5) address_code (last_address_code ++ rules_code rules) refl keep.1 in
+    let two = cut_at p (at b 5) (at b 14) last_address_code (rules_code rules) refl one.1 in
+    let there : EndsFrom m (at b 14) d = (rules_decide m port (at b 14) rules (held_where asked port) fits two.1).ends told words in
     kept_first m asked port d small keep.0
     (λ stack keeps. start m b port stack d keeps one.0 (λ registers stands. finish m b registers stack d two.0 stands there))
 

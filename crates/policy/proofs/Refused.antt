@@ -150,7 +150,7 @@ abbrev IsThere : Maps → PortRule → Type 0
 IsThere sizes own = quota_fault sizes own.rule.quota ≡ None
 
 port_inside : (sizes : Maps) (port : ℕ) (rules : List PortRule) → HaveCells sizes rules → HasCells sizes (rules_at port rules)
-port_inside sizes port [] have header told = All-nil (IsOfCounter sizes)
+port_inside sizes port [] have = λ header told. All-nil (IsOfCounter sizes)
 port_inside sizes port (own ∷ rules) have =
     asked_inside (agrees own.port port) sizes own.rule (rules_at port rules) (All-head (IsThere sizes) own rules have)
     (port_inside sizes port rules (All-tail (IsThere sizes) own rules have))

@@ -1,6 +1,6 @@
 -- What each test of a compiled table does: where its fact holds, what ends from the slot behind it ends from its
 -- first slot, and where not, what ends from the end of its rule.
-use Rattle.std.proofs.Common.{◌≡◌, ◌<◌, ◌^◌, ◌+◌, ℕ, Bool, true, false, [], ◌∷◌, Option, Some, None, refl, sym, ap, ◌∙◌, subst, arith}
+use Rattle.std.proofs.Common.{◌≡◌, ◌<◌, ◌^◌, ◌+◌, ◌*◌, ℕ, Bool, true, false, [], ◌∷◌, Option, Some, None, refl, sym, ap, ◌∙◌, subst, arith}
 use Rattle.std.specs.Prelude.{pos, negsuc, is_some, ◌&&◌, ◌==◌, not, nat_lt, nat_le, bit_and, if◌then◌else◌, slice_index}
 use Rattle.bpf_parts.specs.declared.callee.Callee.TheVariants as callees
 use Rattle.machine.specs.declared.helpers.Helper.TheVariants.{Ticket}

@@ -14,7 +14,7 @@ use Rattle.bpf_insn.specs.Spelling.{second_immediate, slots_of}
 use Rattle.policy.specs.Code.{address_code, asks_ports, field_slots, keep_code, last_address_code, port_rule_code, rules_code, table_code}
 use Rattle.policy_table.specs.Slots.{rules_slots, table_slots}
 use Rattle.policy_table.specs.declared.port_rules.PortRule.{PortRule}
-use Rattle.policy.proofs.Compiling.{after_both, end_of, four_parts, keep_after, keep_slots, port_rule_after}
+use Rattle.policy.proofs.Compiling.{after_both, at, end_of, four_parts, keep_after, keep_slots, port_rule_after}
 use Rattle.policy.proofs.Finishing.{placed_length, slot_after}
 
 -- ---- how many slots
@@ -41,10 +41,11 @@ table_long rules =
     let b : ℕ = keep_slots (asks_ports rules) in
     let parts = ap (λ (insns : List Insn). slot_after 0 insns) (four_parts (keep_code (asks_ports rules)) address_code last_address_code (rules_code rules))
     ∙ after_both 0 b (keep_code (asks_ports rules)) (address_code ++ (last_address_code ++ rules_code rules)) (keep_after (asks_ports rules))
-    ∙ after_both b (b + 5) address_code (last_address_code ++ rules_code rules) refl
-    ∙ after_both (b + 5) (b + 14) last_address_code (rules_code rules) refl
-    ∙ rules_after (b + 14) rules in
-    omega (arith, slots_are 0 (table_code rules), parts, keep_is (asks_ports rules))
+    ∙ after_both b (at b 5) address_code (last_address_code ++ rules_code rules) refl
+    ∙ after_both (at b 5) (at b 14) last_address_code (rules_code rules) refl
+    ∙ rules_after (at b 14) rules in
+    let fourteen : at b 14 ≡ b + 14 = omega arith in
+    omega (arith, slots_are 0 (table_code rules), parts, fourteen, keep_is (asks_ports rules))
 
 four_lengths : (a b c d : List Insn) → length (a ++ b ++ c ++ d) ≡ length a + length b + length c + length d
 four_lengths a b c d = simp length-append
