@@ -1,13 +1,14 @@
-use Rattle.std.proofs.Common.{◌≡◌, ◌≤◌, List, length, None, refl, sym, ◌∙◌, subst, le_of_eq}
+use Rattle.std.proofs.Common.{◌≡◌, ◌≤◌, List, length, Option, Some, None, refl, sym, ◌∙◌, subst, le_of_eq}
 use Rattle.std.specs.Prelude.{All}
 use Rattle.bpf.specs.Weight.{weight_of}
 use Rattle.machine.specs.Sizes.{Maps}
 use Rattle.policy.specs.Code.{table_code}
-use Rattle.policy.specs.Compiled.{HasPortMeaning, IsPortCompiled}
+use Rattle.policy.specs.Compiled.{HasPortMeaning, IsPortCompiled, IsPortFault}
 use Rattle.policy_table.specs.Policies.{PolicyValue, policy_fault}
 use Rattle.policy_table.specs.Ports.{FitsPort}
 use Rattle.policy_table.specs.Slots.{table_slots}
 use Rattle.policy_table.specs.declared.port_rules.PortRule.{PortRule}
+use Rattle.policy_table.specs.declared.text_faults.TextFault.{TextFault}
 use Rattle.policy.proofs.Made.{made, made_justified, own_program}
 use Rattle.policy.proofs.Refused.{policy_cells, policy_fits, port_cells}
 use Rattle.policy.proofs.Weighing.{weighs}
@@ -22,6 +23,13 @@ compiled sizes policy none meaning = record {
   budget = sym (weighs (table_code policy.rules) (length (table_code policy.rules)));
   cells = port_cells sizes policy.rules (policy_cells sizes policy none);
 }
+
+-- the fault is the first of the table
+told : (first found : Option TextFault) (fault : TextFault) → found ≡ first → found ≡ Some fault → IsPortFault first fault
+told first found fault is some = subst (λ (o : Option TextFault). IsPortFault o fault) (sym some ∙ is) refl
+
+pub returns-in-Some-clause-fault : goal.returns-in-Some-clause-fault
+returns-in-Some-clause-fault c = told _ _ _ c.fault_for.ensures c.in-Some.is
 
 pub image_of_rules-requires-clause-room : goal.image_of_rules-requires-clause-room
 image_of_rules-requires-clause-room c =
