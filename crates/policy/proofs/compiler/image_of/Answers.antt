@@ -27,4 +27,4 @@ unreachable-requires c =
     no_other c.in-Err.fault _ _ c.in-Err.ensures.exact (are_parts c.args.insns.now c.requires.some c.requires.few) c.in_default.not-Memory
 
 pub overflow_cast-insns : goal.overflow_cast-insns
-overflow_cast-insns c = omega (arith, c.len.ensures, slots_many c.args.insns.now, c.requires.few)
+overflow_cast-insns c = omega (arith, slots_many c.args.insns.now, c.requires.few)
