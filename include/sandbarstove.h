@@ -8,7 +8,7 @@
  * realloc and free. One node is for one call at a time: whoever shares a node between tasks puts a lock of his own round
  * each call. No call is for interrupt or signal handlers.
  *
- * Every function but ::sandbar_crc and ::sandbar_version returns a ::sandbar_code, that of the first test that fails, in
+ * Every function but ::sandbar_crc and ::sandbar_version, and ::sandbar_frames_head of sandbarstove_frames.h, returns a ::sandbar_code, that of the first test that fails, in
  * the order in which the function names them; sandbarstove_text.h has a text for each. At any code but ::SANDBAR_OK
  * nothing was done, and nothing was written but @c why where it is said. No pointer is null, also where it goes with a
  * length of 0; one that goes with a length names that many bytes or structs, and what is written to overlaps nothing else
@@ -20,8 +20,8 @@
 #include <stddef.h>
 #include <stdint.h>
 
-/** The number of this header: it rises with each change of a call, a struct or a number here. */
-#define SANDBAR_VERSION 4
+/** The number of this header and of sandbarstove_frames.h: it rises with each change of a call, a struct or a number there. */
+#define SANDBAR_VERSION 5
 
 /** What compilers that know of it are told of a call: its pointers are not null, and its code is looked at. */
 #ifndef SANDBAR_CALL
@@ -49,7 +49,7 @@ extern "C" {
 enum sandbar_code {
   SANDBAR_OK = 0,
   SANDBAR_NO_MEMORY = 1,  /**< memory was refused */
-  SANDBAR_NO_NODE = 2,    /**< the node is not open */
+  SANDBAR_NO_NODE = 2,    /**< the node, or the reader of frames, is not open */
   SANDBAR_BAD_CONFIG = 3, /**< ports, banks or a journal's room are outside their limits */
   SANDBAR_BAD_MAPS = 4,   /**< over 8 maps or 256 cells, a map without cells, or a @c peak that is neither 0 nor 1 */
   SANDBAR_BAD_IMAGE = 5,  /**< the bytes are no image: @c why has the first fault, 1 to 7, and its slot */
@@ -60,7 +60,7 @@ enum sandbar_code {
   SANDBAR_TOO_LONG = 10,  /**< the packet has over ::SANDBAR_MAX_PACKET bytes */
   SANDBAR_NO_ROOM = 11,   /**< the room for a reply or a packet is too small, or bytes lie outside the bank */
   SANDBAR_NO_ENTRY = 12,  /**< the journal has no such entry */
-  SANDBAR_IS_OPEN = 13,   /**< the node is open */
+  SANDBAR_IS_OPEN = 13,   /**< the node, or the reader of frames, is open */
   SANDBAR_NO_CELL = 14    /**< the node has no such map or cell */
 };
 
@@ -103,7 +103,7 @@ enum sandbar_place {
 typedef struct sandbar_node {
   uint64_t inside; /* where what it has is (at 0) */
   uint32_t live;   /* at 8 */
-  uint32_t unused; /* at 12 */
+  uint32_t unused; /* at 12; the C source has a check of `inside` here */
 } sandbar_node;
 
 /** One bank of memory, which commands read and write. 12 bytes. */

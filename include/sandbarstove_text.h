@@ -21,7 +21,7 @@ static SANDBAR_INLINE const char *sandbar_text(uint32_t code) {
   switch (code) {
     case SANDBAR_OK: return "it was done";
     case SANDBAR_NO_MEMORY: return "memory was refused";
-    case SANDBAR_NO_NODE: return "the node is not open";
+    case SANDBAR_NO_NODE: return "the node, or the reader of frames, is not open";
     case SANDBAR_BAD_CONFIG: return "ports, banks or a journal's room are outside their limits";
     case SANDBAR_BAD_MAPS: return "the maps are none that a node may have";
     case SANDBAR_BAD_IMAGE: return "the bytes are no image";
@@ -32,7 +32,7 @@ static SANDBAR_INLINE const char *sandbar_text(uint32_t code) {
     case SANDBAR_TOO_LONG: return "the packet has too many bytes";
     case SANDBAR_NO_ROOM: return "the room is too small, or bytes lie outside the bank";
     case SANDBAR_NO_ENTRY: return "the journal has no such entry";
-    case SANDBAR_IS_OPEN: return "the node is open";
+    case SANDBAR_IS_OPEN: return "the node, or the reader of frames, is open";
     case SANDBAR_NO_CELL: return "the node has no such map or cell";
     default: return "no code of this library";
   }

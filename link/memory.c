@@ -1,6 +1,7 @@
 /* What the library asks of malloc, and what it does where it is refused. Linked with --wrap=malloc,realloc,free. A_PACKET: how
  * often it asks for a packet: once, and not at all where a node has its memory inside (link/portable source). */
 #include "packets.h"
+#include "sandbarstove_frames.h"
 
 #include <malloc.h>
 #include <stdio.h>
@@ -168,6 +169,36 @@ static void turns(void) {
   holds(blocks == 0, "all is given back", 0);
 }
 
+/* Each request of an opening of a reader of frames refused in turn. Then it takes a stream with no request. */
+static void readers(void) {
+  static uint8_t packet[SANDBAR_MAX_PACKET], stream[SANDBAR_FRAME_HEAD + 5000];
+  sandbar_frames frames = {0};
+  sandbar_came came;
+  long n = 0, asked;
+  uint32_t code;
+  sandbar_frames_head(5000, stream);
+  memset(stream + SANDBAR_FRAME_HEAD, 0xFE, 5000);
+  do {
+    n += 1;
+    requests = 0;
+    refuse_at = n;
+    code = sandbar_frames_open(&frames);
+    asked = requests;
+    refuse_at = 0;
+    if (asked >= n)
+      holds(code == SANDBAR_NO_MEMORY && frames.live == 0 && frames.inside == 0 && blocks == 0, "a refused reader", n);
+  } while (asked >= n);
+  holds(code == SANDBAR_OK, "a reader", n);
+  printf("readers of frames: %ld requests refused in turn, %zu bytes in %ld blocks\n", n - 1, held, blocks);
+  requests = 0;
+  refuse_at = 1;
+  for (int k = 0; k < 3; k += 1)
+    holds(sandbar_frames_take(&frames, stream, sizeof stream, packet, sizeof packet, &came) == SANDBAR_OK &&
+              came.kind == SANDBAR_PACKET && came.length == SANDBAR_MAX_PACKET && requests == 0, "frames ask for nothing", requests);
+  refuse_at = 0;
+  holds(sandbar_frames_close(&frames) == SANDBAR_OK && blocks == 0, "all is given back", 0);
+}
+
 int main(void) {
   sizes(1);
   sizes(32);
@@ -176,6 +207,7 @@ int main(void) {
   while (load(n) >= n) n += 1;
   printf("loads: %ld requests refused in turn\n", n - 1);
   turns();
+  readers();
   printf("%s\n", failures == 0 ? "all held" : "failed");
   return failures == 0 ? EXIT_SUCCESS : EXIT_FAILURE;
 }

@@ -1,6 +1,7 @@
 /* How much stack calls take: each runs in a thread whose stack was painted, and what is no more painted was used. With the word
- * `calls` each of the twelve has a line, with its name; a serving is the one that took most. */
+ * `calls` each has a line, with its name; a serving is the one that took most. */
 #include "packets.h"
+#include "sandbarstove_frames.h"
 
 #include <pthread.h>
 #include <stdio.h>
@@ -12,6 +13,8 @@ static const uint8_t yes[] = IMAGE_OF(0), no[] = IMAGE_OF(10);
 static uint8_t packet[64], reply[SANDBAR_MAX_REPLY];
 static size_t length;
 static sandbar_node node;
+static sandbar_frames frames;
+static uint8_t room[SANDBAR_MAX_PACKET], frame[SANDBAR_FRAME_HEAD + 4] = {[SANDBAR_FRAME_HEAD] = 0xFE, 0xFE, 0xFE, 0xFE};
 
 static void *nothing(void *unused) { return unused; }
 
@@ -87,6 +90,28 @@ static void *closing(void *unused) {
   return unused;
 }
 
+static void *framing(void *unused) {
+  if (sandbar_frames_open(&frames) != SANDBAR_OK) exit(EXIT_FAILURE);
+  return unused;
+}
+
+static void *taking(void *unused) {
+  sandbar_came came;
+  if (sandbar_frames_take(&frames, frame, sizeof frame, room, sizeof room, &came) != SANDBAR_OK) exit(EXIT_FAILURE);
+  if (came.kind != SANDBAR_PACKET || came.length != 4) exit(EXIT_FAILURE);
+  return unused;
+}
+
+static void *heading(void *unused) {
+  sandbar_frames_head(4, frame);
+  return unused;
+}
+
+static void *unframing(void *unused) {
+  if (sandbar_frames_close(&frames) != SANDBAR_OK) exit(EXIT_FAILURE);
+  return unused;
+}
+
 static size_t used(void *(*work)(void *)) {
   pthread_attr_t attributes;
   pthread_t thread;
@@ -123,7 +148,8 @@ static int print_calls(size_t thread) {
       {"sandbar_serve", serving, put_reading},   {"sandbar_serve", serving, put_image}, {"sandbar_serve", serving, put_control},
       {"sandbar_journal_of", telling, NULL},     {"sandbar_entry_at", reading, NULL},   {"sandbar_peek", peeking, NULL},
       {"sandbar_rotate", turning, NULL},         {"sandbar_poke", poking, NULL},        {"sandbar_word", counting, NULL},
-      {"sandbar_crc", summing, NULL},            {"sandbar_close", closing, NULL},
+      {"sandbar_crc", summing, NULL},            {"sandbar_close", closing, NULL},      {"sandbar_frames_head", heading, NULL},
+      {"sandbar_frames_open", framing, NULL},    {"sandbar_frames_take", taking, NULL}, {"sandbar_frames_close", unframing, NULL},
   };
   size_t serving_most = 0;
   for (size_t i = 0; i < sizeof calls / sizeof calls[0]; i += 1) {

@@ -78,7 +78,7 @@ def disassembled(path: str) -> tuple[str, str]:
 
 def plain(symbol: str) -> str:
     """The name of a function in a relocation or a target: without its section and what is added."""
-    return re.sub(r"([-+]0x[0-9a-f]+)+$", "", symbol.strip()).removeprefix(".text.")
+    return re.sub(r"^\.text\.(?:unlikely\.|hot\.)?|(?:[-+]0x[0-9a-f]+)+$", "", symbol.strip())
 
 
 def functions(text: str) -> list[Function]:

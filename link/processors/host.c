@@ -1,8 +1,9 @@
-/* include/sandbarstove.h over a module of WebAssembly that wasm2c made C: each node is an instance of the module, with a memory
- * of its own, into which what is lent is copied, and from which what was written is copied back. Numbers are little-endian
- * there, whatever the processor. There is no state beside the instances: `verify` makes one for its own time, and the CRC
- * needs none. */
+/* include/sandbarstove.h and sandbarstove_frames.h over a module of WebAssembly that wasm2c made C: each node, and each reader of
+ * frames, is an instance of the module, with a memory of its own, into which what is lent is copied, and from which what was
+ * written is copied back. Numbers are little-endian there, whatever the processor. There is no state beside the instances: `verify`
+ * makes one for its own time, and the CRC and the head of a frame need none. */
 #include "sandbarstove.h"
+#include "sandbarstove_frames.h"
 #include "sandbarstove_heap.h"
 #include "sandbarstove_module.h"
 
@@ -20,13 +21,14 @@ typedef Z_sandbar_instance_t module;
 
 enum {
   LIVE = 0x3A9,
+  FRAMES_LIVE = 0x3AA,
   ROOM = SANDBAR_MAX_PACKET + 1, /* a packet that is too long is seen to be */
   IMAGE_ROOM = 4177,             /* the longest image, and one byte more: a longer one has the same fault */
   SMALL = 128,                   /* room for the banks, or for what a call tells */
   MAPS = 0, WHY = 48, IMAGE = 64 /* places in what is lent to be verified: nine maps, why, the image */
 };
 
-/* A node. The places are in the module's memory. */
+/* A node, or a reader of frames. The places are in the module's memory. */
 struct inside {
   module it;
   uint64_t node, packet, reply, small;
@@ -99,8 +101,15 @@ static void end(struct inside *inside) {
   rattle_dealloc(inside);
 }
 
+/* What is in `unused` of a handle that is live: its pointer, folded. A handle of which a bit flipped is none, and its pointer is not
+ * followed. */
+static uint32_t check_of(uint64_t inside) {
+  return (uint32_t)inside ^ (uint32_t)(inside >> 32) ^ 0x5A3C96E1u;
+}
+
 static struct inside *inside_of(const sandbar_node *node) {
-  return node->live == LIVE ? (struct inside *)(uintptr_t)node->inside : NULL;
+  bool is_whole = node->live == LIVE && node->unused == check_of(node->inside);
+  return is_whole ? (struct inside *)(uintptr_t)node->inside : NULL;
 }
 
 /* ---- what is verified */
@@ -188,6 +197,7 @@ uint32_t sandbar_open(sandbar_node *node, uint8_t address, uint8_t ports, const 
   }
   node->inside = (uint64_t)(uintptr_t)inside;
   node->live = LIVE;
+  node->unused = check_of(node->inside);
   return code;
 }
 
@@ -198,6 +208,7 @@ uint32_t sandbar_close(sandbar_node *node) {
   end(inside);
   node->inside = 0;
   node->live = 0;
+  node->unused = 0;
   return code;
 }
 
@@ -331,7 +342,73 @@ uint32_t sandbar_word(sandbar_node *node, uint8_t map, uint16_t cell, uint64_t *
   return code;
 }
 
+/* ---- frames */
+
+static struct inside *reader_of(const sandbar_frames *frames) {
+  bool is_whole = frames->live == FRAMES_LIVE && frames->unused == check_of(frames->inside);
+  return is_whole ? (struct inside *)(uintptr_t)frames->inside : NULL;
+}
+
+uint32_t sandbar_frames_open(sandbar_frames *frames) {
+  if (reader_of(frames) != NULL) return SANDBAR_IS_OPEN;
+  uint32_t code = SANDBAR_NO_MEMORY;
+  struct inside *inside = instance(SANDBAR_PAGES);
+  if (inside == NULL) return code;
+  if (has_rooms(inside)) code = Z_sandbarZ_sandbar_frames_open(&inside->it, inside->node);
+  if (code != SANDBAR_OK) {
+    end(inside);
+    return code;
+  }
+  frames->inside = (uint64_t)(uintptr_t)inside;
+  frames->live = FRAMES_LIVE;
+  frames->unused = check_of(frames->inside);
+  return code;
+}
+
+/* Takes through the room for a reply, piece by piece, so that no memory is asked for: where nothing came whole, all of a piece was
+ * taken. */
+uint32_t sandbar_frames_take(sandbar_frames *frames, const uint8_t *bytes, size_t length, uint8_t *packet,
+                             size_t packet_room, sandbar_came *came) {
+  struct inside *inside = reader_of(frames);
+  if (inside == NULL) return SANDBAR_NO_NODE;
+  module *it = &inside->it;
+  size_t taken = 0;
+  do {
+    size_t piece = at_most(length - taken, SANDBAR_MAX_REPLY);
+    put(it, inside->reply, bytes + taken, piece);
+    uint32_t code = Z_sandbarZ_sandbar_frames_take(it, inside->node, inside->reply, piece, inside->packet,
+                                                   at_most(packet_room, ROOM), inside->small);
+    if (code != SANDBAR_OK) return code;
+    taken += (size_t)number(it, inside->small, 8);
+    came->kind = (uint8_t)number(it, inside->small + 12, 1);
+  } while (came->kind == SANDBAR_NOTHING && taken < length);
+  came->taken = taken;
+  came->length = (uint32_t)number(it, inside->small + 8, 4);
+  came->end = (uint8_t)number(it, inside->small + 13, 1);
+  came->flag = (uint8_t)number(it, inside->small + 14, 1);
+  take(it, inside->packet, packet, came->length);
+  return SANDBAR_OK;
+}
+
+uint32_t sandbar_frames_close(sandbar_frames *frames) {
+  struct inside *inside = reader_of(frames);
+  if (inside == NULL) return SANDBAR_NO_NODE;
+  uint32_t code = Z_sandbarZ_sandbar_frames_close(&inside->it, inside->node);
+  end(inside);
+  frames->inside = 0;
+  frames->live = 0;
+  frames->unused = 0;
+  return code;
+}
+
 /* ---- calls without a node */
+
+/* The bytes by themselves, and not the module's, which would want an instance: what the frame is, a reserved byte, and ten of the
+ * length, the highest first. */
+void sandbar_frames_head(uint32_t reply_length, uint8_t *head) {
+  memset(head, 0, SANDBAR_FRAME_HEAD);
+  for (size_t k = 0; k < 4; k += 1) head[SANDBAR_FRAME_HEAD - 1 - k] = (uint8_t)(reply_length >> 8 * k);
+}
 
 /* The CRC bit by bit (ECSS-E-ST-50-52C, 8-bit CRC), and not the module's, which would want an instance. */
 uint8_t sandbar_crc(const uint8_t *bytes, size_t length) {

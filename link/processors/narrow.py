@@ -128,8 +128,9 @@ def export(found: re.Match[str]) -> str:
     taken = ", ".join(f"i32 {at}" if kind == "i64" else f"{kind} {at}" for kind, at in parts)
     handed = ", ".join(f"i64 {at}.long" if kind == "i64" else f"{kind} {at}" for kind, at in parts)
     kind = result.split(" ")[-1]
-    return "\n".join([f"define {result} @sandbar_{name}({taken}) {{", *lines, f"  %code = call {kind} @narrow.{name}({handed})",
-                      f"  ret {kind} %code", "}", ""])
+    code, given = ("", "void") if kind == "void" else ("%code = ", f"{kind} %code")
+    return "\n".join([f"define {result} @sandbar_{name}({taken}) {{", *lines, f"  {code}call {kind} @narrow.{name}({handed})",
+                      f"  ret {given}", "}", ""])
 
 
 def narrow(text: str, processor: str) -> str:

@@ -24,7 +24,7 @@ over() {
     local name=$1 compiler=$2 qemu=$3 sysroot=$4 requests=$5 program came
     shift 5
     rm -f "$work"/run-*
-    for program in test session fuzz order; do
+    for program in test session fuzz order frames; do
         "$compiler" "${warnings[@]}" "${options[@]}" -static "$here/$program.c" "$@" -o "$work/run-$program" || { fails "$name" "$program.c"; return; }
     done
     "$compiler" "${warnings[@]}" "${options[@]}" -D_GNU_SOURCE "-DA_PACKET=$requests" "$wrap" "$here/memory.c" "$@" -o "$work/run-memory" ||
@@ -35,6 +35,7 @@ over() {
         $qemu "$work/run-session" | cmp -s - "$here/session.out" || { fails "$name" session; return; }
         $qemu ${sysroot:+-L $sysroot} "$work/run-memory" > "$work/memory" || { cat "$work/memory"; fails "$name" memory; return; }
         $qemu "$work/run-order" > "$work/order" || { fails "$name" order; return; }
+        $qemu "$work/run-frames" > "$work/frames" || { cat "$work/frames"; fails "$name" frames; return; }
         came=$($qemu "$work/run-fuzz" "$rounds" 1 "$data/packets.txt" "$data/calls.txt" "$data/loops.txt") || came=
     }
     sums "$name" "$came" "$(head -n 1 "$work/said"), $(tail -n 1 "$work/said"), memory"
@@ -62,11 +63,13 @@ traced() {
     wait $!
 }
 
-# sums NAME CAME TOLD: the first library's sum is that of all, and so are its codes of random calls, in $work/order.
+# sums NAME CAME TOLD: the first library's sum is that of all, and so are its codes of random calls, in $work/order, and what came of
+# frames, in $work/frames.
 sums() {
-    : "${wanted:=$2}" "${ordered:=$(cat "$work/order")}"
+    : "${wanted:=$2}" "${ordered:=$(cat "$work/order")}" "${framed:=$(cat "$work/frames")}"
+    [ "$(cat "$work/frames")" = "$framed" ] || { fails "$1" "$(cat "$work/frames")"; return; }
     [ "$(cat "$work/order")" = "$ordered" ] || { fails "$1" "the order of codes: $(cat "$work/order")"; return; }
-    if [ "$2" = "$wanted" ] && [ -n "$2" ]; then echo "$1: $3, session, sum ${2%%:*}"; else fails "$1" "the sum is ${2%%:*}"; fi
+    if [ "$2" = "$wanted" ] && [ -n "$2" ]; then echo "$1: $3, session, sum ${2%%:*}, ${framed/, 0 failed/}"; else fails "$1" "the sum is ${2%%:*}"; fi
 }
 
 # asked NAME: whether the word has it.
@@ -86,7 +89,7 @@ archived() {
     options=()
     over "$name" "$2-gcc" "qemu-$1" "/usr/$2" 1 "$work/$1.a" "$here/heap.c"
     echo "    $(bytes "$2-size" "$work/$1.a") bytes of code and constants"
-    computed "$name" --painted "$work/painted" --outside 256 "$work/$1.a"
+    computed "$name" --painted "$work/painted" --outside 384 "$work/$1.a"
 }
 
 # computed NAME WORD..: how much stack each call takes at most, by link/stack.
@@ -174,10 +177,10 @@ bare() {
         beside=("$work/bare.a")
     fi
     library=("${beside[@]}" "$work/bare-pool.o")
-    for program in test session fuzz order; do
+    for program in test session fuzz order frames; do
         case $program in
         test) words='"packets", "replies"' ;;
-        session) words='0' ;;
+        session | frames) words='0' ;;
         order) words='"2000"' ;;
         fuzz) words="\"$rounds\", \"1\", \"packets\", \"calls\", \"loops\"" ;;
         esac
@@ -192,6 +195,7 @@ bare() {
     grep -v '^status 0$' "$work/bare-session.out" | cmp -s - "$here/session.out" || { fails "$name" session; return 0; }
     came=$(grep nodes "$work/bare-fuzz.out")
     grep : "$work/bare-order.out" > "$work/order"
+    grep : "$work/bare-frames.out" > "$work/frames"
     sums "$name" "$came" "$(head -n 1 "$work/bare-test.out"), $(grep checks "$work/bare-test.out"), pool"
     echo "    $(bytes "${compiler%gcc}size" "${library[@]}") bytes of code and constants, $(
         memory "${compiler%gcc}size" "${beside[@]}") of memory beside the pool"
@@ -210,7 +214,7 @@ board() {
     has "$name" "$compiler" "${qemu[0]}" || return 0
     if [ -n "$archive_for" ]; then
         archive "$archive_for" "$work/source/board.a"
-        library=(-UPOOL -DPOOL=229376 -Wl,--defsym=STACK=20480 board.a)
+        library=(-UPOOL -DPOOL=234496 -Wl,--defsym=STACK=20480 board.a)
     fi
     (cd "$work/source" && "$compiler" @board/options -Wall -Wextra -Wpedantic -Wconversion -Werror "$@" -T "board/$start.ld" pool.c \
         board/{loop,string,"$start"}.c "${library[@]}" -lgcc -o "$work/board.elf") || { fails "$name" "it is not compiled"; return 0; }

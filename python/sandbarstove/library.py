@@ -5,7 +5,7 @@ import os
 from ctypes import CDLL, POINTER, Structure, c_char_p, c_size_t, c_uint8, c_uint16, c_uint32, c_uint64
 
 #: The SANDBAR_VERSION of the header for which the structs here are.
-VERSION = 4
+VERSION = 5
 #: The name of the shared object, and the variable that may name another file.
 NAME, VARIABLE = "libsandbarstove.so", "SANDBAR_LIBRARY"
 
@@ -16,7 +16,7 @@ MAX_PACKET = 4200
 TEXTS = {
     0: "it was done",
     1: "memory was refused",
-    2: "the node is not open",
+    2: "the node, or the reader of frames, is not open",
     3: "ports, banks or a journal's room are outside their limits",
     4: "the maps are none that a node may have",
     5: "the bytes are no image",
@@ -27,7 +27,7 @@ TEXTS = {
     10: "the packet has too many bytes",
     11: "the room is too small, or bytes lie outside the bank",
     12: "the journal has no such entry",
-    13: "the node is open",
+    13: "the node, or the reader of frames, is open",
     14: "the node has no such map or cell",
 }
 

@@ -136,7 +136,7 @@ class Nodes(unittest.TestCase):
             self.assertRaises(ValueError, call)
         node.close()
         node.close()
-        self.assertRaisesRegex(NodeFault, "the node is not open", node.serve, READ)
+        self.assertRaisesRegex(NodeFault, "the node, or the reader of frames, is not open", node.serve, READ)
         verify(YES)
         self.assertRaisesRegex(NodeFault, "no image", verify, b"")
 

@@ -1,11 +1,12 @@
 #!/usr/bin/env python3
 """Talks: what is due for a line of `live` leaves before the next line comes, and frames are answered however their bytes are cut,
-and whatever becomes of standard error."""
+and whatever becomes of standard error; and what is told at a terminal."""
 import os
 import select
 import subprocess
 import sys
 from collections import Counter
+from collections.abc import Iterator
 from pathlib import Path
 from random import Random
 
@@ -45,6 +46,14 @@ FRAMES = [bytes.fromhex(digits) for digits in (
 
 # What becomes of standard error.
 WAYS = ["closed", "full", "unread"]
+
+# Words, and what is told first where standard input is a terminal.
+TERMINAL = [
+    ([], "judge -: reads packet lines; rmapctl --help has the words\n"),
+    (["judge", "-"], ""),
+    (["live"], "live: reads packet lines, journal, cells and set 00 ADDRESS HEX; rmapctl help live has more\n"),
+    (["live", "--frames"], "journal 0 entries\n"),
+]
 
 # How many bytes come at a time: beside those that are drawn, one by one, and the length of a frame's head with its neighbours.
 PIECES = [1, 2, 11, 12, 13, 50]
@@ -145,10 +154,22 @@ def talk_unheard(random: Random, room: Room, seen: Counter[str]) -> None:
     seen[way] += 1
 
 
+def at_a_terminal(room: Room) -> Iterator[str | None]:
+    """What is told before standard input is waited for, where that is a terminal; it ends at once."""
+    for words, wanted in TERMINAL:
+        ours, theirs = os.openpty()
+        os.write(ours, b"\x04")
+        done = subprocess.run([room.program, *words], cwd=room.folder, stdin=theirs, capture_output=True, timeout=SECONDS)
+        os.close(theirs)
+        os.close(ours)
+        came = done.stderr.decode()
+        yield None if came == wanted else f"{words}\nwanted: {wanted}\ncame: {came}"
+
+
 def check(random: Random, room: Room, seen: Counter[str]) -> None:
     talk_in_lines(random, room, seen)
     talk_in_frames(random, room, seen)
     talk_unheard(random, room, seen)
 
 
-main(__doc__, check, TALKS, [*LINES, "all frames", *WAYS])
+main(__doc__, check, TALKS, [*LINES, "all frames", *WAYS], [at_a_terminal])

@@ -1,3 +1,4 @@
+mod Apart
 mod Matching
 mod ShownLines
 mod Stopping

@@ -1,5 +1,5 @@
 -- From what clap found to what the words name.
-use Rattle.std.proofs.Common.{◌≡◌, inl, inr, subst, sym, List, [], Option, Some, true, refl, codes, rules}
+use Rattle.std.proofs.Common.{◌≡◌, ◌∙◌, inl, inr, ap, subst, sym, List, [], Option, Some, true, refl}
 use Rattle.clap.specs.Walk.{Row, Text}
 use Rattle.clap.specs.Simple.{is_simple}
 use Rattle.clap.specs.Faults.{fault_of, is_simple_and_free}
@@ -8,9 +8,11 @@ use Rattle.clap.specs.Values.{kind_of}
 use Rattle.clap.proofs.OnLiterals.{clap_on_literals}
 use Rattle.clap.specs.declared.error.kind.ErrorKind.TheVariants.{OutOfMemory}
 use Rattle.clap.specs.declared.error.Error.{Error}
-use Rattle.commands.specs.CommandLine.{rmapctl_app, subcommand_in, AreTaken, NamesNone, IsIncomplete, LacksWork, TellsRefusal}
-use Rattle.job_packets.specs.PacketJob.{RefusesPacket}
-use Rattle.job_rehearse.specs.RehearseJob.{RefusesRehearse}
+use Rattle.commands.specs.CommandLine.{rmapctl_app, subcommand_in, AreTaken, Names, NamesNone, IsIncomplete, IsSpoiled, LacksWork, Refuses, Spoils, TellsRefusal}
+use Rattle.commands.specs.Words.{IsNoWord, name_of}
+use Rattle.commands.specs.declared.word.Word.{Word}
+use Rattle.commands.specs.declared.work.Work.{Work}
+use Rattle.commands.proofs.Apart.{one_word}
 use Rattle.job_parts.specs.declared.usage.UsageFault.{UsageFault}
 use Rattle.job_parts.specs.declared.usage.UsageFault.TheVariants.{Parse, BadOption, Memory}
 
@@ -40,54 +42,30 @@ refused_words words e (Parse text) told h = has_kind _ e told h
 refused_words words e BadOption told h = absurd told
 refused_words words e Memory told h = told
 
--- the matches of the words of no packet name no work
-pub lacks_packet : (found : Option (Text × List Row)) (rows : List Row) (fault : UsageFault)
-    → found ≡ Some (codes "packet", rows) → RefusesPacket rows fault → LacksWork found fault
-lacks_packet found rows Memory is refuses = tt
-lacks_packet found rows BadOption is refuses = subst IsIncomplete (sym is) (record {
-  asm = λ h. absurd (search rules);
-  dis = λ h. absurd (search rules);
-  verify = λ h. absurd (search rules);
-  judge = λ h. absurd (search rules);
-  policy = λ h. absurd (search rules);
-  serve = λ h. absurd (search rules);
-  sim = λ h. absurd (search rules);
-  live = λ h. absurd (search rules);
-  explain = λ h. absurd (search rules);
-  why = λ h. absurd (search rules);
-  weigh = λ h. absurd (search rules);
-  packet = λ h. refuses;
-  show = λ h. absurd (search rules);
-  decide = λ h. absurd (search rules);
-  trace = λ h. absurd (search rules);
-  compare = λ h. absurd (search rules);
-  map = λ h. absurd (search rules);
-  rehearse = λ h. absurd (search rules);
-})
-lacks_packet found rows (Parse text) is refuses = refuses
+-- the subcommand that clap found, of a word that is written as its name
+found_by : (found : Option (Text × List Row)) (name : Text) (rows : List Row) (named : Word)
+    → found ≡ Some (name, rows) → name ≡ name_of named → found ≡ Some (name_of named, rows)
+found_by found name rows named is written = is ∙ ap (λ text. Some (text, rows)) written
 
--- the matches of the words of no rehearsal name no work
-pub lacks_rehearse : (found : Option (Text × List Row)) (rows : List Row) (fault : UsageFault)
-    → found ≡ Some (codes "rehearse", rows) → RefusesRehearse rows fault → LacksWork found fault
-lacks_rehearse found rows Memory is refuses = tt
-lacks_rehearse found rows BadOption is refuses = subst IsIncomplete (sym is) (record {
-  asm = λ h. absurd (search rules);
-  dis = λ h. absurd (search rules);
-  verify = λ h. absurd (search rules);
-  judge = λ h. absurd (search rules);
-  policy = λ h. absurd (search rules);
-  serve = λ h. absurd (search rules);
-  sim = λ h. absurd (search rules);
-  live = λ h. absurd (search rules);
-  explain = λ h. absurd (search rules);
-  why = λ h. absurd (search rules);
-  weigh = λ h. absurd (search rules);
-  packet = λ h. absurd (search rules);
-  show = λ h. absurd (search rules);
-  decide = λ h. absurd (search rules);
-  trace = λ h. absurd (search rules);
-  compare = λ h. absurd (search rules);
-  map = λ h. absurd (search rules);
-  rehearse = λ h. refuses;
-})
-lacks_rehearse found rows (Parse text) is refuses = absurd refuses
+-- its matches name the work
+pub names_work : (found : Option (Text × List Row)) (name : Text) (rows : List Row) (named : Word) (work : Work)
+    → found ≡ Some (name, rows) → name ≡ name_of named → Names (Some (name_of named, rows)) work → Names found work
+names_work found name rows named work is written names =
+    subst (λ it. Names it work) (sym (found_by found name rows named is written)) names
+
+-- they lack what the subcommand of its word lacks
+spoils_one : (rows : List Row) (named : Word) → Spoils named rows → IsSpoiled (name_of named, rows)
+spoils_one rows named spoils other same = subst (λ it. Spoils it rows) (one_word named other same) spoils
+
+-- they name no work
+pub lacks_named : (found : Option (Text × List Row)) (name : Text) (rows : List Row) (named : Word) (fault : UsageFault)
+    → found ≡ Some (name, rows) → name ≡ name_of named → Refuses named rows fault → LacksWork found fault
+lacks_named found name rows named Memory is written refuses = tt
+lacks_named found name rows named BadOption is written refuses =
+    subst IsIncomplete (sym (found_by found name rows named is written)) (spoils_one rows named refuses)
+lacks_named found name rows named (Parse text) is written refuses = absurd refuses
+
+-- nor does a subcommand of no word
+pub lacks_word : (found : Option (Text × List Row)) (name : Text) (rows : List Row)
+    → found ≡ Some (name, rows) → IsNoWord name → LacksWork found BadOption
+lacks_word found name rows is unknown = subst IsIncomplete (sym is) (λ named written. absurd (unknown named written))

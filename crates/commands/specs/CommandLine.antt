@@ -46,6 +46,9 @@ use Rattle.commands.specs.declared.jobs.Job.TheVariants.{
   Map,
   Rehearse,
 }
+use Rattle.commands.specs.Words.{name_of}
+use Rattle.commands.specs.declared.word.Word.{Word}
+use Rattle.commands.specs.declared.word.Word.TheVariants as word
 use Rattle.commands.specs.declared.work.Work.{Work}
 use Rattle.commands.specs.declared.work.Work.TheVariants.{Once, Live}
 use Rattle.job_parts.specs.declared.usage.UsageFault.{UsageFault}
@@ -118,32 +121,42 @@ TellsRefusal kind Memory = Unit {0}
 TellsRefusal kind BadOption = ⊥
 TellsRefusal kind (Parse text) = kind ≢ OutOfMemory
 
--- the subcommand lacks a file that has to be given, has an option or a code with a value that it may not have, or
--- has words of no packet
-pub record IsSpoiled (found : Text × List Row) : Type 0 where
-  pub asm : found.0 ≡ codes "asm" → (first_of (codes "text") found.1 ≡ None) ⊎ (first_of (codes "image") found.1 ≡ None)
-  pub dis : found.0 ≡ codes "dis" → first_of (codes "image") found.1 ≡ None
-  pub verify : found.0 ≡ codes "verify" → SpoilsImage found.1
-  pub judge : found.0 ≡ codes "judge" → SpoilsLines found.1
-  pub policy : found.0 ≡ codes "policy" → SpoilsPolicy found.1
-  pub serve : found.0 ≡ codes "serve" → SpoilsLines found.1
-  pub sim : found.0 ≡ codes "sim" → SpoilsLines found.1
-  pub live : found.0 ≡ codes "live" → SpoilsLive found.1
-  pub explain : found.0 ≡ codes "explain" → SpoilsExplain found.1
-  pub why : found.0 ≡ codes "why" → SpoilsImage found.1
-  pub weigh : found.0 ≡ codes "weigh" → SpoilsWeigh found.1
-  pub packet : found.0 ≡ codes "packet" → SpoilsPacket found.1
-  pub show : found.0 ≡ codes "show" → first_of (codes "lines") found.1 ≡ None
-  pub decide : found.0 ≡ codes "decide" → SpoilsDecide found.1
-  pub trace : found.0 ≡ codes "trace" → SpoilsLines found.1
-  pub compare : found.0 ≡ codes "compare" → SpoilsCompare found.1
-  pub map : found.0 ≡ codes "map" → SpoilsMap found.1
-  pub rehearse : found.0 ≡ codes "rehearse" → SpoilsRehearse found.1
+-- the subcommand of this word lacks a file that has to be given, has an option or a code with a value that it may not have,
+-- or has words of no packet
+abbrev pub Spoils : Word → List Row → Type 0
+Spoils word.Asm rows = (first_of (codes "text") rows ≡ None) ⊎ (first_of (codes "image") rows ≡ None)
+Spoils word.Dis rows = first_of (codes "image") rows ≡ None
+Spoils word.Verify rows = SpoilsImage rows
+Spoils word.Judge rows = SpoilsLines rows
+Spoils word.Policy rows = SpoilsPolicy rows
+Spoils word.Serve rows = SpoilsLines rows
+Spoils word.Sim rows = SpoilsLines rows
+Spoils word.Live rows = SpoilsLive rows
+Spoils word.Explain rows = SpoilsExplain rows
+Spoils word.Why rows = SpoilsImage rows
+Spoils word.Weigh rows = SpoilsWeigh rows
+Spoils word.Packet rows = SpoilsPacket rows
+Spoils word.Show rows = first_of (codes "lines") rows ≡ None
+Spoils word.Decide rows = SpoilsDecide rows
+Spoils word.Trace rows = SpoilsLines rows
+Spoils word.Compare rows = SpoilsCompare rows
+Spoils word.Map rows = SpoilsMap rows
+Spoils word.Rehearse rows = SpoilsRehearse rows
+
+-- so does the subcommand with its matches
+abbrev pub IsSpoiled : Text × List Row → Type 0
+IsSpoiled found = (named : Word) → found.0 ≡ name_of named → Spoils named found.1
 
 -- clap found no subcommand, or one without what it needs
 abbrev pub IsIncomplete : Option (Text × List Row) → Type 0
 IsIncomplete None = Unit {0}
 IsIncomplete (Some found) = IsSpoiled found
+
+-- the matches of the subcommand of this word name no work, or memory was refused
+abbrev pub Refuses : Word → List Row → UsageFault → Type 0
+Refuses named rows Memory = Unit {0}
+Refuses named rows BadOption = Spoils named rows
+Refuses named rows (Parse text) = ⊥
 
 -- the matches name no work, or memory was refused
 abbrev pub LacksWork : Option (Text × List Row) → UsageFault → Type 0

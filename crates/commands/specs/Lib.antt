@@ -1,3 +1,5 @@
 pub mod CommandLine
+pub mod Notes
 pub mod Performed
 pub mod ShownTalk
+pub mod Words

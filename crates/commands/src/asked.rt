@@ -19,7 +19,7 @@ const JUDGE_WAITS: &str = "judge -: reads packet lines; rmapctl --help has the w
 
 /// What is told before a talk in lines is held, where standard input is a terminal.
 const LIVE_WAITS: &str =
-    "live: reads packet lines, journal, cells and set ADDRESS..; rmapctl help live has more";
+    "live: reads packet lines, journal, cells and set 00 ADDRESS HEX; rmapctl help live has more";
 
 /// What the words of a command line ask for.
 #[derive(Debug, Drop)]

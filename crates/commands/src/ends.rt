@@ -2,19 +2,17 @@
 
 use crate::hints::told_fault;
 use crate::jobs::{Job, JobEnd};
+use crate::line_paths::LinePaths;
+use crate::noted::{Cause, Noted};
 use crate::slips::{told_misuse, told_output};
-use crate::told_files::{Cause, ToldFiles};
-use initiator::Seen;
 use job_codes::forms::form_line;
+use job_packets::orders::Order;
 use job_parts::bad_lines::BadLine;
 use job_parts::faults::Fault;
 use job_parts::options::NodeWords;
-use job_parts::paths::{add_path, path_in_front};
 use job_parts::status::Status;
-use rmap::Flaw;
-use spw::{LineFault, lines_of, read_line};
+use spw::{LineFault, lines_of};
 use std::alloc::{AllocError, Global};
-use std::rt;
 
 /// What an event line lacks that has no end marker.
 const WHOLE_MARKER: &str = "no end marker: EOP or EEP, since an event has a whole packet";
@@ -62,22 +60,22 @@ fn add_bad_line(
 }
 
 /// Adds what is told of a job that failed.
-fn add_failed<R: rt::Files + Input>(
+fn add_failed(
     text: &mut String,
     alloc: Global,
     job: &Job,
     fault: &Option<Fault<'_>>,
-    files: &ToldFiles<'_, R>,
+    noted: &Noted<'_>,
 ) -> Result<(), AllocError> {
     match fault {
-        Some(Fault::CannotRead(name)) => add_cause(text, *name, files.cause()),
-        Some(Fault::CannotWrite(name)) => match files.cause() {
+        Some(Fault::CannotRead(name)) => add_cause(text, *name, noted.cause()),
+        Some(Fault::CannotWrite(name)) => match noted.cause() {
             Some(cause) => add_cause(text, *name, Some(cause)),
             None => text.push_str(told_output(job)),
         },
         Some(Fault::BadLine { number, fault }) => add_bad_line(text, job, *number, *fault),
-        Some(Fault::BadImage(_)) => add_form(text, alloc, files.last()),
-        Some(Fault::BadText(_) | Fault::BadTable(_)) | None => match files.text() {
+        Some(Fault::BadImage(_)) => add_form(text, alloc, noted.last()),
+        Some(Fault::BadText(_) | Fault::BadTable(_)) | None => match noted.text() {
             Some(read) => text.push_str(told_fault(alloc, job, read)?.as_str()),
             None => Ok(()),
         },
@@ -93,31 +91,6 @@ fn packet_part<'a>(job: &Job, line: &'a str) -> &'a str {
     }
 }
 
-/// Adds the path that stands before the packet of a line, which has that number, if one does: then the packet is discarded.
-/// Tells whether one does.
-fn add_line_path(
-    text: &mut String,
-    alloc: Global,
-    line: &str,
-    number: usize,
-) -> Result<bool, AllocError> {
-    let Ok((_, packet)) = read_line(alloc, line) else {
-        return Ok(false);
-    };
-    let path = path_in_front(packet.bytes());
-    let is_other = match Seen::of(&packet) {
-        Seen::Discarded { flaw, .. } => matches!(flaw, Flaw::OtherProtocol { .. }),
-        _ => false,
-    };
-    if path.is_empty() || !is_other {
-        return Ok(false);
-    }
-    write!(text, "    line {number}: ")?;
-    add_path(text, path)?;
-    text.push('\n')?;
-    Ok(true)
-}
-
 /// Adds the first path that stands before the packet of a line.
 fn add_first_path(
     text: &mut String,
@@ -125,10 +98,9 @@ fn add_first_path(
     job: &Job,
     lines: &str,
 ) -> Result<(), AllocError> {
-    let mut number: usize = 0;
+    let mut paths = LinePaths::new();
     for line in lines_of(lines) {
-        number = number.saturating_add(1);
-        if add_line_path(text, alloc, packet_part(job, line), number)? {
+        if paths.take(alloc, packet_part(job, line), text)? {
             return Ok(());
         }
     }
@@ -147,6 +119,14 @@ fn add_full(text: &mut String, full: Option<usize>) -> Result<(), AllocError> {
     text.push_str("a command for it has status 1 in place of 0; live has no such end\n")
 }
 
+/// Whether the job makes the packets of loads, and so does not look whether their file is an image.
+fn is_load(job: &Job) -> bool {
+    match job {
+        Job::Packet(words) => matches!(words.order, Order::Load { .. }),
+        _ => false,
+    }
+}
+
 /// What is told of a job that ended so, after what it printed: the cause of its fault, as what the system says of a file, what the
 /// line of a text holds, or what a file is that is none of what it has to be; the first path that stands before a packet; and that
 /// `judge` found the journal full. It is empty where there is nothing to tell.
@@ -154,19 +134,20 @@ fn add_full(text: &mut String, full: Option<usize>) -> Result<(), AllocError> {
 /// # Errors
 ///
 /// Where memory was refused.
-pub fn told_end<R: rt::Files + Input>(
+pub fn told_end(
     alloc: Global,
     job: &Job,
     end: &JobEnd<'_>,
-    files: &ToldFiles<'_, R>,
+    noted: &Noted<'_>,
 ) -> Result<String, AllocError> {
     let mut text = String::new(alloc);
     match end.status {
+        Status::Done if is_load(job) => add_form(&mut text, alloc, noted.last())?,
         Status::Done => {}
         Status::Misused => text.push_str(told_misuse(job))?,
-        Status::Failed => add_failed(&mut text, alloc, job, &end.fault, files)?,
+        Status::Failed => add_failed(&mut text, alloc, job, &end.fault, noted)?,
     }
-    if let Some(lines) = files.lines() {
+    if let Some(lines) = noted.lines() {
         add_first_path(&mut text, alloc, job, lines)?;
     }
     add_full(&mut text, end.full)?;
@@ -179,15 +160,11 @@ pub fn told_end<R: rt::Files + Input>(
 /// # Errors
 ///
 /// Where memory was refused.
-pub fn told_node<R: rt::Files + Input>(
-    alloc: Global,
-    node: &NodeWords,
-    files: &ToldFiles<'_, R>,
-) -> Result<String, AllocError> {
+pub fn told_node(alloc: Global, node: &NodeWords, noted: &Noted<'_>) -> Result<String, AllocError> {
     let mut text = String::new(alloc);
-    match (&node.image, files.cause()) {
+    match (&node.image, noted.cause()) {
         (Some(name), Some(cause)) => add_cause(&mut text, name.as_str(), Some(cause))?,
-        _ => add_form(&mut text, alloc, files.last())?,
+        _ => add_form(&mut text, alloc, noted.last())?,
     }
     Ok(text)
 }

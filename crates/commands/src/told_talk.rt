@@ -1,22 +1,39 @@
-//! A talk that tells on standard error what the faults are that it sends.
+//! A talk that tells on standard error what the faults are that it sends, and which path stands before a packet.
 
 ghost use Rattle.std.specs.Prelude.{◌≡◌};
 
+use crate::line_paths::LinePaths;
 use job_live::talk::Talk;
 use job_parts::bad_lines::BadLine;
 use job_parts::storage::Cannot;
+use std::alloc::Global;
 
 /// What fault 6 of a line of `live` is.
 const NO_PLACE: &str =
     "no such port, or set has not three words, or its bytes lie outside the bank";
 
 /// A talk, which tells on standard error what a fault is whose line it sends: of each number once, so that what nobody reads
-/// there holds nothing up.
+/// there holds nothing up. So it tells once, of the first line with one, the path that stands before a packet: then the packet
+/// is discarded.
 #[derive(Drop)]
 pub struct ToldTalk<'a, R, T: Drop> {
     rt: &'a R,
+    alloc: Global,
     talk: T,
     told: u8,
+    paths: LinePaths,
+    path: PathTold,
+}
+
+/// Whether a path was told.
+#[derive(Debug, Drop)]
+enum PathTold {
+    /// No line had one.
+    None,
+    /// The last line has one, which is told behind what comes of it.
+    Due(String),
+    /// It was told.
+    Told,
 }
 
 /// The last line of a text.
@@ -44,8 +61,15 @@ fn words_for(fault: BadLine) -> &'static str {
 
 impl<'a, R: Eprint, T: Talk + Drop> ToldTalk<'a, R, T> {
     /// The talk, with standard error beside it.
-    pub fn new(rt: &'a R, talk: T) -> ToldTalk<'a, R, T> {
-        ToldTalk { rt, talk, told: 0 }
+    pub fn new(rt: &'a R, alloc: Global, talk: T) -> ToldTalk<'a, R, T> {
+        ToldTalk {
+            rt,
+            alloc,
+            talk,
+            told: 0,
+            paths: LinePaths::new(),
+            path: PathTold::None,
+        }
     }
 
     /// The talk alone.
@@ -76,6 +100,31 @@ impl<'a, R: Eprint, T: Talk + Drop> ToldTalk<'a, R, T> {
     }
 }
 
+impl<'a, R: Eprint, T: Talk + Drop> ToldTalk<'a, R, T> {
+    /// Looks for a path before the packet of a line, as long as none was told.
+    fn look(&mut self, line: &str)
+        ensures { self.new.talk ≡ self.old.talk }
+    {
+        if let PathTold::Told = self.path {
+            return;
+        }
+        let mut text = String::new(self.alloc);
+        if let Ok(true) = self.paths.take(self.alloc, line, &mut text) {
+            self.path = PathTold::Due(text);
+        }
+    }
+
+    /// Tells the path that stands before the packet of the last line, if one does.
+    fn tell_path(&mut self)
+        ensures { self.new.talk ≡ self.old.talk }
+    {
+        if let PathTold::Due(text) = &self.path {
+            let _ = self.rt.eprint(text);
+            self.path = PathTold::Told;
+        }
+    }
+}
+
 impl<R: Eprint, T: Talk + Drop> Talk for ToldTalk<'_, R, T> {
     ghost came = { λ before line after. T.came before.talk line after.talk };
 
@@ -86,12 +135,15 @@ impl<R: Eprint, T: Talk + Drop> Talk for ToldTalk<'_, R, T> {
     ghost unsent = { λ before text after. T.unsent before.talk text after.talk };
 
     fn next(&mut self, line: &mut String) -> Result<bool, Cannot> {
-        self.talk.next(line)
+        let is_given = self.talk.next(line)?;
+        self.look(line.as_str());
+        Ok(is_given)
     }
 
     fn send(&mut self, text: &[u8]) -> Result<(), Cannot> {
         let done = self.talk.send(text);
         self.tell(text);
+        self.tell_path();
         done
     }
 }

@@ -1,12 +1,15 @@
 //! The command line.
 
-ghost use Rattle.std.specs.Prelude.{◌≡◌, IfOk, IfErr};
+ghost use Rattle.std.specs.Prelude.{◌≡◌, IfOk, IfErr, Some, option_map};
 ghost use Rattle.clap.specs.Simple.{app_of, subcommand_rows_of};
 ghost use Rattle.clap.specs.Values.{kind_of};
-ghost use Rattle.clap.specs.Walk.{texts};
-ghost use Rattle.commands.specs.CommandLine.{rmapctl_app, with_chart_jobs, with_first_jobs, with_packet_jobs, Names, NamesWork, NamesNone, LacksWork, TellsRefusal};
+ghost use Rattle.clap.specs.Walk.{rows_of, texts};
+ghost use Rattle.clap.specs.Matches.{found_of};
+ghost use Rattle.commands.specs.CommandLine.{rmapctl_app, with_chart_jobs, with_first_jobs, with_packet_jobs, Names, NamesWork, NamesNone, LacksWork, Refuses, TellsRefusal};
+ghost use Rattle.commands.specs.Words.{name_of};
 
 use crate::jobs::Job;
+use crate::word::Word;
 use crate::work::Work;
 use clap::error::ErrorKind;
 use clap::{ArgMatches, Command, Error};
@@ -123,67 +126,55 @@ fn told(alloc: Global, refusal: &Error) -> UsageFault
     }
 }
 
+/// What the subcommand of this word names, with its matches.
+fn work_named(alloc: Global, word: Word, rows: &ArgMatches) -> Result<Work, UsageFault>
+    ensures ok { IfOk result (Names (Some (name_of word, rows_of (found_of rows.now)))) }
+    ensures err { IfErr result (Refuses word (rows_of (found_of rows.now))) }
+{
+    let job = match word {
+        Word::Live => return Ok(Work::Live(live_job(alloc, rows)?)),
+        Word::Asm => Job::Assemble(asm_job(alloc, rows)?),
+        Word::Dis => Job::Disassemble(dis_job(alloc, rows)?),
+        Word::Verify => Job::Verify(image_args(alloc, rows)?),
+        Word::Judge => Job::Judge(lines_args(alloc, rows)?),
+        Word::Policy => Job::Policy(policy_job(alloc, rows)?),
+        Word::Serve => Job::Serve(lines_args(alloc, rows)?),
+        Word::Sim => Job::Simulate(lines_args(alloc, rows)?),
+        Word::Explain => Job::Explain(explain_job(alloc, rows)?),
+        Word::Why => Job::Why(image_args(alloc, rows)?),
+        Word::Weigh => Job::Weigh(weigh_job(alloc, rows)?),
+        Word::Packet => Job::Packet(packet_job(alloc, rows)?),
+        Word::Show => Job::Show(show_job(alloc, rows)?),
+        Word::Decide => Job::Decide(decide_job(alloc, rows)?),
+        Word::Trace => Job::Trace(lines_args(alloc, rows)?),
+        Word::Compare => Job::Compare(compare_job(alloc, rows)?),
+        Word::Map => Job::Map(map_job(alloc, rows)?),
+        Word::Rehearse => Job::Rehearse(rehearse_job(alloc, rows)?),
+    };
+    Ok(Work::Once(job))
+}
+
+/// The name of the subcommand that was found, and its matches.
+fn found_in<'b, 'a>(found: &'b ArgMatches<'a>) -> Option<(&'a str, &'b ArgMatches<'a>)>
+    ensures { subcommand_rows_of found.now
+        ≡ option_map (λ it. (it.0.now, rows_of (found_of it.1.now))) result }
+{
+    found.subcommand()
+}
+
 /// What the subcommand that was found names.
-#[tactic(auto, using(crate::proofs::Matching::lacks_packet, crate::proofs::Matching::lacks_rehearse))]
+#[tactic(auto, using(crate::proofs::Matching::names_work, crate::proofs::Matching::lacks_named, crate::proofs::Matching::lacks_word))]
 fn work_of(alloc: Global, found: &ArgMatches) -> Result<Work, UsageFault>
     ensures ok { IfOk result (Names (subcommand_rows_of found.now)) }
     ensures err { IfErr result (LacksWork (subcommand_rows_of found.now)) }
 {
-    if let Some(asm) = found.subcommand_matches("asm") {
-        return Ok(Work::Once(Job::Assemble(asm_job(alloc, asm)?)));
-    }
-    if let Some(dis) = found.subcommand_matches("dis") {
-        return Ok(Work::Once(Job::Disassemble(dis_job(alloc, dis)?)));
-    }
-    if let Some(verify) = found.subcommand_matches("verify") {
-        return Ok(Work::Once(Job::Verify(image_args(alloc, verify)?)));
-    }
-    if let Some(judge) = found.subcommand_matches("judge") {
-        return Ok(Work::Once(Job::Judge(lines_args(alloc, judge)?)));
-    }
-    if let Some(policy) = found.subcommand_matches("policy") {
-        return Ok(Work::Once(Job::Policy(policy_job(alloc, policy)?)));
-    }
-    if let Some(serve) = found.subcommand_matches("serve") {
-        return Ok(Work::Once(Job::Serve(lines_args(alloc, serve)?)));
-    }
-    if let Some(sim) = found.subcommand_matches("sim") {
-        return Ok(Work::Once(Job::Simulate(lines_args(alloc, sim)?)));
-    }
-    if let Some(live) = found.subcommand_matches("live") {
-        return Ok(Work::Live(live_job(alloc, live)?));
-    }
-    if let Some(explain) = found.subcommand_matches("explain") {
-        return Ok(Work::Once(Job::Explain(explain_job(alloc, explain)?)));
-    }
-    if let Some(why) = found.subcommand_matches("why") {
-        return Ok(Work::Once(Job::Why(image_args(alloc, why)?)));
-    }
-    if let Some(weigh) = found.subcommand_matches("weigh") {
-        return Ok(Work::Once(Job::Weigh(weigh_job(alloc, weigh)?)));
-    }
-    if let Some(packet) = found.subcommand_matches("packet") {
-        return Ok(Work::Once(Job::Packet(packet_job(alloc, packet)?)));
-    }
-    if let Some(show) = found.subcommand_matches("show") {
-        return Ok(Work::Once(Job::Show(show_job(alloc, show)?)));
-    }
-    if let Some(decide) = found.subcommand_matches("decide") {
-        return Ok(Work::Once(Job::Decide(decide_job(alloc, decide)?)));
-    }
-    if let Some(trace) = found.subcommand_matches("trace") {
-        return Ok(Work::Once(Job::Trace(lines_args(alloc, trace)?)));
-    }
-    if let Some(compare) = found.subcommand_matches("compare") {
-        return Ok(Work::Once(Job::Compare(compare_job(alloc, compare)?)));
-    }
-    if let Some(map) = found.subcommand_matches("map") {
-        return Ok(Work::Once(Job::Map(map_job(alloc, map)?)));
-    }
-    match found.subcommand_matches("rehearse") {
-        Some(rehearse) => Ok(Work::Once(Job::Rehearse(rehearse_job(alloc, rehearse)?))),
-        None => Err(UsageFault::BadOption),
-    }
+    let Some((name, rows)) = found_in(found) else {
+        return Err(UsageFault::BadOption);
+    };
+    let Some(word) = Word::named(name) else {
+        return Err(UsageFault::BadOption);
+    };
+    work_named(alloc, word, rows)
 }
 
 /// What the words of a command line name, without the program's own name: a job over files, or a talk.

@@ -1,5 +1,6 @@
 mod CellRows
 mod EntryLines
+mod HostReading
 mod LinesInTurn
 mod PutText
 mod SetLines

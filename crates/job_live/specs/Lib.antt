@@ -1,6 +1,7 @@
 pub mod Answering
 pub mod Asks
 pub mod CellLines
+pub mod HostLines
 pub mod LiveJob
 pub mod Settings
 pub mod Talking

@@ -1,4 +1,3 @@
-mod AddedArguments
 mod HexDigits
 mod Instructions
 mod NoOrders

@@ -1,9 +1,24 @@
 -- What ends a job, told in other words.
+use Rattle.std.proofs.Common.{◌≡◌, ℕ, List, Option, subst, sym}
 use Rattle.job_parts.specs.Stops.{StopsBy}
 use Rattle.job_parts.specs.declared.faults.Fault.{Fault}
 use Rattle.job_parts.specs.declared.stops.Halt.{Halt}
 use Rattle.job_parts.specs.declared.stops.Halt.TheVariants.{Ended, Unwritten}
+use Rattle.job_parts.specs.declared.status.Status.{Status}
+use Rattle.job_rehearse.specs.Rehearsed.{TellsBad}
+use Rattle.job_rehearse.specs.declared.policies.NoPolicy.{NoPolicy}
 
 pub stops_more : (P Q : Fault → Type 0) → ((fault : Fault) → P fault → Q fault) → (halt : Halt) → StopsBy P halt → StopsBy Q halt
 stops_more P Q more (Ended fault) h = more fault h
 stops_more P Q more (Unwritten refused) h = h
+
+-- the fault of a table that was told, where that is why there are no policies
+pub tells_none : (holds : NoPolicy → Type 0) (none : NoPolicy) (old new : Option (List ℕ)) (status : Status)
+    → holds none → TellsBad (λ it. it ≡ none) old new status → TellsBad holds old new status
+tells_none holds none old new status held told = record {
+  file = told.file;
+  fault = told.fault;
+  bad = subst holds (sym told.bad) held;
+  told = told.told;
+  failed = told.failed;
+}

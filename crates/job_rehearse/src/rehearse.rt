@@ -11,7 +11,8 @@ ghost use Rattle.rmap.specs.declared.boot.TheConstants.{STAGING_SIZE};
 ghost use Rattle.job_parts.specs.declared.faults.Fault.TheVariants.{NoMemory};
 ghost use Rattle.job_rehearse.specs.RehearseJob.{GivesSlots, NamesRehearse, RefusesRehearse, RefusesSlots, are_one_input, rehearse_app};
 ghost use Rattle.job_rehearse.specs.Loaders.{loader_text};
-ghost use Rattle.job_rehearse.specs.Rehearsed.{AsksAny, DoesAny, DoesOne, IsNotRehearsed, IsStuck, IsUnasked, IsUndone, Rehearses, RehearsesFile, any_end, back_line, there_line};
+ghost use Rattle.job_rehearse.specs.declared.policies.NoPolicy.TheVariants.{Ended};
+ghost use Rattle.job_rehearse.specs.Rehearsed.{AsksAny, DoesAny, DoesOne, IsNotRehearsed, IsStuck, IsUnasked, IsUndone, Rehearses, RehearsesFile, TellsBad, any_end, back_line, there_line};
 
 use crate::loaders::{Loader, Loaders, loader_in, loader_text, loaders_of, ports_in};
 use crate::loads::{Ending, LoadOf, load};
@@ -205,6 +206,22 @@ fn rehearse<'a, W: Write>(
     Ok(status)
 }
 
+/// Tells why there are no policies, if a table has a fault; any other fault ends the job.
+fn tell_none<'a, W: Write>(none: NoPolicy<'a>, out: &mut W) -> Result<Status, Halt<'a>>
+    ensures told { IfOk result
+        (TellsBad (λ it. it ≡ none.entry) (W.contents out.old) (W.contents out.new)) }
+    ensures stops { IfErr result (StopsBy (λ fault.
+        (none.entry ≡ Ended fault) × (W.contents out.new ≡ W.contents out.old))) }
+{
+    match none {
+        NoPolicy::Ended(fault) => Err(Halt::Ended(fault)),
+        NoPolicy::BadTable(name, fault) => {
+            print_named_fault(out, name, &fault)?;
+            Ok(Status::Failed)
+        }
+    }
+}
+
 /// Rehearses the load of the new policy by the one that is named, and the way back.
 fn rehearse_one<'a, F: Files, W: Write>(
     alloc: Global,
@@ -220,11 +237,7 @@ fn rehearse_one<'a, F: Files, W: Write>(
 {
     match policies_in(alloc, words, files) {
         Ok(policies) => rehearse(alloc, words.slots.as_slice(), named, policies, out),
-        Err(NoPolicy::Ended(fault)) => Err(Halt::Ended(fault)),
-        Err(NoPolicy::BadTable(name, fault)) => {
-            print_named_fault(out, name, &fault)?;
-            Ok(Status::Failed)
-        }
+        Err(none) => tell_none(none, out),
     }
 }
 
@@ -268,11 +281,7 @@ fn rehearse_any<'a, F: Files, W: Write>(
 {
     match asked_in(alloc, words, files) {
         Ok(asked) => ask_any(alloc, &asked, out),
-        Err(NoPolicy::Ended(fault)) => Err(Halt::Ended(fault)),
-        Err(NoPolicy::BadTable(name, fault)) => {
-            print_named_fault(out, name, &fault)?;
-            Ok(Status::Failed)
-        }
+        Err(none) => tell_none(none, out),
     }
 }
 

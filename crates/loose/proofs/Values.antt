@@ -2,6 +2,7 @@
 --     parts             the machine value: where the block is, and the allocator's handle
 --     spelled, fit      how that value is put together, and that it is of its type
 --     opened, closed    what is owned of the parts is the block, with the right to free it, and the handle; and back
+--     heap_al, holds    the heap of C as an allocator; a handle of C holds nothing, or the block of a value
 use Rattle.std.proofs.Common.{◌≡◌, ℕ, List, [], ◌∷◌, ◌++◌, refl, ap, ◌∙◌}
 use mathlib.Core.Bool.{◌&&◌, true}
 use lib.Dec.{T}
@@ -27,6 +28,12 @@ use Rattle.core.proofs.alloc.Calls.{Al, handle_tells}
 use Rattle.core.proofs.cell.Inside.{Good}
 use Rattle.std_alloc.specs.Box.Ownership.{box_owns}
 use Rattle.std_alloc.proofs.ResultValues.{and_tt}
+use Rattle.core.specs.declared.option.Option.{Option}
+use Rattle.core.specs.declared.option.Option.TheVariants.{None, Some}
+use Rattle.std.specs.contracts.alloc.Global as heap
+use Rattle.std.proofs.alloc.Global.TheLaws as heap_laws
+use Rattle.std.specs.contracts.impls.GlobalAllocator.TheImpl.{ghosts}
+use Rattle.loose.specs.Held.{held, may_free}
 use Rattle.loose.specs.contracts.loose.Loose as contract
 
 abbrev pub parts : ℕ → ℕ → Val → Val
@@ -78,3 +85,14 @@ module _ (R Z : RattleType) (laws : Laws Z) (g : Ghosts Z.Denot) where
         feq_i t (List Val) (v ∷ []) (v ∷ []) refl $ fjoin t $
         fpack t (Valss (RawPtr ∷ Z ∷ [])) (within (shape (contract.the_type R Z g)) (block_ptr b o, (a, tt)) (v ∷ []))
         (vptr b o ∷ [], (handle ∷ [], tt)) $ fjoin t $ s)
+
+abbrev pub heap_al : Al
+heap_al = record { row = heap.the_row; laws = heap_laws.the_row_laws; g = ghosts; d = impl [] tnil dnil; drops = impl [] tnil dnil }
+
+module _ (mark : ℕ) (C : RattleType) {M : Type 1} {𝓤 : Ura M} {𝓛 : Logic 𝓤} {K : Type 0} {Γ : List (Item 𝓤)} {G : Goal 𝓤 𝓛.H} where
+  pub holds : K → (p : Ptr) (n : ℕ) (k : Option C.Denot)
+      → (k ≡ None → n ≡ 0 → Seq K 𝓛 Γ G)
+      → ((b o : ℕ) (x : C.Denot) → k ≡ Some x → n ≡ mark → p ≡ block_ptr b o → Seq K 𝓛 (‵ (box_owns may_free C (block_ptr b o) x) ∷ Γ) G)
+      → Seq K 𝓛 (‵ (held mark C p n k) ∷ Γ) G
+  holds t p n None f g = feq_l t (λ e. f refl e)
+  holds t p n (Some x) f g = fsplit t $ feq_l t (λ e. in_a_block t p (λ q. box_owns may_free C q x) (fst∗ 𝓤 (never 𝓤) (sem 𝓛 (may_free (bare (lone C.mir)) null_ptr))) (λ b o e'. g b o x refl e e'))

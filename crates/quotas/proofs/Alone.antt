@@ -22,7 +22,7 @@ use Rattle.node_parts.specs.declared.served.Served.{Served}
 use Rattle.node_parts.specs.declared.served.Served.TheVariants.{Stopped, Unread, Done, Window}
 use Rattle.plain_cells.specs.Words.{AreCallsOn, AreCells, CallsKeepCells, IsOfCell, TicketsAreCounted, is_draw, tickets_in, told_by_words, word_at, words_behind, ZerosAreCells}
 use Rattle.quotas.specs.Alone.{AreMatches, Deed, IsMatch, IsMatchBy, IsMatchOf, QuotasHoldAlone, Way, calls_by, calls_of, further, here, rotates, serves, sets, tickets_on}
-use Rattle.quotas.proofs.Deciding.{ends_in_draw}
+use Rattle.quotas.proofs.Deciding.{EndsLow, drawn_of, ends_below}
 use Rattle.sched.specs.Looking.{header_in}
 use Rattle.single_node.specs.Nodes.{IsFresh, SingleNodeValue}
 use Rattle.single_node.specs.Serving.{AreKeptOrLonger, AsksCells}
@@ -30,27 +30,8 @@ use Rattle.spw.specs.Cargo.{Cargo}
 
 -- ---- the last call of a match
 
--- the call that draws a ticket of the cell
-abbrev drawn : (map key answer : ℕ) → Call
-drawn map key answer = record { question = record { helper = helpers.Ticket; map = map; key = key; argument = 0 }; answer = answer }
-
--- the last of the calls draws a ticket of the cell, and was told less than the limit
-record EndsLow (calls : List Call) (map key limit : ℕ) : Type 0 where
-  before : List Call
-  answer : ℕ
-  is : calls ≡ before ++ drawn map key answer ∷ []
-  below : answer < limit
-
 ends_low : (map key limit : ℕ) {h after : PassValue} {p : Cargo} {j : JudgedValue} (judgement : IsJudgement h after p j) → IsMatch map key limit judgement → EndsLow judgement.calls map key limit
-ends_low map key limit {p = p} judgement m =
-    let e = m.match in
-    let l = ends_in_draw m.rules (header_in p) e.told e.quota e.matched in
-    record {
-      before = l.before;
-      answer = l.answer;
-      is = e.draws ∙ l.is ∙ ap₂ (λ (a b : ℕ). l.before ++ drawn a b l.answer ∷ []) e.of_map e.of_cell;
-      below = omega (arith, l.below, e.of_limit, m.small);
-    }
+ends_low map key limit {p = p} judgement m = ends_below m.rules (header_in p) judgement.calls map key m.own_limit limit m.match m.small
 
 ends_by : (map key limit : ℕ) (served : Served) (p : Cargo) (old new : PartsValue) (h after : PassValue) (reply : List ℕ) (answered : IsAnswered served p old new h after reply)
     → IsMatchBy map key limit served p old new h after reply answered → EndsLow (calls_by served p old new h after reply answered) map key limit
@@ -87,9 +68,9 @@ one_ticket : (t : Bool) (rest n : ℕ) → rest ≡ n + 1 → (if t then rest + 
 one_ticket true rest n is = omega (arith, is)
 one_ticket false rest n is = is
 
-drawn_last : (before : List Call) (map key answer : ℕ) → tickets_in (before ++ drawn map key answer ∷ []) map key ≡ tickets_in before map key + 1
+drawn_last : (before : List Call) (map key answer : ℕ) → tickets_in (before ++ drawn_of map key answer ∷ []) map key ≡ tickets_in before map key + 1
 drawn_last [] map key answer = ap (λ (t : Bool). if t then tickets_in [] map key + 1 else tickets_in [] map key) (is_own map key)
-drawn_last (b ∷ bs) map key answer = one_ticket (is_draw b.question map key) (tickets_in (bs ++ drawn map key answer ∷ []) map key) (tickets_in bs map key) (drawn_last bs map key answer)
+drawn_last (b ∷ bs) map key answer = one_ticket (is_draw b.question map key) (tickets_in (bs ++ drawn_of map key answer ∷ []) map key) (tickets_in bs map key) (drawn_last bs map key answer)
 
 counter_is : (kind : MapKind) → IsTrue (takes_kind helpers.Ticket kind) → kind ≡ Counter
 counter_is Counter takes = refl
@@ -100,7 +81,7 @@ told_last : TicketsAreCounted → (sizes : Maps) (words behind : List (List ℕ)
     → (kind_of_map sizes map ≡ Counter → word_at words map key ≡ word) → word + tickets_in calls map key < 2 ^ 64 → EndsLow calls map key limit
     → (0 < tickets_in calls map key) × (word + tickets_in calls map key ≤ limit)
 told_last law sizes words behind calls map key limit word cells on stands few ends =
-    let last = last_on sizes words behind ends.before (drawn map key ends.answer) (subst (λ (cs : List Call). AreCallsOn sizes words cs behind) ends.is on) in
+    let last = last_on sizes words behind ends.before (drawn_of map key ends.answer) (subst (λ (cs : List Call). AreCallsOn sizes words cs behind) ends.is on) in
     let counter = counter_is (kind_of_map sizes map) last.of.kind in
     let count : tickets_in calls map key ≡ tickets_in ends.before map key + 1 = ap (λ (cs : List Call). tickets_in cs map key) ends.is ∙ drawn_last ends.before map key ends.answer in
     let was = stands counter in

@@ -1,8 +1,9 @@
 -- Decisions that end by the match of a rule with a quota: their last draw is that rule's, and was told less than its limit.
 use Rattle.std.specs.Prelude.{nat_lt, if◌then◌else◌}
-use Rattle.std.proofs.Common.{◌≡◌, ◌<◌, ℕ, suc, Bool, true, false, List, [], ◌∷◌, ◌++◌, Option, Some, None, refl, sym, ap, ◌∙◌, subst}
+use Rattle.std.proofs.Common.{◌≡◌, ◌<◌, ◌≤◌, ℕ, suc, Bool, true, false, List, [], ◌∷◌, ◌++◌, Option, Some, None, refl, sym, ap, ap₂, ◌∙◌, subst, arith}
 use Rattle.std.proofs.lemmas.Bool.{ltb-true}
 use Rattle.machine.specs.declared.calls.Call.{Call}
+use Rattle.machine.specs.declared.helpers.Helper.TheVariants as helpers
 use Rattle.machine.specs.Memory.{Header}
 use Rattle.rmap.specs.Verdict.{verdict_number}
 use Rattle.policy_table.specs.Matching.{EndsByMatch, matched_by, matching_quota}
@@ -54,6 +55,28 @@ ends_in_draw (rule ∷ rules) header told quota e =
     by_conditions (holds rule header) quota (matched_by rule.quota told (matching_quota rules header further)) (matching_quota rules header told) (ruled rule.quota code told later) (decision rules header told)
     (by_quota rule.quota quota code told later (matching_quota rules header further) (ends_in_draw rules header further quota))
     (ends_in_draw rules header told quota) e
+
+-- the call that draws a ticket of the cell
+abbrev pub drawn_of : (map key answer : ℕ) → Call
+drawn_of map key answer = record { question = record { helper = helpers.Ticket; map = map; key = key; argument = 0 }; answer = answer }
+
+-- the last of the calls draws a ticket of the cell, and was told less than the limit
+pub record EndsLow (calls : List Call) (map key limit : ℕ) : Type 0 where
+  pub before : List Call
+  pub answer : ℕ
+  pub is : calls ≡ before ++ drawn_of map key answer ∷ []
+  pub below : answer < limit
+
+pub ends_below : (rules : List Rule) (header : Header) (calls : List Call) (map key own_limit limit : ℕ) → EndsByMatch rules header calls map key own_limit → own_limit ≤ limit
+    → EndsLow calls map key limit
+ends_below rules header calls map key own_limit limit e small =
+    let l = ends_in_draw rules header e.told e.quota e.matched in
+    record {
+      before = l.before;
+      answer = l.answer;
+      is = e.draws ∙ l.is ∙ ap₂ (λ (a b : ℕ). l.before ++ drawn_of a b l.answer ∷ []) e.of_map e.of_cell;
+      below = omega (arith, l.below, e.of_limit, small);
+    }
 
 -- what the last call was told is below the limit
 pub match_below : (rules : List Rule) (header : Header) (calls : List Call) (map key limit : ℕ) (before : List ℕ) (answer : ℕ) → EndsByMatch rules header calls map key limit

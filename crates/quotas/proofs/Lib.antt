@@ -5,3 +5,4 @@ mod Deciding
 mod Holding
 mod Counting
 mod Alone
+mod Threads

@@ -2,8 +2,10 @@
 
 ghost use Rattle.quotas.specs.Alone.{QuotasHoldAlone};
 ghost use Rattle.quotas.specs.Matches.{MatchesAreCounted, QuotasHold};
+ghost use Rattle.quotas.specs.Threads.{QuotasHoldInThreads};
 
 use plain_cells::tickets_are_counted;
+use ports::workers_ask_once;
 use sched::{every_schedule_judges_once, turns_are_paths};
 
 /// A law and no work: in every lawful history, while fewer than 2⁶⁴ tickets of a cell were drawn, rules on the cell with
@@ -24,4 +26,15 @@ pub fn quotas_hold_alone()
     ensures { QuotasHoldAlone }
 {
     tickets_are_counted();
+}
+
+/// A law and no work: of ports that threads served since their node was made, whose seats came back to its cells
+/// ([`Pass::into_seat`](target::Pass::into_seat), [`Cells::take_back`](cells::Cells::take_back)), the commands that were judged
+/// are matched so by rules on a cell: while fewer than 2⁶⁴ of its tickets were drawn, rules with limits of at most N match at
+/// most N of them, over all ports and all programs. That the tickets are the numbers from 0 on is what
+/// [`Cells::drawn`](cells::Cells::drawn) says of cells to which each seat came back.
+pub fn quotas_hold_in_threads()
+    ensures { QuotasHoldInThreads }
+{
+    workers_ask_once();
 }

@@ -1,12 +1,12 @@
 //! What a limit of a policy table promises of a whole node.
 //!
 //! A rule of a policy table may draw a ticket of a counter cell, and match only where that is below its limit
-//! ([`policy::Quota`]). The laws of this crate say of every lawful history of a node ([`quotas_hold`]), and of all that is
-//! done to a node of one thread ([`quotas_hold_alone`]), over all its ports and all the programs that judge there, how many
-//! commands such rules match, whatever their verdict. They say nothing of how many commands pass: a later rule may let
+//! ([`policy::Quota`]). The laws of this crate say of every lawful history of a node ([`quotas_hold`]), of all that is done to a
+//! node of one thread ([`quotas_hold_alone`]), and of all that threads serve at a node ([`quotas_hold_in_threads`]), over all its
+//! ports and all the programs that judge there, how many commands such rules match, whatever their verdict. They say nothing of how many commands pass: a later rule may let
 //! more pass.
 #![tactic(auto)]
 
 mod laws;
 
-pub use laws::{quotas_hold, quotas_hold_alone};
+pub use laws::{quotas_hold, quotas_hold_alone, quotas_hold_in_threads};

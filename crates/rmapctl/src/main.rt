@@ -74,7 +74,7 @@ fn do_job<R: rt::Files + Input + Print + Eprint + Threads + Wait + Sync>(
     // What was held back fails again where it failed before, with the reason.
     match (done, out.flush()) {
         (Ok(end), Ok(())) => {
-            tell(rt, told_end(alloc, job, &end, &files));
+            tell(rt, told_end(alloc, job, &end, files.noted()));
             end.status.code()
         }
         (_, flushed) => lose_output(rt, flushed),
@@ -100,10 +100,10 @@ fn talk_lines<R: rt::Files + Input + Print + Eprint>(
         Ok(input) => input,
         Err(_) => return refuse(rt, &UsageFault::Memory),
     };
-    let mut talk = ToldTalk::new(rt, HostTalk::new(alloc, input, io::writer(rt)));
+    let mut talk = ToldTalk::new(rt, alloc, HostTalk::new(input, io::writer(rt)));
     let mut files = ToldFiles::new(rt, node.inputs());
     let done = live(alloc, node, &mut files, &mut talk);
-    tell(rt, told_node(alloc, node, &files));
+    tell(rt, told_node(alloc, node, files.noted()));
     end_talk(rt, done, talk.into_talk().into_output().1)
 }
 
@@ -113,8 +113,8 @@ fn show_input<R: Input + Print + Eprint>(rt: &R, alloc: Global, words: &ShowWord
         Ok(input) => input,
         Err(_) => return refuse(rt, &UsageFault::Memory),
     };
-    let told = ToldTalk::new(rt, HostTalk::new(alloc, input, io::writer(rt)));
-    let mut talk = DumpTalk::new(alloc, told, words.raw);
+    let lines = DumpTalk::new(alloc, HostTalk::new(input, io::writer(rt)), words.raw);
+    let mut talk = ToldTalk::new(rt, alloc, lines);
     let done = show_talk(alloc, &mut talk);
     end_talk(rt, done, talk.into_talk().into_talk().into_output().1)
 }
@@ -128,7 +128,7 @@ fn talk_frames<R: rt::Files + Input + Print + Eprint>(
     let mut link = HostLink::new(rt, rt.reader(), io::writer(rt));
     let mut files = ToldFiles::new(rt, node.inputs());
     let done = live_frames(alloc, node, &mut files, &mut link);
-    tell(rt, told_node(alloc, node, &files));
+    tell(rt, told_node(alloc, node, files.noted()));
     let untold = link.untold();
     if untold > 0 {
         let _ = rt.eprint(&"texts that standard error did not take: ");

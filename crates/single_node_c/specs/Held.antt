@@ -1,29 +1,12 @@
--- What a handle owns, and what a call does to the node of a handle.
+-- What a handle of a node holds, and what a call does to its node.
 use Rattle.std.specs.Prelude.{◌≡◌, ◌⊎◌, ℕ, Option, None, Some}
-use mir.Syntax.{Ty}
-use base.Fml.{Fml, fsep, feq}
-use denote.RattleType.{RattleType}
-use denote.RawPtr.{Ptr}
-use Rattle.std_alloc.specs.Box.Ownership.{box_owns}
-use Rattle.std.specs.contracts.impls.GlobalAllocator.TheImpl.{ghosts}
 use Rattle.single_node.specs.Nodes.{SingleNodeValue}
 use Rattle.single_node_c.specs.declared.codes.TheConstants.{OK, NO_MEMORY, NO_NODE}
 
--- ---- what a handle owns: nothing where it holds nothing, else the block of its value, with the right to free it
-
--- what is in `live` of a handle that holds a value. It is not 1, so that memory that was never set to zeros hardly
+-- what is in `live` of a handle that holds a node. It is not 1, so that memory that was never set to zeros hardly
 -- passes for one
 abbrev pub mark : ℕ
 mark = 937
-
--- the right to free a block of the heap, of which there is one
-abbrev pub may_free : Ty → Ptr → Fml
-may_free = ghosts.dealloc_token (record { memory = record { seal = tt } })
-
--- nothing and a 0 in `live`, or the mark and the block of the value
-abbrev pub held : (R : RattleType) → Ptr → ℕ → Option R.Denot → Fml
-held R p live None = feq ℕ live 0
-held R p live (Some x) = fsep (feq ℕ live mark) (box_owns may_free R p x)
 
 -- ---- what a call does
 

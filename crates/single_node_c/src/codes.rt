@@ -6,7 +6,7 @@ pub const OK: u32 = 0;
 /// Memory was refused.
 pub const NO_MEMORY: u32 = 1;
 
-/// The node is not open.
+/// The node, or the reader of frames, is not open.
 pub const NO_NODE: u32 = 2;
 
 /// Ports, banks or a journal's room are outside their limits.
@@ -39,7 +39,7 @@ pub const NO_ROOM: u32 = 11;
 /// The journal has no such entry.
 pub const NO_ENTRY: u32 = 12;
 
-/// The node is open.
+/// The node, or the reader of frames, is open.
 pub const IS_OPEN: u32 = 13;
 
 /// The node has no such map or cell.

@@ -24,10 +24,11 @@ pub struct Handle {
 }
 
 impl Model for Handle {
-    ghost use Rattle.single_node_c.specs.Held.{held};
+    ghost use Rattle.loose.specs.Held.{held};
+    ghost use Rattle.single_node_c.specs.Held.{mark};
     ghost use Rattle.single_node.specs.contracts.node.SingleNode.{the_row};
 
-    ghost also_owns = { λ h. held the_row h.inside h.live h.kept };
+    ghost also_owns = { λ h. held mark the_row h.inside h.live h.kept };
 }
 
 impl Handle {

@@ -5,6 +5,7 @@
 #![tactic(auto)]
 
 mod codes;
+mod framed;
 mod handle;
 mod held;
 mod journals;

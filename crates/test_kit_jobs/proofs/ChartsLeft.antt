@@ -10,7 +10,7 @@ use Rattle.job_charts.specs.ComparedFile.{AreTables, ComparesFile, IsBad, IsNotC
 use Rattle.job_charts.specs.MappedFile.{IsNotMapped, MapsFile}
 use Rattle.job_charts.specs.declared.compare.CompareWords.{CompareWords}
 use Rattle.job_charts.specs.declared.map.MapWords.{MapWords}
-use Rattle.test_kit_jobs.specs.Folders.{FolderReads, FolderValue}
+use Rattle.folders.specs.Folders.{FolderReads, FolderValue}
 
 -- a read leaves the folder as it was
 same : (before : FolderValue) (name : List ℕ) (given : Option (List ℕ)) (after : FolderValue) → FolderReads before name given after → after ≡ before

@@ -7,7 +7,7 @@ use Rattle.job_parts.specs.declared.status.Status.{Status}
 use Rattle.job_parts.specs.declared.status.Status.TheVariants.{Done, Failed, Misused}
 use Rattle.job_decide.specs.DecidedFile.{Decides, IsGiven, IsNotDecided, IsUnread}
 use Rattle.job_decide.specs.declared.decide.DecideWords.{DecideWords}
-use Rattle.test_kit_jobs.specs.Folders.{FolderReads, FolderValue}
+use Rattle.folders.specs.Folders.{FolderReads, FolderValue}
 
 -- a read leaves the folder as it was
 same : (before : FolderValue) (name : List ℕ) (given : Option (List ℕ)) (after : FolderValue) → FolderReads before name given after → after ≡ before

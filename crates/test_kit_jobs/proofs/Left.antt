@@ -42,7 +42,7 @@ use Rattle.test_kit_jobs.proofs.ChartsLeft.{compares_file, maps_file, uncompared
 use Rattle.test_kit_jobs.proofs.DecidesLeft.{decides_file, undecided}
 use Rattle.test_kit_jobs.proofs.RehearsesLeft.{rehearses_file, unrehearsed}
 use Rattle.test_kit_jobs.proofs.PacketsLeft.{made_file, unmade, unshown}
-use Rattle.test_kit_jobs.specs.Folders.{FolderReads, FolderValue, FolderWrites, Sets}
+use Rattle.folders.specs.Folders.{FolderReads, FolderValue, FolderWrites, Sets}
 use Rattle.test_kit_jobs.specs.Jobs.{AssemblesIn, CompilesIn, Leaves}
 
 -- a read leaves the folder as it was

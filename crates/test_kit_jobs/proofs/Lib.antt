@@ -1,6 +1,5 @@
 mod ChartsLeft
 mod Left
-mod NewestSheet
 mod DecidesLeft
 mod PacketsLeft
 mod RehearsesLeft

@@ -6,7 +6,7 @@ use Rattle.job_parts.specs.declared.status.Status.TheVariants.{Done, Failed, Mis
 use Rattle.job_packets.specs.MadePackets.{IsContentOf, IsMade, IsNotMade, MakesFile, file_of, own_data}
 use Rattle.job_show.specs.Shown.{IsNotShown}
 use Rattle.job_packets.specs.declared.packet.PacketWords.{PacketWords}
-use Rattle.test_kit_jobs.specs.Folders.{FolderReads, FolderValue}
+use Rattle.folders.specs.Folders.{FolderReads, FolderValue}
 
 -- a read of the data or the image
 content_read : (named : Option (List ℕ)) (own : List ℕ) (before : FolderValue) (content : List ℕ) (after : FolderValue)

@@ -26,7 +26,7 @@ use Rattle.machine.specs.Sizes.{Maps}
 use Rattle.policy.specs.Compiled.{IsCompiled}
 use Rattle.policy_table.specs.Lines.{IsTable}
 use Rattle.policy_table.specs.declared.rules.Rule.{Rule}
-use Rattle.test_kit_jobs.specs.Folders.{FolderValue, Sets, content_of}
+use Rattle.folders.specs.Folders.{FolderValue, Sets, content_of}
 
 -- the one file has the text of a program, and the other was set to its image
 pub record AssemblesIn (before : FolderValue) (text image : List ℕ) (after : FolderValue) : Type 0 where

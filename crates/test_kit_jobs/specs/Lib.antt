@@ -1,3 +1,1 @@
-pub mod Folders
 pub mod Jobs
-pub mod Sheets

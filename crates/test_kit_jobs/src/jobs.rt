@@ -3,8 +3,8 @@
 ghost use Rattle.std.specs.Prelude.{IfOk};
 ghost use Rattle.test_kit_jobs.specs.Jobs.{Leaves};
 
-use crate::folder::Folder;
 use commands::{Job, UsageFault, Work, WriteFault, perform, words};
+use folders::Folder;
 use std::alloc::Global;
 use std::sync::Wait;
 use std::thread::Threads;
@@ -23,7 +23,7 @@ pub fn perform_in<R: Threads + Wait + Sync>(
     rt: &R,
     alloc: Global,
     job: &Job,
-    folder: &mut Folder,
+    folder: &mut Folder<'_>,
 ) -> Result<(Vec<u8>, u8), WriteFault>
     ensures { IfOk result (λ done. Leaves job.now folder.old folder.new done.1) }
 {

@@ -1,12 +1,11 @@
 //! Whole jobs of `rmapctl` over files in memory, for tests.
 #![tactic(auto)]
 
-mod folder;
 mod jobs;
 mod links;
 mod outcomes;
 
-pub use folder::{Folder, LOCKED};
+pub use folders::Folder;
 pub use jobs::{job_named, perform_in};
 pub use links::{RECEIVED, Wire};
-pub use outcomes::{folder_of, judged, printed};
+pub use outcomes::{LOCKED, folder_of, judged, printed};

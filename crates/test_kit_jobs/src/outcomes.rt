@@ -1,16 +1,19 @@
 //! Folders of files, and what `judge` prints, for tests.
 
-use crate::folder::Folder;
 use crate::jobs::{job_named, perform_in};
 use commands::{Cannot, Files};
+use folders::Folder;
 use std::alloc::Global;
 use std::sync::Wait;
 use std::test::Fail;
 use std::thread::Threads;
 
+/// The name of a file that cannot be written.
+pub const LOCKED: &str = "locked";
+
 /// A folder of these files.
-pub fn folder_of(alloc: Global, files: &[(&str, &[u8])]) -> Result<Folder, Cannot> {
-    let mut folder = Folder::new(alloc);
+pub fn folder_of(alloc: Global, files: &[(&str, &[u8])]) -> Result<Folder<'static>, Cannot> {
+    let mut folder = Folder::new(alloc, LOCKED);
     for (name, bytes) in files {
         folder.write(name, bytes)?;
     }
@@ -35,7 +38,7 @@ pub fn printed<R: Threads + Wait + Sync>(
     rt: &R,
     alloc: Global,
     named: &[&str],
-    folder: &mut Folder,
+    folder: &mut Folder<'_>,
 ) -> Result<String, Fail> {
     let job = job_named(alloc, named)?;
     let (out, status) = perform_in(rt, alloc, &job, folder)?;

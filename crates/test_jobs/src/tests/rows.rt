@@ -71,8 +71,8 @@ const ROWS: [(&[&str], &str, u8); 10] = [
 ];
 
 /// The folder of the files.
-fn folder(alloc: Global) -> Result<Folder, Fail> {
-    let mut folder = Folder::new(alloc);
+fn folder(alloc: Global) -> Result<Folder<'static>, Fail> {
+    let mut folder = Folder::new(alloc, LOCKED);
     for (name, text) in &FILES {
         folder
             .write(name, text.as_bytes())

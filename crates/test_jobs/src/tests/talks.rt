@@ -169,7 +169,7 @@ fn each_answer_is_flushed(rt: HostRuntime) -> Result<(), Fail> {
     };
     let node = node_named(alloc, &["live", "--maps", "2"]).ok_or("no talk")?;
     let mut folder = folder_of(alloc, &[]).map_err(|_| "no folder")?;
-    let mut talk = HostTalk::new(alloc, lines.as_bytes(), output);
+    let mut talk = HostTalk::new(lines.as_bytes(), output);
     let done = live(alloc, &node, &mut folder, &mut talk);
     same(&rt, "the status", done, Ok(Status::Failed));
     let (output, _) = talk.into_output();

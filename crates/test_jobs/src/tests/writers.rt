@@ -45,7 +45,7 @@ fn perform_until(
     rt: &(impl Threads + Wait + Sync),
     alloc: Global,
     job: &Job,
-    folder: &mut Folder,
+    folder: &mut Folder<'_>,
     writes: u32,
 ) -> (Failing, Result<Status, WriteFault>) {
     let mut out = Failing {

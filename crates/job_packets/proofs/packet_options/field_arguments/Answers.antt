@@ -1,7 +1,7 @@
 use Rattle.std.proofs.Common.{ap, ap₂, ◌∙◌}
 use Rattle.std.proofs.lemmas.Result.{IfOk-weaker}
 use Rattle.clap.specs.Simple.{app_of, with_rule}
-use Rattle.job_packets.proofs.AddedArguments.{no_globals}
+use Rattle.std.proofs.lemmas.Bool.{or_from}
 use Rattle.job_packets.proofs.packet_options.field_arguments.Goals as goal
 
 pub returns-clause-shape : goal.returns-clause-shape
@@ -15,9 +15,9 @@ returns-clause-shape c =
 
 pub returns-clause-local : goal.returns-clause-local
 returns-clause-local c =
-    let step0 = c.in_ok-arg.ensures.globals ∙ no_globals _ _ c.requires c.option-target.ensures.local in
-    let step1 = c.in_ok-arg-2.ensures.globals ∙ no_globals _ _ step0 c.option-key.ensures.local in
-    let step2 = c.in_ok-arg-3.ensures.globals ∙ no_globals _ _ step1 c.option-initiator.ensures.local in
-    let step3 = c.in_ok-arg-4.ensures.globals ∙ no_globals _ _ step2 c.option-transaction.ensures.local in
-    let step4 = c.in_ok-arg-5.ensures.globals ∙ no_globals _ _ step3 c.option-extended.ensures.local in
-    IfOk-weaker c.arg-6.result _ _ (λ m h. h.globals ∙ no_globals _ _ step4 c.option-reply_address.ensures.local) c.arg-6.ensures
+    let step0 = c.in_ok-arg.ensures.globals ∙ or_from _ _ c.requires c.option-target.ensures.local in
+    let step1 = c.in_ok-arg-2.ensures.globals ∙ or_from _ _ step0 c.option-key.ensures.local in
+    let step2 = c.in_ok-arg-3.ensures.globals ∙ or_from _ _ step1 c.option-initiator.ensures.local in
+    let step3 = c.in_ok-arg-4.ensures.globals ∙ or_from _ _ step2 c.option-transaction.ensures.local in
+    let step4 = c.in_ok-arg-5.ensures.globals ∙ or_from _ _ step3 c.option-extended.ensures.local in
+    IfOk-weaker c.arg-6.result _ _ (λ m h. h.globals ∙ or_from _ _ step4 c.option-reply_address.ensures.local) c.arg-6.ensures

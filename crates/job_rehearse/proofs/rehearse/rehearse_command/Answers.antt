@@ -1,11 +1,9 @@
-use Rattle.std.proofs.Common.{Bool, ap, ap₂, codes, false, refl, ◌≡◌, ◌∙◌, ◌||◌}
+use Rattle.std.proofs.Common.{ap, ap₂, codes, false, ◌≡◌, ◌∙◌}
+use Rattle.std.proofs.lemmas.Bool.{or_from}
 use Rattle.std.proofs.lemmas.Result.{IfOk-weaker}
 use Rattle.clap.specs.Simple.{app_of, app_of_fields, new_app, with_rule}
 use Rattle.clap.specs.declared.builder.command.Command.TheViews.{out-Command}
 use Rattle.job_rehearse.proofs.rehearse.rehearse_command.Goals as goal
-
-no_globals : (a b : Bool) → a ≡ false → b ≡ false → (a || b) ≡ false
-no_globals a b e f = rw (e, f) refl
 
 pub returns-clause-shape : goal.returns-clause-shape
 returns-clause-shape c =
@@ -22,11 +20,11 @@ returns-clause-shape c =
 pub returns-clause-local : goal.returns-clause-local
 returns-clause-local c =
     let named : (out-Command c.about.result).has_globals ≡ false = rw (c.about.ensures) (c.new.ensures.local) in
-    let first = c.in_ok-arg.ensures.globals ∙ no_globals _ _ named c.file-old.ensures.local in
-    let second = c.in_ok-arg-2.ensures.globals ∙ no_globals _ _ first c.file-new.ensures.local in
-    let third = c.in_ok-arg-3.ensures.globals ∙ no_globals _ _ second c.maps_option-maps.ensures.local in
-    let fourth = c.in_ok-arg-4.ensures.globals ∙ no_globals _ _ third c.option-slot.ensures.local in
-    let fifth = c.in_ok-arg-5.ensures.globals ∙ no_globals _ _ fourth c.option-port.ensures.local in
-    let sixth = c.in_ok-arg-6.ensures.globals ∙ no_globals _ _ fifth c.option-initiator.ensures.local in
-    let seventh = c.in_ok-arg-7.ensures.globals ∙ no_globals _ _ sixth c.option-key.ensures.local in
-    IfOk-weaker c.arg-8.result _ _ (λ m h. h.globals ∙ no_globals _ _ seventh c.flag-any.ensures.local) c.arg-8.ensures
+    let first = c.in_ok-arg.ensures.globals ∙ or_from _ _ named c.file-old.ensures.local in
+    let second = c.in_ok-arg-2.ensures.globals ∙ or_from _ _ first c.file-new.ensures.local in
+    let third = c.in_ok-arg-3.ensures.globals ∙ or_from _ _ second c.maps_option-maps.ensures.local in
+    let fourth = c.in_ok-arg-4.ensures.globals ∙ or_from _ _ third c.option-slot.ensures.local in
+    let fifth = c.in_ok-arg-5.ensures.globals ∙ or_from _ _ fourth c.option-port.ensures.local in
+    let sixth = c.in_ok-arg-6.ensures.globals ∙ or_from _ _ fifth c.option-initiator.ensures.local in
+    let seventh = c.in_ok-arg-7.ensures.globals ∙ or_from _ _ sixth c.option-key.ensures.local in
+    IfOk-weaker c.arg-8.result _ _ (λ m h. h.globals ∙ or_from _ _ seventh c.flag-any.ensures.local) c.arg-8.ensures

@@ -29,11 +29,11 @@ use Rattle.std.proofs.alloc.Global.TheLaws as heap_laws
 use Rattle.std.specs.contracts.impls.GlobalAllocator.TheImpl.{ghosts}
 use Rattle.std.proofs.raw_atomic.Walks.{proved_at, leaves}
 use Rattle.std_alloc.proofs.ResultValues.{and_tt}
-use Rattle.loose.proofs.Values.{Loose, closed, fit, parts}
+use Rattle.loose.proofs.Values.{Loose, closed, fit, heap_al, holds, parts}
 use Rattle.single_node_c.specs.contracts.handle.Handle.{the_row as R}
 use Rattle.single_node.specs.contracts.node.SingleNode.{the_row as C}
 use Rattle.single_node_c.specs.Held.{mark}
-use Rattle.single_node_c.proofs.Values.{al, word, either, handle_out}
+use Rattle.single_node_c.proofs.Values.{word, handle_out}
 use Rattle.single_node_c.specs.contracts.handle.Handle.into_loose as f
 use Rattle.single_node_c.proofs.handle.Handle.into_loose.Statement.{statement}
 use Rattle.single_node_c.proofs.handle.Handle.into_loose.Code as code
@@ -53,7 +53,7 @@ into_loose_spec 𝓤 𝓛 𝓜 𝓡 wired =
     let begins : (w h : Val) → vs ≡ w ∷ [] → hs ≡ h ∷ [] → ent 𝓤 (Run (w ∷ h ∷ [])) (Run (vs ++ (hs ++ []))) = λ w h e f.
     subst (λ (us : List Val). ent 𝓤 (Run (w ∷ h ∷ [])) (Run us)) (sym (λ i. e i ++ (f i ++ []))) (id⊢ 𝓤 (Run (w ∷ h ∷ []))) in
     qed 𝓛 ((‵ ftrue ⊛ ‵ (owns (types_at f.ended.signature.params z.0.0) z.0.3 z.0.4)) ∷ raw ((c z.0.0 z.0.3).requires z.1) ∷ []) ∵ split ! $ move ! (1 ∷ []) $ fsplit ! $ move ! (1 ∷ []) $ fsplit ! $
-    handle_tells al ! a hs (λ h eh fits. move ! (2 ∷ []) $ handle_out ! d vs (λ ws. either ! d.inside d.live d.kept
+    handle_tells heap_al ! a hs (λ h eh fits. move ! (2 ∷ []) $ handle_out ! d vs (λ ws. holds mark C ! d.inside d.live d.kept
     -- [the allocator's handle; nothing; nothing; no clause]
     (λ empty zero. let w : Val = word d.inside 0 in
     suffices ! (Run (w ∷ h ∷ [])) (begins w h (ws ∙ ap (λ (n : ℕ). word d.inside n ∷ []) zero) eh) $

@@ -1,0 +1,93 @@
+//! The paths that stand before the packets of lines.
+
+use initiator::Seen;
+use job_parts::paths::{add_path, path_in_front};
+use rmap::Flaw;
+use spw::{Packet, first_word, read_part};
+use std::alloc::{AllocError, Global};
+
+/// The marker of a piece of a packet that goes on.
+const GOES_ON: &str = "PART";
+
+/// Which lines came, of which the packets are looked at: how many there were, and which ports hold pieces of a packet, by the
+/// bit of their number. Only the whole packet of one line is looked at, since what ends a packet may look like a path.
+#[derive(Debug, Drop)]
+pub struct LinePaths {
+    number: usize,
+    held: u32,
+}
+
+/// Whether a line may be one of a piece, or of a packet that begins with a path.
+fn is_looked_at(line: &str) -> bool {
+    let Some((_port, rest)) = first_word(line) else {
+        return false;
+    };
+    let rest = rest.trim();
+    rest.starts_with('0') || rest.starts_with('1') || rest.ends_with(GOES_ON)
+}
+
+/// The path that stands before a packet, which is discarded for it: no bytes, if none does.
+fn path_before(packet: &Packet) -> &[u8] {
+    match Seen::of(packet) {
+        Seen::Discarded {
+            flaw: Flaw::OtherProtocol { .. },
+            ..
+        } => path_in_front(packet.bytes()),
+        _ => &[],
+    }
+}
+
+impl LinePaths {
+    /// No line came yet.
+    pub fn new() -> LinePaths {
+        LinePaths { number: 0, held: 0 }
+    }
+
+    /// The whole packet of a line, if it has one, and not the end of one.
+    fn packet(&mut self, alloc: Global, line: &str) -> Option<Packet> {
+        let Ok((port, bytes, mark)) = read_part(alloc, line) else {
+            return None;
+        };
+        let bit = 1u32.checked_shl(u32::from(port)).unwrap_or(0);
+        let is_end = self.held & bit != 0;
+        let Some(end) = mark else {
+            self.held |= bit;
+            return None;
+        };
+        self.held &= !bit;
+        if is_end {
+            return None;
+        }
+        Packet::new(bytes, end).ok()
+    }
+
+    /// Takes the next line, and adds the path that stands before its packet, if one does: then the packet is discarded. Tells
+    /// whether one does.
+    ///
+    /// # Errors
+    ///
+    /// Where memory was refused.
+    pub fn take(
+        &mut self,
+        alloc: Global,
+        line: &str,
+        text: &mut String,
+    ) -> Result<bool, AllocError> {
+        self.number = self.number.saturating_add(1);
+        if self.held == 0 && !is_looked_at(line) {
+            return Ok(false);
+        }
+        let Some(packet) = self.packet(alloc, line) else {
+            return Ok(false);
+        };
+        let path = path_before(&packet);
+        if path.is_empty() {
+            return Ok(false);
+        }
+        let number = self.number;
+        write!(text, "    line {number}: ")?;
+        add_path(text, path)?;
+        text.push('\n')?;
+        Ok(true)
+    }
+}

@@ -1,0 +1,225 @@
+//! What is noted of the files that a job reads: why one could not be read or written, and what was read last.
+
+ghost use Rattle.std.specs.Prelude.{◌≡◌, IfOk, false};
+ghost use Rattle.commands.specs.Notes.{is_dump, reads_dump};
+
+use crate::dumps::dump_lines;
+use crate::jobs::Job;
+use job_parts::inputs::{Content, Inputs};
+use job_parts::storage::Cannot;
+use std::alloc::{AllocError, Global};
+use std::io;
+
+/// The bytes with which an image begins.
+const MAGIC: &[u8] = b"BPFA";
+
+/// More bytes than any image has: its header, 8 loops and 512 slots.
+const MAX_IMAGE: u64 = 8192;
+
+/// The most bytes of a text or of a table.
+pub const MAX_TEXT: u64 = 1_048_576;
+
+/// Why a file could not be read or written.
+#[derive(Debug, Drop)]
+pub enum Cause {
+    /// What the system says.
+    System(io::Error),
+    /// It is no text.
+    NoText,
+    /// It is an image, where a text is wanted.
+    Image,
+    /// It is standard input, which cannot be written.
+    Input,
+    /// It has more bytes than a text may have.
+    TooLong,
+}
+
+/// What is noted of the files that a job reads, in the order in which it reads them.
+#[derive(Drop)]
+pub struct Noted<'a> {
+    inputs: Inputs<'a>,
+    is_dump: bool,
+    cause: Option<Cause>,
+    lines: Option<String>,
+    last: Option<Vec<u8>>,
+}
+
+/// Whether bytes begin as those of an image do.
+pub fn is_image(bytes: &[u8]) -> bool {
+    bytes.starts_with(MAGIC)
+}
+
+/// How many bytes are read of a file at most: one that has more is longer than its content may be.
+pub fn most_of(content: Content) -> u64 {
+    match content {
+        Content::Lines => u64::MAX,
+        Content::Text | Content::Table | Content::ImageOrText => MAX_TEXT + 1,
+        Content::Image => MAX_IMAGE,
+        Content::Bytes(enough) => enough,
+    }
+}
+
+/// Why bytes are not what a file has to be, if they are not: no text, or one that is too long. What is wrong with an image the
+/// job says.
+fn no_content(content: Content, bytes: &[u8]) -> Option<Cause> {
+    match content {
+        Content::Lines => no_text(bytes),
+        Content::Text | Content::Table => match too_long(bytes) {
+            Some(cause) => Some(cause),
+            None => no_text(bytes),
+        },
+        Content::ImageOrText => too_long(bytes),
+        Content::Image | Content::Bytes(_) => None,
+    }
+}
+
+/// Why bytes are no text, if they are none.
+fn no_text(bytes: &[u8]) -> Option<Cause> {
+    if str::from_utf8(bytes).is_ok() {
+        return None;
+    }
+    Some(if is_image(bytes) {
+        Cause::Image
+    } else {
+        Cause::NoText
+    })
+}
+
+/// That bytes are more than a text has, if they are.
+fn too_long(bytes: &[u8]) -> Option<Cause> {
+    if bytes.len() as u64 > MAX_TEXT {
+        Some(Cause::TooLong)
+    } else {
+        None
+    }
+}
+
+/// Whether the lines of a job are those of a dump.
+fn shows_dump(job: &Job) -> bool
+    ensures { result ≡ is_dump job.now }
+{
+    match job {
+        Job::Show(words) => words.raw,
+        _ => false,
+    }
+}
+
+/// The packet lines of a dump, which is a text.
+fn packet_lines(alloc: Global, bytes: &[u8]) -> Result<Vec<u8>, AllocError> {
+    let dump = str::from_utf8(bytes).unwrap_or("");
+    let lines = dump_lines(alloc, dump)?;
+    Ok(lines.into_bytes())
+}
+
+impl<'a> Noted<'a> {
+    /// Nothing yet, of files that are read in the order of these.
+    pub fn new(inputs: Inputs<'a>) -> Noted<'a>
+        ensures { reads_dump result ≡ false }
+    {
+        Noted {
+            inputs,
+            is_dump: false,
+            cause: None,
+            lines: None,
+            last: None,
+        }
+    }
+
+    /// Nothing yet, of the files that the job reads. The lines of a dump are given as its packet lines.
+    pub fn of_job(job: &'a Job) -> Noted<'a>
+        ensures { reads_dump result ≡ is_dump job.now }
+    {
+        let mut noted = Noted::new(job.inputs());
+        noted.is_dump = shows_dump(job);
+        noted
+    }
+
+    /// Why the last file could not be read or written, if it could not.
+    pub fn cause(&self) -> Option<&Cause> {
+        self.cause.as_ref()
+    }
+
+    /// The lines that were read, if they are not more than a text has.
+    pub fn lines(&self) -> Option<&str> {
+        self.lines.as_deref()
+    }
+
+    /// The bytes of the file that was read last, if it is none of lines.
+    pub fn last(&self) -> Option<&[u8]> {
+        self.last.as_deref()
+    }
+
+    /// The text that was read last, if it is one.
+    pub fn text(&self) -> Option<&str> {
+        match self.last() {
+            Some(bytes) if !is_image(bytes) => str::from_utf8(bytes).ok(),
+            _ => None,
+        }
+    }
+
+    /// What the file has to be that is read next.
+    pub fn next(&mut self) -> Content
+        ensures { reads_dump self.new ≡ reads_dump self.old }
+    {
+        match self.inputs.next() {
+            Some(input) => input.content,
+            None => Content::Bytes(u64::MAX),
+        }
+    }
+
+    /// Notes why a file could not be read or written.
+    pub fn refuse(&mut self, cause: Cause) -> Cannot
+        ensures { reads_dump self.new ≡ reads_dump self.old }
+    {
+        self.cause = Some(cause);
+        Cannot
+    }
+
+    /// Notes that memory was refused to a file.
+    fn refuse_memory(&mut self) -> Cannot
+        ensures { reads_dump self.new ≡ reads_dump self.old }
+    {
+        self.refuse(Cause::System(io::Error::from(io::ErrorKind::OutOfMemory)))
+    }
+
+    /// Keeps bytes that were read, if there is memory.
+    fn keep(&mut self, alloc: Global, content: Content, bytes: &[u8])
+        ensures { reads_dump self.new ≡ reads_dump self.old }
+    {
+        match content {
+            Content::Lines if bytes.len() as u64 <= MAX_TEXT => {
+                if let Ok(text) = str::from_utf8(bytes) {
+                    self.lines = String::from_str(alloc, text).ok();
+                }
+            }
+            Content::Lines => {}
+            _ => self.last = Vec::from_slice(alloc, bytes).ok(),
+        }
+    }
+
+    /// The bytes that a job gets of those that were read of a file, which has to be that.
+    ///
+    /// `Cannot` where it is not; then the cause is noted.
+    pub fn given(
+        &mut self,
+        alloc: Global,
+        content: Content,
+        bytes: Vec<u8>,
+    ) -> Result<Vec<u8>, Cannot>
+        ensures given { IfOk result (λ given. reads_dump self.old ≡ false → given.items ≡ bytes.items) }
+        ensures dump { reads_dump self.new ≡ reads_dump self.old }
+    {
+        if let Some(cause) = no_content(content, bytes.as_slice()) {
+            return Err(self.refuse(cause));
+        }
+        if !self.is_dump {
+            self.keep(alloc, content, bytes.as_slice());
+            return Ok(bytes);
+        }
+        let Ok(lines) = packet_lines(alloc, bytes.as_slice()) else {
+            return Err(self.refuse_memory());
+        };
+        self.keep(alloc, content, lines.as_slice());
+        Ok(lines)
+    }
+}

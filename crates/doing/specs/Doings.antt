@@ -1,0 +1,128 @@
+-- What the words of a command line come to over the files of a folder.
+use Rattle.std.specs.Prelude.{◌≡◌, ◌⊎◌, ℕ, List, [], ◌∷◌, Option, Some, string_bytes, codes, true, false}
+use Rattle.commands.specs.CommandLine.{NamesWork}
+use Rattle.commands.specs.Notes.{is_dump, reads_dump}
+use Rattle.commands.specs.Performed.{Performs}
+use Rattle.commands.specs.ShownTalk.{ShowsTalk}
+use Rattle.commands.specs.declared.jobs.Job.{Job}
+use Rattle.commands.specs.declared.jobs.Job.TheVariants.{
+  Assemble,
+  Disassemble,
+  Verify,
+  Judge,
+  Policy,
+  Serve,
+  Simulate,
+  Explain,
+  Why,
+  Weigh,
+  Packet,
+  Show,
+  Decide,
+  Trace,
+  Compare,
+  Map,
+  Rehearse,
+}
+use Rattle.commands.specs.declared.work.Work.{Work}
+use Rattle.commands.specs.declared.work.Work.TheVariants.{Once, Live}
+use Rattle.folders.specs.Folders.{FolderValue}
+use Rattle.job_live.specs.LiveJob.{Lives}
+use Rattle.job_live.specs.declared.words.LiveWords.{LiveWords}
+use Rattle.job_parts.specs.Statuses.{status_code}
+use Rattle.job_parts.specs.declared.status.Status.{Status}
+use Rattle.job_show.specs.declared.show.ShowWords.{ShowWords}
+use Rattle.clap.specs.Walk.{Text}
+use Rattle.doing.specs.Desks.{DeskReads, DeskWrites}
+use Rattle.doing.specs.Speeches.{SpeechHears, SpeechLoses, SpeechMisses, SpeechSends}
+use Rattle.doing.specs.declared.desk.Desk.{Desk}
+use Rattle.doing.specs.declared.doing.Left.{Left}
+use Rattle.doing.specs.declared.doing.TheConstants.{LEFT_OUT}
+use Rattle.doing.specs.declared.talks.Speech.{Speech}
+
+-- nothing was printed, and no file is another
+pub record IsQuiet (before : FolderValue) (left : Left) : Type 0 where
+  pub printed : left.done.out.items ≡ []
+  pub folder : left.folder ≡ before
+
+-- it was not done, which the exit status tells
+pub record IsLeftOut (before : FolderValue) (left : Left) : Type 0 where
+  pub quiet : IsQuiet before left
+  pub status : left.done.status ≡ LEFT_OUT
+
+-- the job did over the files of the folder what it promises, and printed so
+pub record DoesJob (job : Job) (before : FolderValue) (left : Left) : Type 0 where
+  pub start : Desk
+  pub stop : Desk
+  pub status : Status
+  pub begun : start.folder ≡ before
+  pub dump : reads_dump start.noted ≡ is_dump job
+  pub performs : Performs DeskReads DeskWrites job start stop (Some []) (Some left.done.out.items) status
+  pub ended : left.folder ≡ stop.folder
+  pub code : left.done.status ≡ status_code status
+
+-- lines of standard input were told in words, and printed so; no file is another
+pub record ShowsInput (before : FolderValue) (left : Left) : Type 0 where
+  pub start : Speech
+  pub stop : Speech
+  pub status : Status
+  pub silent : start.out.items ≡ []
+  pub shows : ShowsTalk SpeechHears SpeechSends SpeechLoses SpeechMisses start stop status
+  pub printed : left.done.out.items ≡ stop.out.items
+  pub folder : left.folder ≡ before
+  pub code : left.done.status ≡ status_code status
+
+-- a talk was held over the lines of standard input, on a node of these words, and printed so
+pub record HoldsLines (words : LiveWords) (before : FolderValue) (left : Left) : Type 0 where
+  pub start : Desk
+  pub stop : Desk
+  pub first : Speech
+  pub last : Speech
+  pub status : Status
+  pub begun : start.folder ≡ before
+  pub dump : reads_dump start.noted ≡ false
+  pub silent : first.out.items ≡ []
+  pub lives : Lives DeskReads SpeechHears SpeechSends SpeechLoses SpeechMisses words.node start stop first last status
+  pub printed : left.done.out.items ≡ last.out.items
+  pub ended : left.folder ≡ stop.folder
+  pub code : left.done.status ≡ status_code status
+
+-- what a job comes to: `serve` is left out, `show -` is a talk, and each other job is done over the files
+abbrev pub DoesOnce : Job → (before : FolderValue) → Left → Type 0
+DoesOnce (Serve args) before left = IsLeftOut before left
+DoesOnce (Show words) before left = DoesJob (Show words) before left ⊎ ((string_bytes words.lines ≡ codes "-") × ShowsInput before left)
+DoesOnce (Assemble words) before left = DoesJob (Assemble words) before left
+DoesOnce (Disassemble words) before left = DoesJob (Disassemble words) before left
+DoesOnce (Verify args) before left = DoesJob (Verify args) before left
+DoesOnce (Judge args) before left = DoesJob (Judge args) before left
+DoesOnce (Policy words) before left = DoesJob (Policy words) before left
+DoesOnce (Simulate args) before left = DoesJob (Simulate args) before left
+DoesOnce (Explain words) before left = DoesJob (Explain words) before left
+DoesOnce (Why args) before left = DoesJob (Why args) before left
+DoesOnce (Weigh words) before left = DoesJob (Weigh words) before left
+DoesOnce (Packet words) before left = DoesJob (Packet words) before left
+DoesOnce (Decide words) before left = DoesJob (Decide words) before left
+DoesOnce (Trace args) before left = DoesJob (Trace args) before left
+DoesOnce (Compare words) before left = DoesJob (Compare words) before left
+DoesOnce (Map words) before left = DoesJob (Map words) before left
+DoesOnce (Rehearse words) before left = DoesJob (Rehearse words) before left
+
+-- what a work comes to: a talk in frames is left out, and one in lines is held
+abbrev pub DoesWork : Work → (before : FolderValue) → Left → Type 0
+DoesWork (Once job) before left = DoesOnce job before left
+DoesWork (Live words) before left = ((words.frames ≡ true) × IsLeftOut before left) ⊎ ((words.frames ≡ false) × HoldsLines words before left)
+
+-- the words name a work, which was done
+pub record DoesNamed (words : List Text) (before : FolderValue) (left : Left) : Type 0 where
+  pub work : Work
+  pub named : NamesWork words work
+  pub done : DoesWork work before left
+
+-- what words come to: the work that they name is done; or a text is told, and no file is another
+abbrev pub DoesWords : List Text → (before : FolderValue) → Left → Type 0
+DoesWords words before left = DoesNamed words before left ⊎ (left.folder ≡ before)
+
+-- the words that are done: those that are given, or `judge -` where there are none
+abbrev pub words_given : List Text → List Text
+words_given [] = codes "judge" ∷ codes "-" ∷ []
+words_given (word ∷ words) = word ∷ words

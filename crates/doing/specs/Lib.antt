@@ -1,0 +1,4 @@
+pub mod Alone
+pub mod Desks
+pub mod Doings
+pub mod Speeches

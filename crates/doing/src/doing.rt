@@ -1,0 +1,233 @@
+//! What the words of a command line come to.
+
+ghost use Rattle.std.specs.Prelude.{◌≡◌, IfOk};
+ghost use Rattle.clap.specs.Walk.{texts};
+ghost use Rattle.doing.specs.Alone.{IsAlone};
+ghost use Rattle.doing.specs.Doings.{DoesJob, DoesOnce, DoesWords, DoesWork, HoldsLines, IsQuiet, ShowsInput, words_given};
+
+use crate::alone::perform_alone;
+use crate::desk::Desk;
+use crate::slate::Slate;
+use crate::talks::Speech;
+use commands::{
+    Asked, Job, LiveWords, Noted, ShowWords, UsageFault, WITHOUT_WORDS, Work, asked_of, live,
+    show_talk, told_end, told_node, told_option,
+};
+use folders::Folder;
+use std::alloc::{AllocError, Global};
+
+/// The name of standard input.
+pub const STANDARD_INPUT: &str = "-";
+
+/// The exit status of what cannot be done where no thread can start and no link is.
+pub const LEFT_OUT: u8 = 3;
+
+/// What is told of `serve`.
+const SERVE_LEFT_OUT: &str = "serve is left out here: it starts a thread for each port\n";
+
+/// What is told of `live --frames`.
+const FRAMES_LEFT_OUT: &str = "live --frames is left out here: there is no link\n";
+
+/// What came of the words of a command line.
+#[derive(Debug, Drop)]
+pub struct Done {
+    /// The exit status.
+    pub status: u8,
+    /// What standard output has.
+    pub out: Vec<u8>,
+    /// What standard error has.
+    pub told: String,
+}
+
+/// The same, with the folder as it is after it.
+#[derive(Drop)]
+pub struct Left<'a> {
+    /// What came.
+    pub done: Done,
+    /// The files.
+    pub folder: Folder<'a>,
+}
+
+/// Nothing was printed, and this is told.
+fn told<'a>(
+    alloc: Global,
+    folder: Folder<'a>,
+    status: u8,
+    text: &str,
+) -> Result<Left<'a>, AllocError>
+    ensures quiet { IfOk result (IsQuiet folder.entry) }
+    ensures status { IfOk result (λ left. left.done.status ≡ status) }
+{
+    let done = Done {
+        status,
+        out: Vec::new(alloc),
+        told: String::from_str(alloc, text)?,
+    };
+    Ok(Left { done, folder })
+}
+
+/// Does a job over the files of a folder.
+fn do_job<'a>(alloc: Global, job: &Job, folder: Folder<'a>) -> Result<Left<'a>, AllocError>
+    requires { IsAlone job.now }
+    ensures { IfOk result (DoesJob job.now folder.entry) }
+{
+    let mut desk = Desk::new(folder, Noted::of_job(job));
+    let mut out = Vec::new(alloc);
+    let Ok(end) = perform_alone(alloc, job, &mut desk, &mut out) else {
+        return Err(AllocError);
+    };
+    let told = told_end(alloc, job, &end, desk.noted())?;
+    let done = Done {
+        status: end.status.code(),
+        out,
+        told,
+    };
+    Ok(Left {
+        done,
+        folder: desk.into_folder(),
+    })
+}
+
+/// What standard input has.
+fn input_of(alloc: Global, folder: &Folder<'_>) -> Result<Vec<u8>, AllocError> {
+    match folder.content(STANDARD_INPUT) {
+        Some(bytes) => Vec::from_slice(alloc, bytes),
+        None => Ok(Vec::new(alloc)),
+    }
+}
+
+/// Holds a talk in lines over what standard input has.
+fn talk_lines<'a>(
+    alloc: Global,
+    words: &LiveWords,
+    folder: Folder<'a>,
+) -> Result<Left<'a>, AllocError>
+    ensures { IfOk result (HoldsLines words.now folder.entry) }
+{
+    let input = input_of(alloc, &folder)?;
+    let slate = Slate::new(alloc);
+    let mut speech = Speech::new(alloc, &slate, input.as_slice(), false);
+    let mut desk = Desk::new(folder, Noted::new(words.node.inputs()));
+    let Ok(status) = live(alloc, &words.node, &mut desk, &mut speech) else {
+        return Err(AllocError);
+    };
+    let out = speech.into_out();
+    let mut told = slate.into_told();
+    told.push_str(told_node(alloc, &words.node, desk.noted())?.as_str())?;
+    let done = Done {
+        status: status.code(),
+        out,
+        told,
+    };
+    Ok(Left {
+        done,
+        folder: desk.into_folder(),
+    })
+}
+
+/// Tells in words what the lines of standard input are.
+fn show_input<'a>(
+    alloc: Global,
+    words: &ShowWords,
+    folder: Folder<'a>,
+) -> Result<Left<'a>, AllocError>
+    ensures { IfOk result (ShowsInput folder.entry) }
+{
+    let input = input_of(alloc, &folder)?;
+    let slate = Slate::new(alloc);
+    let mut speech = Speech::new(alloc, &slate, input.as_slice(), words.raw);
+    let Ok(status) = show_talk(alloc, &mut speech) else {
+        return Err(AllocError);
+    };
+    let out = speech.into_out();
+    let done = Done {
+        status: status.code(),
+        out,
+        told: slate.into_told(),
+    };
+    Ok(Left { done, folder })
+}
+
+/// Does a job: `show -` as a talk, `serve` not at all, and each other over the files of the folder.
+fn do_once<'a>(alloc: Global, job: &Job, folder: Folder<'a>) -> Result<Left<'a>, AllocError>
+    ensures { IfOk result (DoesOnce job.now folder.entry) }
+{
+    match job {
+        Job::Serve(_) => told(alloc, folder, LEFT_OUT, SERVE_LEFT_OUT),
+        Job::Show(words) if words.lines.as_str() == STANDARD_INPUT => {
+            show_input(alloc, words, folder)
+        }
+        _ => do_job(alloc, job, folder),
+    }
+}
+
+/// Does the work that words name.
+fn do_work<'a>(alloc: Global, work: &Work, folder: Folder<'a>) -> Result<Left<'a>, AllocError>
+    ensures { IfOk result (DoesWork work.now folder.entry) }
+{
+    match work {
+        Work::Once(job) => do_once(alloc, job, folder),
+        Work::Live(words) if words.frames => told(alloc, folder, LEFT_OUT, FRAMES_LEFT_OUT),
+        Work::Live(words) => talk_lines(alloc, words, folder),
+    }
+}
+
+/// What is told of words that ask for nothing.
+fn refuse<'a>(
+    alloc: Global,
+    given: &[&str],
+    fault: &UsageFault,
+    folder: Folder<'a>,
+) -> Result<Left<'a>, AllocError>
+    ensures { IfOk result (IsQuiet folder.entry) }
+{
+    let status = fault.status();
+    match fault {
+        UsageFault::Parse(text) => told(alloc, folder, status, text.as_str()),
+        UsageFault::BadOption => {
+            let more = told_option(alloc, given)?;
+            let text = format!(in alloc; "{fault}\n{more}")?;
+            told(alloc, folder, status, text.as_str())
+        }
+        UsageFault::Memory => Err(AllocError),
+    }
+}
+
+/// Does what these words ask for.
+fn do_given<'a>(alloc: Global, given: &[&str], folder: Folder<'a>) -> Result<Left<'a>, AllocError>
+    ensures { IfOk result (DoesWords (texts given.now) folder.entry) }
+{
+    match asked_of(alloc, given) {
+        Ok(Asked::Named(work)) => do_work(alloc, &work, folder),
+        Ok(Asked::Told(text)) => {
+            let done = Done {
+                status: 0,
+                out: text.into_bytes(),
+                told: String::new(alloc),
+            };
+            Ok(Left { done, folder })
+        }
+        Err(fault) => refuse(alloc, given, &fault, folder),
+    }
+}
+
+/// Does what the words of a command line ask for over the files of a folder, in which the file `-` is standard input, and
+/// gives what came of them: what `rmapctl` does, but `serve` and `live --frames` end with status 3 and do nothing. Where there
+/// is no word it judges standard input.
+///
+/// # Errors
+///
+/// Where memory was refused.
+pub fn do_words<'a>(
+    alloc: Global,
+    given: &[&str],
+    folder: Folder<'a>,
+) -> Result<Left<'a>, AllocError>
+    ensures { IfOk result (DoesWords (words_given (texts given.now)) folder.entry) }
+{
+    if given.is_empty() {
+        do_given(alloc, &WITHOUT_WORDS, folder)
+    } else {
+        do_given(alloc, given, folder)
+    }
+}

@@ -1,0 +1,6 @@
+//! Files that are kept in memory.
+#![tactic(auto)]
+
+mod folder;
+
+pub use folder::{Folder, Sheet};

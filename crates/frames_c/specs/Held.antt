@@ -1,0 +1,6 @@
+-- What a handle of a reader holds.
+use Rattle.std.specs.Prelude.{ℕ}
+
+-- what is in `live` of a handle that holds a reader: another number than in the handle of a node
+abbrev pub mark : ℕ
+mark = 938

@@ -1,0 +1,4 @@
+pub mod Held
+pub mod Taking
+pub mod Numbers
+pub mod Calls

@@ -1,0 +1,35 @@
+-- The numbers of what came.
+use Rattle.std.specs.Prelude.{ℕ, ◌++◌, List, [], length, drop, Option, Some, None}
+use Rattle.frames.specs.Heads.{flag_code}
+use Rattle.frames.specs.declared.came.Came.{Came}
+use Rattle.frames.specs.declared.came.Came.TheVariants.{Whole, Piece, Time, Other as Unknown}
+use Rattle.frames.specs.declared.flags.Flag.TheVariants.{Last}
+use Rattle.frames_c.specs.declared.numbers.CameNumbers.{CameNumbers}
+use Rattle.frames_c.specs.declared.numbers.TheConstants.{BRIDGE, NOTHING, PACKET, TIME}
+
+-- the numbers of what came whole with the last of so many bytes, if anything did. The end of a packet is the first byte of the
+-- frame that ends it
+abbrev pub came_numbers : (taken : ℕ) → Option Came → CameNumbers
+came_numbers taken None = record { taken = taken; length = 0; kind = NOTHING; end = 0; flag = 0 }
+came_numbers taken (Some (Whole packet)) =
+    record { taken = taken; length = length packet.bytes; kind = PACKET; end = flag_code (Last packet.end); flag = 0 }
+came_numbers taken (Some Piece) = record { taken = taken; length = 0; kind = NOTHING; end = 0; flag = 0 }
+came_numbers taken (Some Time) = record { taken = taken; length = 0; kind = TIME; end = 0; flag = 0 }
+came_numbers taken (Some (Unknown flag)) = record { taken = taken; length = 0; kind = BRIDGE; end = 0; flag = flag }
+
+-- the numbers, if anything came
+abbrev pub numbers_if : (taken : ℕ) → Option Came → Option CameNumbers
+numbers_if taken None = None
+numbers_if taken (Some came) = Some (came_numbers taken (Some came))
+
+-- the bytes of the packet that came, if one did
+abbrev pub packet_in : Option Came → List ℕ
+packet_in None = []
+packet_in (Some (Whole packet)) = packet.bytes
+packet_in (Some Piece) = []
+packet_in (Some Time) = []
+packet_in (Some (Unknown flag)) = []
+
+-- bytes at the front of a room, with the rest of it as before
+abbrev pub put_front : (room bytes : List ℕ) → List ℕ
+put_front room bytes = bytes ++ drop (length bytes) room

@@ -1,0 +1,114 @@
+//! The calls. Each answers a code: 0, or why it did nothing.
+
+ghost use Rattle.std.specs.Prelude.{◌≡◌, ◌≢◌, ◌++◌, ℕ, List, MatchOption, IfOk, length};
+ghost use Rattle.std.specs.declared.option.Option.TheVariants.{None, Some};
+ghost use Rattle.frames.specs.Heads.{head_bytes};
+ghost use Rattle.frames.specs.Reading.{first_reading};
+ghost use Rattle.frames.specs.Streams.{reply_frame_of};
+ghost use Rattle.frames.specs.declared.flags.Flag.TheVariants.{Last};
+ghost use Rattle.frames_c.specs.Calls.{Becomes, OpensFrames, TakesBytes, take_code};
+ghost use Rattle.frames_c.specs.declared.codes.TheConstants.{NO_NODE, OK};
+ghost use Rattle.spw.specs.declared.packets.End.TheVariants.{Eop};
+ghost use Rattle.spw.specs.declared.packets.TheConstants.{MAX_PACKET};
+
+use crate::codes::{IS_OPEN, NO_MEMORY, NO_NODE, NO_ROOM, OK};
+use crate::handle::FramesHandle;
+use crate::held::{put_in, take_out};
+use crate::numbers::CameNumbers;
+use crate::reader::Frames;
+use frames::{Flag, HEAD_LENGTH, Head};
+use spw::{End, MAX_PACKET};
+use std::alloc::{AllocError, Global};
+
+/// A reader that has read nothing, in a box.
+fn fresh(alloc: Global) -> Result<Box<Frames>, AllocError>
+    ensures { IfOk result (λ frames. frames.value ≡ first_reading) }
+{
+    let frames = Frames::new(alloc)?;
+    match Box::new(alloc, frames) {
+        Ok(frames) => Ok(frames),
+        Err(_) => Err(AllocError),
+    }
+}
+
+/// Opens a reader, which takes all memory that it needs. A handle that holds one keeps it.
+pub fn open(alloc: Global, handle: &mut FramesHandle) -> u32
+    ensures { OpensFrames handle.old.kept handle.new.kept result }
+{
+    if let Some(frames) = take_out(alloc, handle) {
+        put_in(alloc, handle, frames);
+        return IS_OPEN;
+    }
+    match fresh(alloc) {
+        Ok(frames) => {
+            put_in(alloc, handle, frames);
+            OK
+        }
+        Err(AllocError) => NO_MEMORY,
+    }
+}
+
+/// Takes bytes, where there is room for a packet: a code.
+fn take_into(frames: &mut Frames, bytes: &[u8], packet: &mut [u8], came: &mut CameNumbers) -> u32
+    ensures code { result ≡ take_code (Some frames.old) (length packet.old) }
+    ensures taken { result ≡ OK
+        → TakesBytes bytes.now packet.old packet.new came.new frames.old frames.new }
+    ensures frames { result ≢ OK → frames.new ≡ frames.old }
+    ensures packet { result ≢ OK → packet.new ≡ packet.old }
+    ensures numbers { result ≢ OK → came.new ≡ came.old }
+{
+    if packet.len() < MAX_PACKET {
+        return NO_ROOM;
+    }
+    *came = frames.take(bytes, packet);
+    OK
+}
+
+/// Takes bytes up to the first with which something came whole, or all of them if nothing does, and tells how many, and what came.
+/// The bytes of a packet go to the front of the room. It asks for no memory. At any code but `OK` all that was lent is as before.
+pub fn take(
+    alloc: Global,
+    handle: &mut FramesHandle,
+    bytes: &[u8],
+    packet: &mut [u8],
+    came: &mut CameNumbers,
+) -> u32
+    ensures code { result ≡ take_code handle.old.kept (length packet.old) }
+    ensures taken { result ≡ OK
+        → Becomes (TakesBytes bytes.now packet.old packet.new came.new) handle.old.kept handle.new.kept }
+    ensures frames { result ≢ OK → handle.new.kept ≡ handle.old.kept }
+    ensures packet { result ≢ OK → packet.new ≡ packet.old }
+    ensures numbers { result ≢ OK → came.new ≡ came.old }
+{
+    let Some(mut frames) = take_out(alloc, handle) else {
+        return NO_NODE;
+    };
+    let code = take_into(&mut frames, bytes, packet, came);
+    put_in(alloc, handle, frames);
+    code
+}
+
+/// Ends a reader, and gives back its memory. What it held of a packet is gone.
+pub fn close(alloc: Global, handle: &mut FramesHandle) -> u32
+    ensures code { MatchOption handle.old.kept (result ≡ NO_NODE) (λ _. result ≡ OK) }
+    ensures closed { handle.new.kept ≡ None }
+{
+    match take_out(alloc, handle) {
+        Some(_ended) => OK,
+        None => NO_NODE,
+    }
+}
+
+/// The bytes before a reply of so many bytes in the frame that carries it: with the reply behind them they are a packet that ends
+/// in EOP, in one frame.
+pub fn head(reply_length: u32, head: &mut [u8; HEAD_LENGTH])
+    ensures bytes { head.new ≡ head_bytes (record { flag = Last Eop; length = reply_length }) }
+    ensures frame { (reply : List ℕ) → length reply ≡ reply_length
+        → head.new ++ reply ≡ reply_frame_of reply }
+{
+    let whole = Head {
+        flag: Flag::Last(End::Eop),
+        length: u128::from(reply_length),
+    };
+    *head = whole.bytes();
+}

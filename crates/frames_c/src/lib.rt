@@ -1,0 +1,19 @@
+//! Frames as C programs read them: `include/sandbarstove_frames.h` declares what `single_node_c` exports of this.
+//!
+//! A reader takes bytes of frames as they come, as the reader of `frames` does, and asks for memory only when it is made. C keeps
+//! a [`FramesHandle`], behind which it is.
+#![tactic(auto)]
+
+mod calls;
+mod codes;
+mod handle;
+mod held;
+mod laws;
+mod numbers;
+mod reader;
+mod room;
+
+pub use crate::calls::{close, head, open, take};
+pub use crate::handle::FramesHandle;
+pub use crate::laws::frames_are_taken;
+pub use crate::numbers::CameNumbers;

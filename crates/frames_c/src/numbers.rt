@@ -1,0 +1,44 @@
+//! The struct of numbers that crosses. The header has the same fields in the same order.
+
+ghost use Rattle.std.specs.Prelude.{◌≡◌, None};
+ghost use Rattle.frames_c.specs.Numbers.{came_numbers};
+
+use frames::Flag;
+
+/// The kind where nothing came whole.
+pub const NOTHING: u8 = 0;
+
+/// The kind of a packet.
+pub const PACKET: u8 = 1;
+
+/// The kind of a time code.
+pub const TIME: u8 = 2;
+
+/// The kind of a frame for a bridge.
+pub const BRIDGE: u8 = 3;
+
+/// What bytes brought.
+#[repr(C)]
+#[derive(Clone, Copy)]
+pub struct CameNumbers {
+    pub taken: u64,
+    pub length: u32,
+    pub kind: u8,
+    pub end: u8,
+    pub flag: u8,
+}
+
+impl CameNumbers {
+    /// So many bytes were taken, and brought nothing.
+    pub fn nothing(taken: u64) -> CameNumbers
+        ensures { result ≡ came_numbers taken None }
+    {
+        CameNumbers {
+            taken,
+            length: 0,
+            kind: NOTHING,
+            end: 0,
+            flag: 0,
+        }
+    }
+}

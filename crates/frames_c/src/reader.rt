@@ -1,0 +1,194 @@
+//! A reader of frames that takes memory only when it is made.
+
+ghost use Rattle.std.specs.Prelude.{◌≡◌, ◌≢◌, ◌≤◌, [], Some, IfOk, length};
+ghost use Rattle.frames.specs.Reading.{behind_end, came_of, comes, first_reading, in_body, in_head, is_between, is_cargo, next, step};
+ghost use Rattle.frames.specs.declared.flags.Flag.TheVariants.{Last};
+ghost use Rattle.frames_c.specs.Numbers.{came_numbers, numbers_if, packet_in, put_front};
+ghost use Rattle.frames_c.specs.Taking.{take_whole, whole_in, whole_of};
+ghost use Rattle.spw.specs.declared.packets.TheConstants.{MAX_PACKET};
+
+use crate::numbers::{BRIDGE, CameNumbers, PACKET, TIME};
+use crate::room::PacketRoom;
+use arrayvec::ArrayVec;
+use frames::{Flag, HEAD_LENGTH, Head};
+use spw::{End, MAX_PACKET};
+use std::alloc::{AllocError, Global};
+use std::marker::Model;
+
+/// Reads frames from bytes as they come, and copies out the packets that they carry. It holds the head of a frame, and at most
+/// 4,200 bytes of a packet, however many a frame says that it has.
+#[derive(Drop)]
+pub struct Frames {
+    head: ArrayVec<u8, HEAD_LENGTH>,
+    flag: Flag,
+    left: u128,
+    held: PacketRoom,
+}
+
+impl Model for Frames {
+    ghost use Rattle.std.specs.Prelude.{◌<◌, length};
+    ghost use Rattle.frames.specs.Reading.{Reading};
+    ghost use Rattle.frames.specs.declared.heads.TheConstants.{HEAD_LENGTH};
+
+    ghost Value = { Reading };
+
+    ghost view = { λ r. record { head = r.head.items; flag = r.flag; left = r.left; held = r.held } };
+
+    ghost invariant = { λ r. length r.head.items < HEAD_LENGTH };
+}
+
+/// Puts bytes at the front of a room, and leaves what is behind them. The condition is that there is room for them.
+fn put_front(room: &mut [u8], bytes: &[u8])
+    requires { length bytes.now ≤ length room.old }
+    ensures { room.new ≡ put_front room.old bytes.now }
+{
+    room[..bytes.len()].copy_from_slice(bytes);
+}
+
+/// Whether such a frame carries bytes of a packet.
+fn is_cargo(flag: Flag) -> bool
+    ensures { result ≡ is_cargo flag }
+{
+    match flag {
+        Flag::Last(_) | Flag::Part => true,
+        Flag::SendTime | Flag::GotTime | Flag::Other(_) => false,
+    }
+}
+
+impl Frames {
+    /// A reader that has read nothing.
+    pub fn new(alloc: Global) -> Result<Frames, AllocError>
+        ensures { IfOk result (λ r. r ≡ first_reading) }
+    {
+        let held = PacketRoom::new(alloc)?;
+        Ok(Frames {
+            head: ArrayVec::new(),
+            flag: Flag::Part,
+            left: 0,
+            held,
+        })
+    }
+
+    /// Whether the last frame has ended, and no byte of another came.
+    fn is_between(&self) -> bool
+        ensures { result ≡ is_between self.now }
+    {
+        self.left == 0 && self.head.is_empty()
+    }
+
+    /// Takes a byte of a head.
+    fn take_head(&mut self, byte: u8)
+        requires { self.old.left ≡ 0 }
+        ensures { self.new ≡ in_head self.old byte }
+    {
+        self.head.push(byte);
+        if self.head.len() < HEAD_LENGTH {
+            return;
+        }
+        let head = Head::read(self.head.as_slice());
+        self.head.clear();
+        self.flag = head.flag;
+        self.left = head.length;
+    }
+
+    /// Takes a byte of a body.
+    fn take_body(&mut self, byte: u8)
+        requires { self.old.left ≢ 0 }
+        ensures { self.new ≡ in_body self.old byte }
+    {
+        self.left -= 1;
+        if is_cargo(self.flag) {
+            self.held.keep(byte);
+        }
+    }
+
+    /// Takes a byte.
+    fn take_byte(&mut self, byte: u8)
+        ensures { self.new ≡ next self.old byte }
+    {
+        if self.left == 0 {
+            self.take_head(byte);
+        } else {
+            self.take_body(byte);
+        }
+    }
+
+    /// Ends a packet behind so many bytes: its bytes go to the front of the room, and nothing is held.
+    fn end_packet(&mut self, end: End, taken: u64, room: &mut [u8]) -> CameNumbers
+        requires { MAX_PACKET ≤ length room.old }
+        ensures told { result ≡ came_numbers taken (Some (came_of (Last end) self.old.held)) }
+        ensures room { room.new ≡ put_front room.old self.old.held }
+        ensures behind { self.new ≡ record { head = self.old.head; flag = self.old.flag; left = self.old.left; held = [] } }
+    {
+        let bytes = self.held.bytes();
+        put_front(room, bytes);
+        let length = bytes.len() as u32;
+        self.held.clear();
+        CameNumbers {
+            taken,
+            length,
+            kind: PACKET,
+            end: Flag::Last(end).code(),
+            flag: 0,
+        }
+    }
+
+    /// Ends a frame behind so many bytes, and tells what is whole of what it brings, if anything is. The bytes of a packet go to
+    /// the front of the room.
+    fn end(&mut self, taken: u64, room: &mut [u8]) -> Option<CameNumbers>
+        requires { MAX_PACKET ≤ length room.old }
+        ensures told { result ≡ numbers_if taken (whole_of (came_of self.old.flag self.old.held)) }
+        ensures room { room.new ≡ put_front room.old (packet_in (whole_of (came_of self.old.flag self.old.held))) }
+        ensures behind { self.new ≡ behind_end self.old }
+    {
+        match self.flag {
+            Flag::Last(end) => Some(self.end_packet(end, taken, room)),
+            Flag::Part => None,
+            Flag::SendTime | Flag::GotTime => Some(CameNumbers {
+                kind: TIME,
+                ..CameNumbers::nothing(taken)
+            }),
+            Flag::Other(flag) => Some(CameNumbers {
+                kind: BRIDGE,
+                flag,
+                ..CameNumbers::nothing(taken)
+            }),
+        }
+    }
+
+    /// Takes a byte, the last of so many, and tells what came whole with it, if anything did. The bytes of a packet go to the front
+    /// of the room.
+    fn step(&mut self, byte: u8, taken: u64, room: &mut [u8]) -> Option<CameNumbers>
+        requires { MAX_PACKET ≤ length room.old }
+        ensures told { result ≡ numbers_if taken (whole_in (comes self.old byte)) }
+        ensures room { room.new ≡ put_front room.old (packet_in (whole_in (comes self.old byte))) }
+        ensures read { self.new ≡ step self.old byte }
+    {
+        self.take_byte(byte);
+        if self.is_between() {
+            self.end(taken, room)
+        } else {
+            None
+        }
+    }
+
+    /// Takes bytes up to the first with which something came whole, or all of them if nothing does, and tells how many, and what
+    /// came. The bytes of a packet go to the front of the room. The condition is room for the longest packet.
+    pub fn take(&mut self, bytes: &[u8], room: &mut [u8]) -> CameNumbers
+        requires { MAX_PACKET ≤ length room.old }
+        ensures told { result ≡ came_numbers (take_whole self.old bytes.now).count (take_whole self.old bytes.now).came }
+        ensures room { room.new ≡ put_front room.old (packet_in (take_whole self.old bytes.now).came) }
+        ensures read { self.new ≡ (take_whole self.old bytes.now).next }
+    {
+        let mut taken = 0;
+        let mut rest = bytes;
+        while let [first, others @ ..] = rest {
+            taken += 1;
+            if let Some(came) = self.step(*first, taken, room) {
+                return came;
+            }
+            rest = others;
+        }
+        CameNumbers::nothing(taken)
+    }
+}

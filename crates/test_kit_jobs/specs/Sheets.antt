@@ -1,7 +1,0 @@
--- A sheet of a folder.
-use Rattle.std.specs.Prelude.{ℕ, List, string_bytes}
-use Rattle.test_kit_jobs.specs.declared.folder.Sheet.{Sheet}
-
--- the name and the bytes
-abbrev pub pair_of : Sheet → List ℕ × List ℕ
-pair_of sheet = (string_bytes sheet.name, sheet.bytes.items)

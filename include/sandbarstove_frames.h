@@ -1,0 +1,85 @@
+/**
+ * @file sandbarstove_frames.h
+ * Packets in frames over a stream of bytes, as bridges between SpaceWire and Ethernet write them (SSDTP2): for a target behind a
+ * serial line, a TCP connection or such a bridge. docs/LIVE.md (Frames) has the bytes of a frame.
+ *
+ * A ::sandbar_frames takes the bytes of a stream, however they are cut, and gives the packets that the frames carry. It knows no
+ * node: ::sandbar_serve stands between it and what is sent. Only ::sandbar_frames_open asks for memory. What sandbarstove.h says
+ * of calls, codes, pointers and tasks is true of these too; for a node read a ::sandbar_frames.
+ */
+#ifndef SANDBARSTOVE_FRAMES_H
+#define SANDBARSTOVE_FRAMES_H
+
+#include "sandbarstove.h"
+
+#ifdef __cplusplus
+extern "C" {
+#endif
+
+enum { SANDBAR_FRAME_HEAD = 12 /**< the bytes before those of a packet in its frame */ };
+
+/** What came. */
+enum sandbar_came_kind {
+  SANDBAR_NOTHING = 0, /**< nothing whole: all bytes were taken, and more are to come */
+  SANDBAR_PACKET = 1,  /**< a packet, of one frame or of several */
+  SANDBAR_TIME = 2,    /**< a time code */
+  SANDBAR_BRIDGE = 3   /**< a frame for a bridge, which there is not here */
+};
+
+/**
+ * A reader of frames. Zeros are one that is not open. Only the library reads and writes its fields, and it is not copied
+ * while it is open: of two copies that are closed the second frees what is free. 16 bytes.
+ */
+typedef struct sandbar_frames {
+  uint64_t inside; /* where what it has is (at 0) */
+  uint32_t live;   /* at 8 */
+  uint32_t unused; /* at 12; the C source has a check of `inside` here */
+} sandbar_frames;
+
+/** What bytes brought. 16 bytes. */
+typedef struct sandbar_came {
+  uint64_t taken;  /**< how many bytes were taken (at 0) */
+  uint32_t length; /**< of a packet: how many bytes it has; else 0 (at 8) */
+  uint8_t kind;    /**< ::sandbar_came_kind (at 12) */
+  uint8_t end;     /**< of a packet: ::sandbar_end; else 0 (at 13) */
+  uint8_t flag;    /**< of a frame for a bridge: its first byte; else 0 (at 14) */
+} sandbar_came;
+
+/**
+ * Opens a reader that has read nothing. Codes: ::SANDBAR_IS_OPEN, ::SANDBAR_NO_MEMORY.
+ *
+ * This takes all memory that it needs, with room for the longest packet. A reader that is open stays as it is.
+ */
+SANDBAR_CALL
+uint32_t sandbar_frames_open(sandbar_frames *frames);
+
+/**
+ * Takes bytes of the stream up to the first with which something came whole, or all of them if nothing did. A packet is then in
+ * the first @c length bytes of @p packet, and the rest of @p packet is as before. Codes: ::SANDBAR_NO_NODE, ::SANDBAR_NO_ROOM.
+ *
+ * Bytes below 32 in front of a packet are the path that a router took away, and are dropped. Of a packet with over
+ * ::SANDBAR_MAX_PACKET bytes the first are given, by which each check of a target has its answer. However many bytes a frame says
+ * that it has, they are read to their end.
+ *
+ * @param packet room for ::SANDBAR_MAX_PACKET bytes
+ */
+SANDBAR_CALL
+uint32_t sandbar_frames_take(sandbar_frames *frames, const uint8_t *bytes, size_t length, uint8_t *packet,
+                             size_t packet_room, sandbar_came *came);
+
+/** Ends a reader, and gives back all its memory. What it has of a packet is gone. Code: ::SANDBAR_NO_NODE. */
+SANDBAR_LAST_CALL
+uint32_t sandbar_frames_close(sandbar_frames *frames);
+
+/**
+ * Writes the head of the frame of a reply, ::SANDBAR_FRAME_HEAD bytes: send these, and then the reply. They make a packet of so
+ * many bytes that ends in EOP.
+ */
+SANDBAR_LAST_CALL
+void sandbar_frames_head(uint32_t reply_length, uint8_t *head);
+
+#ifdef __cplusplus
+}
+#endif
+
+#endif

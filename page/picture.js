@@ -1,0 +1,332 @@
+// Pictures of what `map` and `compare` print. A picture says nothing that the text does not.
+const picture = (() => {
+  'use strict';
+  const SVG = 'http://www.w3.org/2000/svg';
+  const END = 2 ** 32, CHAR = 7.25, STEP = 22, GAP = 46, LEAST = 84;
+  const VERDICTS = new Map([
+    ['0', ['v0', 'yes', 'verdict 0, authorised']],
+    ['3', ['v3', 'key', 'verdict 3, invalid key']],
+    ['10', ['v10', 'no', 'verdict 10, not authorised']],
+    ['12', ['v12', 'address', 'verdict 12, invalid logical address']],
+  ]);
+  const SIGNS = new Map([['+', 'lets more pass'], ['-', 'lets fewer pass'], ['+-', 'lets more and fewer pass'], ['~', 'refuses or draws otherwise']]);
+  const FIELDS = ['KIND', 'KEY', 'INIT', 'EXT'];
+  const hex = (n) => n.toString(16).toUpperCase().padStart(8, '0');
+  const wide = (text) => CHAR * text.length;
+
+  // ---- what is printed, read
+
+  // The ranges of an address word, each [low, the address after high]: one for all bytes, or one for the first and one for the last.
+  function ranges(word) {
+    if (word === '*' || word === 'else') return [];
+    return word.split('/').map((part, k, parts) => {
+      if (part === '*') return [parseInt(parts[0], 16), END];
+      const [low, high] = part.split('-').map((digits) => parseInt(digits, 16));
+      return [low, high + 1];
+    });
+  }
+
+  // The steps of a course: the cell and the limit of a quota, the verdict, and the rule.
+  function steps(course) {
+    return course.split(' else ').map((step) => {
+      const found = /^(?:(\d+:\d+):(\d+) )?verdict (\d+) (rule \d+|no rule)$/.exec(step);
+      if (!found) throw Error(`no course: ${step}`);
+      const [, cell, limit, verdict, rule] = found;
+      return { cell, limit, verdict, rule };
+    });
+  }
+
+  // The numbers of the rules of a course.
+  const rulesOf = (course) => steps(course).flatMap(({ rule }) => (rule === 'no rule' ? [] : [Number(rule.slice(5))]));
+
+  function readMap(text) {
+    const bands = [], notes = [];
+    for (const line of text.trimEnd().split('\n')) {
+      if (line.startsWith('rule ')) { notes.push(line); continue; }
+      const [words, course] = line.split(' : ');
+      const [kind, key, init, ext, addresses] = words.split(' ');
+      const fields = [kind, key, init, ext], own = fields.join(' ');
+      if (bands.length === 0 || bands[bands.length - 1].own !== own) bands.push({ own, fields, lines: [] });
+      bands[bands.length - 1].lines.push({ addresses, course, ranges: ranges(addresses), text: line });
+    }
+    return { bands, notes };
+  }
+
+  function readCompare(text) {
+    const lines = text.trimEnd().split('\n'), found = [];
+    for (let k = 0; k + 3 < lines.length; k += 4) {
+      const [sign, kind, key, init, ext, addresses] = lines[k].split(' ');
+      found.push({ sign, fields: [kind, key, init, ext], addresses, ranges: ranges(addresses),
+        old: lines[k + 1].replace(/^ *old /, ''), new: lines[k + 2].replace(/^ *new /, ''), packet: lines[k + 3].trim() });
+    }
+    return found;
+  }
+
+  // Whether two words of a field have a byte, or a kind, in common.
+  function bytesOf(word) {
+    if (word === '*') return () => true;
+    const own = new Set(word.replace('!', '').split(',').map((digits) => parseInt(digits, 16)));
+    return word.startsWith('!') ? (byte) => !own.has(byte) : (byte) => own.has(byte);
+  }
+  const met = new Map();
+  function meet(one, other) {
+    if (one === other || one === '*' || other === '*') return true;
+    const name = `${one}/${other}`;
+    if (!met.has(name)) {
+      const a = bytesOf(one), b = bytesOf(other);
+      let is = false;
+      for (let byte = 0; byte < 256 && !is; byte += 1) is = a(byte) && b(byte);
+      met.set(name, is);
+    }
+    return met.get(name);
+  }
+  function kindsMeet(one, other) {
+    return one === 'any' || other === 'any' || one.split(',').some((kind) => other.split(',').includes(kind));
+  }
+  const fieldsMeet = (one, other) => kindsMeet(one[0], other[0]) && [1, 2, 3].every((k) => meet(one[k], other[k]));
+
+  // Whether commands of a difference may lie in a line of the map: its first address there, and its last.
+  const overlap = ([a, b], [c, d]) => a < d && c < b;
+  function addressesMeet(one, other) {
+    if (one.length === 0 || other.length === 0) return true;
+    return overlap(one[0], other[0]) && overlap(one[one.length - 1], other[other.length - 1]);
+  }
+
+  // ---- where addresses stand
+
+  // Addresses as places: edges, and a stretch between each two, narrow and broken where nothing is told of it.
+  function axisOf(all, room) {
+    const edges = [...new Set([0, END, ...all.flat()])].sort((a, b) => a - b);
+    // How many ranges are open at each edge tells which stretches have one, in one walk.
+    const opens = new Map();
+    for (const [low, high] of all) {
+      if (low === 0 && high === END) continue;
+      opens.set(low, (opens.get(low) ?? 0) + 1);
+      opens.set(high, (opens.get(high) ?? 0) - 1);
+    }
+    let open = 0;
+    const told = edges.slice(0, -1).map((edge) => { open += opens.get(edge) ?? 0; return open > 0; });
+    const gaps = told.filter((is) => !is).length, own = told.length - gaps;
+    const least = Math.max(3, Math.min(LEAST, (room - gaps * GAP) / Math.max(1, own)));
+    const scale = (k) => Math.sqrt(edges[k + 1] - edges[k]);
+    const sum = told.reduce((total, is, k) => total + (is ? scale(k) : 0), 0);
+    const free = Math.max(0, room - gaps * GAP - least * own);
+    const place = new Map(), breaks = [];
+    let x = 0;
+    told.forEach((is, k) => {
+      place.set(edges[k], x);
+      const width = is ? least + free * scale(k) / sum : told.length === 1 ? room : GAP + (sum === 0 ? free / gaps : 0);
+      if (!is) breaks.push(x + width / 2);
+      x += width;
+    });
+    place.set(END, x);
+    return { edges, place, breaks, width: x };
+  }
+
+  // ---- drawing
+
+  class Drawing {
+    constructor(title, told) {
+      this.root = document.createElementNS(SVG, 'svg');
+      this.width = 0;
+      this.height = 0;
+      this.root.setAttribute('role', 'img');
+      this.root.setAttribute('aria-label', title);
+      if (told) this.put('desc', {}).textContent = told;
+    }
+    put(name, attributes) {
+      const part = document.createElementNS(SVG, name);
+      for (const [key, value] of Object.entries(attributes)) part.setAttribute(key, typeof value === 'number' ? value.toFixed(1) : value);
+      this.root.append(part);
+      return part;
+    }
+    reach(x, y) { this.width = Math.max(this.width, x); this.height = Math.max(this.height, y); }
+    rect(x, y, width, height, name, more = {}) {
+      this.reach(x + Math.max(0, width), y + height);
+      return this.put('rect', { x, y, width: Math.max(0, width), height, class: name, ...more });
+    }
+    text(x, y, words, name = '') {
+      if (!words) return;
+      const part = this.put('text', { x, y });
+      if (name) part.setAttribute('class', name);
+      part.textContent = words;
+      this.reach(x + wide(words), y);
+    }
+    line(points, name = 'rule') { this.put('polyline', { points: points.map((p) => p.map((n) => n.toFixed(1)).join(',')).join(' '), class: name }); }
+    done() {
+      const width = Math.ceil(this.width) + 6, height = Math.ceil(this.height) + 6;
+      for (const [name, value] of [['width', width], ['height', height], ['viewBox', `0 0 ${width} ${height}`]]) this.root.setAttribute(name, value);
+      return this.root;
+    }
+  }
+
+  function drawAxis(drawing, axis, x, y) {
+    drawing.line([[x, y], [x + axis.width, y]], 'axis');
+    // A label that would stand over the one before goes one line up; one that would stand over both is left out.
+    const ends = [-1, -1];
+    for (const edge of axis.edges) {
+      const at = x + axis.place.get(edge);
+      drawing.line([[at, y - 4], [at, y + 4]], 'axis');
+      if (edge === END) continue;
+      const row = ends.findIndex((end) => at > end);
+      if (row < 0) continue;
+      drawing.text(at + 1, y - 7 - 12 * row, hex(edge), 'small');
+      ends[row] = at + 56;
+    }
+    for (const at of axis.breaks) {
+      if (axis.edges.length === 2) continue;
+      drawing.rect(x + at - 3, y - 3, 6, 6, 'ground');
+      for (const side of [-3, 3]) drawing.line([[x + at + side - 2, y + 5], [x + at + side + 2, y - 5]], 'axis');
+    }
+  }
+
+  // A box of a course: a stripe for each verdict that it may give, and a frame that names the line. Words stand in `[from, to]`.
+  function courseBox(drawing, x, y, width, height, course, words, line) {
+    const own = steps(course), each = height / own.length;
+    own.forEach(({ verdict }, k) => drawing.rect(x, y + k * each, width, each, VERDICTS.get(verdict)[0]));
+    const frame = drawing.rect(x, y, width, height, 'frame');
+    if (line) {
+      frame.dataset.line = line;
+      frame.dataset.rules = rulesOf(course).join(' ');
+    }
+    if (words) courseWords(drawing, words[0], y, words[1] - words[0], height, own);
+  }
+  function courseWords(drawing, x, y, width, height, own) {
+    const each = height / own.length;
+    own.forEach(({ cell, limit, verdict, rule }, k) => {
+      const middle = y + k * each + each / 2 + 4;
+      let at = x + 5;
+      const pill = `${cell} < ${limit}`;
+      if (cell !== undefined && wide(pill) + 12 < width) {
+        drawing.put('rect', { x: at, y: middle - 12, width: wide(pill) + 8, height: 16, rx: 8, class: 'quota' });
+        drawing.text(at + 4, middle, pill, 'pill');
+        at += wide(pill) + 14;
+      }
+      const short = VERDICTS.get(verdict)[1], all = [`${short}, ${rule}`, short, ''];
+      drawing.text(at, middle, all.find((words) => at + wide(words) < x + width + 1));
+    });
+  }
+
+  // The widest stretch of a band in which no other line is drawn.
+  function freeStretch(axis, lines) {
+    const own = lines.filter((line) => line.ranges.length === 1).map((line) => line.ranges[0]);
+    let best = [0, 0], since = null;
+    axis.edges.slice(1).forEach((b, k) => {
+      const a = axis.edges[k];
+      if (own.some(([low, high]) => low <= a && b <= high)) { since = null; return; }
+      since ??= axis.place.get(a);
+      if (axis.place.get(b) - since > best[1] - best[0]) best = [since, axis.place.get(b)];
+    });
+    return best;
+  }
+
+  function legend(drawing, x, y, courses, signs) {
+    const used = [...VERDICTS.keys()].filter((verdict) => courses.some((course) => steps(course).some((step) => step.verdict === verdict)));
+    const items = used.map((verdict) => [VERDICTS.get(verdict)[0], `${VERDICTS.get(verdict)[1]}: ${VERDICTS.get(verdict)[2]}`]);
+    if (courses.some((course) => course.includes(' else '))) items.push(['quota', '0:0 < 3: where the ticket of cell 0 of map 0 is below 3']);
+    for (const sign of signs) items.push(['changed', `${sign} the new table ${SIGNS.get(sign)}`]);
+    for (const [name, words] of items) {
+      drawing.rect(x, y, 16, 12, name === 'changed' ? name : `${name} framed`);
+      drawing.text(x + 22, y + 10, words, 'small');
+      y += 17;
+    }
+  }
+
+  // The range of first addresses of a pair, up to where that of last addresses begins.
+  function firstBox(drawing, x, axis, y, height, [first, last]) {
+    const a = x + axis.place.get(first[0]), b = x + Math.min(axis.place.get(first[1]), axis.place.get(last[0]));
+    if (b <= a) return;
+    drawing.rect(a, y, b - a, height, 'first');
+    if (wide('begins here') < b - a) drawing.text(a + 5, y + height / 2 + 4, 'begins here', 'small');
+  }
+
+  // Outlines a difference in a row: its last addresses, and its first ones thinner where they are others.
+  function outline(drawing, x, axis, y, height, one) {
+    const own = one.ranges, told = `${one.sign} ${one.fields.join(' ')} ${one.addresses}`;
+    const [from, to] = own.length ? own[own.length - 1].map((edge) => axis.place.get(edge)) : [0, axis.width];
+    drawing.rect(x + from + 1.5, y + 1.5, to - from - 3, height - 3, 'changed').dataset.told = told;
+    if (own.length < 2 || own[0][0] >= own[1][0]) return;
+    const begin = axis.place.get(own[0][0]), end = Math.min(axis.place.get(own[0][1]), from);
+    if (end > begin) drawing.rect(x + begin + 1.5, y + 1.5, end - begin - 3, height - 3, 'changed begins').dataset.told = told;
+  }
+
+  function drawBand(drawing, band, axis, left, y, differences) {
+    const alone = band.lines.filter((line) => line.ranges.length < 2), pairs = band.lines.filter((line) => line.ranges.length === 2);
+    const height = STEP * Math.max(1, ...alone.map((line) => steps(line.course).length));
+    for (const line of [...alone.filter((own) => own.ranges.length === 0), ...alone.filter((own) => own.ranges.length === 1)]) {
+      const [own] = line.ranges;
+      const [from, to] = own ? own.map((edge) => axis.place.get(edge)) : [0, axis.width];
+      const at = own ? [from, to] : freeStretch(axis, alone);
+      courseBox(drawing, left + from, y, to - from, height, line.course, at.map((n) => left + n), line.text);
+    }
+    const own = differences.filter((one) => fieldsMeet(one.fields, band.fields));
+    const here = own.filter((one) => alone.some((line) => addressesMeet(one.ranges, line.ranges.length ? [line.ranges[0], line.ranges[0]] : [])));
+    let bottom = y + height;
+    const rows = [];
+    for (const line of pairs) {
+      const high = STEP * steps(line.course).length;
+      const [first, last] = line.ranges;
+      const [c, d] = last.map((edge) => left + axis.place.get(edge));
+      drawing.line([[left + axis.place.get(first[0]), bottom + 3 + high / 2], [d, bottom + 3 + high / 2]], 'link');
+      firstBox(drawing, left, axis, bottom + 3, high, line.ranges);
+      courseBox(drawing, c, bottom + 3, d - c, high, line.course, [c, d], line.text);
+      rows.push([bottom + 3, high, own.filter((one) => addressesMeet(one.ranges, line.ranges))]);
+      bottom += 3 + high;
+    }
+    for (const one of here) outline(drawing, left, axis, y, height, one);
+    for (const [at, high, some] of rows) for (const one of some) outline(drawing, left, axis, at, high, one);
+    const signs = [...new Set([...here, ...rows.flatMap(([, , some]) => some)].map((one) => one.sign))];
+    drawing.text(4, y + 15, signs.join(' '), 'sign');
+    return bottom;
+  }
+
+  // What the table decides, in at most so many bands, with the differences outlined; and what is told of rules that never match.
+  function drawnMap(text, room, differences, most) {
+    const { bands: all, notes } = readMap(text), bands = all.slice(0, most);
+    const drawing = new Drawing('What the policy table decides', '');
+    const columns = FIELDS.map((head, k) => Math.max(wide(head), ...bands.map((band) => wide(band.fields[k]))) + 12);
+    const mark = differences.length ? 30 : 0, left = 8 + mark + columns.reduce((a, b) => a + b, 0);
+    const told = bands.flatMap((band) => band.lines.flatMap((line) => line.ranges)).concat(differences.flatMap((one) => one.ranges));
+    const axis = axisOf(told, Math.max(300, room - left - 12));
+    const top = 34;
+    let x = 4 + mark;
+    FIELDS.forEach((head, k) => { drawing.text(x, top, head, 'head'); x += columns[k]; });
+    drawAxis(drawing, axis, left, top);
+    let y = top + 10, before = [];
+    for (const band of bands) {
+      if (band.fields[0] !== before[0]) { drawing.line([[4, y - 2], [left + axis.width, y - 2]]); y += 2; }
+      x = 4 + mark;
+      let same = true;
+      band.fields.forEach((word, k) => {
+        same = same && before[k] === word;
+        drawing.text(x, y + 15, same ? '·' : word, same ? 'faint' : 'word');
+        x += columns[k];
+      });
+      before = band.fields;
+      y = drawBand(drawing, band, axis, left, y, differences) + 5;
+    }
+    const courses = bands.flatMap((band) => band.lines.map((line) => line.course));
+    legend(drawing, left, y + 6, courses, [...new Set(differences.map((one) => one.sign))]);
+    return { svg: drawing.done(), notes, bands: all };
+  }
+
+  // One difference: what is asked under the old table, and under the new one.
+  function drawnDifference(one, room) {
+    const drawing = new Drawing(`${one.sign} ${one.fields.join(' ')} ${one.addresses}`, `old ${one.old}, new ${one.new}`), left = 40;
+    const axis = axisOf(one.ranges, Math.max(220, room - left - 12));
+    drawAxis(drawing, axis, left, 32);
+    let y = 42;
+    for (const name of ['old', 'new']) {
+      const course = one[name], own = one.ranges, height = STEP * steps(course).length;
+      drawing.text(2, y + 15, name, 'word');
+      drawing.line([[left, y + height / 2], [left + axis.width, y + height / 2]], 'link');
+      const [from, to] = own.length ? own[own.length - 1].map((edge) => left + axis.place.get(edge)) : [left, left + axis.width];
+      if (own.length === 2) firstBox(drawing, left, axis, y, height, own);
+      courseBox(drawing, from, y, to - from, height, course, [from, to], null);
+      y += height + 4;
+    }
+    return drawing.done();
+  }
+
+  return { drawnMap, drawnDifference, readCompare, readMap, rulesOf, SIGNS, FIELDS };
+})();
