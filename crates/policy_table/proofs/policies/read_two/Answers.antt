@@ -9,4 +9,4 @@ use Rattle.policy_table.proofs.policies.read_two.Goals as goal
 
 pub invariant_of-result : goal.invariant_of-result
 invariant_of-result c =
-    subst (λ (rules : List PortRule). All FitsPort rules) (sym c.into_rules.ensures.rules) (draft_fits 2 _ empty_draft _ c.in_ok-draft.ensures.read (All-nil FitsPort))
+    subst (λ (rules : List PortRule). All FitsPort rules) (sym c.into_rules-reversed.ensures.rules) (draft_fits 2 _ empty_draft _ c.in_ok-draft.ensures.read (All-nil FitsPort))
