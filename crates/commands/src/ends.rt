@@ -2,6 +2,7 @@
 
 use crate::hints::told_fault;
 use crate::jobs::{Job, JobEnd};
+use crate::shut_doors::told_shut;
 use crate::slips::{told_misuse, told_output};
 use crate::told_files::{Cause, ToldFiles};
 use initiator::Seen;
@@ -147,6 +148,21 @@ fn add_full(text: &mut String, full: Option<usize>) -> Result<(), AllocError> {
     text.push_str("a command for it has status 1 in place of 0; live has no such end\n")
 }
 
+/// Adds that the table of `policy` lets nobody load another, unless it is meant.
+fn add_shut<R: rt::Files + Input>(
+    text: &mut String,
+    alloc: Global,
+    job: &Job,
+    files: &ToldFiles<'_, R>,
+) -> Result<(), AllocError> {
+    match (job, files.text()) {
+        (Job::Policy(words), Some(table)) if !words.is_final => {
+            text.push_str(told_shut(alloc, table)?)
+        }
+        _ => Ok(()),
+    }
+}
+
 /// What is told of a job that ended so, after what it printed: the cause of its fault, as what the system says of a file, what the
 /// line of a text holds, or what a file is that is none of what it has to be; the first path that stands before a packet; and that
 /// `judge` found the journal full. It is empty where there is nothing to tell.
@@ -162,7 +178,7 @@ pub fn told_end<R: rt::Files + Input>(
 ) -> Result<String, AllocError> {
     let mut text = String::new(alloc);
     match end.status {
-        Status::Done => {}
+        Status::Done => add_shut(&mut text, alloc, job, files)?,
         Status::Misused => text.push_str(told_misuse(job))?,
         Status::Failed => add_failed(&mut text, alloc, job, &end.fault, files)?,
     }

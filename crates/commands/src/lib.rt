@@ -8,6 +8,7 @@ mod further_faults;
 mod hints;
 mod jobs;
 mod shows;
+mod shut_doors;
 mod slips;
 mod told_files;
 mod told_talk;

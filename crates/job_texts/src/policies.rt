@@ -15,7 +15,7 @@ use crate::outputs::other_file;
 use bpf::Image;
 use bver::MapSizes;
 use clap::{ArgMatches, Command};
-use job_parts::arguments::{file, name_of};
+use job_parts::arguments::{file, flag, is_set, name_of};
 use job_parts::faults::Fault;
 use job_parts::inputs::{Content, InputFile, Inputs};
 use job_parts::options::{maps_option, sizes_of};
@@ -37,6 +37,8 @@ pub struct PolicyWords {
     pub image: String,
     /// How many cells each map has of the node, and of which kind it is, that the image is to judge on.
     pub sizes: MapSizes,
+    /// Whether the table is meant to be the last, so that nothing is said if it lets nobody load another.
+    pub is_final: bool,
 }
 
 impl PolicyWords {
@@ -47,7 +49,7 @@ impl PolicyWords {
     }
 }
 
-/// `policy FILE OUT [--maps LIST]`.
+/// `policy FILE OUT [--maps LIST] [--final]`.
 pub fn policy_command<'a>(alloc: Global) -> Result<Command<'a>, AllocError>
     ensures shape { IfOk result (λ c. app_of c ≡ policy_app) }
     ensures local { IfOk result (λ c. (fields_of c).has_globals ≡ false) }
@@ -57,11 +59,14 @@ pub fn policy_command<'a>(alloc: Global) -> Result<Command<'a>, AllocError>
     let help = "The file that the BPF image is written to";
     let image = file(alloc, "image", "OUT", help);
     let maps = maps_option(alloc);
+    let help = "The table may let nobody load another: nothing is said of it";
+    let last = flag(alloc, "final", help);
     Command::new(alloc, "policy")
         .about("Compiles a policy table to a BPF image")
         .arg(table)?
         .arg(image)?
-        .arg(maps)
+        .arg(maps)?
+        .arg(last)
 }
 
 /// The words of `policy` with these matches.
@@ -72,10 +77,12 @@ pub fn policy_job(alloc: Global, found: &ArgMatches) -> Result<PolicyWords, Usag
     let table = name_of(alloc, found, "table")?;
     let image = name_of(alloc, found, "image")?;
     let sizes = sizes_of(alloc, found)?;
+    let is_final = is_set(found, "final");
     Ok(PolicyWords {
         table,
         image,
         sizes,
+        is_final,
     })
 }
 
