@@ -4,6 +4,7 @@ use machine::MapSizes;
 use policy::{Policy, Table, TableFault, TableVersion, TextFault};
 use spw::{first_word, lines_of};
 use std::alloc::{AllocError, Global};
+use std::collections::BTreeMap;
 
 /// The number of the word of a rule that may be the name of a range, from 0.
 const RANGE_WORD: usize = 4;
@@ -65,13 +66,13 @@ fn range_text(alloc: Global, name: &str) -> Result<String, AllocError> {
 /// The fault of the line of this number of a table of version 2, where ranges have these names.
 fn line_fault(
     alloc: Global,
-    names: &[&str],
+    names: &BTreeMap<&str, usize>,
     text: &str,
     line: usize,
     sizes: &MapSizes,
 ) -> Result<Option<TextFault>, AllocError> {
     let mut alone = match name_in(text) {
-        Some(name) if names.contains(&name) => range_text(alloc, name)?,
+        Some(name) if names.contains_key(name) => range_text(alloc, name)?,
         _ => String::from_str(alloc, ".version 2\n")?,
     };
     alone.push_str(text)?;
@@ -122,7 +123,7 @@ pub fn add_further(
     first: Option<usize>,
 ) -> Result<(), AllocError> {
     let two = is_two(alloc, table);
-    let mut names: Vec<&str> = Vec::new(alloc);
+    let mut names: BTreeMap<&str, usize> = BTreeMap::new(alloc);
     let mut number: usize = 0;
     for line in lines_of(table) {
         number = number.saturating_add(1);
@@ -130,7 +131,7 @@ pub fn add_further(
             continue;
         }
         let found = if two {
-            line_fault(alloc, names.as_slice(), line, number, sizes)?
+            line_fault(alloc, &names, line, number, sizes)?
         } else {
             plain_fault(alloc, line, number, sizes)?
         };
@@ -141,7 +142,7 @@ pub fn add_further(
         }
         if two {
             if let Some(name) = defined_in(alloc, line)? {
-                names.push(name).map_err(AllocError::from)?;
+                names.insert(name, number).map_err(|_| AllocError)?;
             }
         }
     }
