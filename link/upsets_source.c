@@ -3,7 +3,7 @@
 
 #include "upsets.h"
 
-enum { HEAD = 16, OWN_STACK = 65536, MOST_FREE = 1024 };
+enum { HEAD = 16, OWN_STACK = SANDBAR_STACK, MOST_FREE = 1024 };
 
 /* The free blocks of the heap inside (link/processors/inside.c): a circle, into which a block leads that was just given back.
  * The one that has no bytes is the circle's first, and lies outside of the heap. */
