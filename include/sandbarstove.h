@@ -61,7 +61,8 @@ enum sandbar_code {
   SANDBAR_NO_ROOM = 11,   /**< the room for a reply or a packet is too small, or bytes lie outside the bank */
   SANDBAR_NO_ENTRY = 12,  /**< the journal has no such entry */
   SANDBAR_IS_OPEN = 13,   /**< the node, or the reader of frames, is open */
-  SANDBAR_NO_CELL = 14    /**< the node has no such map or cell */
+  SANDBAR_NO_CELL = 14,   /**< the node has no such map or cell */
+  SANDBAR_DAMAGED = 15    /**< a bit of memory flipped: the entry is not as it was made */
 };
 
 enum {

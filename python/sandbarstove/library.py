@@ -29,6 +29,7 @@ TEXTS = {
     12: "the journal has no such entry",
     13: "the node, or the reader of frames, is open",
     14: "the node has no such map or cell",
+    15: "the entry is not as it was made: a bit of memory flipped",
 }
 
 

@@ -8,7 +8,7 @@ ghost use Rattle.single_node.specs.Nodes.{RotatesTo, room_in};
 ghost use Rattle.single_node.specs.Serving.{put_front};
 ghost use Rattle.single_node_c.specs.declared.codes.TheConstants.{NO_MEMORY, OK};
 
-use crate::codes::{BAD_CONFIG, NO_BANK, NO_ENTRY, NO_MEMORY, NO_NODE, NO_ROOM, OK};
+use crate::codes::{BAD_CONFIG, DAMAGED, NO_BANK, NO_ENTRY, NO_MEMORY, NO_NODE, NO_ROOM, OK};
 use crate::handle::Handle;
 use crate::held::{put, take};
 use crate::numbers::{EntryNumbers, JournalNumbers};
@@ -71,7 +71,8 @@ fn entry_at(node: &SingleNode, bank: u8, place: u32) -> Result<&Entry, u32>
         return Err(NO_BANK);
     }
     match node.bank(bank).entries().get(place as usize) {
-        Some(entry) => Ok(entry),
+        Some(entry) if entry.is_whole() => Ok(entry),
+        Some(_) => Err(DAMAGED),
         None => Err(NO_ENTRY),
     }
 }
@@ -113,7 +114,8 @@ fn tell_entry(
 }
 
 /// Reads the entry at a place of the journal of a bank, 0 for the oldest, and copies its packet. The node stays as it
-/// is; at any code but `OK` nothing is written.
+/// is; at any code but `OK` nothing is written. An entry whose numbers do not agree with their check, or its packet with
+/// its CRCs, is `DAMAGED`.
 #[unsafe(no_mangle)]
 pub extern "C" fn sandbar_entry_at(
     alloc: Global,

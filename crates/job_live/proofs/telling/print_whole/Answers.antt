@@ -5,7 +5,7 @@ use Rattle.std.specs.Io.KnownBytes.{Appends}
 use Rattle.spw.specs.Cargo.{Cargo}
 use Rattle.job_live.specs.Telling.{packet_line}
 use Rattle.job_live.proofs.EntryLines.{own_words}
-use Rattle.job_live.proofs.telling.print_entry.Goals as goal
+use Rattle.job_live.proofs.telling.print_whole.Goals as goal
 
 pub returns : goal.returns
 returns g c =
