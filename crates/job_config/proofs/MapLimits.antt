@@ -10,8 +10,8 @@ use Rattle.machine.specs.declared.kinds.MapKind.{MapKind}
 pub sizes_of_maps : (maps : List (ℕ × MapKind)) (left : ℕ) → All (λ m. 1 ≤ m.0) maps → left + sum (map (λ m. m.0) maps) ≡ 256
     → length maps ≤ 8 → AreSizes (listed_maps maps)
 sizes_of_maps maps left cells total few = record {
-  maps = omega (arith, length-map (λ m. m.0) maps, few);
+  maps = omega (arith, length-map maps (λ (m : ℕ × MapKind). m.0), few);
   cells = All-map (λ size. 1 ≤ size) (λ m. m.0) maps cells;
   total = omega (arith, total);
-  kinds = omega (arith, length-map (λ m. m.0) maps, length-map (λ m. m.1) maps);
+  kinds = omega (arith, length-map maps (λ (m : ℕ × MapKind). m.0), length-map maps (λ (m : ℕ × MapKind). m.1));
 }
