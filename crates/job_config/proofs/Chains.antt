@@ -1,5 +1,5 @@
 -- Files that are read one after the other.
-use Rattle.std.proofs.Common.{◌≡◌, ◌++◌, ◌∷◌, [], ℕ, IfErr, IfOk, List, MatchResult, Option, Result, Ok, Err, Some, None, inl, inr, refl, subst, sym}
+use Rattle.std.proofs.Common.{◌++◌, ◌∷◌, [], ℕ, IfErr, IfOk, List, MatchResult, Option, Result, Ok, Err, Some, None, inl, inr, refl, subst}
 use Rattle.bpf.specs.Program.{Program}
 use Rattle.machine.specs.Sizes.{Maps}
 use Rattle.job_parts.specs.Files.{HoldsNoText, Reads}

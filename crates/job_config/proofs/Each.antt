@@ -1,5 +1,5 @@
 -- The items of a list, read one after the other.
-use Rattle.std.proofs.Common.{◌≡◌, if◌then◌else◌, ◌+◌, ◌++◌, ◌∷◌, ◌&&◌, [], ℕ, suc, List, Bool, true, false, nat_le, length, Option, None, Some, Ok, Err, Result, refl, ap, ◌∙◌, sym, subst, arith}
+use Rattle.std.proofs.Common.{◌≡◌, if◌then◌else◌, ◌+◌, ◌++◌, ◌∷◌, [], suc, List, Bool, true, false, length, Option, None, Some, Ok, Err, Result, refl, ap, ◌∙◌, sym, arith}
 use Rattle.std.proofs.lemmas.List.{length-append}
 use Rattle.node_parts.specs.declared.config.BankConfig.{BankConfig}
 use Rattle.toml.specs.Data.{Data, Items, no_items, item, Members}

@@ -1,35 +1,5 @@
 -- The configuration that a table says, and the first fault of one that says none.
-use Rattle.std.specs.Prelude.{
-  ◌≡◌,
-  ◌⊎◌,
-  ◌+◌,
-  ◌-◌,
-  ◌^◌,
-  ℕ,
-  suc,
-  List,
-  [],
-  ◌∷◌,
-  ◌++◌,
-  codes,
-  length,
-  map,
-  sum,
-  min,
-  nat_le,
-  nat_lt,
-  Bool,
-  true,
-  false,
-  ◌&&◌,
-  if◌then◌else◌,
-  Option,
-  None,
-  Some,
-  Result,
-  Ok,
-  Err,
-}
+use Rattle.std.specs.Prelude.{◌≡◌, ◌⊎◌, ◌+◌, ◌-◌, ◌^◌, ℕ, suc, List, [], ◌∷◌, ◌++◌, codes, length, map, sum, min, nat_le, Bool, true, false, ◌&&◌, if◌then◌else◌, Option, None, Some, Result, Ok, Err}
 use Rattle.bank.specs.declared.bank.TheConstants.{MAX_SIZE}
 use Rattle.bank.specs.declared.journal.TheConstants.{MAX_ROOM}
 use Rattle.machine.specs.Sizes.{Maps, listed_maps}

@@ -1,5 +1,5 @@
 -- The names of files in a node's file.
-use Rattle.std.specs.Prelude.{◌≡◌, ◌++◌, ◌∷◌, ◌==◌, ℕ, List, codes, slice_index, Bool, true, false, Option, None, Some, Result, Ok, Err}
+use Rattle.std.specs.Prelude.{◌≡◌, ◌++◌, ◌==◌, ℕ, List, codes, slice_index, Bool, true, false, Option, None, Some, Result, Ok, Err}
 use Rattle.std.specs.Str.Pattern.{RFindsChar, SplitsAroundMatch}
 use Rattle.toml.specs.Data.{Data, Members, as_str, get_member}
 use Rattle.job_config.specs.declared.faults.ConfigFault.{ConfigFault}

@@ -1,21 +1,5 @@
 -- The numbers that a table holds.
-use Rattle.std.specs.Prelude.{
-  ℕ,
-  ℤ,
-  pos,
-  negsuc,
-  List,
-  Bool,
-  ◌&&◌,
-  nat_le,
-  if◌then◌else◌,
-  Option,
-  None,
-  Some,
-  Result,
-  Ok,
-  Err,
-}
+use Rattle.std.specs.Prelude.{ℕ, ℤ, pos, negsuc, ◌&&◌, nat_le, if◌then◌else◌, Option, None, Some, Result, Ok, Err}
 use Rattle.toml.specs.Data.{Data, Members, as_integer, get_member}
 use Rattle.job_config.specs.declared.faults.ConfigFault.{ConfigFault}
 use Rattle.job_config.specs.declared.faults.ConfigFault.TheVariants.{BadNumber}

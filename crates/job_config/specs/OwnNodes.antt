@@ -1,21 +1,5 @@
 -- What a node takes of its configuration.
-use Rattle.std.specs.Prelude.{
-  ◌≡◌,
-  ◌-◌,
-  ℕ,
-  List,
-  [],
-  ◌∷◌,
-  ◌++◌,
-  length,
-  replicate,
-  Bool,
-  true,
-  false,
-  ◌&&◌,
-  nat_le,
-  All,
-}
+use Rattle.std.specs.Prelude.{◌≡◌, ◌-◌, ℕ, List, [], ◌∷◌, ◌++◌, length, replicate, Bool, true, false, ◌&&◌, nat_le}
 use Rattle.job_config.specs.declared.own_node.TheConstants.{BANK_BASE, BANK_ROOM, BANK_SIZE, NODE_ADDRESS}
 use Rattle.machine.specs.Sizes.{Maps}
 use Rattle.node_parts.specs.Nodes.{are_within}

@@ -1,5 +1,5 @@
 -- Where something stands in a node's file, and the keys that stand there.
-use Rattle.std.specs.Prelude.{ℕ, List, [], Bool, false, ◌||◌, codes}
+use Rattle.std.specs.Prelude.{ℕ, List, [], Bool, ◌||◌, codes}
 use Rattle.std.specs.Str.{bytes_eq}
 use Rattle.job_config.specs.declared.places.Kind.{Kind}
 use Rattle.job_config.specs.declared.places.Kind.TheVariants.{Node, Bank, Map, Load}

@@ -1,20 +1,5 @@
 -- The node of a node's file, with what stands in the files beside it.
-use Rattle.std.specs.Prelude.{
-  ◌≡◌,
-  ◌≤◌,
-  ◌+◌,
-  ◌⊎◌,
-  ℕ,
-  List,
-  [],
-  ◌∷◌,
-  length,
-  Option,
-  None,
-  Some,
-  Result,
-  Ok,
-}
+use Rattle.std.specs.Prelude.{◌≡◌, ◌≤◌, ◌+◌, ◌⊎◌, ℕ, List, [], ◌∷◌, length, Option, None, Some, Ok}
 use Rattle.std.specs.Str.{IsUtf8}
 use Rattle.bver.specs.Justified.{AcceptedValue, IsJustified}
 use Rattle.machine.specs.Runs.{IsSafe}
@@ -24,7 +9,6 @@ use Rattle.toml.specs.Data.{Data, Items, no_items, item, Members}
 use Rattle.toml.specs.Parse.{parse_document}
 use Rattle.job_parts.specs.Files.{Reads}
 use Rattle.job_parts.specs.Given.{HoldsProgram}
-use Rattle.job_parts.specs.NodeCodes.{node_code}
 use Rattle.job_parts.specs.Reading.{TextUnread}
 use Rattle.job_parts.specs.declared.faults.Fault.{Fault}
 use Rattle.job_parts.specs.declared.faults.Fault.TheVariants.{
