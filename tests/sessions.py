@@ -12,7 +12,8 @@ done before each. Lines with a sign in front begin a part of a case:
   Of `live --frames` a line `sent` and digits is printed for each frame, and what standard error tells between them.
 
 A line `(N times)` repeats the line above it, and in a line `{DIGITS*N}` repeats the digits; a brace with digits alone is
-refused before `;`, and other braces stand for themselves. A line that begins with `#` says something, and empty lines at the end of a part do not count.
+refused before `;`, and other braces stand for themselves. A line that begins with `#` and a space says something, and empty lines at
+the end of a part do not count.
 """
 from __future__ import annotations
 
@@ -121,7 +122,7 @@ def parts_of(lines: Iterable[str]) -> Iterator[Part]:
     """The parts of a case."""
     part = None
     for line in lines:
-        if line.startswith("#"):
+        if line == "#" or line.startswith("# "):
             continue
         if begun := part_of(line):
             if part:
