@@ -61,7 +61,8 @@ enum sandbar_code {
   SANDBAR_NO_ROOM = 11,   /**< the room for a reply or a packet is too small, or bytes lie outside the bank */
   SANDBAR_NO_ENTRY = 12,  /**< the journal has no such entry */
   SANDBAR_IS_OPEN = 13,   /**< the node, or the reader of frames, is open */
-  SANDBAR_NO_CELL = 14    /**< the node has no such map or cell */
+  SANDBAR_NO_CELL = 14,   /**< the node has no such map or cell */
+  SANDBAR_DAMAGED = 15    /**< a bit of memory flipped: the entry is not as it was made */
 };
 
 enum {
@@ -214,7 +215,7 @@ uint32_t sandbar_journal_of(sandbar_node *node, uint8_t bank, sandbar_journal *j
 
 /**
  * Reads the entry at a place of a bank's journal, 0 for the oldest, and copies its packet to the front of @p packet.
- * Codes: ::SANDBAR_NO_NODE, ::SANDBAR_NO_BANK, ::SANDBAR_NO_ENTRY, ::SANDBAR_NO_ROOM.
+ * Codes: ::SANDBAR_NO_NODE, ::SANDBAR_NO_BANK, ::SANDBAR_NO_ENTRY, ::SANDBAR_DAMAGED, ::SANDBAR_NO_ROOM.
  */
 SANDBAR_CALL
 uint32_t sandbar_entry_at(sandbar_node *node, uint8_t bank, uint32_t place, uint8_t *packet, size_t packet_room,

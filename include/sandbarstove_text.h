@@ -34,6 +34,7 @@ static SANDBAR_INLINE const char *sandbar_text(uint32_t code) {
     case SANDBAR_NO_ENTRY: return "the journal has no such entry";
     case SANDBAR_IS_OPEN: return "the node, or the reader of frames, is open";
     case SANDBAR_NO_CELL: return "the node has no such map or cell";
+    case SANDBAR_DAMAGED: return "what memory holds is not what was written there: a bit of it flipped";
     default: return "no code of this library";
   }
 }

@@ -290,7 +290,9 @@ struct answer {
 };
 
 struct end {
-  uint32_t banks, words, entries;
+  uint32_t banks, words, journals[BANKS]; /* how many entries, how many programs were loaded */
+  uint32_t entries[BANKS][ROOM];          /* a sum of each */
+  bool damaged[BANKS][ROOM];              /* it is reported as damaged */
 };
 
 static uint8_t *reply;      /* SANDBAR_MAX_REPLY bytes, after which nobody may write */
@@ -321,28 +323,51 @@ static bool is_done(const struct answer *answer) {
   return answer->code == SANDBAR_OK && answer->served.kind == SANDBAR_JUDGED && answer->served.status == 0;
 }
 
-static uint32_t entries_of(uint8_t bank, uint32_t sum) {
+static void read_entries(uint8_t bank, struct end *end) {
   static uint8_t packet[SANDBAR_MAX_PACKET];
   sandbar_journal journal = {0};
-  sum += sandbar_journal_of(node, bank, &journal);
-  sum = sum_of(&journal.entries, sizeof journal.entries, sum + journal.loaded);
+  uint32_t code = sandbar_journal_of(node, bank, &journal);
+  end->journals[bank] = sum_of(&journal.entries, sizeof journal.entries, code + journal.loaded);
   for (uint32_t k = 0; k < journal.entries && k < ROOM; k += 1) {
     sandbar_entry entry;
     memset(&entry, 0, sizeof entry);
-    uint32_t code = sandbar_entry_at(node, bank, k, packet, sizeof packet, &entry);
-    sum = sum_of(&entry, sizeof entry, sum + code);
+    code = sandbar_entry_at(node, bank, k, packet, sizeof packet, &entry);
+    end->damaged[bank][k] = code == SANDBAR_DAMAGED;
+    uint32_t sum = sum_of(&entry, sizeof entry, code);
     if (entry.packet_length <= sizeof packet) sum = sum_of(packet, entry.packet_length, sum);
+    end->entries[bank][k] = sum;
   }
-  return sum;
 }
 
-static struct end look(void) {
+/* Whether an entry is another and is not reported as damaged, and whether one is reported. */
+static bool is_other_entry(const struct end *end, const struct end *wanted, uint8_t bank, uint32_t k) {
+  return end->entries[bank][k] != wanted->entries[bank][k] && !end->damaged[bank][k];
+}
+
+static bool is_reported(const struct end *end) {
+  for (uint8_t bank = 0; bank < BANKS; bank += 1)
+    for (uint32_t k = 0; k < ROOM; k += 1)
+      if (end->damaged[bank][k]) return true;
+  return false;
+}
+
+static bool are_other_entries(const struct end *end, const struct end *wanted) {
+  for (uint8_t bank = 0; bank < BANKS; bank += 1) {
+    if (end->journals[bank] != wanted->journals[bank]) return true;
+    for (uint32_t k = 0; k < ROOM; k += 1)
+      if (is_other_entry(end, wanted, bank, k)) return true;
+  }
+  return false;
+}
+
+static const struct end *look(void) {
   static uint8_t bytes[16384];
-  struct end end = {0, 0, 0};
+  static struct end end;
+  memset(&end, 0, sizeof end);
   for (uint8_t bank = 0; bank < BANKS; bank += 1) {
     end.banks += sandbar_peek(node, bank, banks[bank].base, bytes, banks[bank].size);
     end.banks = sum_of(bytes, banks[bank].size, end.banks);
-    end.entries = entries_of(bank, end.entries);
+    read_entries(bank, &end);
   }
   for (uint8_t map = 0; map < MAPS; map += 1)
     for (uint16_t cell = 0; cell < maps[map].cells; cell += 1) {
@@ -350,7 +375,7 @@ static struct end look(void) {
       end.words += sandbar_word(node, map, cell, &word);
       end.words = sum_of(&word, sizeof word, end.words);
     }
-  return end;
+  return &end;
 }
 
 /* ---- what the node's memory is made of */
@@ -586,7 +611,7 @@ static void go_on(void) {
     done += is_done(&wanted[k]);
     if (wrong_of(&packets[BEFORE + k], &wanted[k], counts) != RIGHT) fail("packet %u is not to be done", BEFORE + k);
   }
-  *wanted_end = look();
+  *wanted_end = *look();
   if (is_spilled() || freed_twice) fail("a byte is written that is nobody's");
   for (int quota = 1; quota < QUOTAS; quota += 1)
     if (counts[quota] != limits[quota]) fail("quota %d is not drawn to its end: %u", quota, counts[quota]);
@@ -601,7 +626,7 @@ static const char *const moments[] = {"packets", "looking", "closing", "ended"};
 /* What a trial leaves, as it went on: its own process may be gone. */
 struct seen {
   volatile int moment, signal;
-  volatile bool wrote, denied, over_quota, spilled, memory, words, entries, closing;
+  volatile bool wrote, denied, over_quota, spilled, memory, words, entries, reported, closing;
   volatile uint32_t first; /* the first packet whose answer is another; AFTER: none */
   volatile bool refused;   /* that answer refuses */
 };
@@ -653,10 +678,11 @@ static void go_wrong(void) {
   }
   seen->moment = IN_LOOKING;
   begin_patience(5);
-  struct end end = look();
-  seen->memory = end.banks != wanted_end->banks;
-  seen->words = end.words != wanted_end->words;
-  seen->entries = end.entries != wanted_end->entries;
+  const struct end *end = look();
+  seen->memory = end->banks != wanted_end->banks;
+  seen->words = end->words != wanted_end->words;
+  seen->entries = are_other_entries(end, wanted_end);
+  seen->reported = is_reported(end);
   if (is_spilled()) seen->spilled = true;
   seen->moment = IN_CLOSING;
   if (sandbar_close(node) != SANDBAR_OK || freed_twice) seen->closing = true;
@@ -678,6 +704,7 @@ static const char *class_of(void) {
   if (seen->first < AFTER) return seen->refused ? "refused" : "answer";
   if (seen->memory || seen->words) return "memory";
   if (seen->entries) return "entry";
+  if (seen->reported) return "reported";
   return in_closing || seen->closing ? "closing" : "nothing";
 }
 

@@ -7,12 +7,14 @@ done before each. Lines with a sign in front begin a part of a case:
 - `$ WORDS` or `$ rmapctl WORDS`, a job. Of the lines below, those that begin with `>` are standard input, the file `-`. All
   others are what is printed, up to a line `[N]` or `[status N]` with the exit status, where that is not 0. Lines behind them that
   begin with `! ` are standard error, which is not looked at where there is none; at status 2 it then belongs to what is printed.
+  A line `!` says that nothing comes there.
   A last line that ends in `...` stands for any more. Between two quote marks a space is a part of a word.
   `$ hex NAME` prints the bytes of a file, or `no file`. Between jobs there may be ` | `, and behind the last ` > NAME`.
   Of `live --frames` a line `sent` and digits is printed for each frame, and what standard error tells between them.
 
-A line `(N times)` repeats the line above it, and in a line `{DIGITS*N}` repeats the digits; other braces may stand in comments of
-programs alone, behind `;`. A line that begins with `#` says something, and empty lines at the end of a part do not count.
+A line `(N times)` repeats the line above it, and in a line `{DIGITS*N}` repeats the digits; a brace with digits alone is
+refused before `;`, and other braces stand for themselves. A line that begins with `#` and a space says something, and empty lines at
+the end of a part do not count.
 """
 from __future__ import annotations
 
@@ -45,6 +47,7 @@ class Part:
     given: str = ""
     lines: str = ""
     told: str = ""
+    is_quiet: bool = False
     status: int = 0
     shown: list[str] = field(default_factory=list)
     last: str | None = None
@@ -58,7 +61,7 @@ class Part:
             self.empty += 1
         elif count := re.fullmatch(r"\((\d+) times\)", line):
             self.repeat(int(count[1]))
-        elif line.startswith("[") and line.endswith("]"):
+        elif self.is_job and line.startswith("[") and line.endswith("]"):
             self.status = status_of(line)
         else:
             self.last = line
@@ -74,7 +77,9 @@ class Part:
         """Puts a line where it belongs."""
         if line.startswith(">"):
             self.given += spelled(line[1:].removeprefix(" "))
-        elif self.is_job and re.match(r"!( |$)", line):
+        elif self.is_job and line == "!":
+            self.is_quiet = True
+        elif self.is_job and line.startswith("! "):
             self.told += spelled(line[2:])
         else:
             self.lines += "\n" * self.empty + spelled(line)
@@ -92,7 +97,7 @@ def status_of(line: str) -> int:
 def spelled(line: str) -> str:
     """The line that is written so, with its end."""
     line = re.sub(r"\{([^{*]*)\*(\d+)\}", lambda it: it[1] * int(it[2]), line)
-    if "{" in line.partition(";")[0]:
+    if re.search(r"\{([0-9A-Fa-f]+(\*|\}|$)|\*)", line.partition(";")[0]):
         raise BadCase(f"a brace without a star and a number: {line}")
     return line + "\n"
 
@@ -121,7 +126,7 @@ def parts_of(lines: Iterable[str]) -> Iterator[Part]:
     """The parts of a case."""
     part = None
     for line in lines:
-        if line.startswith("#"):
+        if line == "#" or line.startswith("# "):
             continue
         if begun := part_of(line):
             if part:
@@ -194,11 +199,12 @@ class Session:
         if part.given:
             self.given = part.given.encode()
         done = self.kept(part.words)
-        if done.status == MISUSED and not part.told:
+        if done.status == MISUSED and not part.told and not part.is_quiet:
             done = Done(done.out + done.err, b"", done.status)
         came, told = done.out.decode(errors="replace"), done.err.decode(errors="replace")
         self.transcript += block(came, told, done.status).removesuffix("[0]").splitlines()
-        if not (agrees(done.out, part.lines) and agrees(done.err, part.told or "...\n") and done.status == part.status):
+        wanted = "" if part.is_quiet else part.told or "...\n"
+        if not (agrees(done.out, part.lines) and agrees(done.err, wanted) and done.status == part.status):
             self.note(part, block(came, told, done.status))
 
     def put(self, name: str, lines: str) -> None:

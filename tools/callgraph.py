@@ -305,6 +305,8 @@ def after_thumb(at: Depth, it: Instruction, name: str) -> None:
     if pushed := re.fullmatch(r"(?:sp!,)?\{([a-z0-9,]+)\}", operands):
         if word in ("push", "stmdb"):
             at.depth += 4 * len(pushed[1].split(","))
+    elif word in ("stm", "stmia") and re.fullmatch(r"sp,\{[a-z0-9,]+\}", operands):
+        pass  # without `!` it writes upwards from the stack pointer, which stays
     elif before := re.search(r"\[sp,#-(\w+)\]!", operands):
         at.depth += number(before[1])
     elif taken := re.fullmatch(r"sp,(?:sp,)?#(\w+)", operands):

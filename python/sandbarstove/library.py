@@ -29,6 +29,7 @@ TEXTS = {
     12: "the journal has no such entry",
     13: "the node, or the reader of frames, is open",
     14: "the node has no such map or cell",
+    15: "what memory holds is not what was written there: a bit of it flipped",
 }
 
 

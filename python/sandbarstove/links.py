@@ -51,12 +51,21 @@ def entry_of(line: str) -> Entry:
 
 
 class Lines:
-    """A talk in lines, with `rmapctl live` or `tools/share`. Entries that come by themselves are added to `entries`."""
+    """A talk in lines, with `rmapctl live` or `tools/share`. Entries that come by themselves are added to `entries`. `damaged` is how
+    many entries came as `journal damaged`, since a bit of them flipped in the target's memory."""
 
     def __init__(self, host: str = "127.0.0.1", port: int = 10031, timeout: Optional[float] = 20):
         self._socket = _connected(host, port, timeout)
         self._talk = self._socket.makefile("rw", encoding="ascii", newline="\n")
         self.entries: list[Entry] = []
+        self.damaged = 0
+
+    def _keep(self, line: str) -> None:
+        """Adds the entry of a line."""
+        if line == "journal damaged":
+            self.damaged += 1
+        else:
+            self.entries.append(entry_of(line))
 
     def send(self, line: str) -> None:
         try:
@@ -80,7 +89,7 @@ class Lines:
         self.send(line)
         while (answer := self.receive()).startswith("journal "):
             if not answer.endswith(" entries"):
-                self.entries.append(entry_of(answer))
+                self._keep(answer)
         words = answer.split()
         if words[0] == "line":
             raise BadLine(line, int(words[-1]))
@@ -97,7 +106,7 @@ class Lines:
         """Has the journal handed out: these entries, and those that came by themselves before, are gone from the target."""
         self.send("journal")
         while not (answer := self.receive()).endswith(" entries"):
-            self.entries.append(entry_of(answer))
+            self._keep(answer)
         entries, self.entries = self.entries, []
         return entries
 

@@ -33,11 +33,24 @@ DRAWS = bytes.fromhex("42504641 0100 0500 0400 000000000000 1851000000000000 000
                       "9500000000000000")
 UNSET = bytes.fromhex("42504641 0100 0200 0200 000000000000 bf40000000000000 9500000000000000")
 
+# A program that says yes, and a node whose bank begins with bytes, into which that program is loaded.
+YES = bytes.fromhex("42504641 0100 0200 0200 000000000000 b700000000000000 9500000000000000")
+OWN = """\
+[[bank]]
+base = 0xA0000000
+size = 4096
+journal = 2
+contents = "begin"
+[[load]]
+slot = 3
+image = "yes.img"
+"""
+
 READ = "0 FE014C0067000100A0000000000010C9 EOP\n"
 REPLY = "0 67010C00FE0001000000106D0000000000000000000000000000000000 EOP\n"
 
 # Faults of memory, but those of lines.
-FAULTS = re.compile(r"no memory|cannot read \S+|cannot write (?:\S+|standard output)|image fault 8 slot 0|refused V17 slot 0|"
+FAULTS = re.compile(r"no memory|node fault [789]|cannot read \S+|cannot write (?:\S+|standard output)|image fault 8 slot 0|refused V17 slot 0|"
                     r"policy fault 3|line (\d+) fault 5")
 
 
@@ -107,6 +120,7 @@ SERVED = [(REPLY, ""), (REPLY.replace("0", "1", 1), ""), ("discarded 0 lost 0\n"
 
 JOBS = [
     Job("judge lines", [(REPLY,)], {"lines": READ}),
+    Job("judge lines --node own.toml", [(REPLY,)], {"lines": READ, "own.toml": OWN, "begin": b"\0\0", "yes.img": YES}),
     Job("judge pieces", [(REPLY,)], {"pieces": READ.replace("EOP", "PART") + "0 EOP\n"}, ahead=2),
     Job("policy table out --maps 1", [("slots 30\n",)], {"table": "write * * * 00000000 FFFFFFFF 0:0:5 0\n"}, writes="out"),
     Job("dis draws", [(".budget 4\nldmap r1, 0\nmov r2, 0\ncall 2\nexit\n; maps 1\n",)], {"draws": DRAWS}),

@@ -40,3 +40,23 @@ def decide(rules: list[Rule], packet: Packet, draw: Callable[[int, int], int]) -
         if rule.matches(packet) and (rule.quota is None or draw(*rule.quota[:2]) < rule.quota[2]):
             return rule.verdict
     return 10
+
+
+@dataclass(frozen=True)
+class PortRule:
+    """A rule of a table of version 2: its port, if it has one, and the name of its range, if it stands there by a name."""
+    rule: Rule
+    port: int | None
+    name: str | None
+
+    def text(self, comment: str) -> str:
+        words = self.rule.text().split()
+        if self.name is not None:
+            words[4:6] = [self.name]
+        port = [] if self.port is None else ["port", str(self.port)]
+        return " ".join([*words, *port]) + comment + "\n"
+
+
+def rules_at(rules: list[PortRule], port: int) -> list[Rule]:
+    """The rules that are asked at a port."""
+    return [own.rule for own in rules if own.port in (None, port)]

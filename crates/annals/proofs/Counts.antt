@@ -12,8 +12,10 @@ use Rattle.std.proofs.lemmas.Bool.Decides.{nat_tests}
 use Rattle.rmap.specs.Command.{command_of}
 use Rattle.rmap.specs.Windows.{lies_inside}
 use Rattle.bank.specs.Records.{BankValue, ShareValue, JudgedValue, EntryValue, numbers_of, entry_of, fits, is_bank_place, is_next, after_command, after_record, answer_of, has_room, next_share, number_left, JournalValue, fresh_bank}
+use Rattle.annals.specs.declared.deed.Act.{Act}
+use Rattle.annals.specs.declared.deed.Act.TheVariants.{Leaves, Sets, Rotates, Publishes}
 use Rattle.annals.specs.declared.deed.Deed.{Deed}
-use Rattle.annals.specs.declared.deed.Deed.TheVariants.{Opens, Does, Sets, Asks, Publishes}
+use Rattle.annals.specs.declared.deed.Deed.TheVariants.{Opens, Does, Asks}
 use Rattle.annals.specs.declared.deed.Link.{Link}
 use Rattle.annals.specs.Chains.{ChainValue, LineValue, at_bank, chain_of, line_with, link}
 use Rattle.annals.specs.Banks.{CountsOn, numbers_at, with_entry, entries_in, entries_of, memory_after, zeros, IsKept}
@@ -60,12 +62,13 @@ fitting b share judged h =
 
 with_append : (d : Deed) (xs ys : List EntryValue) → with_entry d (xs ++ ys) ≡ with_entry d xs ++ ys
 with_append (Opens x) xs ys = refl
-with_append (Does e) xs ys = refl
-with_append (Sets x) xs ys = refl
+with_append (Does (Leaves e)) xs ys = refl
+with_append (Does (Sets x)) xs ys = refl
+with_append (Does (Rotates x)) xs ys = refl
+with_append (Does (Publishes x)) xs ys = refl
 with_append (Asks x) xs ys = refl
-with_append (Publishes x) xs ys = refl
 
-entries_snoc : (ls : List Link) (k place next : ℕ) (e : EntryValue) → entries_in (ls ++ link k place (Does e) next ∷ []) ≡ entries_in ls ++ e ∷ []
+entries_snoc : (ls : List Link) (k place next : ℕ) (e : EntryValue) → entries_in (ls ++ link k place (Does (Leaves e)) next ∷ []) ≡ entries_in ls ++ e ∷ []
 entries_snoc [] k place next e = refl
 entries_snoc (m ∷ ls) k place next e = ap (λ (es : List EntryValue). with_entry m.deed es) (entries_snoc ls k place next e) ∙ with_append m.deed (entries_in ls) (e ∷ [])
 
@@ -88,14 +91,14 @@ counts_after b s j room = ap (λ (r : Bool). (if r then after_record b s j (answ
 pub still_counted : (k place next : ℕ) (old before log : List Link) (b : BankValue) (counts : List ℕ) (s : ShareValue) (j : JudgedValue) (e : EntryValue) → fits b s j ≡ true
     → ((port : ℕ) → port < length b.counts → numbers_of port (entries_of k old) ≡ range_with_len 0 (get_or b.counts port 0))
     → chain_of k before ≡ chain_of k old → counts ≡ set b.counts j.port (s.number + 1) → e.port ≡ j.port → e.number ≡ s.number
-    → log ≡ before ++ link k place (Does e) next ∷ []
+    → log ≡ before ++ link k place (Does (Leaves e)) next ∷ []
     → (port : ℕ) → port < length counts → numbers_of port (entries_of k log) ≡ range_with_len 0 (get_or counts port 0)
 still_counted k place next old before log b counts s j e fit counted same new at number more port below =
     let fitted = fitting b s j fit in
     let ports : length counts ≡ length b.counts = ap (λ (l : List ℕ). length l) new ∙ length-set b.counts j.port (s.number + 1) in
     let within : port < length b.counts = omega arith in
     let all : entries_of k log ≡ entries_of k before ++ e ∷ [] =
-    ap (entries_of k) more ∙ (ap entries_in (own_snoc k before (link k place (Does e) next) refl) ∙ entries_snoc (chain_of k before) k place next e) in
+    ap (entries_of k) more ∙ (ap entries_in (own_snoc k before (link k place (Does (Leaves e)) next) refl) ∙ entries_snoc (chain_of k before) k place next e) in
     ap (numbers_of port) all ∙ elim (cases_eq j.port port) [
       | inl here ↦
           let count : get_or counts port 0 ≡ s.number + 1 = rw (new, ← here) (get_or-set_same b.counts j.port (s.number + 1) 0 fitted.below) in
@@ -107,15 +110,15 @@ still_counted k place next old before log b counts s j e fit counted same new at
     ]
 
 -- the share and the line behind an entry
-pub counts_on : (k : ℕ) (s after : ShareValue) (line line' : LineValue) (e : EntryValue) → after ≡ record { port = s.port; number = s.number + 1 } → e.number ≡ s.number → line' ≡ line_with line k e
+pub counts_on : (k : ℕ) (s after : ShareValue) (line line' : LineValue) (e : EntryValue) → after ≡ record { port = s.port; number = s.number + 1 } → e.number ≡ s.number → line' ≡ line_with line k (Leaves e)
     → CountsOn k s after line line'
 counts_on k s after line line' e next number more = record {
   port = ap (λ (x : ShareValue). x.port) next;
   line = ap (λ (l : LineValue). l.port) more;
-  elsewhere = λ i apart. ap (λ (l : LineValue). at_bank i l.asked) more ∙ (at_append i line.asked ((k, e) ∷ []) ∙ (ap (λ (es : List EntryValue). at_bank i line.asked ++ es) (at_other i k e [] apart) ∙ append-nil (at_bank i line.asked)));
+  elsewhere = λ i apart. ap (λ (l : LineValue). at_bank i l.asked) more ∙ (at_append i line.asked ((k, Leaves e) ∷ []) ∙ (ap (λ (es : List EntryValue). at_bank i line.asked ++ es) (at_other i k (Leaves e) [] apart) ∙ append-nil (at_bank i line.asked)));
   counted = λ was.
-      let own : numbers_at k ((k, e) ∷ []) ≡ s.number ∷ [] = ap (map (λ (x : EntryValue). x.number)) (at_own k e []) ∙ ap (λ (n : ℕ). n ∷ []) number in
-      ap (λ (l : LineValue). numbers_at k l.asked) more ∙ (numbers_append k line.asked ((k, e) ∷ []) ∙ (ap (λ (ns : List ℕ). numbers_at k line.asked ++ ns) own ∙ (ap (λ (ns : List ℕ). ns ++ s.number ∷ []) was ∙ (range_more 0 s.number s.number (omega arith) ∙ ap (λ (x : ShareValue). range_with_len 0 x.number) (sym next)))));
+      let own : numbers_at k ((k, Leaves e) ∷ []) ≡ s.number ∷ [] = ap (map (λ (x : EntryValue). x.number)) (at_own k e []) ∙ ap (λ (n : ℕ). n ∷ []) number in
+      ap (λ (l : LineValue). numbers_at k l.asked) more ∙ (numbers_append k line.asked ((k, Leaves e) ∷ []) ∙ (ap (λ (ns : List ℕ). numbers_at k line.asked ++ ns) own ∙ (ap (λ (ns : List ℕ). ns ++ s.number ∷ []) was ∙ (range_more 0 s.number s.number (omega arith) ∙ ap (λ (x : ShareValue). range_with_len 0 x.number) (sym next)))));
 }
 
 -- nothing was asked for

@@ -9,6 +9,7 @@ use Rattle.rmap.specs.Command.{command_of}
 use Rattle.rmap.specs.declared.places.Place.{Place}
 use Rattle.rmap.specs.declared.places.Place.TheVariants.{Bank, Staging, LoadResult, Control}
 use Rattle.bank.specs.Records.{EntryValue, ShareValue, JudgedValue, BankValue, memory_of, answer_of, has_room, after_entry, after_command, after_record, entry_of, number_left, is_place_of}
+use Rattle.annals.specs.declared.deed.Act.TheVariants.{Leaves}
 use Rattle.annals.specs.declared.deed.Deed.TheVariants.{Does}
 use Rattle.annals.specs.declared.deed.Link.{Link}
 use Rattle.annals.specs.Chains.{chain_of, link}
@@ -55,11 +56,11 @@ answers k before b j room same =
 
 pub replayed : (k place next : ℕ) (before log : List Link) (b new : BankValue) (s : ShareValue) (j : JudgedValue) (entry : EntryValue)
     → memory_after k before ≡ memory_of b → memory_of new ≡ (answer_of b j).memory → entry ≡ entry_of s j (answer_of b j).status
-    → log ≡ before ++ link k place (Does entry) next ∷ [] → memory_of new ≡ memory_after k log
+    → log ≡ before ++ link k place (Does (Leaves entry)) next ∷ [] → memory_of new ≡ memory_after k log
 replayed k place next before log b new s j entry same memory is more =
-    let snoc : memory_after k (before ++ link k place (Does entry) next ∷ []) ≡ after_entry (memory_after k before) entry =
-    ap (λ (l : List Link). fold after_link (zeros (0, 0)) l) (own_snoc k before (link k place (Does entry) next) refl)
-    ∙ fold_snoc (zeros (0, 0)) (chain_of k before) (link k place (Does entry) next) in
+    let snoc : memory_after k (before ++ link k place (Does (Leaves entry)) next ∷ []) ≡ after_entry (memory_after k before) entry =
+    ap (λ (l : List Link). fold after_link (zeros (0, 0)) l) (own_snoc k before (link k place (Does (Leaves entry)) next) refl)
+    ∙ fold_snoc (zeros (0, 0)) (chain_of k before) (link k place (Does (Leaves entry)) next) in
     let done : after_entry (memory_of b) (entry_of s j (answer_of b j).status) ≡ (answer_of b j).memory = refl in
     memory ∙ sym (ap (memory_after k) more ∙ (snoc ∙ (ap (λ (m : Memory). after_entry m entry) same ∙ (ap (λ (e : EntryValue). after_entry (memory_of b) e) is ∙ done))))
 

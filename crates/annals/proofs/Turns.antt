@@ -95,7 +95,7 @@ stays old n = same (n == old) refl where
   same false is = refl
 
 -- the cells stay where the word of a chain is exchanged by itself
-unchanged : (cs : List Cell) (log : List Link) (c : ℕ) → c < 41 → AreChained cs log → slice_set cs c (either ((cell cs c).0 == 1) 1 (cell cs c).0, true) ≡ cs
+unchanged : (cs : List Cell) (log : List Link) (c : ℕ) → c < 42 → AreChained cs log → slice_set cs c (either ((cell cs c).0 == 1) 1 (cell cs c).0, true) ≡ cs
 unchanged cs log c few kept = same_cell cs c (either ((cell cs c).0 == 1) 1 (cell cs c).0) (kept.homes c few) (stays 1 (cell cs c).0)
 
 draws_kept : (cs : List Cell) (log : List Link) → AreChained cs log → AreChained (cs ++ (0, false) ∷ []) (log ++ [])
@@ -109,7 +109,7 @@ draws_kept cs log kept =
       asked = kept.asked;
     })
 
-pub draws_moves : (c : ℕ) (v : List Link) (e : Link) → c < 41
+pub draws_moves : (c : ℕ) (v : List Link) (e : Link) → c < 42
     → Moves AreChained shown moved c (v, (no_nib, None)) (λ n. either (n == 1) 1 n) (Draws (step c 1 1 e) (v, (no_nib, None)))
 draws_moves c v e few cs log kept pre away = (
   omega (arith, few, kept.row),
@@ -142,13 +142,13 @@ adds_kept cs log e key value names few away some asked kept =
     ds : List Cell
     ds = slice_set cs key (value, true)
 
-    apart : (c : ℕ) → c < 41 → c ≢ key
+    apart : (c : ℕ) → c < 42 → c ≢ key
     apart c row same = absurd (cc (kept.homes c row, subst (λ (k : ℕ). (cell cs k).1 ≡ false) (sym same) away))
 
-    before : (c : ℕ) → c < 41 → (cell ds c).0 ≡ 0 → chain_of c log ≡ []
+    before : (c : ℕ) → c < 42 → (cell ds c).0 ≡ 0 → chain_of c log ≡ []
     before c row is = kept.begun c row (sym (ap (λ (d : Cell). d.0) (get_or-set_other cs key c (value, true) (0, false) (apart c row))) ∙ is)
 
-    begun : (c : ℕ) → c < 41 → (cell ds c).0 ≡ 0 → chain_of c (log ++ e ∷ []) ≡ []
+    begun : (c : ℕ) → c < 42 → (cell ds c).0 ≡ 0 → chain_of c (log ++ e ∷ []) ≡ []
     begun c row is =
         let none = before c row is in
         let not : e.chain ≢ c = λ same. absurd (omega (arith, some, ap length (subst (λ (k : ℕ). chain_of k log ≡ []) (sym same) none))) in
@@ -167,7 +167,7 @@ adds_kept cs log e key value names few away some asked kept =
         rw (other_snoc c log e not) (still c)
 
 -- whatever the book is, the exchange adds the entry to the chain of whoever has the pen
-pub adds_moves : (c : ℕ) (own v : List Link) (e : Link) (p : Nib) → c < 41 → IsPrefix own v → 0 < length (chain_of c own) → p.right ≡ may_write → p.key ≡ next_of (chain_of c own)
+pub adds_moves : (c : ℕ) (own v : List Link) (e : Link) (p : Nib) → c < 42 → IsPrefix own v → 0 < length (chain_of c own) → p.right ≡ may_write → p.key ≡ next_of (chain_of c own)
     → e.chain ≡ c → e.place ≡ length (chain_of c own) → IsDue e.chain e.deed v
     → Moves AreChained shown moved c (v, (p, None)) (λ n. either (n == 1) 1 n) (Adds (step c 1 1 e) (v, (p, None)))
 adds_moves c own v e p few begins some right key chain place due cs log kept pre away =
@@ -191,7 +191,7 @@ adds_moves c own v e p few begins some right key chain place due cs log kept pre
     )
 
 -- the first entry of a chain
-begins_kept : (cs : List Cell) (log : List Link) (e : Link) → e.chain < 41 → chain_of e.chain log ≡ [] → LeavesNone e → AreChained cs log → AreChained (slice_set cs e.chain (1, true)) (log ++ e ∷ [])
+begins_kept : (cs : List Cell) (log : List Link) (e : Link) → e.chain < 42 → chain_of e.chain log ≡ [] → LeavesNone e → AreChained cs log → AreChained (slice_set cs e.chain (1, true)) (log ++ e ∷ [])
 begins_kept cs log e few none leaves kept = record {
   row = omega (arith, kept.row, set_length cs e.chain (1, true));
   homes = λ c row. set_home cs e.chain 1 c (kept.homes c row);
@@ -203,7 +203,7 @@ begins_kept cs log e few none leaves kept = record {
     ds : List Cell
     ds = slice_set cs e.chain (1, true)
 
-    begun : (c : ℕ) → c < 41 → (b : Bool) → (e.chain == c) ≡ b → (cell ds c).0 ≡ 0 → chain_of c (log ++ e ∷ []) ≡ []
+    begun : (c : ℕ) → c < 42 → (b : Bool) → (e.chain == c) ≡ b → (cell ds c).0 ≡ 0 → chain_of c (log ++ e ∷ []) ≡ []
     begun c row true here is =
         let same : e.chain ≡ c = grind (arith, nat_tests, here) in
         let one : (cell ds e.chain).0 ≡ 1 = ap (λ (d : Cell). d.0) (get_or-set_same cs e.chain (1, true) (0, false) (omega (arith, few, kept.row))) in
@@ -226,7 +226,7 @@ begins_kept cs log e few none leaves kept = record {
         let not : e.chain ≢ c = λ same. absurd (grind (arith, nat_tests, here, same)) in
         rw (other_snoc c log e not) (still c)
 
-begins_goes : (cs : List Cell) (log v : List Link) (e : Link) → e.chain < 41 → e.place ≡ length (chain_of e.chain v) → LeavesNone e → IsPrefix v log → AreChained cs log → (b : Bool) → ((cell cs e.chain).0 == 0) ≡ b
+begins_goes : (cs : List Cell) (log v : List Link) (e : Link) → e.chain < 42 → e.place ≡ length (chain_of e.chain v) → LeavesNone e → IsPrefix v log → AreChained cs log → (b : Bool) → ((cell cs e.chain).0 == 0) ≡ b
     → Goes AreChained shown moved e.chain (v, (no_nib, None)) (λ n. either (n == 0) 1 n) (Begins (step e.chain 0 1 e) (v, (no_nib, None))) cs log
 begins_goes cs log v e few place leaves pre kept true is =
     let here : (cell cs e.chain).0 ≡ 0 = grind (arith, nat_tests, is) in
@@ -250,22 +250,22 @@ begins_goes cs log v e few place leaves pre kept false is = (
 )
 
 -- whatever the book is, the exchange adds the first entry of the chain, or finds that there is one
-pub begins_moves : (c : ℕ) (v : List Link) (e : Link) → c < 41 → e.chain ≡ c → e.place ≡ length (chain_of c v) → LeavesNone e
+pub begins_moves : (c : ℕ) (v : List Link) (e : Link) → c < 42 → e.chain ≡ c → e.place ≡ length (chain_of c v) → LeavesNone e
     → Moves AreChained shown moved c (v, (no_nib, None)) (λ n. either (n == 0) 1 n) (Begins (step c 0 1 e) (v, (no_nib, None)))
 begins_moves c v e few chain place leaves =
     subst (λ (k : ℕ). Moves AreChained shown moved k (v, (no_nib, None)) (λ n. either (n == 0) 1 n) (Begins (step k 0 1 e) (v, (no_nib, None)))) chain
     (λ cs log kept pre away.
-    let row : e.chain < 41 = subst (λ (k : ℕ). k < 41) (sym chain) few in
+    let row : e.chain < 42 = subst (λ (k : ℕ). k < 42) (sym chain) few in
     (omega (arith, row, kept.row), kept.homes e.chain row, begins_goes cs log v e row (place ∙ ap (λ (k : ℕ). length (chain_of k v)) (sym chain)) leaves pre kept ((cell cs e.chain).0 == 0) refl))
 
--- the rule holds of 41 words and no entry
-pub woven_at_first : AreChained (replicate 41 (0, true)) []
+-- the rule holds of 42 words and no entry
+pub woven_at_first : AreChained (replicate 42 (0, true)) []
 woven_at_first = record {
   row = omega arith;
-  homes = λ c few. ap (λ (d : Cell). d.1) (get_or-replicate 41 c (0, true) (0, false) few);
+  homes = λ c few. ap (λ (d : Cell). d.1) (get_or-replicate 42 c (0, true) (0, false) few);
   begun = λ c few is. refl;
   used = λ c. tt;
-  asked = λ port. ([], refl);
+  asked = λ owner. ([], refl);
 }
 
 -- ---- what an added entry tells
@@ -311,7 +311,7 @@ pub known_word : (w : Named) (home : Book) → w.tracked ≡ true → w.book ≡
 known_word w home tracked book = λ i. record { tracked = tracked i; key = w.key; book = book i }
 
 -- whatever the book is, the exchange finds that the chain is what the pen's owner has of it
-pub looks_moves : (c : ℕ) (own v : List Link) (e : Link) (p : Nib) → c < 41 → IsPrefix own v → 0 < length (chain_of c own) → p.right ≡ may_write → p.key ≡ next_of (chain_of c own)
+pub looks_moves : (c : ℕ) (own v : List Link) (e : Link) (p : Nib) → c < 42 → IsPrefix own v → 0 < length (chain_of c own) → p.right ≡ may_write → p.key ≡ next_of (chain_of c own)
     → e.chain ≡ c → e.place ≡ length (chain_of c own)
     → Moves AreChained shown moved c (v, (p, None)) (λ n. either (n == 1) 1 n) (Looks (step c 1 1 e) (v, (p, None)))
 looks_moves c own v e p few begins some right key chain place cs log kept pre away =

@@ -10,22 +10,29 @@ use Rattle.bank.specs.declared.bank.Applied.{Applied}
 use Rattle.bank.specs.Effect.{Memory, memory_at, with_bytes}
 use Rattle.bank.specs.Answer.{answer, Answer}
 use Rattle.bank.specs.Records.{EntryValue, ShareValue, JudgedValue, BankValue, after_command, after_entry, answer_of, entry_of, fits, fresh_bank, is_place_of, JournalValue, memory_of, next_share, number_left, numbers_of}
+use Rattle.annals.specs.declared.deed.Act.{Act}
+use Rattle.annals.specs.declared.deed.Act.TheVariants.{Leaves, Sets, Rotates, Publishes}
 use Rattle.annals.specs.declared.deed.Deed.{Deed}
-use Rattle.annals.specs.declared.deed.Deed.TheVariants.{Opens, Does, Sets, Asks, Publishes}
+use Rattle.annals.specs.declared.deed.Deed.TheVariants.{Opens, Does, Asks}
 use Rattle.annals.specs.declared.deed.Link.{Link}
-use Rattle.annals.specs.Chains.{ChainValue, Due, LineValue, IsLast, at_bank, chain_of}
+use Rattle.annals.specs.Chains.{ChainValue, Due, LineValue, IsLast, at_bank, chain_of, with_left}
 
 -- so many zero bytes from an address on
 abbrev pub zeros : ℕ × ℕ → Memory
 zeros extent = memory_at extent.0 (replicate extent.1 0)
 
+-- memory after an act
+abbrev pub after_act : Memory → Act → Memory
+after_act m (Leaves entry) = after_entry m entry
+after_act m (Sets setting) = with_bytes m setting.0 setting.1
+after_act m (Rotates room) = m
+after_act m (Publishes publish) = m
+
 -- memory after a deed
 abbrev pub after_deed : Memory → Deed → Memory
-after_deed m (Opens extent) = zeros extent
-after_deed m (Does entry) = after_entry m entry
-after_deed m (Sets setting) = with_bytes m setting.0 setting.1
+after_deed m (Opens opening) = zeros (opening.0, opening.1)
+after_deed m (Does act) = after_act m act
 after_deed m (Asks due) = m
-after_deed m (Publishes publish) = m
 
 -- memory after an entry of the history
 abbrev pub after_link : Memory → Link → Memory
@@ -37,11 +44,9 @@ memory_after bank log = fold after_link (zeros (0, 0)) (chain_of bank log)
 
 -- the entry of a journal that a deed left, if any, before those
 abbrev pub with_entry : Deed → List EntryValue → List EntryValue
-with_entry (Opens extent) entries = entries
-with_entry (Does entry) entries = entry ∷ entries
-with_entry (Sets setting) entries = entries
+with_entry (Opens opening) entries = entries
+with_entry (Does act) entries = with_left act entries
 with_entry (Asks due) entries = entries
-with_entry (Publishes publish) entries = entries
 
 -- the entries of journals that those deeds left, in order
 abbrev pub entries_in : List Link → List EntryValue
@@ -66,7 +71,7 @@ answer_after bank log judged = answer (memory_after bank log) true (command_of j
 pub record IsDone (bank : ℕ) (known reached : List Link) (share : ShareValue) (judged : JudgedValue) (result : Applied)
     (reply : List ℕ) : Type 0 where
   pub place : judged.place ≡ Bank bank
-  pub last : IsLast bank known reached (Does (entry_of share judged result.status))
+  pub last : IsLast bank known reached (Does (Leaves (entry_of share judged result.status)))
   pub status : result.status ≡ (answer_after bank last.before judged).status
   pub numbers : numbers_of judged.port (entries_of bank last.before) ≡ range_with_len 0 share.number
   pub reply_is : reply ≡ (answer_after bank last.before judged).reply

@@ -1,13 +1,16 @@
 -- The rule of one history for all banks of a node. Each bank has a chain in it: each entry of a chain names the cell whose
--- pen adds the next entry of that chain. The chain of a bank has the number of the bank, and a word of that key. Each port
--- has a chain too, its line, in which it asks for the entries of its commands before they are done.
+-- pen adds the next entry of that chain. The chain of a bank has the number of the bank, and a word of that key; one more has
+-- the publishes of programs. Each port has a chain too, its line, and so has the instrument: there each asks for what it does
+-- at the other chains before that is done.
 use Rattle.std.specs.Prelude.{ℕ, ◌≡◌, ◌<◌, ◌≤◌, ◌+◌, ◌==◌, true, List, [], ◌∷◌, ◌++◌, length, map, MatchBool, if◌then◌else◌}
 use Rattle.std.specs.List.{filter}
 use mathlib.Core.List.{IsPrefix}
 use Rattle.logbook.specs.Pages.{Cell, cell, Step, View, Book, Named, Nib, may_make, may_write}
 use Rattle.bank.specs.Records.{EntryValue}
+use Rattle.annals.specs.declared.deed.Act.{Act}
+use Rattle.annals.specs.declared.deed.Act.TheVariants.{Leaves, Sets, Rotates, Publishes}
 use Rattle.annals.specs.declared.deed.Deed.{Deed}
-use Rattle.annals.specs.declared.deed.Deed.TheVariants.{Opens, Does, Sets, Asks, Publishes}
+use Rattle.annals.specs.declared.deed.Deed.TheVariants.{Opens, Does, Asks}
 use Rattle.annals.specs.declared.deed.Link.{Link}
 
 -- that deed, which is the one of that place of its chain, behind which the pen of that cell adds
@@ -16,65 +19,91 @@ link chain place deed next = record { chain = chain; place = place; deed = deed;
 
 -- what a step asks that adds nothing
 abbrev pub blank : Link
-blank = link 0 0 (Opens (0, 0)) 0
+blank = link 0 0 (Opens (0, 0, 0)) 0
 
 -- the entries of a chain
 abbrev pub chain_of : ℕ → List Link → List Link
 chain_of c log = filter (λ (l : Link). l.chain == c) log
 
--- an entry of a journal, behind the number of its bank
+-- the number of the instrument's line: those of ports are below it
+abbrev pub instrument : ℕ
+instrument = 32
+
+-- whose act it is, by the number of the line: a port's, or the instrument's
+abbrev pub owner_of : Act → ℕ
+owner_of (Leaves entry) = entry.port
+owner_of (Sets setting) = instrument
+owner_of (Rotates room) = instrument
+owner_of (Publishes publish) = publish.0
+
+-- an act, behind the number of the chain at which it is done
 abbrev pub Due : Type 0
-Due = ℕ × EntryValue
+Due = ℕ × Act
 
 -- what a deed asks for, if anything, before those
 abbrev pub with_asked : Deed → List Due → List Due
-with_asked (Opens extent) dues = dues
-with_asked (Does entry) dues = dues
-with_asked (Sets setting) dues = dues
+with_asked (Opens opening) dues = dues
+with_asked (Does act) dues = dues
 with_asked (Asks due) dues = due ∷ dues
-with_asked (Publishes publish) dues = dues
 
 -- what is asked for, in order
 abbrev pub asked_in : List Link → List Due
 asked_in [] = []
 asked_in (l ∷ ls) = with_asked l.deed (asked_in ls)
 
--- the chain that is the line of a port: those of eight banks and one for what is published stand before
+-- the chain that is a line: those of eight banks and one for what is published stand before, and the instrument's is the first
 abbrev pub line_of : ℕ → ℕ
-line_of port = 9 + port
+line_of owner = if owner == instrument then 9 else 10 + owner
 
--- what a port asked for in its line, in order
+-- what was asked for in a line, in order
 abbrev pub asked_by : ℕ → List Link → List Due
-asked_by port log = asked_in (chain_of (line_of port) log)
+asked_by owner log = asked_in (chain_of (line_of owner) log)
 
--- the entry of that port that a deed at that bank left, if any, before those
-abbrev pub with_done : (port bank : ℕ) → Deed → List Due → List Due
-with_done port bank (Opens extent) dues = dues
-with_done port bank (Does entry) dues = if entry.port == port then (bank, entry) ∷ dues else dues
-with_done port bank (Sets setting) dues = dues
-with_done port bank (Asks due) dues = dues
-with_done port bank (Publishes publish) dues = dues
+-- the act of that line's owner that a deed of that chain did, if any, before those
+abbrev pub with_done : (owner chain : ℕ) → Deed → List Due → List Due
+with_done owner chain (Opens opening) dues = dues
+with_done owner chain (Does act) dues = if owner_of act == owner then (chain, act) ∷ dues else dues
+with_done owner chain (Asks due) dues = dues
 
--- the entries of a port that were left at all banks, in order
+-- what a line's owner did at all chains, in order
 abbrev pub done_for : ℕ → List Link → List Due
-done_for port [] = []
-done_for port (l ∷ ls) = with_done port l.chain l.deed (done_for port ls)
+done_for owner [] = []
+done_for owner (l ∷ ls) = with_done owner l.chain l.deed (done_for owner ls)
 
--- of those, the entries at that bank
+-- of those, the acts at that chain
+abbrev pub at_chain : ℕ → List Due → List Act
+at_chain chain dues = map (λ (d : Due). d.1) (filter (λ (d : Due). d.0 == chain) dues)
+
+-- the entry that an act leaves, if it leaves one, before those
+abbrev pub with_left : Act → List EntryValue → List EntryValue
+with_left (Leaves entry) entries = entry ∷ entries
+with_left (Sets setting) entries = entries
+with_left (Rotates room) entries = entries
+with_left (Publishes publish) entries = entries
+
+-- the entries that those acts leave, in order
+abbrev pub left_in : List Act → List EntryValue
+left_in [] = []
+left_in (act ∷ acts) = with_left act (left_in acts)
+
+-- the entries that are asked for at that bank
 abbrev pub at_bank : ℕ → List Due → List EntryValue
-at_bank bank dues = map (λ (d : Due). d.1) (filter (λ (d : Due). d.0 == bank) dues)
+at_bank bank dues = left_in (at_chain bank dues)
 
--- the deed may be the next at that bank: an entry has to be the next one that its port asked for
+-- the deed may be the next at that chain: an act has to be the next one that its owner asked for
 abbrev pub IsDue : ℕ → Deed → List Link → Type 0
-IsDue bank (Opens extent) log = Unit {0}
-IsDue bank (Does entry) log = asked_by entry.port log ≡ done_for entry.port log ++ (bank, entry) ∷ []
-IsDue bank (Sets setting) log = Unit {0}
-IsDue bank (Asks due) log = Unit {0}
-IsDue bank (Publishes publish) log = Unit {0}
+IsDue chain (Opens opening) log = Unit {0}
+IsDue chain (Does act) log = asked_by (owner_of act) log ≡ done_for (owner_of act) log ++ (chain, act) ∷ []
+IsDue chain (Asks due) log = Unit {0}
 
--- each port asked for its entries before they were left, in that order, each once
+-- each owner of a line asked for its acts before they were done, in that order, each once
 abbrev pub AreAsked : List Link → Type 0
-AreAsked log = (port : ℕ) → IsPrefix (done_for port log) (asked_by port log)
+AreAsked log = (owner : ℕ) → IsPrefix (done_for owner log) (asked_by owner log)
+
+-- what begins a history has of each line's owner the acts that begin those which the history has of him
+abbrev pub ActsGrow : Type 0
+ActsGrow =
+    (owner : ℕ) (known reached : List Link) → IsPrefix known reached → IsPrefix (done_for owner known) (done_for owner reached)
 
 -- the cell whose pen adds to the chain
 abbrev pub next_of : List Link → ℕ
@@ -92,12 +121,12 @@ AreHome cells [] = Unit {0}
 AreHome cells (l ∷ []) = Unit {0}
 AreHome cells (l ∷ m ∷ ls) = IsHome cells l.next × AreHome cells (m ∷ ls)
 
--- the words of the 41 chains are at home, a chain whose word is 0 has no entry, of each chain what each entry but the last
--- names was used, and what was left was asked for
+-- the words of the 42 chains are at home, a chain whose word is 0 has no entry, of each chain what each entry but the last
+-- names was used, and what was done was asked for
 pub record AreChained (cells : List Cell) (log : List Link) : Type 0 where
-  pub row : 41 ≤ length cells
-  pub homes : (c : ℕ) → c < 41 → IsHome cells c
-  pub begun : (c : ℕ) → c < 41 → (cell cells c).0 ≡ 0 → chain_of c log ≡ []
+  pub row : 42 ≤ length cells
+  pub homes : (c : ℕ) → c < 42 → IsHome cells c
+  pub begun : (c : ℕ) → c < 42 → (cell cells c).0 ≡ 0 → chain_of c log ≡ []
   pub used : (c : ℕ) → AreHome cells (chain_of c log)
   pub asked : AreAsked log
 
@@ -113,28 +142,28 @@ pub record ChainValue : Type 0 where
 -- the word is the chain's, and the pen is of the cell that the last entry of the chain names
 pub record IsHeld (home : Book) (word : Named) (pens : Book) (nib : Nib) (seen : Book) (log : List Link) : Type 0 where
   pub word_is : word ≡ word_of home word.key
-  pub few : word.key < 41
+  pub few : word.key < 42
   pub book : pens ≡ home
   pub seen_is : seen ≡ home
   pub right : nib.right ≡ may_write
   pub key : nib.key ≡ next_of (chain_of word.key log)
   pub some : 0 < length (chain_of word.key log)
 
--- a port's line: the port, and what it asked for, all of which was left
+-- a line: its number, which is a port's or the instrument's, and what was asked for in it, all of which was done
 pub record LineValue : Type 0 where
   pub port : ℕ
   pub asked : List Due
 
--- the chain is the line of that port, and where that was reached all that it asks for had been left
-pub record IsLine (port : ℕ) (chain : ChainValue) (reached : List Link) : Type 0 where
-  pub number : chain.number ≡ line_of port
-  pub left : IsPrefix (asked_by port chain.log) (done_for port reached)
+-- the chain is the line of that number, and where that was reached all that it asks for had been done
+pub record IsLine (owner : ℕ) (chain : ChainValue) (reached : List Link) : Type 0 where
+  pub number : chain.number ≡ line_of owner
+  pub left : IsPrefix (asked_by owner chain.log) (done_for owner reached)
 
--- the line, and behind what it asked for that entry at that bank
-abbrev pub line_with : LineValue → (bank : ℕ) → EntryValue → LineValue
-line_with line bank entry = record { port = line.port; asked = line.asked ++ (bank, entry) ∷ [] }
+-- the line, and behind what it asked for that act at that chain
+abbrev pub line_with : LineValue → (chain : ℕ) → Act → LineValue
+line_with line chain act = record { port = line.port; asked = line.asked ++ (chain, act) ∷ [] }
 
--- somebody has seen a beginning of a history of which the chain is whole, and what had been left was asked for
+-- somebody has seen a beginning of a history of which the chain is whole, and what had been done was asked for
 pub record IsWhole (chain : ChainValue) (front : List Link) : Type 0 where
   pub log : List Link
   pub seen : IsPrefix front log
@@ -152,13 +181,13 @@ pub record IsLast (bank : ℕ) (known reached : List Link) (deed : Deed) : Type 
 abbrev pub Draws : Step Link → View Link ℕ → ℕ → View Link ℕ → Type 0
 Draws s v found w = w.1.0.right ≡ may_make
 
--- the deed was added to a chain, of which all stands before it, and what had been left was asked for
+-- the deed was added to a chain, of which all stands before it, and what had been done was asked for
 pub record IsLastOf (chain : ChainValue) (known reached : List Link) (deed : Deed) : Type 0 where
   pub last : IsLast chain.number known reached deed
   pub whole : chain_of chain.number last.before ≡ chain_of chain.number chain.log
   pub asked : AreAsked last.before
 
--- before it, all that was seen, and so many entries of its chain, and what had been left was asked for
+-- before it, all that was seen, and so many entries of its chain, and what had been done was asked for
 pub record IsAdded (v w : List Link) (e : Link) : Type 0 where
   pub before : List Link
   pub log : w ≡ before ++ e ∷ []
@@ -179,6 +208,6 @@ Begins s v found w = MatchBool (found == s.old) (IsFirst v.0 w.0 s.ask) (Unit {0
 abbrev pub Adds : Step Link → View Link ℕ → ℕ → View Link ℕ → Type 0
 Adds s v found w = IsAdded v.0 w.0 s.ask
 
--- the chain is as long as was asked, the pen is as it was, and what had been left was asked for
+-- the chain is as long as was asked, the pen is as it was, and what had been done was asked for
 abbrev pub Looks : Step Link → View Link ℕ → ℕ → View Link ℕ → Type 0
 Looks s v found w = (length (chain_of s.ask.chain w.0) ≡ s.ask.place) × (w.1.0 ≡ v.1.0) × AreAsked w.0

@@ -8,7 +8,7 @@ ghost use Rattle.annals.specs.Chains.{word_of, chain_of, asked_in, IsDue, IsLast
 ghost use Rattle.annals.specs.Banks.{memory_after, zeros, entries_of};
 ghost use Rattle.annals.specs.Publishes.{publishes_in};
 
-use crate::deed::{Extent, Link, Tells};
+use crate::deed::{Link, OpensBank, Tells};
 use logbook::{Gain, Offer, Opening, Pen, Pens, Plain, Play, Rule, Seen, Start, Word};
 use std::marker::{Brand, Model, PhantomData};
 
@@ -128,7 +128,7 @@ impl Family for Brand {
 /// A pen of a new cell.
 fn drawn(word: &Word<Link, u64, Chained>, seen: &Seen<Link, u64, Chained>) -> Pen
     requires word { word.now ≡ word_of seen.now.book word.now.key }
-    requires few { word.now.key < 41 }
+    requires few { word.now.key < 42 }
     ensures book { result.book ≡ seen.now.book }
     ensures right { result.nib.right ≡ may_write }
 {
@@ -156,15 +156,15 @@ impl Model for Opened {
 
     ghost view = { λ o. (o.seen.book, o.pens.left) };
 
-    ghost invariant = { λ o. (o.pens.book ≡ o.seen.book) × (o.pens.next + o.pens.left ≡ 41) × (o.seen.log ≡ []) };
+    ghost invariant = { λ o. (o.pens.book ≡ o.seen.book) × (o.pens.next + o.pens.left ≡ 42) × (o.seen.log ≡ []) };
 }
 
 impl Opened {
     /// Opens a history.
     pub fn new() -> Opened
-        ensures { result.1 ≡ 41 }
+        ensures { result.1 ≡ 42 }
     {
-        let (seen, pens) = Seen::open_row::<(), Empty>(&(), Start::alone(), 41);
+        let (seen, pens) = Seen::open_row::<(), Empty>(&(), Start::alone(), 42);
         Opened { pens, seen }
     }
 
@@ -192,15 +192,15 @@ impl Opened {
         }
     }
 
-    /// The next chain, with its first entry, of a bank of so many zero bytes from an address on. `None` where it has one
-    /// already (no test met that). The condition is a chain that is left.
-    pub fn chain<J: Family>(&mut self, extent: (u32, u32)) -> Option<Chain<J>>
+    /// The next chain, with its first entry, of a bank of so many zero bytes from an address on, with room for so many
+    /// entries in its journal. `None` where it has one already (no test met that). The condition is a chain that is left.
+    pub fn chain<J: Family>(&mut self, opening: (u32, u32, u32)) -> Option<Chain<J>>
         requires family { self.old.0 ≡ J.book }
         requires left { 0 < self.old.1 }
         ensures left { self.new.1 + 1 ≡ self.old.1 }
         ensures family { self.new.0 ≡ self.old.0 }
-        ensures number { IfSome result (λ c. c.number + self.old.1 ≡ 41) }
-        ensures memory { IfSome result (λ c. memory_after c.number c.log ≡ zeros extent) }
+        ensures number { IfSome result (λ c. c.number + self.old.1 ≡ 42) }
+        ensures memory { IfSome result (λ c. memory_after c.number c.log ≡ zeros (opening.0, opening.1)) }
         ensures entries { IfSome result (λ c. entries_of c.number c.log ≡ []) }
         ensures asked { IfSome result (λ c. asked_in (chain_of c.number c.log) ≡ []) }
         ensures publishes { IfSome result (λ c. publishes_in (chain_of c.number c.log) ≡ []) }
@@ -209,15 +209,15 @@ impl Opened {
         let head: Word<Link, u64, Chained> = Word::tracked(0, &mut pen);
         let mut seen = self.seen.again();
         let fresh = drawn(&head, &seen);
-        let extent = Extent(extent);
+        let opening = OpensBank(opening);
         let mut offer: Offer<Link, u64, Chained, Nothing> = seen.plain::<
             Nothing,
-            Adding<Extent>,
+            Adding<OpensBank>,
             Add,
         >(&Adding {
             word: &head,
             seen: &seen,
-            told: &extent,
+            told: &opening,
             fresh: &fresh,
         });
         let mut none = seen.no_pen();
@@ -305,13 +305,13 @@ impl<J: Family> Chain<J> {
         ensures whole { IsWhole self.old front.now }
         ensures same { self.new ≡ self.old }
     {
-        let extent = Extent((0, 0));
+        let opening = OpensBank((0, 0, 0));
         let mut offer: Offer<Link, u64, Chained, Nothing> = self
             .seen
-            .plain::<Nothing, Adding<Extent>, Add>(&Adding {
+            .plain::<Nothing, Adding<OpensBank>, Add>(&Adding {
                 word: &self.word,
                 seen: &self.seen,
-                told: &extent,
+                told: &opening,
                 fresh: &self.pen,
             });
         let mut seen = self.seen.again();

@@ -6,18 +6,27 @@ use node_programs::Publish;
 use std::collections::LinkedList;
 use std::sync::Arc;
 
-/// What was done at a bank, asked for by a port, or done by what publishes programs. No value of it is made.
-pub enum Deed {
-    /// A bank began, with so many zero bytes from an address on. The other chains begin with one of none.
-    Opens((u32, u32)),
-    /// A judged command was done, and left that entry.
-    Does(Entry),
-    /// An instrument put those bytes at an address.
+/// What is asked for in a line, and then done: by a port, whose line that is, or by the instrument. No value of it is made.
+pub enum Act {
+    /// A judged command of a port leaves that entry in a bank's journal.
+    Leaves(Entry),
+    /// The instrument puts those bytes at an address of a bank.
     Sets((u32, LinkedList<u8>)),
-    /// A port asked for its next entry: that one, at the bank of that number.
-    Asks((u64, Entry)),
-    /// A program was published for a slot.
-    Publishes(Publish),
+    /// The instrument takes a bank's journal, and begins one with room for so many entries.
+    Rotates(u64),
+    /// A program is published for a slot: by the line of that number, which is a port's or the instrument's.
+    Publishes((u64, Publish)),
+}
+
+/// What a chain of the history has. No value of it is made.
+pub enum Deed {
+    /// A bank began, with so many zero bytes from an address on, and with room for so many entries in its journal. The other
+    /// chains begin with a bank of none.
+    Opens((u32, u32, u32)),
+    /// That was done: at a bank, or to what is published.
+    Does(Act),
+    /// That was asked for, at the chain of that number.
+    Asks((u64, Act)),
 }
 
 /// An entry of the history: a deed in the chain of that number, which is a bank's, that of the publishes, or a port's line, its
@@ -37,52 +46,91 @@ pub(crate) trait Tells {
     ghost deed: { Self → Deed };
 }
 
-impl Tells for Entry {
-    ghost use Rattle.annals.specs.declared.deed.Deed.TheVariants.{Does};
+/// What tells of an act.
+pub(crate) trait TellsAct {
+    ghost use Rattle.annals.specs.declared.deed.Act.{Act};
 
-    ghost deed = { λ entry. Does entry };
+    /// The act.
+    ghost act: { Self → Act };
 }
 
-/// A bank began, of so many zero bytes from an address on.
-#[derive(Drop)]
-pub(crate) struct Extent(pub(crate) (u32, u32));
+impl TellsAct for Entry {
+    ghost use Rattle.annals.specs.declared.deed.Act.TheVariants.{Leaves};
 
-impl Tells for Extent {
-    ghost use Rattle.annals.specs.declared.deed.Deed.TheVariants.{Opens};
-
-    ghost deed = { λ extent. Opens extent.0 };
+    ghost act = { λ entry. Leaves entry };
 }
 
-/// An instrument put bytes at an address.
+/// An instrument puts bytes at an address.
 #[derive(Drop)]
 pub(crate) struct Setting<'a> {
     pub(crate) address: u32,
     pub(crate) bytes: &'a [u8],
 }
 
-impl<'a> Tells for Setting<'a> {
-    ghost use Rattle.annals.specs.declared.deed.Deed.TheVariants.{Sets};
+impl<'a> TellsAct for Setting<'a> {
+    ghost use Rattle.annals.specs.declared.deed.Act.TheVariants.{Sets};
 
-    ghost deed = { λ setting. Sets (setting.address, setting.bytes.now) };
+    ghost act = { λ setting. Sets (setting.address, setting.bytes.now) };
 }
 
-/// A port asked for its next entry at the bank of that number.
+/// An instrument takes a journal, and begins one with room for so many entries.
 #[derive(Drop)]
-pub(crate) struct Asking<'a> {
-    pub(crate) bank: u8,
-    pub(crate) entry: &'a Entry,
+pub(crate) struct Rotation {
+    pub(crate) room: u32,
 }
 
-impl<'a> Tells for Asking<'a> {
-    ghost use Rattle.annals.specs.declared.deed.Deed.TheVariants.{Asks};
+impl TellsAct for Rotation {
+    ghost use Rattle.annals.specs.declared.deed.Act.TheVariants.{Rotates};
 
-    ghost deed = { λ asking. Asks (asking.bank, asking.entry.now) };
+    ghost act = { λ rotation. Rotates rotation.room };
 }
 
-impl Tells for (u8, Arc<Accepted>) {
+/// A program is published for a slot, by the line of that number.
+#[derive(Drop)]
+pub(crate) struct Publishing<'a> {
+    pub(crate) by: u8,
+    pub(crate) publish: &'a (u8, Arc<Accepted>),
+}
+
+impl<'a> TellsAct for Publishing<'a> {
     ghost use Rattle.std.specs.Arc.{arc_value};
     ghost use Rattle.node_programs.specs.Histories.{entry};
-    ghost use Rattle.annals.specs.declared.deed.Deed.TheVariants.{Publishes};
+    ghost use Rattle.annals.specs.declared.deed.Act.TheVariants.{Publishes};
 
-    ghost deed = { λ publish. Publishes (entry publish.0 (arc_value publish.1)) };
+    ghost act = { λ p. Publishes (p.by, entry p.publish.now.0 (arc_value p.publish.now.1)) };
+}
+
+/// An act was done.
+#[derive(Drop)]
+pub(crate) struct Doing<'a, A: TellsAct> {
+    pub(crate) act: &'a A,
+}
+
+impl<'a, A: TellsAct> Tells for Doing<'a, A> {
+    ghost use Rattle.annals.specs.declared.deed.Deed.TheVariants.{Does};
+
+    ghost deed = { λ doing. Does (A.act doing.act.now) };
+}
+
+/// An act was asked for, at the chain of that number.
+#[derive(Drop)]
+pub(crate) struct Asking<'a, A: TellsAct> {
+    pub(crate) chain: u8,
+    pub(crate) act: &'a A,
+}
+
+impl<'a, A: TellsAct> Tells for Asking<'a, A> {
+    ghost use Rattle.annals.specs.declared.deed.Deed.TheVariants.{Asks};
+
+    ghost deed = { λ asking. Asks (asking.chain, A.act asking.act.now) };
+}
+
+/// A bank began, of so many zero bytes from an address on, with room for so many entries.
+#[derive(Drop)]
+pub(crate) struct OpensBank(pub(crate) (u32, u32, u32));
+
+impl Tells for OpensBank {
+    ghost use Rattle.annals.specs.declared.deed.Deed.TheVariants.{Opens};
+
+    ghost deed = { λ opening. Opens opening.0 };
 }

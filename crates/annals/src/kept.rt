@@ -2,13 +2,14 @@
 
 ghost use Rattle.std.specs.Prelude.{◌≡◌, ◌<◌, ◌+◌, ℕ, [], IfSome, IfNone, length, true, false};
 ghost use Rattle.bank.specs.Records.{after_command, after_rotation, after_setting, answer_of, covers, entry_of, fits, is_place_of, memory_of, next_share, number_left};
-ghost use Rattle.annals.specs.declared.deed.Deed.TheVariants.{Sets};
+ghost use Rattle.annals.specs.declared.deed.Act.TheVariants.{Leaves, Rotates, Sets};
+ghost use Rattle.annals.specs.declared.deed.Deed.TheVariants.{Does};
 ghost use Rattle.annals.specs.Banks.{CountsOn, IsAppliedTo, IsDone, IsFresh, IsRefusedAt, takes};
-ghost use Rattle.annals.specs.Chains.{IsLast, chain_of, line_with};
+ghost use Rattle.annals.specs.Chains.{IsLast, chain_of, instrument, line_with};
 ghost use mathlib.Core.List.{IsPrefix};
 
 use crate::chains::{Chain, Family, Front, Opened};
-use crate::deed::Setting;
+use crate::deed::{Rotation, Setting};
 use crate::line::Line;
 use bank::{Applied, Bank, Journal, Judged, Share};
 use rmap::{Place, ReplyBuf};
@@ -40,14 +41,15 @@ impl<J: Family> Kept<J> {
     /// chain has an entry already (no test met that). Conditions: a bank as [`Bank::new`] makes it, and a chain that is left.
     pub fn new(number: u8, bank: Bank, opened: &mut Opened) -> Option<Kept<J>>
         requires family { opened.old.0 ≡ J.book }
-        requires number { (number < 9) × (number + opened.old.1 ≡ 41) }
+        requires number { (number < 9) × (number + opened.old.1 ≡ 42) }
         requires bank { IsFresh bank }
         ensures family { opened.new.0 ≡ opened.old.0 }
         ensures left { opened.new.1 + 1 ≡ opened.old.1 }
         ensures bank { IfSome result (λ kept. kept.bank ≡ bank) }
         ensures number { IfSome result (λ kept. kept.chain.number ≡ number) }
     {
-        let chain = opened.chain(bank.range())?;
+        let (first, size) = bank.range();
+        let chain = opened.chain((first, size, bank.room()))?;
         Some(Kept {
             number,
             bank,
@@ -86,7 +88,7 @@ impl<J: Family> Kept<J> {
             (λ n. IsDone self.old.chain.number front.old front.new share.old judged result reply.new) }
         ensures full { IfNone result.number (front.new ≡ front.old) }
         ensures asked { IfSome result.number (λ n. line.new
-            ≡ line_with line.old self.old.chain.number (entry_of share.old judged result.status)) }
+            ≡ line_with line.old self.old.chain.number (Leaves (entry_of share.old judged result.status))) }
         ensures unasked { IfNone result.number (line.new ≡ line.old) }
         ensures counted { CountsOn self.old.chain.number share.old share.new line.old line.new }
     {
@@ -127,7 +129,7 @@ impl<J: Family> Kept<J> {
             (λ n. IsDone self.old.chain.number front.old front.new share.old judged result reply.new) }
         ensures none { IfNone result.number (front.new ≡ front.old) }
         ensures asked { IfSome result.number (λ n. line.new
-            ≡ line_with line.old self.old.chain.number (entry_of share.old judged result.status)) }
+            ≡ line_with line.old self.old.chain.number (Leaves (entry_of share.old judged result.status))) }
         ensures unasked { IfNone result.number (line.new ≡ line.old) }
         ensures counted { CountsOn self.old.chain.number share.old share.new line.old line.new }
         ensures applied { takes self.old share.old judged ≡ true
@@ -151,35 +153,51 @@ impl<J: Family> Kept<J> {
         self.apply(front, line, share, judged, reply)
     }
 
-    /// Begins a new journal and hands the old one out, as [`Bank::rotate`] does. The history stays. The condition is an
-    /// empty journal.
-    pub fn rotate(&mut self, fresh: Journal) -> Journal
-        requires { fresh.entries ≡ [] }
+    /// Begins a new journal and hands the old one out, as [`Bank::rotate`] does, and adds that to the history, as the
+    /// instrument's line asks. Conditions: the line is the instrument's, and `fresh` is empty.
+    pub fn rotate(&mut self, front: &mut Front<J>, line: &mut Line<J>, fresh: Journal) -> Journal
+        requires line { line.old.port ≡ instrument }
+        requires empty { fresh.entries ≡ [] }
         ensures bank { self.new.bank ≡ after_rotation self.old.bank fresh }
         ensures journal { result ≡ self.old.bank.journal }
-        ensures chain { self.new.chain ≡ self.old.chain }
+        ensures number { self.new.chain.number ≡ self.old.chain.number }
+        ensures last { IsLast self.old.chain.number front.old front.new (Does (Rotates fresh.room)) }
+        ensures asked { line.new ≡ line_with line.old self.old.chain.number (Rotates fresh.room) }
     {
-        self.bank.rotate(fresh)
+        let room = fresh.room_left();
+        let journal = self.bank.rotate(fresh);
+        line.leave(front, &mut self.chain, self.number, &Rotation { room });
+        journal
     }
 
-    /// Puts bytes at an address without a command, as [`Bank::set`] does, and adds that to the history. Conditions: `fresh`
-    /// is empty, and the bytes lie inside ([`Bank::covers`]).
+    /// Puts bytes at an address without a command, as [`Bank::set`] does, and adds that to the history, as the instrument's line
+    /// asks. Conditions: the line is the instrument's, `fresh` is empty, and the bytes lie inside ([`Bank::covers`]).
     pub fn set(
         &mut self,
         front: &mut Front<J>,
+        line: &mut Line<J>,
         address: u32,
         bytes: &[u8],
         fresh: Journal,
     ) -> Journal
+        requires line { line.old.port ≡ instrument }
         requires empty { fresh.entries ≡ [] }
         requires inside { covers self.old.bank address (length bytes.now) ≡ true }
         ensures bank { self.new.bank ≡ after_setting self.old.bank address bytes.now fresh }
         ensures journal { result ≡ self.old.bank.journal }
         ensures number { self.new.chain.number ≡ self.old.chain.number }
-        ensures last { IsLast self.old.chain.number front.old front.new (Sets (address, bytes.now)) }
+        ensures last { IsLast self.old.chain.number front.old front.new
+            (Does (Sets (address, bytes.now))) }
+        ensures asked { line.new
+            ≡ line_with line.old self.old.chain.number (Sets (address, bytes.now)) }
     {
         let journal = self.bank.set(address, bytes, fresh);
-        self.chain.add(front, &Setting { address, bytes });
+        line.leave(
+            front,
+            &mut self.chain,
+            self.number,
+            &Setting { address, bytes },
+        );
         journal
     }
 

@@ -2,7 +2,8 @@
 
 ghost use Rattle.std.specs.Prelude.{◌⊎◌};
 ghost use mathlib.Core.List.{IsPrefix};
-ghost use Rattle.annals.specs.Publishes.{PublishesGrow};
+ghost use Rattle.annals.specs.Chains.{ActsGrow};
+ghost use Rattle.annals.specs.Publishes.{EntriesAreNoLoads, LoadsAreListed, LoadsAreNoEntries, PublishesGrow};
 
 use crate::chains::{Family, Front};
 
@@ -16,4 +17,17 @@ pub fn share_one_history<J: Family>(one: &Front<J>, other: &Front<J>)
 /// What begins a history has the publishes that begin the history's.
 pub fn publishes_grow()
     ensures { PublishesGrow }
+{}
+
+/// What begins a history has of each line's owner the acts that begin those which the history has of him.
+pub fn acts_grow()
+    ensures { ActsGrow }
+{}
+
+/// What a line asks for at banks and what it asks to publish are apart, and what it asks to publish last is the last of its
+/// publishes.
+pub fn loads_are_apart()
+    ensures loads { LoadsAreNoEntries }
+    ensures entries { EntriesAreNoLoads }
+    ensures listed { LoadsAreListed }
 {}

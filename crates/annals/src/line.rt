@@ -1,19 +1,22 @@
-//! The line of a port: what it asked for, and the right to ask.
+//! A line: what a port, or the instrument, asked for, and the right to ask.
 
 ghost use Rattle.std.specs.Prelude.{◌≡◌, ◌<◌, ◌+◌, ℕ, [], IfSome};
 ghost use mathlib.Core.List.{IsPrefix};
 ghost use Rattle.annals.specs.declared.deed.Deed.TheVariants.{Does};
 ghost use Rattle.bank.specs.Records.{numbers_of};
 ghost use Rattle.annals.specs.Banks.{entries_of, numbers_at};
-ghost use Rattle.annals.specs.Chains.{IsLastOf, done_for, line_with};
+ghost use Rattle.annals.specs.Chains.{IsLastOf, done_for, instrument, line_of, line_with, owner_of};
 
 use crate::chains::{Chain, Family, Front, Opened};
-use crate::deed::Asking;
-use bank::Entry;
+use crate::deed::{Asking, Doing, TellsAct};
 use std::marker::Model;
 
-/// A port's line of the history, whole, and the right to add to it, which nobody else has. In it the port asks for each entry
-/// of its commands before a bank has it. Contracts see it as the port, and what it asked for, all of which was left.
+/// The number of the instrument's line. Those of ports are below it.
+const INSTRUMENT: u8 = 32;
+
+/// A line of the history, whole, and the right to add to it, which nobody else has. In it a port asks for each entry of its
+/// commands before a bank has it, and for each publish before it is one; in the instrument's line all that is asked for which no
+/// command does. Contracts see it as its number, which is the port's, and what was asked for, all of which was done.
 #[derive(Drop)]
 pub struct Line<J: Family> {
     port: u8,
@@ -32,6 +35,20 @@ impl<J: Family> Model for Line<J> {
 }
 
 impl<J: Family> Line<J> {
+    /// The line of that number in which nothing was asked for, as the next chain of a history.
+    fn begin(port: u8, opened: &mut Opened) -> Option<Line<J>>
+        requires family { opened.old.0 ≡ J.book }
+        requires number { line_of port + opened.old.1 ≡ 42 }
+        requires some { 0 < opened.old.1 }
+        ensures family { opened.new.0 ≡ opened.old.0 }
+        ensures left { opened.new.1 + 1 ≡ opened.old.1 }
+        ensures line { IfSome result (λ line. line ≡ record { port = port; asked = [] }) }
+    {
+        let left = opened.front();
+        let chain = opened.chain((0, 0, 0))?;
+        Some(Line { port, chain, left })
+    }
+
     /// The line of a port that asked for nothing, as the next chain of a history. `None` where the chain has an entry already
     /// (no test met that). The conditions are a chain that is left, and that of the port.
     pub fn new(port: u8, opened: &mut Opened) -> Option<Line<J>>
@@ -41,43 +58,61 @@ impl<J: Family> Line<J> {
         ensures left { opened.new.1 + 1 ≡ opened.old.1 }
         ensures line { IfSome result (λ line. line ≡ record { port = port; asked = [] }) }
     {
-        let left = opened.front();
-        let chain = opened.chain((0, 0))?;
-        Some(Line { port, chain, left })
+        Line::begin(port, opened)
     }
 
-    /// The port.
+    /// The line of the instrument, in which nothing was asked for, as the next chain of a history. `None` where the chain has an
+    /// entry already (no test met that). The condition is a history of which the chains of banks and of publishes are taken or
+    /// left out, and no other.
+    pub fn of_instrument(opened: &mut Opened) -> Option<Line<J>>
+        requires family { opened.old.0 ≡ J.book }
+        requires number { opened.old.1 ≡ 33 }
+        ensures family { opened.new.0 ≡ opened.old.0 }
+        ensures left { opened.new.1 ≡ 32 }
+        ensures line { IfSome result (λ line. line ≡ record { port = instrument; asked = [] }) }
+    {
+        Line::begin(INSTRUMENT, opened)
+    }
+
+    /// The number of the line: the port's.
     pub fn port(&self) -> u8
         ensures { result ≡ self.now.port }
     {
         self.port
     }
 
-    /// Adds an entry of the port to the chain of the bank of that number, behind all that is known of the chain and all that
-    /// somebody has seen, who then has seen it too: the line asks for it, and the chain has it. The conditions are the chain of
-    /// that bank, and an entry of the port.
-    pub(crate) fn leave(
+    /// Does an act at the chain of that number, behind all that is known of the chain and all that somebody has seen, who then
+    /// has seen it too: the line asks for it, and the chain has it. The conditions are that chain, and an act of the line's owner.
+    pub(crate) fn leave<A: TellsAct>(
         &mut self,
         front: &mut Front<J>,
         chain: &mut Chain<J>,
-        bank: u8,
-        entry: &Entry,
+        number: u8,
+        act: &A,
     )
-        requires bank { chain.old.number ≡ bank }
-        requires port { entry.now.port ≡ self.old.port }
+        requires chain { chain.old.number ≡ number }
+        requires own { owner_of (A.act act.now) ≡ self.old.port }
         ensures number { chain.new.number ≡ chain.old.number }
         ensures log { chain.new.log ≡ front.new }
-        ensures added { IsLastOf chain.old front.old front.new (Does entry.now) }
-        ensures asked { self.new ≡ line_with self.old bank entry.now }
+        ensures added { IsLastOf chain.old front.old front.new (Does (A.act act.now)) }
+        ensures asked { self.new ≡ line_with self.old number (A.act act.now) }
     {
         chain.tell(front);
         front.learn(&self.left);
-        self.chain.add(front, &Asking { bank, entry });
-        chain.push(front, entry);
+        self.chain.add(front, &Asking { chain: number, act });
+        chain.push(front, &Doing { act });
         self.left = front.again();
     }
 
-    /// What anybody has seen of the entries of the port begins what the port asked for, over all banks and at each of them.
+    /// Somebody learns so much of the history that all which was asked for in the line stands there, done.
+    pub fn tell(&self, front: &mut Front<J>)
+        ensures known { IsPrefix front.old front.new }
+        ensures told { IsPrefix self.now.asked (done_for self.now.port front.new) }
+    {
+        front.learn(&self.left);
+    }
+
+    /// What anybody has seen of the acts of the line's owner begins what was asked for in it, over all chains, and at each bank.
     pub fn knows_all(&mut self, front: &Front<J>)
         ensures begins { IsPrefix (done_for self.old.port front.now) self.old.asked }
         ensures numbers { (bank : ℕ) → IsPrefix (numbers_of self.old.port (entries_of bank front.now))

@@ -7,8 +7,10 @@ use Rattle.clap.specs.declared.error.kind.ErrorKind.{ErrorKind}
 use Rattle.clap.specs.declared.error.kind.ErrorKind.TheVariants.{OutOfMemory}
 use Rattle.job_charts.specs.CompareJob.{compare_app, NamesCompare, SpoilsCompare}
 use Rattle.job_charts.specs.MapJob.{map_app, NamesMap, SpoilsMap}
+use Rattle.job_config.specs.NodeLines.{NamesNodeLines, SpoilsNodeLines}
 use Rattle.job_decide.specs.DecideJob.{decide_app, NamesDecide, SpoilsDecide}
 use Rattle.job_live.specs.Words.{live_app, NamesLive, SpoilsLive}
+use Rattle.job_node_file.specs.NodeFileJob.{NamesNodeFile, node_file_app}
 use Rattle.job_rehearse.specs.RehearseJob.{rehearse_app, NamesRehearse, SpoilsRehearse}
 use Rattle.job_parts.specs.Lines.{NamesLines, SpoilsLines}
 use Rattle.job_texts.specs.AsmJob.{asm_app, NamesAsm}
@@ -38,6 +40,7 @@ use Rattle.commands.specs.declared.jobs.Job.TheVariants.{
   Explain,
   Why,
   Weigh,
+  Node,
   Packet,
   Show,
   Decide,
@@ -85,9 +88,9 @@ unfoldable pub rmapctl_app : App
 rmapctl_app =
     with_chart_jobs
     (with_packet_jobs
-    (with_subcommand (with_subcommand (with_subcommand (with_subcommand
+    (with_subcommand (with_subcommand (with_subcommand (with_subcommand (with_subcommand
     (with_subcommand (with_subcommand (with_first_jobs (on_top rmapctl_shape (new_app (codes "rmapctl"))))
-    serve_app.top) sim_app.top) live_app.top) explain_app.top) why_app.top) weigh_app.top))
+    serve_app.top) sim_app.top) live_app.top) explain_app.top) why_app.top) weigh_app.top) node_file_app.top))
 
 -- the subcommand that clap finds in the words, with its matches
 abbrev pub subcommand_in : List Text → Option (Text × List Row)
@@ -99,7 +102,7 @@ Names None work = ⊥
 Names (Some found) (Once (Assemble words)) = (found.0 ≡ codes "asm") × NamesAsm found.1 words
 Names (Some found) (Once (Disassemble words)) = (found.0 ≡ codes "dis") × NamesDis found.1 words
 Names (Some found) (Once (Verify args)) = (found.0 ≡ codes "verify") × NamesImage found.1 args
-Names (Some found) (Once (Judge args)) = (found.0 ≡ codes "judge") × NamesLines found.1 args
+Names (Some found) (Once (Judge args)) = (found.0 ≡ codes "judge") × NamesNodeLines found.1 args
 Names (Some found) (Once (Policy words)) = (found.0 ≡ codes "policy") × NamesPolicy found.1 words
 Names (Some found) (Once (Serve args)) = (found.0 ≡ codes "serve") × NamesLines found.1 args
 Names (Some found) (Once (Simulate args)) = (found.0 ≡ codes "sim") × NamesLines found.1 args
@@ -107,6 +110,7 @@ Names (Some found) (Live words) = (found.0 ≡ codes "live") × NamesLive found.
 Names (Some found) (Once (Explain words)) = (found.0 ≡ codes "explain") × NamesExplain found.1 words
 Names (Some found) (Once (Why args)) = (found.0 ≡ codes "why") × NamesImage found.1 args
 Names (Some found) (Once (Weigh words)) = (found.0 ≡ codes "weigh") × NamesWeigh found.1 words
+Names (Some found) (Once (Node words)) = (found.0 ≡ codes "node") × NamesNodeFile found.1 words
 Names (Some found) (Once (Packet words)) = (found.0 ≡ codes "packet") × NamesPacket found.1 words
 Names (Some found) (Once (Show words)) = (found.0 ≡ codes "show") × NamesShow found.1 words
 Names (Some found) (Once (Decide words)) = (found.0 ≡ codes "decide") × NamesDecide found.1 words
@@ -127,7 +131,7 @@ abbrev pub Spoils : Word → List Row → Type 0
 Spoils word.Asm rows = (first_of (codes "text") rows ≡ None) ⊎ (first_of (codes "image") rows ≡ None)
 Spoils word.Dis rows = first_of (codes "image") rows ≡ None
 Spoils word.Verify rows = SpoilsImage rows
-Spoils word.Judge rows = SpoilsLines rows
+Spoils word.Judge rows = SpoilsNodeLines rows
 Spoils word.Policy rows = SpoilsPolicy rows
 Spoils word.Serve rows = SpoilsLines rows
 Spoils word.Sim rows = SpoilsLines rows
@@ -135,6 +139,7 @@ Spoils word.Live rows = SpoilsLive rows
 Spoils word.Explain rows = SpoilsExplain rows
 Spoils word.Why rows = SpoilsImage rows
 Spoils word.Weigh rows = SpoilsWeigh rows
+Spoils word.Node rows = first_of (codes "node") rows ≡ None
 Spoils word.Packet rows = SpoilsPacket rows
 Spoils word.Show rows = first_of (codes "lines") rows ≡ None
 Spoils word.Decide rows = SpoilsDecide rows

@@ -12,6 +12,7 @@ use Rattle.commands.specs.declared.jobs.Job.TheVariants.{
   Explain,
   Why,
   Weigh,
+  Node,
   Packet,
   Show,
   Decide,
@@ -34,6 +35,7 @@ is_dump (Simulate args) = false
 is_dump (Explain words) = false
 is_dump (Why args) = false
 is_dump (Weigh words) = false
+is_dump (Node words) = false
 is_dump (Packet words) = false
 is_dump (Show words) = words.raw
 is_dump (Decide words) = false

@@ -22,6 +22,7 @@ use Rattle.job_show.specs.Shown.{IsNotShown, ShowsFile}
 use Rattle.job_texts.specs.Verified.{Verifies}
 use Rattle.job_trace.specs.Traced.{IsNotTraced, TracesFile}
 use Rattle.job_weigh.specs.Weighed.{Weighs}
+use Rattle.job_node_file.specs.Printed.{IsNotTold, PrintsNodeFile}
 use Rattle.job_parts.specs.declared.faults.Fault.{Fault}
 use Rattle.job_parts.specs.declared.faults.Fault.TheVariants.{NoMemory}
 use Rattle.job_parts.specs.declared.status.Status.{Status}
@@ -38,6 +39,7 @@ use Rattle.commands.specs.declared.jobs.Job.TheVariants.{
   Explain,
   Why,
   Weigh,
+  Node,
   Packet,
   Show,
   Decide,
@@ -66,6 +68,7 @@ module _ {S : Type 0} (reads : Reads S) (writes : Writes S) where
   IsDone (Explain words) before after old new status = (after ≡ before) × IsDoneWith (Explains old new) status
   IsDone (Why args) before after old new status = ExplainsFile reads args before after old new status
   IsDone (Weigh words) before after old new status = IsDoneWith (Weighs reads words before after old new) status
+  IsDone (Node words) before after old new status = IsDoneWith (PrintsNodeFile reads words before after old new) status
   IsDone (Packet words) before after old new status = MakesFile reads words before after old new status
   IsDone (Show words) before after old new status =
       IsDoneWith (ShowsFile reads before (string_bytes words.lines) after old new) status
@@ -94,6 +97,7 @@ module _ {S : Type 0} (reads : Reads S) (writes : Writes S) where
       IsUnread reads before (string_bytes args.image) after fault × (new ≡ old)
   IsEnded (Weigh words) before after old new fault =
       IsNoProgram reads before (string_bytes words.image) words.sizes after fault × (new ≡ old)
+  IsEnded (Node words) before after old new fault = IsNotTold reads words before after fault × (new ≡ old)
   IsEnded (Packet words) before after old new fault = IsNotMade reads words before after fault × (new ≡ old)
   IsEnded (Show words) before after old new fault =
       IsNotShown reads before (string_bytes words.lines) after old new fault

@@ -1,7 +1,7 @@
 -- The words of the subcommands.
 use Rattle.std.specs.Prelude.{◌≡◌, ◌≢◌, ℕ, List, codes}
 use Rattle.commands.specs.declared.word.Word.{Word}
-use Rattle.commands.specs.declared.word.Word.TheVariants.{Asm, Dis, Verify, Judge, Policy, Serve, Sim, Live, Explain, Why, Weigh, Packet, Show, Decide, Trace, Compare, Map, Rehearse}
+use Rattle.commands.specs.declared.word.Word.TheVariants.{Asm, Dis, Verify, Judge, Policy, Serve, Sim, Live, Explain, Why, Weigh, Node, Packet, Show, Decide, Trace, Compare, Map, Rehearse}
 
 -- how a word is written
 abbrev pub name_of : Word → List ℕ
@@ -16,6 +16,7 @@ name_of Live = codes "live"
 name_of Explain = codes "explain"
 name_of Why = codes "why"
 name_of Weigh = codes "weigh"
+name_of Node = codes "node"
 name_of Packet = codes "packet"
 name_of Show = codes "show"
 name_of Decide = codes "decide"

@@ -1,15 +1,18 @@
 //! What is told on standard error of a job that ended, after what it printed.
 
+use crate::denied_loads::told_denied;
 use crate::hints::told_fault;
 use crate::jobs::{Job, JobEnd};
 use crate::line_paths::LinePaths;
 use crate::noted::{Cause, Noted};
+use crate::shut_doors::told_shut;
 use crate::slips::{told_misuse, told_output};
 use job_codes::forms::form_line;
+use job_config::sources::NodeSource;
 use job_packets::orders::Order;
+use job_packets::packet::PacketWords;
 use job_parts::bad_lines::BadLine;
 use job_parts::faults::Fault;
-use job_parts::options::NodeWords;
 use job_parts::status::Status;
 use spw::{LineFault, lines_of};
 use std::alloc::{AllocError, Global};
@@ -59,6 +62,11 @@ fn add_bad_line(
     write!(text, "    line {number} fault {code}: {told}\n")
 }
 
+/// Adds where a node's file has its fault, and what is wanted there.
+fn add_place(text: &mut String, place: &str) -> Result<(), AllocError> {
+    write!(text, "    {place}\n")
+}
+
 /// Adds what is told of a job that failed.
 fn add_failed(
     text: &mut String,
@@ -74,6 +82,7 @@ fn add_failed(
             None => text.push_str(told_output(job)),
         },
         Some(Fault::BadLine { number, fault }) => add_bad_line(text, job, *number, *fault),
+        Some(Fault::BadNode { place, .. }) => add_place(text, place.as_str()),
         Some(Fault::BadImage(_)) => add_form(text, alloc, noted.last()),
         Some(Fault::BadText(_) | Fault::BadTable(_)) | None => match noted.text() {
             Some(read) => text.push_str(told_fault(alloc, job, read)?.as_str()),
@@ -119,11 +128,37 @@ fn add_full(text: &mut String, full: Option<usize>) -> Result<(), AllocError> {
     text.push_str("a command for it has status 1 in place of 0; live has no such end\n")
 }
 
-/// Whether the job makes the packets of loads, and so does not look whether their file is an image.
-fn is_load(job: &Job) -> bool {
-    match job {
-        Job::Packet(words) => matches!(words.order, Order::Load { .. }),
-        _ => false,
+/// Adds what is told of loads that were made into packets: that the file is no image, which nothing looked at, or that the
+/// same load is denied after them.
+fn add_load(
+    text: &mut String,
+    alloc: Global,
+    words: &PacketWords,
+    image: Option<&[u8]>,
+) -> Result<(), AllocError> {
+    add_form(text, alloc, image)?;
+    match image {
+        Some(image) => text.push_str(told_denied(alloc, words, image)?),
+        None => Ok(()),
+    }
+}
+
+/// Adds what is told of a job that is done: of `policy`, that its table lets nobody load another, unless that is meant; of loads,
+/// what [`add_load`] adds.
+fn add_done(
+    text: &mut String,
+    alloc: Global,
+    job: &Job,
+    noted: &Noted<'_>,
+) -> Result<(), AllocError> {
+    match (job, noted.text()) {
+        (Job::Packet(words), _) if matches!(words.order, Order::Load { .. }) => {
+            add_load(text, alloc, words, noted.last())
+        }
+        (Job::Policy(words), Some(table)) if !words.is_final => {
+            text.push_str(told_shut(alloc, table)?)
+        }
+        _ => Ok(()),
     }
 }
 
@@ -142,8 +177,7 @@ pub fn told_end(
 ) -> Result<String, AllocError> {
     let mut text = String::new(alloc);
     match end.status {
-        Status::Done if is_load(job) => add_form(&mut text, alloc, noted.last())?,
-        Status::Done => {}
+        Status::Done => add_done(&mut text, alloc, job, noted)?,
         Status::Misused => text.push_str(told_misuse(job))?,
         Status::Failed => add_failed(&mut text, alloc, job, &end.fault, noted)?,
     }
@@ -154,17 +188,35 @@ pub fn told_end(
     Ok(text)
 }
 
-/// What is told of a talk whose node could not be made of these words, after its fault was sent: why the image could not be read,
-/// or what it is that is none. It is empty where there is nothing to tell.
+/// Adds why the first file of a node could not be read, or what it is that is none.
+fn add_unread(
+    text: &mut String,
+    alloc: Global,
+    node: &NodeSource,
+    noted: &Noted<'_>,
+) -> Result<(), AllocError> {
+    match (node.input(), noted.cause()) {
+        (Some(file), Some(cause)) => add_cause(text, file.name, Some(cause)),
+        _ => add_form(text, alloc, noted.last()),
+    }
+}
+
+/// What is told of a talk whose node could not be made of this source, after its fault was sent: where the node's file has its
+/// fault, why a file could not be read, or what it is that is none. It is empty where there is nothing to tell.
 ///
 /// # Errors
 ///
 /// Where memory was refused.
-pub fn told_node(alloc: Global, node: &NodeWords, noted: &Noted<'_>) -> Result<String, AllocError> {
+pub fn told_node(
+    alloc: Global,
+    node: &NodeSource,
+    place: Option<&str>,
+    noted: &Noted<'_>,
+) -> Result<String, AllocError> {
     let mut text = String::new(alloc);
-    match (&node.image, noted.cause()) {
-        (Some(name), Some(cause)) => add_cause(&mut text, name.as_str(), Some(cause))?,
-        _ => add_form(&mut text, alloc, noted.last())?,
+    match place {
+        Some(place) => add_place(&mut text, place)?,
+        None => add_unread(&mut text, alloc, node, noted)?,
     }
     Ok(text)
 }

@@ -1,16 +1,20 @@
 //! What more is told of a text or a table with a fault, behind the line that tells the fault.
 
+use crate::further_faults::add_further;
 use crate::jobs::Job;
 use basm::{AsmCode, AsmFault, assemble};
 use basm_lex::{is_name, read_mnemonic};
 use machine::{MapKind, MapSizes};
-use policy::{RuleWord, Table, TableFault};
+use policy::{Policy, RuleWord, StatementFault, TableFault, TextFault};
 use spw::{lines_of, words_of};
 use std::alloc::{AllocError, Global};
 
 /// How a table is written.
 const TABLE_FORM: &str =
     "lines end in a line feed alone; words are parted by spaces; there are no comments";
+
+/// How a table of version 2 is written.
+const TEXT_FORM: &str = "lines end in a line feed alone; words are parted by spaces";
 
 /// How the lines of a program's text end.
 const LINE_FORM: &str = "lines end in a line feed alone";
@@ -152,31 +156,77 @@ fn add_quota(
     add_cells(text, sizes)
 }
 
-/// What more is told of the first fault of a table, for a node with maps of these sizes.
-fn told_table(alloc: Global, table: &str, sizes: &MapSizes) -> Result<String, AllocError> {
-    let mut text = String::new(alloc);
-    let Err(fault) = Table::read_for(alloc, table, sizes) else {
-        return Ok(text);
-    };
+/// Adds what is told of a fault of a table of version 1.
+fn add_plain(
+    text: &mut String,
+    alloc: Global,
+    table: &str,
+    sizes: &MapSizes,
+    fault: TableFault,
+) -> Result<(), AllocError> {
     let line = match line_of(fault) {
         Some(number) => line_at(table, number),
         None => "",
     };
     match fault {
-        TableFault::BadWord { word, .. } => add_word(&mut text, alloc, line, word)?,
+        TableFault::BadWord { word, .. } => add_word(text, alloc, line, word),
         TableFault::BadCount {
             line: number,
             words,
-        } => add_count(&mut text, line, number, words)?,
-        TableFault::NoCell(_) => add_quota(&mut text, alloc, line, sizes)?,
-        TableFault::TooLong(_) | TableFault::BadRange(_) | TableFault::Memory => {}
+        } => add_count(text, line, number, words),
+        TableFault::NoCell(_) => add_quota(text, alloc, line, sizes),
+        TableFault::TooLong(_) | TableFault::BadRange(_) | TableFault::Memory => Ok(()),
     }
+}
+
+/// Adds what is told of a fault of a line of a table of version 2: the line, and of a quota which cells the maps have.
+fn add_line(
+    text: &mut String,
+    line: &str,
+    sizes: &MapSizes,
+    fault: StatementFault,
+) -> Result<(), AllocError> {
+    let spelled = line.escape_debug();
+    write!(text, "    the line is {spelled}")?;
+    if !is_seen(line) {
+        write!(text, ": {TEXT_FORM}")?;
+    }
+    text.push('\n')?;
+    let StatementFault::NoCell { .. } = fault else {
+        return Ok(());
+    };
+    if sizes.maps() == 0 {
+        return text.push_str("    without --maps there are no maps\n");
+    }
+    text.push_str("    --maps says ")?;
+    add_list(text, sizes)?;
+    add_cells(text, sizes)
+}
+
+/// What more is told of the first fault of a table, for a node with maps of these sizes, and where each further fault is.
+fn told_table(alloc: Global, table: &str, sizes: &MapSizes) -> Result<String, AllocError> {
+    let mut text = String::new(alloc);
+    let Err(fault) = Policy::read_for(alloc, table, sizes) else {
+        return Ok(text);
+    };
+    let first = match fault {
+        TextFault::Plain(fault) => {
+            add_plain(&mut text, alloc, table, sizes, fault)?;
+            line_of(fault)
+        }
+        TextFault::Line { line, fault } => {
+            add_line(&mut text, line_at(table, line), sizes, fault)?;
+            Some(line)
+        }
+        TextFault::TooLong(_) => None,
+    };
+    add_further(&mut text, alloc, table, sizes, first)?;
     Ok(text)
 }
 
 /// The same of a job that told the fault's number alone: where it is, too, and first.
 fn told_placed(alloc: Global, table: &str, sizes: &MapSizes) -> Result<String, AllocError> {
-    let Err(fault) = Table::read_for(alloc, table, sizes) else {
+    let Err(fault) = Policy::read_for(alloc, table, sizes) else {
         return Ok(String::new(alloc));
     };
     let more = told_table(alloc, table, sizes)?;
@@ -272,7 +322,7 @@ fn table_sizes(job: &Job) -> Option<&MapSizes> {
 
 /// Whether a text is a table that has a rule.
 fn is_table(alloc: Global, text: &str) -> bool {
-    match Table::read(alloc, text) {
+    match Policy::read(alloc, text) {
         Ok(table) => !table.rules().is_empty(),
         Err(_) => false,
     }

@@ -8,7 +8,9 @@ use job_charts::compare::{CompareWords, compare_file};
 use job_charts::map::{MapWords, map_file};
 use job_codes::explain::{ExplainWords, explain};
 use job_codes::why::why_file;
+use job_config::node_lines::NodeLines;
 use job_decide::decide::{DecideWords, decide_file};
+use job_node_file::node_file::{NodeFileWords, print_node_file};
 use job_nodes::judge::judge_file;
 use job_nodes::sim::sim_file;
 use job_packets::made_packets::packet_file;
@@ -40,7 +42,7 @@ use target::{Family, Opened};
 #[derive(Debug, Drop)]
 pub enum Job {
     /// Judges each packet line of a file, and prints what comes of it.
-    Judge(LinesArgs),
+    Judge(NodeLines),
     /// Serves the packet lines of a file on all ports at once, and prints the replies by port.
     Serve(LinesArgs),
     /// Steps through the events of a file, and prints what each comes to.
@@ -61,6 +63,8 @@ pub enum Job {
     Why(ImageArgs),
     /// Verifies a BPF image, and prints what a run of it costs at most.
     Weigh(WeighWords),
+    /// Prints the node of a node's file, as lines or as a header of C.
+    Node(NodeFileWords),
     /// Makes packet lines: of a command, or of a load.
     Packet(PacketWords),
     /// Prints in words what packet lines are.
@@ -79,15 +83,15 @@ impl Job {
     /// What the job reads and writes.
     pub fn inputs(&self) -> Inputs<'_> {
         match self {
-            Job::Judge(args) | Job::Serve(args) | Job::Simulate(args) | Job::Trace(args) => {
-                args.inputs()
-            }
+            Job::Judge(args) => args.inputs(),
+            Job::Serve(args) | Job::Simulate(args) | Job::Trace(args) => args.inputs(),
             Job::Assemble(words) => words.inputs(),
             Job::Disassemble(words) => words.inputs(),
             Job::Verify(args) => args.inputs(),
             Job::Why(args) => args.told_inputs(),
             Job::Policy(words) => words.inputs(),
             Job::Weigh(words) => words.inputs(),
+            Job::Node(words) => words.inputs(),
             Job::Packet(words) => words.inputs(),
             Job::Show(words) => words.inputs(),
             Job::Decide(words) => words.inputs(),
@@ -140,6 +144,7 @@ fn attempt<'a, J: Family + Send + Sync + 'static, R: Threads + Wait + Sync, F: F
         Job::Explain(words) => explain(alloc, words, out),
         Job::Why(args) => why_file(alloc, args, files, out),
         Job::Weigh(words) => weigh_file(alloc, words, files, out),
+        Job::Node(words) => print_node_file(alloc, words, files, out),
         Job::Packet(words) => packet_file(alloc, words, files, out),
         Job::Show(words) => show_file(alloc, words.lines.as_str(), files, out),
         Job::Decide(words) => decide_file(alloc, words, files, out),

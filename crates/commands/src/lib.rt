@@ -2,13 +2,16 @@
 #![tactic(auto)]
 
 mod asked;
+mod denied_loads;
 mod dumps;
 mod ends;
+mod further_faults;
 mod hints;
 mod jobs;
 mod line_paths;
 mod noted;
 mod shows;
+mod shut_doors;
 mod slips;
 mod told_files;
 mod told_talk;
@@ -22,6 +25,8 @@ pub use ends::{told_end, told_node};
 pub use job_charts::compare::CompareWords;
 pub use job_charts::map::MapWords;
 pub use job_codes::explain::ExplainWords;
+pub use job_config::node_lines::NodeLines;
+pub use job_config::sources::NodeSource;
 pub use job_decide::decide::DecideWords;
 pub use job_frames::holding::live_frames;
 pub use job_frames::host::HostLink;
@@ -30,11 +35,11 @@ pub use job_live::host::HostTalk;
 pub use job_live::live::live;
 pub use job_live::talk::Talk;
 pub use job_live::words::LiveWords;
+pub use job_node_file::node_file::NodeFileWords;
 pub use job_packets::orders::{Order, Source};
 pub use job_packets::packet::PacketWords;
 pub use job_packets::packet_options::HeaderWords;
 pub use job_parts::faults::Fault;
-pub use job_parts::options::NodeWords;
 pub use job_parts::status::Status;
 pub use job_parts::stops::WriteFault;
 pub use job_parts::storage::{Cannot, Files};

@@ -53,7 +53,7 @@ pub fn is_image(bytes: &[u8]) -> bool {
 pub fn most_of(content: Content) -> u64 {
     match content {
         Content::Lines => u64::MAX,
-        Content::Text | Content::Table | Content::ImageOrText => MAX_TEXT + 1,
+        Content::Text | Content::Table | Content::ImageOrText | Content::Node => MAX_TEXT + 1,
         Content::Image => MAX_IMAGE,
         Content::Bytes(enough) => enough,
     }
@@ -64,7 +64,7 @@ pub fn most_of(content: Content) -> u64 {
 fn no_content(content: Content, bytes: &[u8]) -> Option<Cause> {
     match content {
         Content::Lines => no_text(bytes),
-        Content::Text | Content::Table => match too_long(bytes) {
+        Content::Text | Content::Table | Content::Node => match too_long(bytes) {
             Some(cause) => Some(cause),
             None => no_text(bytes),
         },
@@ -163,7 +163,8 @@ impl<'a> Noted<'a> {
     {
         match self.inputs.next() {
             Some(input) => input.content,
-            None => Content::Bytes(u64::MAX),
+            // A file that the node's own names: no bank has more bytes.
+            None => Content::Bytes(MAX_TEXT + 1),
         }
     }
 
@@ -194,6 +195,26 @@ impl<'a> Noted<'a> {
             }
             Content::Lines => {}
             _ => self.last = Vec::from_slice(alloc, bytes).ok(),
+        }
+    }
+
+    /// Keeps the bytes of a file that was read again, as those that were read last.
+    pub fn keep_last(&mut self, bytes: Vec<u8>)
+        ensures { reads_dump self.new ≡ reads_dump self.old }
+    {
+        self.last = Some(bytes);
+    }
+
+    /// The bytes of a text, of which nothing is kept.
+    ///
+    /// `Cannot` if they are no text, or one that is too long; then the cause is noted.
+    pub fn lent(&mut self, bytes: Vec<u8>) -> Result<Vec<u8>, Cannot>
+        ensures given { IfOk result (λ given. given.items ≡ bytes.items) }
+        ensures dump { reads_dump self.new ≡ reads_dump self.old }
+    {
+        match no_content(Content::Text, bytes.as_slice()) {
+            Some(cause) => Err(self.refuse(cause)),
+            None => Ok(bytes),
         }
     }
 

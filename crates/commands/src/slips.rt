@@ -5,6 +5,7 @@ use crate::usage::command_line;
 use clap::ArgMatches;
 use clap::error::ErrorKind;
 use job_codes::explain::codes_of;
+use job_config::sources::beside_node;
 use job_packets::orders::Order;
 use job_packets::packet::packet_words;
 use job_packets::slips::{PacketFault, PacketWord, Slip};
@@ -96,8 +97,16 @@ fn code_line(alloc: Global, code: &str) -> Result<String, AllocError> {
     format!(in alloc; "    CODE is {code}: the number of {codes}\n")
 }
 
+/// The line of an option of the node that stands beside its file.
+fn beside_line(alloc: Global, name: &str) -> Result<String, AllocError> {
+    format!(in alloc; "    --{name} is there beside --node: the node's file says it\n")
+}
+
 /// The line of an option that words of any other job have.
 fn option_line(alloc: Global, found: &ArgMatches) -> Result<String, AllocError> {
+    if let Some(name) = beside_node(found) {
+        return beside_line(alloc, name);
+    }
     if let Err(UsageFault::BadOption) = sizes_of(alloc, found) {
         return line_of(alloc, "--maps", text_of(found, "maps"), MAPS);
     }

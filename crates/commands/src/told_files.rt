@@ -2,11 +2,13 @@
 
 ghost use Rattle.std.specs.Prelude.{⊤};
 
-use crate::jobs::Job;
-use crate::noted::{Cause, Noted, most_of};
-use job_parts::inputs::{InputFile, Inputs};
+use crate::ends::told_end;
+use crate::jobs::{Job, JobEnd};
+use crate::noted::{Cause, MAX_TEXT, Noted, most_of};
+use job_parts::inputs::{Content, InputFile, Inputs};
+use job_parts::status::Status;
 use job_parts::storage::{Cannot, Files};
-use std::alloc::Global;
+use std::alloc::{AllocError, Global};
 use std::fs::Metadata;
 use std::io::Read;
 use std::os::unix::fs::MetadataExt;
@@ -92,6 +94,34 @@ impl<'a, R: rt::Files + Input> ToldFiles<'a, R> {
         &self.noted
     }
 
+    /// What is told of the job that ended so ([`told_end`]). The text of a program is read again for it if it has a fault: no copy is
+    /// kept of a text.
+    ///
+    /// # Errors
+    ///
+    /// If memory was refused.
+    pub fn told_end(
+        &mut self,
+        alloc: Global,
+        job: &Job,
+        end: &JobEnd<'_>,
+    ) -> Result<String, AllocError> {
+        if let (Job::Assemble(words), Status::Failed) = (job, end.status) {
+            self.recall(alloc, words.text.as_str());
+        }
+        told_end(alloc, job, end, &self.noted)
+    }
+
+    /// Reads a text again and keeps it, if it was not kept and can be read.
+    fn recall(&mut self, alloc: Global, name: &str) {
+        if self.noted.cause().is_some() || name == STANDARD_INPUT {
+            return;
+        }
+        if let Ok(bytes) = self.bytes(alloc, name, MAX_TEXT + 1) {
+            self.noted.keep_last(bytes);
+        }
+    }
+
     /// The bytes of the file `name`, at most so many.
     fn bytes(&self, alloc: Global, name: &str, most: u64) -> io::Result<Vec<u8>> {
         if name == STANDARD_INPUT {
@@ -109,6 +139,9 @@ impl<R: rt::Files + Input> Files for ToldFiles<'_, R> {
     fn read(&mut self, alloc: Global, name: &str) -> Result<Vec<u8>, Cannot> {
         let content = self.noted.next();
         match self.bytes(alloc, name, most_of(content)) {
+            Ok(bytes) if content == Content::Text && name != STANDARD_INPUT => {
+                self.noted.lent(bytes)
+            }
             Ok(bytes) => self.noted.given(alloc, content, bytes),
             Err(refused) => Err(self.noted.refuse(Cause::System(refused))),
         }

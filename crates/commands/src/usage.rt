@@ -17,8 +17,10 @@ use job_charts::compare::{compare_command, compare_job};
 use job_charts::map::{map_command, map_job};
 use job_codes::explain::{explain_command, explain_job};
 use job_codes::why::why_command;
+use job_config::node_lines::node_lines;
 use job_decide::decide::{decide_command, decide_job};
 use job_live::words::{live_command, live_job};
+use job_node_file::node_file::{node_file_command, node_file_job};
 use job_nodes::judge::judge_command;
 use job_nodes::sim::sim_command;
 use job_packets::packet::{packet_command, packet_job};
@@ -94,6 +96,7 @@ pub(crate) fn command_line<'a>(alloc: Global) -> Result<Command<'a>, AllocError>
     let explain = explain_command(alloc)?;
     let why = why_command(alloc)?;
     let weigh = weigh_command(alloc)?;
+    let node = node_file_command(alloc)?;
     let rmapctl = Command::new(alloc, "rmapctl").bin_name("rmapctl")?;
     let about = "An RMAP target whose commands are judged by BPF programs";
     let top = rmapctl
@@ -108,7 +111,8 @@ pub(crate) fn command_line<'a>(alloc: Global) -> Result<Command<'a>, AllocError>
         .subcommand(live)?
         .subcommand(explain)?
         .subcommand(why)?
-        .subcommand(weigh)?;
+        .subcommand(weigh)?
+        .subcommand(node)?;
     let told = with_packet_jobs(alloc, all)?;
     with_chart_jobs(alloc, told)
 }
@@ -136,13 +140,14 @@ fn work_named(alloc: Global, word: Word, rows: &ArgMatches) -> Result<Work, Usag
         Word::Asm => Job::Assemble(asm_job(alloc, rows)?),
         Word::Dis => Job::Disassemble(dis_job(alloc, rows)?),
         Word::Verify => Job::Verify(image_args(alloc, rows)?),
-        Word::Judge => Job::Judge(lines_args(alloc, rows)?),
+        Word::Judge => Job::Judge(node_lines(alloc, rows)?),
         Word::Policy => Job::Policy(policy_job(alloc, rows)?),
         Word::Serve => Job::Serve(lines_args(alloc, rows)?),
         Word::Sim => Job::Simulate(lines_args(alloc, rows)?),
         Word::Explain => Job::Explain(explain_job(alloc, rows)?),
         Word::Why => Job::Why(image_args(alloc, rows)?),
         Word::Weigh => Job::Weigh(weigh_job(alloc, rows)?),
+        Word::Node => Job::Node(node_file_job(alloc, rows)?),
         Word::Packet => Job::Packet(packet_job(alloc, rows)?),
         Word::Show => Job::Show(show_job(alloc, rows)?),
         Word::Decide => Job::Decide(decide_job(alloc, rows)?),

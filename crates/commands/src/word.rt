@@ -28,6 +28,8 @@ pub enum Word {
     Why,
     /// `weigh`.
     Weigh,
+    /// `node`.
+    Node,
     /// `packet`.
     Packet,
     /// `show`.
@@ -61,6 +63,7 @@ impl Word {
             "explain" => Some(Word::Explain),
             "why" => Some(Word::Why),
             "weigh" => Some(Word::Weigh),
+            "node" => Some(Word::Node),
             "packet" => Some(Word::Packet),
             "show" => Some(Word::Show),
             "decide" => Some(Word::Decide),

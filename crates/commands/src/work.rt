@@ -1,8 +1,8 @@
 //! What a command line names.
 
 use crate::jobs::Job;
+use job_config::sources::NodeSource;
 use job_live::words::LiveWords;
-use job_parts::options::NodeWords;
 use job_show::show::ShowWords;
 
 /// The name of standard input.
@@ -25,9 +25,9 @@ pub enum Course<'a> {
     /// What lines of standard input are is told as they come ([`show_talk`](crate::show_talk)).
     Show(&'a ShowWords),
     /// A talk is held in lines.
-    Lines(&'a NodeWords),
+    Lines(&'a NodeSource),
     /// A talk is held in frames.
-    Frames(&'a NodeWords),
+    Frames(&'a NodeSource),
 }
 
 impl Work {

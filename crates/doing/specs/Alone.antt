@@ -11,6 +11,7 @@ use Rattle.commands.specs.declared.jobs.Job.TheVariants.{
   Explain,
   Why,
   Weigh,
+  Node,
   Packet,
   Show,
   Decide,
@@ -32,6 +33,7 @@ IsAlone (Simulate args) = Unit {0}
 IsAlone (Explain words) = Unit {0}
 IsAlone (Why args) = Unit {0}
 IsAlone (Weigh words) = Unit {0}
+IsAlone (Node words) = Unit {0}
 IsAlone (Packet words) = Unit {0}
 IsAlone (Show words) = Unit {0}
 IsAlone (Decide words) = Unit {0}

@@ -16,6 +16,7 @@ use Rattle.commands.specs.declared.jobs.Job.TheVariants.{
   Explain,
   Why,
   Weigh,
+  Node,
   Packet,
   Show,
   Decide,
@@ -99,6 +100,7 @@ DoesOnce (Simulate args) before left = DoesJob (Simulate args) before left
 DoesOnce (Explain words) before left = DoesJob (Explain words) before left
 DoesOnce (Why args) before left = DoesJob (Why args) before left
 DoesOnce (Weigh words) before left = DoesJob (Weigh words) before left
+DoesOnce (Node words) before left = DoesJob (Node words) before left
 DoesOnce (Packet words) before left = DoesJob (Packet words) before left
 DoesOnce (Decide words) before left = DoesJob (Decide words) before left
 DoesOnce (Trace args) before left = DoesJob (Trace args) before left

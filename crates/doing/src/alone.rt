@@ -11,6 +11,7 @@ use job_charts::map::map_file;
 use job_codes::explain::explain;
 use job_codes::why::why_file;
 use job_decide::decide::decide_file;
+use job_node_file::node_file::print_node_file;
 use job_nodes::judge::judge_file;
 use job_nodes::sim::sim_file;
 use job_packets::made_packets::packet_file;
@@ -55,6 +56,7 @@ fn attempt<'a, F: Files, W: Write>(
         Job::Explain(words) => explain(alloc, words, out),
         Job::Why(args) => why_file(alloc, args, files, out),
         Job::Weigh(words) => weigh_file(alloc, words, files, out),
+        Job::Node(words) => print_node_file(alloc, words, files, out),
         Job::Packet(words) => packet_file(alloc, words, files, out),
         Job::Show(words) => show_file(alloc, words.lines.as_str(), files, out),
         Job::Decide(words) => decide_file(alloc, words, files, out),

@@ -108,12 +108,14 @@ fn talk_lines<'a>(
     let slate = Slate::new(alloc);
     let mut speech = Speech::new(alloc, &slate, input.as_slice(), false);
     let mut desk = Desk::new(folder, Noted::new(words.node.inputs()));
-    let Ok(status) = live(alloc, &words.node, &mut desk, &mut speech) else {
+    let mut place = None;
+    let Ok(status) = live(alloc, &words.node, &mut desk, &mut speech, &mut place) else {
         return Err(AllocError);
     };
     let out = speech.into_out();
     let mut told = slate.into_told();
-    told.push_str(told_node(alloc, &words.node, desk.noted())?.as_str())?;
+    let why = told_node(alloc, &words.node, place.as_deref(), desk.noted())?;
+    told.push_str(why.as_str())?;
     let done = Done {
         status: status.code(),
         out,

@@ -17,7 +17,7 @@ use Rattle.regions.specs.declared.points.Point.{Point}
 use Rattle.charts.specs.Points.{point_of}
 use Rattle.charts.specs.Witness.{instruction_for, length_for}
 use Rattle.job_decide.specs.DecideJob.{own_windows}
-use Rattle.job_nodes.specs.declared.node.TheConstants.{NODE_ADDRESS}
+use Rattle.job_config.specs.declared.own_node.TheConstants.{NODE_ADDRESS}
 
 -- how many bytes of data the command of a point has: as many as lie from its first address to its last
 abbrev pub count_at : Point → ℕ

@@ -10,8 +10,8 @@ ghost use Rattle.job_charts.specs.Packets.{PacketsHavePoints, body_for, command_
 ghost use Rattle.job_decide.specs.DecideJob.{own_windows};
 
 use initiator::{CommandFields, body_with_crc, write_command};
+use job_config::own_node::NODE_ADDRESS;
 use job_decide::node_windows::own_windows;
-use job_nodes::node::NODE_ADDRESS;
 use regions::Point;
 use rmap::{Command, Instruction, Kind, header_check};
 use spw::{End, Packet};

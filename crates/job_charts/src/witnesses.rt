@@ -5,7 +5,7 @@ ghost use Rattle.charts.specs.declared.lines.Line.{Line};
 ghost use Rattle.job_charts.specs.Witnesses.{HasNoCommand, IsWitness};
 
 use charts::{Line, point_in};
-use job_nodes::node::{BANK_BASE, BANK_SIZE};
+use job_config::own_node::{BANK_BASE, BANK_SIZE};
 use regions::{ByteSet, Point, Region, Stretch};
 use rmap::{BOOT_WINDOW, CONTROL_SIZE, LOAD_REGISTER, LOAD_RESULT_SIZE, STAGING_SIZE};
 

@@ -29,6 +29,7 @@ use Rattle.policy_table.specs.Codes.{policy_fault_of_code}
 use Rattle.rmap.specs.Codes.{discard_of_code, status_of_code}
 use Rattle.node_parts.specs.Loads.{load_refusal_of_code}
 use Rattle.job_parts.specs.BadLines.{bad_line_of_number}
+use Rattle.job_parts.specs.NodeCodes.{node_code_of}
 use Rattle.job_codes.specs.declared.topics.CodeKind.{CodeKind}
 use Rattle.job_codes.specs.declared.topics.CodeKind.TheVariants.{
   Verifier,
@@ -41,6 +42,7 @@ use Rattle.job_codes.specs.declared.topics.CodeKind.TheVariants.{
   Status,
   Load,
   Policy,
+  Node,
 }
 
 -- the kind at a place of the order in which codes are listed, the last one at every later place
@@ -55,7 +57,8 @@ kind_at place =
     else (if place == 6 then Discard
     else (if place == 7 then Status
     else (if place == 8 then Load
-    else Policy))))))))
+    else (if place == 9 then Policy
+    else Node)))))))))
 
 -- the letters before the number
 abbrev pub kind_word : CodeKind → List ℕ
@@ -69,6 +72,7 @@ kind_word Discard = codes "discard"
 kind_word Status = codes "status"
 kind_word Load = codes "load"
 kind_word Policy = codes "policy"
+kind_word Node = codes "node"
 
 -- the kind has a code of the number
 abbrev pub has_code : CodeKind → ℕ → Bool
@@ -82,6 +86,7 @@ has_code Discard n = is_some (discard_of_code n)
 has_code Status n = is_some (status_of_code n)
 has_code Load n = is_some (load_refusal_of_code n)
 has_code Policy n = is_some (policy_fault_of_code n)
+has_code Node n = is_some (node_code_of n)
 
 -- the text of a code: the letters of its kind, and its number in decimal
 abbrev pub code_text : CodeKind → ℕ → List ℕ

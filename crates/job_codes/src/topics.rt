@@ -10,6 +10,7 @@ use bpf_insn::BadInsn;
 use bver::Refusal;
 use frames::FrameFault;
 use job_parts::bad_lines::BadLine;
+use job_parts::node_codes::NodeCode;
 use node_parts::LoadRefusal;
 use policy::PolicyFault;
 use rmap::{Discard, Status};
@@ -41,10 +42,12 @@ pub enum CodeKind {
     Load,
     /// A fault of a policy table: `policy1`.
     Policy,
+    /// A fault of a node's file: `node5`.
+    Node,
 }
 
 /// How many kinds there are.
-pub const KINDS: u8 = 10;
+pub const KINDS: u8 = 11;
 
 /// What a code tells.
 #[derive(Clone, Copy, Debug)]
@@ -69,6 +72,8 @@ pub enum Topic {
     Load(LoadRefusal),
     /// A policy table is none, or makes no program.
     Policy(PolicyFault),
+    /// A node's file says no node.
+    Node(NodeCode),
 }
 
 impl Topic {
@@ -86,6 +91,7 @@ impl Topic {
             Topic::Status(status) => format!(in alloc; "{status}"),
             Topic::Load(refusal) => format!(in alloc; "{refusal}"),
             Topic::Policy(fault) => format!(in alloc; "{fault}"),
+            Topic::Node(fault) => format!(in alloc; "{fault}"),
         }
     }
 
@@ -102,6 +108,7 @@ impl Topic {
             Topic::Status(status) => status.advice(),
             Topic::Load(refusal) => refusal.advice(),
             Topic::Policy(fault) => fault.advice(),
+            Topic::Node(fault) => fault.advice(),
         }
     }
 }
@@ -147,7 +154,8 @@ impl CodeKind {
             6 => CodeKind::Discard,
             7 => CodeKind::Status,
             8 => CodeKind::Load,
-            _ => CodeKind::Policy,
+            9 => CodeKind::Policy,
+            _ => CodeKind::Node,
         }
     }
 
@@ -166,6 +174,7 @@ impl CodeKind {
             CodeKind::Status => "status",
             CodeKind::Load => "load",
             CodeKind::Policy => "policy",
+            CodeKind::Node => "node",
         }
     }
 
@@ -184,6 +193,7 @@ impl CodeKind {
             CodeKind::Status => Some(Topic::Status(Status::from_code(number)?)),
             CodeKind::Load => load_topic(number),
             CodeKind::Policy => Some(Topic::Policy(PolicyFault::from_code(number)?)),
+            CodeKind::Node => Some(Topic::Node(NodeCode::from_number(number)?)),
         }
     }
 

@@ -1,10 +1,9 @@
 -- A packet that is answered in the room that was taken before.
 use Rattle.std.proofs.Common.{◌≡◌, ℕ, List, [], ◌++◌, length, Some, sym, ap, subst, ◌∙◌}
-use Rattle.std.specs.Prelude.{slice_get}
 use Rattle.std.proofs.lemmas.List.{append-nil}
 use Rattle.spw.specs.Cargo.{Cargo}
 use Rattle.node_parts.specs.declared.served.Served.{Served}
-use Rattle.job_nodes.specs.JobNode.{JobNodeValue, Serves, is_full}
+use Rattle.job_nodes.specs.JobNode.{JobNodeValue, Serves}
 use Rattle.job_live.specs.Answering.{IsReady, MakesRoom}
 use Rattle.job_frames.specs.Answering.{AnswersPacket, due_of}
 use Rattle.job_frames.specs.Told.{discard_words, served_text}
@@ -22,7 +21,7 @@ packet_answered packet frame before ready after words end old mid reply text ser
   ready = ready;
   journal = made.begun;
   served = served;
-  room = subst (λ (l : List ℕ). MakesRoom (is_full (slice_get before.banks 0)) before ready (Some l) (Some made.begun)) none made.room;
+  room = subst (λ (l : List ℕ). MakesRoom before ready (Some l) (Some made.begun)) none made.room;
   serves = serves;
   replied = replied;
   told = tells made.begun frame made.at (made.text ∙ ap (λ (l : List ℕ). made.begun ++ l) is);

@@ -1,14 +1,13 @@
 -- A node behind a link: what it makes of what comes with a frame.
-use Rattle.std.specs.Prelude.{◌≡◌, ℕ, ◌+◌, ◌-◌, ◌^◌, min, Bool, true, false, List, [], ◌∷◌, ◌++◌, Some, slice_get}
-use Rattle.bank.specs.Records.{JournalValue}
+use Rattle.std.specs.Prelude.{◌≡◌, ℕ, ◌+◌, ◌-◌, ◌^◌, min, Bool, true, false, List, [], ◌∷◌, ◌++◌, length, Some}
 use Rattle.spw.specs.Cargo.{Cargo}
 use Rattle.node_parts.specs.declared.served.Served.{Served}
 use Rattle.frames.specs.Streams.{reply_frame_of}
 use Rattle.frames.specs.declared.came.Came.{Came}
 use Rattle.frames.specs.declared.came.Came.TheVariants.{Whole, Piece, Time, Other}
-use Rattle.job_nodes.specs.JobNode.{HandsOut, JobNodeValue, Serves, is_full}
+use Rattle.job_nodes.specs.JobNode.{JobNodeValue, Serves}
 use Rattle.job_live.specs.Answering.{MakesRoom}
-use Rattle.job_live.specs.Telling.{journal_text}
+use Rattle.job_live.specs.Journals.{Turns, journals_text}
 use Rattle.job_frames.specs.Told.{fault_line, served_text}
 use Rattle.frames.specs.declared.faults.FrameFault.TheVariants.{ForBridge, CutOff}
 
@@ -36,12 +35,12 @@ due_of [] = []
 due_of (byte ∷ reply) = reply_frame_of (byte ∷ reply)
 
 -- a packet, which ended with the frame of that number, met a journal with room for its command, and was served; its reply is
--- due, and behind it is told the journal that was full, if one was, and that the packet was discarded, if it was
+-- due, and behind it are told the journals that were full, and that the packet was discarded, if it was
 pub record AnswersPacket (packet : Cargo) (frame : ℕ) (before after : JobNodeValue) (reply text : List ℕ) : Type 0 where
   pub ready : JobNodeValue
   pub journal : List ℕ
   pub served : Served
-  pub room : MakesRoom (is_full (slice_get before.banks 0)) before ready (Some []) (Some journal)
+  pub room : MakesRoom before ready (Some []) (Some journal)
   pub serves : Serves served 0 packet ready after
   pub replied : reply ≡ due_of after.reply
   pub told : text ≡ journal ++ served_text frame served
@@ -78,8 +77,7 @@ abbrev pub cut_text : (is_whole : Bool) → (frame : ℕ) → List ℕ
 cut_text true frame = []
 cut_text false frame = fault_line frame CutOff
 
--- the text that is due where no more bytes come: behind that the entries of the journal, which was handed out
+-- the text that is due where no more bytes come: behind that the entries of the journals, which were handed out
 pub record EndsWith (is_whole : Bool) (behind : AnsweringValue) (after : JobNodeValue) (text : List ℕ) : Type 0 where
-  pub journal : JournalValue
-  pub handed_out : HandsOut behind.node after journal
-  pub told : text ≡ cut_text is_whole (next_number behind) ++ journal_text journal.entries
+  pub turned : Turns true (length behind.node.banks) behind.node after
+  pub told : text ≡ cut_text is_whole (next_number behind) ++ journals_text true behind.node.banks

@@ -1,26 +1,23 @@
 -- The job that answers frames: what it reads, sends and tells.
 use Rattle.std.specs.Prelude.{◌≡◌, ◌⊎◌, ◌&&◌, ℕ, Bool, true, false, not, List, codes}
 use Rattle.std.specs.Borrow.{Bor}
+use Rattle.job_config.specs.declared.sources.NodeSource.{NodeSource}
 use Rattle.job_parts.specs.Files.{Reads}
 use Rattle.job_parts.specs.declared.faults.Fault.{Fault}
 use Rattle.job_parts.specs.declared.faults.Fault.TheVariants.{CannotRead, NoMemory}
-use Rattle.job_parts.specs.declared.options.NodeWords.{NodeWords}
 use Rattle.job_parts.specs.declared.status.Status.{Status}
 use Rattle.job_parts.specs.declared.status.Status.TheVariants.{Done, Failed, Misused}
 use Rattle.job_parts.specs.declared.stops.Halt.{Halt}
 use Rattle.job_parts.specs.declared.stops.Halt.TheVariants.{Ended, Unwritten}
 use Rattle.job_parts.specs.declared.stops.WriteFault.{WriteFault}
 use Rattle.job_nodes.specs.JobNode.{JobNodeValue}
-use Rattle.job_live.specs.LiveJob.{IsLiveNode, IsNoLiveNode, TellsLast}
+use Rattle.job_nodes.specs.Sources.{HoldsNoNode, HoldsNode}
+use Rattle.job_live.specs.LiveJob.{TellsLast}
 use Rattle.frames.specs.Reading.{Reading, first_reading, is_between}
 use Rattle.linking.specs.Linking.{Fails, IsCutOff, IsWholeLink, Moves}
 use Rattle.linking.specs.declared.link.Broken.{Broken}
 use Rattle.linking.specs.declared.link.Broken.TheVariants.{Unread, Unsent, Untold, NoMemory as NoRoom}
 use Rattle.job_frames.specs.Answering.{Answers, AnsweringValue, EndsWith, Refuses, first_answering}
-
--- the words of a node, which has one port: the link
-abbrev pub with_link : NodeWords → NodeWords
-with_link words = record { image = words.image; sizes = words.sizes; ports = 1 }
 
 -- whether bytes ended between two frames, and no packet goes on
 abbrev pub ends_whole : Reading → AnsweringValue → Bool
@@ -79,36 +76,46 @@ module _ {L : Type 0} (came sent told : Moves L) (unread : Fails L) (unsent unto
   StopsLink start read before after from to halt =
       StopsBefore start read before after from to halt ⊎ StopsAtEnd start read before after from to halt
 
--- nothing was read, and no frame came to the node, which is a fresh one of these words with one port, whose commands the program
--- judges that its files give
-pub record AreReady {S : Type 0} (reads : Reads S) (words : NodeWords) (before : S) (read : Reading) (behind : AnsweringValue) (after : S) :
+-- nothing was read, and no frame came to the node, which is that of the source
+pub record AreReady {S : Type 0} (reads : Reads S) (source : NodeSource) (before : S) (read : Reading) (behind : AnsweringValue) (after : S) :
     Type 0 where
   pub fresh : JobNodeValue
-  pub node : IsLiveNode reads (with_link words) before fresh after
+  pub node : HoldsNode reads source before fresh after
   pub untouched : behind ≡ first_answering fresh
   pub unread : read ≡ first_reading
 
-module _ {S L : Type 0} (reads : Reads S) (came sent told : Moves L) (unread : Fails L) (unsent untold : Moves L) (words : NodeWords) where
-  -- a link was held to its end on the node of the words
+-- the node of the source was made, but memory was refused to the reader of frames
+pub record IsReaderUnmade {S : Type 0} (reads : Reads S) (source : NodeSource) (before after : S) (fault : Fault) : Type 0 where
+  pub fresh : JobNodeValue
+  pub node : HoldsNode reads source before fresh after
+  pub is_fault : fault ≡ NoMemory
+
+-- there is no node of the source, or no reader of frames
+abbrev pub IsNoLink : {S : Type 0} (reads : Reads S) (source : NodeSource) (before after : S) → Fault → Type 0
+IsNoLink reads source before after fault =
+    HoldsNoNode reads source before after fault ⊎ IsReaderUnmade reads source before after fault
+
+module _ {S L : Type 0} (reads : Reads S) (came sent told : Moves L) (unread : Fails L) (unsent untold : Moves L) (source : NodeSource) where
+  -- a link was held to its end on the node of the source
   pub record HoldsFrames (before after : S) (start stop : L) (is_whole : Bool) : Type 0 where
     pub fresh : JobNodeValue
     pub left : JobNodeValue
     pub read : Reading
-    pub node : IsLiveNode reads (with_link words) before fresh after
+    pub node : HoldsNode reads source before fresh after
     pub link : HoldsLink came sent told first_reading read (first_answering fresh) left start stop is_whole
 
-  -- a link on the node of the words was cut off
+  -- a link on the node of the source was cut off
   pub record BreaksFrames (before after : S) (start stop : L) (halt : Halt) : Type 0 where
     pub fresh : JobNodeValue
     pub left : JobNodeValue
     pub read : Reading
-    pub node : IsLiveNode reads (with_link words) before fresh after
+    pub node : HoldsNode reads source before fresh after
     pub broken : StopsLink came sent told unread unsent untold first_reading read (first_answering fresh) left start stop halt
 
   -- why no link was held to its end: there is no such node, and nothing came, was sent or was told; or a link was cut off
   abbrev pub IsUnheld : (before after : S) (start stop : L) → Halt → Type 0
   IsUnheld before after start stop (Ended fault) =
-      (IsNoLiveNode reads (with_link words) before after fault × (stop ≡ start))
+      (IsNoLink reads source before after fault × (stop ≡ start))
       ⊎ BreaksFrames before after start stop (Ended fault)
   IsUnheld before after start stop (Unwritten refused) = BreaksFrames before after start stop (Unwritten refused)
 

@@ -2,16 +2,15 @@
 
 ghost use Rattle.std.specs.Prelude.{◌≡◌, IfErr, IfOk, OnOk, if◌then◌else◌};
 ghost use Rattle.job_parts.specs.declared.status.Status.TheVariants.{Done, Failed};
-ghost use Rattle.job_live.specs.LiveJob.{IsNoLiveNode, TellsLast};
-ghost use Rattle.job_frames.specs.FramesJob.{AreReady, HoldsFrames, HoldsLink, IsEndUntold, IsFramesUnsent, IsHalt, IsUnheld, LivesFrames, StopsLink, TellsEnd, with_link};
+ghost use Rattle.job_live.specs.LiveJob.{TellsLast};
+ghost use Rattle.job_frames.specs.FramesJob.{AreReady, HoldsFrames, HoldsLink, IsEndUntold, IsFramesUnsent, IsHalt, IsNoLink, IsUnheld, LivesFrames, StopsLink, TellsEnd};
 
 use crate::answering::Answering;
 use frames::FrameReader;
+use job_config::sources::NodeSource;
 use job_live::live::NO_MEMORY;
-use job_nodes::node::JobNode;
-use job_parts::factory::judging_program;
+use job_nodes::sources::{node_from, place_of};
 use job_parts::faults::Fault;
-use job_parts::options::NodeWords;
 use job_parts::status::Status;
 use job_parts::stops::{Halt, WriteFault};
 use job_parts::storage::Files;
@@ -19,28 +18,21 @@ use linking::{Broken, Link, hold};
 use std::alloc::Global;
 use std::io::Write;
 
-/// How many ports the node has: a link is one of them.
-const PORTS: u8 = 1;
-
 /// The name of standard input, where the bytes cannot be read.
 const STANDARD_INPUT: &str = "-";
 
-/// A reader, and a fresh node of these words with one port, whose commands the program of its image file, or the factory
-/// program, judges.
-#[tactic(auto, using(crate::proofs::Ports::fresh_ports))]
+/// A reader, and the node of this source, before a frame came.
 fn ends_of_link<'a, F: Files>(
     alloc: Global,
-    words: &'a NodeWords,
+    source: &'a NodeSource,
     files: &mut F,
 ) -> Result<(FrameReader, Answering), Fault<'a>>
     ensures ready { IfOk result
-        (λ ends. AreReady F.reads words.now files.old ends.0 ends.1 files.new) }
-    ensures refused { IfErr result
-        (IsNoLiveNode F.reads (with_link words.now) files.old files.new) }
+        (λ ends. AreReady F.reads source.now files.old ends.0 ends.1 files.new) }
+    ensures refused { IfErr result (IsNoLink F.reads source.now files.old files.new) }
 {
-    let image = words.image.as_deref();
-    let program = judging_program(alloc, files, image, words.sizes)?;
-    let node = JobNode::new(alloc, PORTS, program)?;
+    let node = node_from(alloc, source, files)?;
+    let _ports = node.ports();
     match FrameReader::new(alloc) {
         Ok(reader) => Ok((reader, Answering::new(alloc, node))),
         Err(_) => Err(Fault::NoMemory),
@@ -97,19 +89,19 @@ fn hold_to_end<'a, L: Link>(
     Ok(is_whole)
 }
 
-/// Holds a link on the node of these words to its end: whether it ended between two packets.
+/// Holds a link on the node of this source to its end: whether it ended between two packets.
 fn hold_on<'a, F: Files, L: Link>(
     alloc: Global,
-    words: &'a NodeWords,
+    source: &'a NodeSource,
     files: &mut F,
     link: &mut L,
 ) -> Result<bool, Halt<'a>>
     ensures held { IfOk result (HoldsFrames F.reads L.came L.sent L.told L.unread L.unsent L.untold
-        words.now files.old files.new link.old link.new) }
+        source.now files.old files.new link.old link.new) }
     ensures stops { IfErr result (IsUnheld F.reads L.came L.sent L.told L.unread L.unsent L.untold
-        words.now files.old files.new link.old link.new) }
+        source.now files.old files.new link.old link.new) }
 {
-    let (mut reader, mut answering) = ends_of_link(alloc, words, files)?;
+    let (mut reader, mut answering) = ends_of_link(alloc, source, files)?;
     hold_to_end(&mut reader, &mut answering, link)
 }
 
@@ -137,29 +129,32 @@ fn status_of(is_whole: bool) -> Status
     }
 }
 
-/// Answers the frames of a link as they come, on the node of these words with one port, and gives the exit status:
+/// Answers the frames of a link as they come, at port 0 of the node of this source, and gives the exit status:
 /// `Failed` where the input ended within a frame or a packet, or a fault cut the link off, else `Done`. The reply to a
 /// packet is sent before other bytes are asked for, and what is told of it after that.
 ///
-/// What cuts it off is told last: what [`judging_program`] refuses, `CannotRead` where bytes cannot be read, `NoMemory`.
+/// What cuts it off is told last: what [`node_from`] refuses, `CannotRead` where bytes cannot be read, `NoMemory`.
 ///
-/// `WriteFault` where a reply could not be sent, or a text be told; nothing is sent or told after that.
+/// `WriteFault` where a reply could not be sent, or a text be told; nothing is sent or told after that. Where a node's file is
+/// bad, `place` is then where, for the user.
 pub fn live_frames<F: Files, L: Link>(
     alloc: Global,
-    words: &NodeWords,
+    source: &NodeSource,
     files: &mut F,
     link: &mut L,
+    place: &mut Option<String>,
 ) -> Result<Status, WriteFault>
     ensures lives { IfOk result (LivesFrames F.reads L.came L.sent L.told L.unread L.unsent L.untold
-        words.now files.old files.new link.old link.new) }
+        source.now files.old files.new link.old link.new) }
     ensures unsent { IfErr result (IsFramesUnsent F.reads L.came L.sent L.told L.unread L.unsent
-        L.untold words.now files.old files.new link.old link.new) }
+        L.untold source.now files.old files.new link.old link.new) }
 {
-    match hold_on(alloc, words, files, link) {
+    match hold_on(alloc, source, files, link) {
         Ok(is_whole) => Ok(status_of(is_whole)),
         Err(halt) => {
             let fault = halt.fault()?;
             tell(alloc, &fault, link)?;
+            *place = place_of(fault);
             Ok(Status::Failed)
         }
     }

@@ -1,13 +1,18 @@
 -- Entries that are printed one behind the other.
-use Rattle.std.proofs.Common.{◌≡◌, ◌+◌, ◌<◌, ℕ, List, [], ◌∷◌, ◌++◌, length, take, get_or, Option, sym, ap, subst, ◌∙◌}
+use Rattle.std.proofs.Common.{◌≡◌, ◌+◌, ◌<◌, ℕ, Bool, List, [], ◌∷◌, ◌++◌, length, take, get_or, Option, sym, ap, subst, ◌∙◌}
+use Rattle.std.specs.Prelude.{if◌then◌else◌}
 use Rattle.std.specs.Io.KnownBytes.{Appends}
 use Rattle.std.specs.List.{flat_map}
 use Rattle.std.proofs.lemmas.Grind.{flat_map-append}
 use Rattle.std.proofs.lemmas.List.{append-nil, take_more}
-use Rattle.bank.specs.Records.{EntryValue}
+use Rattle.bank.specs.Records.{EntryValue, is_whole}
 use Rattle.rmap.specs.Codes.{status_code}
 use Rattle.rmap.specs.declared.status.Status.{Status}
-use Rattle.job_live.specs.Telling.{entry_line, entry_words}
+use Rattle.job_live.specs.Telling.{damaged_line, entry_line, entry_words, whole_line}
+
+-- the line of an entry, by whether it is as it was made
+pub line_by : (entry : EntryValue) (whole : Bool) → is_whole entry ≡ whole → entry_line entry ≡ (if whole then whole_line entry else damaged_line)
+line_by entry whole is = ap (λ (w : Bool). if w then whole_line entry else damaged_line) is
 
 -- one entry more, at its place
 pub entries_at : (entries : List EntryValue) (k : ℕ) (d entry : EntryValue) → k < length entries → entry ≡ get_or entries k d

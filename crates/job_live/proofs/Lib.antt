@@ -1,5 +1,6 @@
 mod CellRows
 mod EntryLines
+mod HandingOut
 mod HostReading
 mod LinesInTurn
 mod PutText

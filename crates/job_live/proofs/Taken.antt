@@ -1,23 +1,17 @@
 -- A packet line that is answered in the room that was taken before.
 use Rattle.std.proofs.Common.{◌≡◌, ℕ, Bool, true, false, List, ◌++◌, length, Option, Some, refl, sym, ap, subst, ◌∙◌}
-use Rattle.std.specs.Prelude.{nat_lt, slice_get}
+use Rattle.std.specs.Prelude.{nat_lt}
 use Rattle.std.specs.Io.KnownBytes.{Appends}
 use Rattle.spw.specs.Line.{words_of}
 use Rattle.job_parts.specs.Printed.{fault_line}
 use Rattle.job_parts.specs.declared.bad_lines.BadLine.{BadLine}
 use Rattle.job_parts.specs.declared.faults.Fault.TheVariants.{BadLine as AtLine}
-use Rattle.job_nodes.specs.JobNode.{JobNodeValue, journal_of}
-use Rattle.job_live.specs.Answering.{Answers, AnswersAsked, AnswersSetting, IsLongFault, IsReady, MakesRoom, PrintsFull, SetsOrRefuses, TakesAndTells, TurnsFull, fault_words}
+use Rattle.job_nodes.specs.JobNode.{JobNodeValue}
+use Rattle.job_live.specs.Answering.{Answers, AnswersAsked, AnswersSetting, IsLongFault, IsReady, SetsOrRefuses, TakesAndTells, fault_words}
 use Rattle.job_live.specs.Asks.{IsAsked}
 use Rattle.job_live.specs.declared.answering.TheConstants.{MAX_LINE}
 use Rattle.job_live.specs.declared.asks.Asks.{Asks}
 use Rattle.job_live.specs.declared.asks.Asks.TheVariants.{Packet, Set}
-
--- the entries of a full journal were printed, and an empty one began
-pub makes_room : (is_full : Bool) (before after : JobNodeValue) (old new : Option (List ℕ)) → PrintsFull is_full before old new → TurnsFull is_full before after
-    → MakesRoom is_full before after old new
-makes_room true before after old new printed turned = record { journal = journal_of (slice_get before.banks 0); handed_out = turned; printed = printed }
-makes_room false before after old new printed turned = (turned, printed)
 
 -- a packet line that was taken behind that
 pub packet_answered : (line : List ℕ) (number : ℕ) (is_bad : Bool) (before ready after : JobNodeValue) (words : List ℕ) (end : ℕ) (old mid new : List ℕ)

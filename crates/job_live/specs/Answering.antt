@@ -2,8 +2,6 @@
 use Rattle.std.specs.Prelude.{
   ◌≡◌,
   ◌⊎◌,
-  ◌==◌,
-  ◌&&◌,
   nat_lt,
   ℕ,
   Bool,
@@ -32,51 +30,38 @@ use Rattle.job_parts.specs.Printed.{fault_line}
 use Rattle.job_parts.specs.declared.bad_lines.BadLine.{BadLine}
 use Rattle.job_parts.specs.declared.bad_lines.BadLine.TheVariants.{Line, NoPort as NoSuchPort}
 use Rattle.job_parts.specs.declared.faults.Fault.TheVariants.{BadLine as AtLine}
-use Rattle.job_nodes.specs.JobNode.{HandsOut, JobNodeValue, RefusesLine, SetsBytes, TakesLine, is_full, journal_of}
+use Rattle.job_nodes.specs.JobNode.{JobNodeValue, RefusesLine, SetsBytes, TakesLine}
 use Rattle.job_nodes.specs.Lines.{IsPrinted}
 use Rattle.single_node.specs.Nodes.{covers_in}
 use Rattle.job_live.specs.Asks.{IsAsked}
 use Rattle.job_live.specs.CellLines.{cells_text}
 use Rattle.job_live.specs.Settings.{IsNoSetting, WritesSetting}
-use Rattle.job_live.specs.Telling.{journal_text}
+use Rattle.job_live.specs.Journals.{TellsJournals, bank_text}
 use Rattle.job_live.specs.declared.answering.TheConstants.{MAX_LINE}
 use Rattle.job_live.specs.declared.asks.Asks.{Asks}
 use Rattle.job_live.specs.declared.asks.Asks.TheVariants.{Packet, Journal, Cells, Set}
 use Rattle.job_live.specs.declared.settings.Setting.{Setting}
 
--- the journal was handed out, and its entries were printed
-pub record TellsJournal (before after : JobNodeValue) (old new : Option (List ℕ)) : Type 0 where
-  pub journal : JournalValue
-  pub handed_out : HandsOut before after journal
-  pub printed : Appends old new (journal_text journal.entries)
+-- the journals were handed out, and their entries were printed
+abbrev pub TellsJournal : (before after : JobNodeValue) → (old new : Option (List ℕ)) → Type 0
+TellsJournal before after old new = TellsJournals true before after old new
 
 -- the word of each cell of the node's maps was printed, and the node stays
 pub record TellsCells (before after : JobNodeValue) (old new : Option (List ℕ)) : Type 0 where
   pub same : after ≡ before
   pub printed : Appends old new (cells_text (sizes_of before.programs) before.words)
 
--- a journal that is full was handed out, and one that is not stays
-abbrev pub MakesRoom : (is_full : Bool) → (before after : JobNodeValue) → (old new : Option (List ℕ)) → Type 0
-MakesRoom true before after old new = TellsJournal before after old new
-MakesRoom false before after old new = (after ≡ before) × (new ≡ old)
+-- the journals that are full were handed out, and those that are not stay
+abbrev pub MakesRoom : (before after : JobNodeValue) → (old new : Option (List ℕ)) → Type 0
+MakesRoom before after old new = TellsJournals false before after old new
 
--- the entries of a journal that is full were printed
-abbrev pub PrintsFull : (is_full : Bool) → JobNodeValue → (old new : Option (List ℕ)) → Type 0
-PrintsFull true node old new = Appends old new (journal_text (journal_of (slice_get node.banks 0)).entries)
-PrintsFull false node old new = new ≡ old
-
--- an empty journal began in the place of one that is full
-abbrev pub TurnsFull : (is_full : Bool) → (before after : JobNodeValue) → Type 0
-TurnsFull true before after = HandsOut before after (journal_of (slice_get before.banks 0))
-TurnsFull false before after = after ≡ before
-
--- a journal that is full was handed out before a packet; behind the text stand its entries, and behind them, from that place
--- on, these words
+-- the journals that are full were handed out before a packet; behind the text stand their entries, and behind them, from that
+-- place on, these words
 pub record IsReady (words : List ℕ) (end : ℕ) (before after : JobNodeValue) (old new : List ℕ) : Type 0 where
   pub begun : List ℕ
   pub at : length begun ≡ end
   pub text : new ≡ begun ++ words
-  pub room : MakesRoom (is_full (slice_get before.banks 0)) before after (Some old) (Some begun)
+  pub room : MakesRoom before after (Some old) (Some begun)
 
 -- the node took a packet line, and what came of it was printed; or it refuses the line for that fault
 abbrev pub TakesOrRefuses : (line : List ℕ) (fault : Option BadLine) (before after : JobNodeValue) (old new : Option (List ℕ)) → Type 0
@@ -88,38 +73,38 @@ TakesOrRefuses line (Some fault) before after old new = RefusesLine line fault b
 pub record MeetsRoom (line : List ℕ) (fault : Option BadLine) (before after : JobNodeValue) (old new : Option (List ℕ)) : Type 0 where
   pub ready : JobNodeValue
   pub between : Option (List ℕ)
-  pub room : MakesRoom (is_full (slice_get before.banks 0)) before ready old between
+  pub room : MakesRoom before ready old between
   pub taken : TakesOrRefuses line fault ready after between new
 
--- the bytes of a write lie in the bank, whose extended address is 00
+-- the bytes of a write lie in the bank of its extended address, if there is one
 unfoldable pub is_inside : JobNodeValue → Setting → Bool
-is_inside node setting = setting.extended == 0 && covers_in (slice_get node.banks 0) setting.address (length setting.bytes.items)
+is_inside node setting = covers_in (slice_get node.banks setting.extended) setting.address (length setting.bytes.items)
 
 -- the line that tells of so many bytes that they were set
 abbrev pub set_line : (count : ℕ) → List ℕ
 set_line count = codes "set " ++ decimal count ++ 10 ∷ []
 
--- the journal was handed out, and then the bytes of the write stand in memory; the entries were printed, and how many
--- bytes were set
+-- the journal of the bank was handed out, and then the bytes of the write stand in its memory; the entries were printed, and
+-- how many bytes were set
 pub record TellsSetting (setting : Setting) (before after : JobNodeValue) (old new : Option (List ℕ)) : Type 0 where
   pub journal : JournalValue
   pub between : Option (List ℕ)
-  pub set : SetsBytes setting.address setting.bytes.items before after journal
-  pub told : Appends old between (journal_text journal.entries)
+  pub set : SetsBytes setting.extended setting.address setting.bytes.items before after journal
+  pub told : Appends old between (bank_text before.banks setting.extended)
   pub printed : Appends between new (set_line (length setting.bytes.items))
 
--- the words write the setting, whose bytes lie in the bank
+-- the words write the setting, whose bytes lie in its bank
 pub record WritesInside (words : List (List ℕ)) (node : JobNodeValue) (setting : Setting) : Type 0 where
   pub written : WritesSetting words setting
   pub inside : is_inside node setting ≡ true
 
--- the words write a setting whose bytes do not lie in the bank
+-- the words write a setting whose bytes do not lie in its bank
 pub record WritesOutside (words : List (List ℕ)) (node : JobNodeValue) : Type 0 where
   pub setting : Setting
   pub written : WritesSetting words setting
   pub outside : is_inside node setting ≡ false
 
--- why nothing was set: the words write no such thing, or the bytes do not lie in the bank
+-- why nothing was set: the words write no such thing, or the bytes do not lie in its bank
 abbrev pub IsUnset : (words : List (List ℕ)) → JobNodeValue → BadLine → Type 0
 IsUnset words node fault =
     IsNoSetting words fault

@@ -2,6 +2,7 @@ pub mod Answering
 pub mod Asks
 pub mod CellLines
 pub mod HostLines
+pub mod Journals
 pub mod LiveJob
 pub mod Settings
 pub mod Talking

@@ -1,22 +1,18 @@
 -- The job `live`: the talk that it holds.
 use Rattle.std.specs.Prelude.{◌≡◌, ◌⊎◌, ◌||◌, ℕ, suc, Bool, true, false, List, [], ◌∷◌, length, codes, Option, Some, None}
 use Rattle.std.specs.Borrow.{Bor}
-use Rattle.bpf.specs.Program.{Program}
-use Rattle.bver.specs.Justified.{AcceptedValue, IsJustified}
-use Rattle.machine.specs.Runs.{IsSafe}
+use Rattle.job_config.specs.declared.sources.NodeSource.{NodeSource}
 use Rattle.job_parts.specs.Files.{Reads}
-use Rattle.job_parts.specs.Given.{HoldsNoProgram, HoldsProgram}
-use Rattle.job_parts.specs.Options.{image_name}
 use Rattle.job_parts.specs.Printed.{fault_line}
 use Rattle.job_parts.specs.declared.faults.Fault.{Fault}
 use Rattle.job_parts.specs.declared.faults.Fault.TheVariants.{CannotRead, NoMemory}
-use Rattle.job_parts.specs.declared.options.NodeWords.{NodeWords}
 use Rattle.job_parts.specs.declared.status.Status.{Status}
 use Rattle.job_parts.specs.declared.status.Status.TheVariants.{Done, Failed, Misused}
 use Rattle.job_parts.specs.declared.stops.Halt.{Halt}
 use Rattle.job_parts.specs.declared.stops.Halt.TheVariants.{Ended, Unwritten}
 use Rattle.job_parts.specs.declared.stops.WriteFault.{WriteFault}
-use Rattle.job_nodes.specs.JobNode.{IsFresh, JobNodeValue}
+use Rattle.job_nodes.specs.JobNode.{JobNodeValue}
+use Rattle.job_nodes.specs.Sources.{HoldsNoNode, HoldsNode}
 use Rattle.job_live.specs.Answering.{Answers, TellsJournal}
 use Rattle.job_live.specs.Talking.{Comes, Misses, Sends}
 
@@ -57,7 +53,7 @@ module _ {T : Type 0} (came : Comes T) (sent : Sends T) where
     pub talks : Talks lines 0 before after start last some_bad
     pub ended : came last None stop ⊎ ((stop ≡ last) × (length lines ≡ most_lines))
 
--- where no more lines come the journal was handed out, and its entries were sent
+-- where no more lines come the journals were handed out, and their entries were sent
 pub record SendsEnd {T : Type 0} (sent : Sends T) (before after : JobNodeValue) (start stop : T) : Type 0 where
   pub text : List ℕ
   pub told : TellsJournal before after (Some []) (Some text)
@@ -129,48 +125,26 @@ module _ {T : Type 0} (came : Comes T) (sent unsent : Sends T) (missed : Misses 
   StopsTalk before after start stop halt =
       IsBrokenOff before after start stop halt ⊎ StopsAtEnd before after start stop halt
 
-module _ {S : Type 0} (reads : Reads S) (words : NodeWords) where
-  -- the node is a fresh one of these words, whose commands the program judges that its files give, which is justified on it,
-  -- and so safe
-  pub record IsLiveNode (before : S) (node : JobNodeValue) (after : S) : Type 0 where
-    pub program : AcceptedValue
-    pub given : HoldsProgram reads before (image_name words) program.program after
-    pub sizes_are : program.sizes ≡ words.sizes
-    pub justified : IsJustified program.program words.sizes
-    pub safe : IsSafe program.program words.sizes
-    pub fresh : IsFresh words.ports program node
-
-  -- the program was read, but memory was refused to the node
-  pub record IsNodeUnmade (before after : S) (fault : Fault) : Type 0 where
-    pub program : Program
-    pub given : HoldsProgram reads before (image_name words) program after
-    pub is_fault : fault ≡ NoMemory
-
-  -- there is no such node: there is no program, or memory was refused behind it
-  abbrev pub IsNoLiveNode : (before after : S) → Fault → Type 0
-  IsNoLiveNode before after fault =
-      HoldsNoProgram reads before (image_name words) words.sizes after fault ⊎ IsNodeUnmade before after fault
-
-module _ {S T : Type 0} (reads : Reads S) (came : Comes T) (sent unsent : Sends T) (missed : Misses T) (words : NodeWords)
+module _ {S T : Type 0} (reads : Reads S) (came : Comes T) (sent unsent : Sends T) (missed : Misses T) (source : NodeSource)
   where
-    -- a whole talk was held on the node of the words, and the entries of its journal were sent last
+    -- a whole talk was held on the node of the source, and the entries of its journal were sent last
     pub record HoldsTalk (before after : S) (start stop : T) (some_bad : Bool) : Type 0 where
       pub fresh : JobNodeValue
       pub left : JobNodeValue
-      pub node : IsLiveNode reads words before fresh after
+      pub node : HoldsNode reads source before fresh after
       pub talk : EndsTalk came sent fresh left start stop some_bad
 
-    -- a talk on the node of the words was cut off, with the node left so
+    -- a talk on the node of the source was cut off, with the node left so
     pub record BreaksTalk (before after : S) (start stop : T) (halt : Halt) : Type 0 where
       pub fresh : JobNodeValue
       pub left : JobNodeValue
-      pub node : IsLiveNode reads words before fresh after
+      pub node : HoldsNode reads source before fresh after
       pub broken : StopsTalk came sent unsent missed fresh left start stop halt
 
     -- why no whole talk was held: there is no such node, and nothing came or was sent; or a talk was cut off
     abbrev pub IsCutOff : (before after : S) (start stop : T) → Halt → Type 0
     IsCutOff before after start stop (Ended fault) =
-        (IsNoLiveNode reads words before after fault × (stop ≡ start))
+        (HoldsNoNode reads source before after fault × (stop ≡ start))
         ⊎ BreaksTalk before after start stop (Ended fault)
     IsCutOff before after start stop (Unwritten refused) = BreaksTalk before after start stop (Unwritten refused)
 

@@ -1,8 +1,8 @@
 -- The lines of a journal.
-use Rattle.std.specs.Prelude.{ℕ, List, [], ◌∷◌, ◌++◌, codes, decimal, length}
+use Rattle.std.specs.Prelude.{ℕ, List, [], ◌∷◌, ◌++◌, codes, decimal, if◌then◌else◌, length}
 use Rattle.std.specs.List.{flat_map}
 use Rattle.hex.specs.Hex.{encode_upper}
-use Rattle.bank.specs.Records.{EntryValue}
+use Rattle.bank.specs.Records.{EntryValue, is_whole}
 use Rattle.rmap.specs.Codes.{status_code}
 use Rattle.spw.specs.Cargo.{Cargo}
 use Rattle.spw.specs.Line.{marker_word}
@@ -19,11 +19,19 @@ entry_words port number generation verdict status =
     ++ (decimal number ++ (codes " "
     ++ (decimal generation ++ (codes " " ++ (decimal verdict ++ (codes " " ++ (decimal status ++ codes " ")))))))))
 
--- the line of an entry, with its packet last
-abbrev pub entry_line : EntryValue → List ℕ
-entry_line entry =
+-- the line of an entry that is not as it was made
+abbrev pub damaged_line : List ℕ
+damaged_line = codes "journal damaged" ++ 10 ∷ []
+
+-- the line of an entry that is, with its packet last
+abbrev pub whole_line : EntryValue → List ℕ
+whole_line entry =
     entry_words entry.port entry.number entry.generation entry.verdict (status_code entry.status)
     ++ packet_line entry.packet
+
+-- the line of an entry
+abbrev pub entry_line : EntryValue → List ℕ
+entry_line entry = if is_whole entry then whole_line entry else damaged_line
 
 -- the line of how many entries there were
 abbrev pub count_line : ℕ → List ℕ

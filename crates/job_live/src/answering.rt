@@ -1,19 +1,18 @@
 //! The answer to a line.
 
-ghost use Rattle.std.specs.Prelude.{◌≡◌, ◌≤◌, ◌+◌, ◌++◌, [], ℕ, List, IfErr, IfOk, OnErr, OnOk, Some, false, length, map, slice_get, true};
+ghost use Rattle.std.specs.Prelude.{◌≡◌, ◌≤◌, ◌+◌, ◌++◌, [], ℕ, List, IfErr, IfOk, OnErr, OnOk, Some, false, length, map, true};
 ghost use Rattle.std.specs.Vec.{vec_capacity, vec_len};
-ghost use Rattle.job_nodes.specs.JobNode.{is_full};
 ghost use Rattle.job_parts.specs.Printed.{Prints, fault_line};
 ghost use Rattle.job_parts.specs.declared.faults.Fault.TheVariants.{BadLine as AtLine};
-ghost use Rattle.job_live.specs.Answering.{Answers, AnswersAsked, AnswersSetting, IsFaultByPort, IsLongFault, IsReady, IsUnset, PrintsFull, TakesAndTells, TellsJournal, TellsSetting, TurnsFull, WritesInside, fault_words, is_inside};
+ghost use Rattle.job_live.specs.Answering.{Answers, AnswersAsked, AnswersSetting, IsFaultByPort, IsLongFault, IsReady, IsUnset, TakesAndTells, TellsJournal, TellsSetting, WritesInside, fault_words, is_inside};
 ghost use Rattle.job_live.specs.Asks.{IsAsked};
 ghost use Rattle.job_live.specs.declared.asks.Asks.TheVariants.{Packet, Set};
 
 use crate::asks::{Asks, asked};
 use crate::cell_lines::print_cells;
+use crate::journals::{print_bank, print_journals, turn_journals};
 use crate::putting::{MOST_OF_PACKET, drop_words, put_code, put_served};
 use crate::settings::{Setting, read_setting};
-use crate::telling::print_journal;
 use job_nodes::node::JobNode;
 use job_parts::bad_lines::BadLine;
 use job_parts::faults::Fault;
@@ -24,42 +23,21 @@ use std::io::{self, Write};
 /// How many bytes a line has at most. Any packet line has fewer, if it has no more than one space between two words.
 pub const MAX_LINE: usize = 16_384;
 
-/// Prints the entries of the journal of the node, and then begins an empty one.
+/// Prints the entries of the journals of the node, bank by bank, and then begins empty ones.
 pub fn hand_out<W: Write>(node: &mut JobNode, out: &mut W) -> io::Result<()>
     ensures tells { OnOk result
         (TellsJournal node.old node.new (W.contents out.old) (W.contents out.new)) }
     ensures kept { OnErr result (node.new ≡ node.old) }
 {
-    print_journal(out, node.entries())?;
-    node.turn();
+    print_journals(out, node, true)?;
+    turn_journals(node, true);
     Ok(())
 }
 
-/// Prints the entries of the journal of the node, if it is full.
-fn print_full<W: Write>(node: &JobNode, out: &mut W) -> io::Result<()>
-    ensures { OnOk result (PrintsFull (is_full (slice_get node.now.banks 0)) node.now
-        (W.contents out.old) (W.contents out.new)) }
-{
-    if !node.is_full() {
-        return Ok(());
-    }
-    print_journal(out, node.entries())
-}
-
-/// Begins an empty journal in the place of one that is full.
-fn turn_full(node: &mut JobNode)
-    ensures { TurnsFull (is_full (slice_get node.old.banks 0)) node.old node.new }
-{
-    if node.is_full() {
-        node.turn();
-    }
-}
-
-/// Hands the journal out, if it is full, before a packet is served: its entries stand behind the text then, and behind them
+/// Hands the journals out that are full, before a packet is served: their entries stand behind the text then, and behind them
 /// these words, and room for so many bytes more. Gives where the words begin.
 ///
 /// Where memory is refused the node is as before.
-#[tactic(auto, using(crate::proofs::Taken::makes_room))]
 pub fn make_room(
     node: &mut JobNode,
     words: &[u8],
@@ -71,11 +49,11 @@ pub fn make_room(
     ensures room { OnOk result (vec_len text.new + more ≤ vec_capacity text.new) }
     ensures kept { OnErr result (node.new ≡ node.old) }
 {
-    print_full(node, text)?;
+    print_journals(text, node, false)?;
     let end = text.len();
     text.extend_from_slice(words)?;
     text.reserve(more)?;
-    turn_full(node);
+    turn_journals(node, false);
     Ok(end)
 }
 
@@ -134,15 +112,15 @@ fn answer_packet(
     Ok(take_line(alloc, node, line, end, text))
 }
 
-/// Whether the bytes of a write lie in the bank of the node.
+/// Whether the bytes of a write lie in the bank of its extended address, if there is one.
 #[tactic(auto, unfolding(crate::specs::Answering::is_inside))]
 fn is_inside(node: &JobNode, setting: &Setting) -> bool
     ensures { result ≡ is_inside node.now setting.now }
 {
-    setting.extended == 0 && node.covers(setting.address, setting.bytes.len())
+    node.covers(setting.extended, setting.address, setting.bytes.len())
 }
 
-/// The write that these words ask for, whose bytes lie in the bank, or why there is none.
+/// The write that these words ask for, whose bytes lie in its bank, or why there is none.
 fn setting_inside(alloc: Global, node: &JobNode, words: &[&str]) -> Result<Setting, BadLine>
     requires { IsAsked (map (λ word. word.now) words.now) Set }
     ensures ok { IfOk result
@@ -157,7 +135,7 @@ fn setting_inside(alloc: Global, node: &JobNode, words: &[&str]) -> Result<Setti
     }
 }
 
-/// Puts the bytes of a write into memory, behind which an empty journal begins. Before that it prints the entries of the one
+/// Puts the bytes of a write into its bank, behind which an empty journal begins. Before that it prints the entries of the one
 /// that is there, and how many bytes are set.
 #[tactic(auto, unfolding(crate::specs::Answering::is_inside))]
 fn set_bytes<W: Write>(node: &mut JobNode, setting: &Setting, out: &mut W) -> io::Result<()>
@@ -168,9 +146,9 @@ fn set_bytes<W: Write>(node: &mut JobNode, setting: &Setting, out: &mut W) -> io
 {
     let bytes = setting.bytes.as_slice();
     let count = bytes.len();
-    print_journal(out, node.entries())?;
+    print_bank(out, node, setting.extended)?;
     writeln!(out, "set {count}")?;
-    node.set(setting.address, bytes);
+    node.set(setting.extended, setting.address, bytes);
     Ok(())
 }
 
@@ -235,8 +213,8 @@ fn long_fault(words: &[&str], asks: Asks) -> BadLine
 /// line is bad.
 ///
 /// Of a bad line that is `line K fault C`: the faults are those of [`JobNode::take_line`] and [`read_setting`], `NoPort` for
-/// bytes that do not lie in the bank, and of a line over [`MAX_LINE`] bytes `TooLong`, or `NoPort` where it begins as no
-/// packet line and no write. Before a packet line is taken a journal that is full is handed out.
+/// bytes that do not lie in their bank, and of a line over [`MAX_LINE`] bytes `TooLong`, or `NoPort` where it begins as no
+/// packet line and no write. Before a packet line is taken the journals that are full are handed out.
 ///
 /// Where memory is refused the node is as before the line.
 pub fn answer(
@@ -270,7 +248,7 @@ pub fn answer(
     }
 }
 
-/// The entries of the journal of the node, which are the last text of a talk: an empty journal begins.
+/// The entries of the journals of the node, which are the last text of a talk: empty journals begin.
 ///
 /// Where memory is refused the node is as before.
 pub fn last_text(alloc: Global, node: &mut JobNode) -> io::Result<Vec<u8>>

@@ -5,6 +5,7 @@ pub mod answering;
 pub mod asks;
 pub mod cell_lines;
 pub mod host;
+pub mod journals;
 pub mod live;
 pub mod putting;
 pub mod settings;

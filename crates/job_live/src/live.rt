@@ -2,14 +2,14 @@
 
 ghost use Rattle.std.specs.Prelude.{◌≡◌, ◌||◌, IfErr, IfOk, OnOk, if◌then◌else◌};
 ghost use Rattle.job_parts.specs.declared.status.Status.TheVariants.{Done, Failed};
-ghost use Rattle.job_live.specs.LiveJob.{EndsTalk, Exchanges, HoldsTalk, IsBrokenOff, IsCutOff, IsEndUnsent, IsLiveNode, IsNoLiveNode, IsUnanswered, IsUnsent, IsWholeTalk, Lives, SendsEnd, StopsTalk, TellsLast};
+ghost use Rattle.job_live.specs.LiveJob.{EndsTalk, Exchanges, HoldsTalk, IsBrokenOff, IsCutOff, IsEndUnsent, IsUnanswered, IsUnsent, IsWholeTalk, Lives, SendsEnd, StopsTalk, TellsLast};
 
 use crate::answering::{answer, last_text};
 use crate::talk::Talk;
+use job_config::sources::NodeSource;
 use job_nodes::node::JobNode;
-use job_parts::factory::judging_program;
+use job_nodes::sources::{node_from, place_of};
 use job_parts::faults::Fault;
-use job_parts::options::NodeWords;
 use job_parts::status::Status;
 use job_parts::stops::{Halt, WriteFault};
 use job_parts::storage::Files;
@@ -99,33 +99,19 @@ fn hold_to_end<'a, T: Talk>(
     Ok(some_bad)
 }
 
-/// A fresh node of these words, whose commands the program of its image file, or the factory program, judges.
-fn live_node<'a, F: Files>(
-    alloc: Global,
-    words: &'a NodeWords,
-    files: &mut F,
-) -> Result<JobNode, Fault<'a>>
-    ensures node { IfOk result (λ node. IsLiveNode F.reads words.now files.old node files.new) }
-    ensures refused { IfErr result (IsNoLiveNode F.reads words.now files.old files.new) }
-{
-    let image = words.image.as_deref();
-    let program = judging_program(alloc, files, image, words.sizes)?;
-    Ok(JobNode::new(alloc, words.ports, program)?)
-}
-
-/// Holds a talk on the node of these words to its end: whether one of its lines was bad.
+/// Holds a talk on the node of this source to its end: whether one of its lines was bad.
 fn live_on<'a, F: Files, T: Talk>(
     alloc: Global,
-    words: &'a NodeWords,
+    source: &'a NodeSource,
     files: &mut F,
     talk: &mut T,
 ) -> Result<bool, Halt<'a>>
-    ensures held { IfOk result (HoldsTalk F.reads T.came T.sent T.unsent T.missed words.now
+    ensures held { IfOk result (HoldsTalk F.reads T.came T.sent T.unsent T.missed source.now
         files.old files.new talk.old talk.new) }
-    ensures stops { IfErr result (IsCutOff F.reads T.came T.sent T.unsent T.missed words.now
+    ensures stops { IfErr result (IsCutOff F.reads T.came T.sent T.unsent T.missed source.now
         files.old files.new talk.old talk.new) }
 {
-    let mut node = live_node(alloc, words, files)?;
+    let mut node = node_from(alloc, source, files)?;
     hold_to_end(alloc, &mut node, talk)
 }
 
@@ -153,29 +139,32 @@ fn status_of(some_bad: bool) -> Status
     }
 }
 
-/// Answers the lines of a talk as they come, on the node of these words, and gives the exit status: `Failed` where a line
+/// Answers the lines of a talk as they come, on the node of this source, and gives the exit status: `Failed` where a line
 /// was bad, or a fault cut the talk off, else `Done`. What is due for a line is sent before the next is asked for. Where no
 /// more lines come the journal is handed out, and its entries are sent last.
 ///
-/// What cuts it off is told last: what [`judging_program`] refuses, `CannotRead` where a line cannot be read, `NoMemory`.
+/// What cuts it off is told last: what [`node_from`] refuses, `CannotRead` where a line cannot be read, `NoMemory`.
 ///
-/// `WriteFault` where a text could not be sent; nothing is sent after that.
+/// `WriteFault` where a text could not be sent; nothing is sent after that. Where a node's file is bad, `place` is then where,
+/// for the user.
 pub fn live<F: Files, T: Talk>(
     alloc: Global,
-    words: &NodeWords,
+    source: &NodeSource,
     files: &mut F,
     talk: &mut T,
+    place: &mut Option<String>,
 ) -> Result<Status, WriteFault>
-    ensures lives { IfOk result (Lives F.reads T.came T.sent T.unsent T.missed words.now
+    ensures lives { IfOk result (Lives F.reads T.came T.sent T.unsent T.missed source.now
         files.old files.new talk.old talk.new) }
-    ensures unsent { IfErr result (IsUnsent F.reads T.came T.sent T.unsent T.missed words.now
+    ensures unsent { IfErr result (IsUnsent F.reads T.came T.sent T.unsent T.missed source.now
         files.old files.new talk.old talk.new) }
 {
-    match live_on(alloc, words, files, talk) {
+    match live_on(alloc, source, files, talk) {
         Ok(some_bad) => Ok(status_of(some_bad)),
         Err(halt) => {
             let fault = halt.fault()?;
             tell(alloc, &fault, talk)?;
+            *place = place_of(fault);
             Ok(Status::Failed)
         }
     }

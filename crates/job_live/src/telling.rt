@@ -2,7 +2,7 @@
 
 ghost use Rattle.std.specs.Prelude.{OnOk};
 ghost use Rattle.job_parts.specs.Printed.{Prints};
-ghost use Rattle.job_live.specs.Telling.{entry_line, entry_words, journal_text, packet_line};
+ghost use Rattle.job_live.specs.Telling.{damaged_line, entry_line, entry_words, journal_text, packet_line, whole_line};
 
 use bank::Entry;
 use job_parts::replies::print_hex;
@@ -38,9 +38,9 @@ fn print_words<W: Write>(
     )
 }
 
-/// Prints an entry: `journal PORT NUMBER GENERATION VERDICT STATUS PACKET`.
-fn print_entry<W: Write>(out: &mut W, entry: &Entry) -> io::Result<()>
-    ensures { OnOk result (Prints W.contents out.old out.new (entry_line entry.now)) }
+/// Prints an entry that is as it was made: `journal PORT NUMBER GENERATION VERDICT STATUS PACKET`.
+fn print_whole<W: Write>(out: &mut W, entry: &Entry) -> io::Result<()>
+    ensures { OnOk result (Prints W.contents out.old out.new (whole_line entry.now)) }
 {
     let status = entry.status().code();
     print_words(
@@ -52,6 +52,23 @@ fn print_entry<W: Write>(out: &mut W, entry: &Entry) -> io::Result<()>
         status,
     )?;
     print_packet(out, entry.packet())
+}
+
+/// Prints that an entry is not as it was made: `journal damaged`.
+fn print_damaged<W: Write>(out: &mut W) -> io::Result<()>
+    ensures { OnOk result (Prints W.contents out.old out.new damaged_line) }
+{
+    writeln!(out, "journal damaged")
+}
+
+/// Prints an entry, or that it is not as it was made.
+fn print_entry<W: Write>(out: &mut W, entry: &Entry) -> io::Result<()>
+    ensures { OnOk result (Prints W.contents out.old out.new (entry_line entry.now)) }
+{
+    if entry.is_whole() {
+        return print_whole(out, entry);
+    }
+    print_damaged(out)
 }
 
 /// Prints the entries of a journal, oldest first, and how many they are: `journal N entries`.

@@ -1,3 +1,4 @@
+mod Banks
 mod Continuing
-mod OneBank
+mod Loaded
 mod Simulating

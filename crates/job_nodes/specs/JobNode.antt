@@ -8,6 +8,10 @@ use Rattle.std.specs.Prelude.{
   length,
   map,
   nat_le,
+  ◌≤◌,
+  true,
+  slice_get,
+  slice_index_or,
   replicate,
   Bool,
   false,
@@ -15,23 +19,24 @@ use Rattle.std.specs.Prelude.{
   None,
   Some,
 }
-use Rattle.std.specs.List.{range_with_len}
+use Rattle.std.specs.List.{list_all, range_with_len}
 use base.Stored.{Gv, gnil}
-use Rattle.bank.specs.Records.{BankValue, JournalValue}
+use Rattle.bank.specs.Records.{BankValue, JournalValue, empty_journal}
 use Rattle.bver.specs.Justified.{AcceptedValue}
 use Rattle.machine.specs.Sizes.{Maps}
 use Rattle.spw.specs.Cargo.{Cargo}
 use Rattle.node_programs.specs.declared.publishes.Publish.{Publish}
-use Rattle.node_parts.specs.declared.config.BankConfig.{BankConfig}
+use Rattle.node_programs.specs.Staged.{Staged}
 use Rattle.node_parts.specs.declared.config.NodeConfig.{NodeConfig}
 use Rattle.node_parts.specs.declared.served.Served.{Served}
-use Rattle.node_parts.specs.Nodes.{bank_of, first_pass, first_programs}
+use Rattle.node_parts.specs.Nodes.{bank_of, first_pass, first_passes as all_first_passes, first_programs, fresh_banks}
 use Rattle.node_parts.specs.Passes.{PassValue}
 use Rattle.plain_cells.specs.Words.{zero_words}
-use Rattle.single_node.specs.Nodes.{Rotates, SetsMemory, SingleNodeValue, single_node}
+use Rattle.single_node.specs.Nodes.{Rotates, SetsMemory, SingleNodeValue, room_in, single_node, staging_in}
 use Rattle.single_node.specs.Serving.{Serves as ServesAlone}
 use Rattle.job_nodes.specs.Feeds.{IsFed, IsNotFed}
-use Rattle.job_nodes.specs.declared.node.TheConstants.{BANK_BASE, BANK_ROOM, BANK_SIZE, NODE_ADDRESS}
+pub use Rattle.job_config.specs.OwnNodes.{own_bank}
+use Rattle.job_config.specs.declared.own_node.TheConstants.{NODE_ADDRESS}
 use Rattle.job_parts.specs.declared.bad_lines.BadLine.{BadLine}
 
 -- the node's banks, the words of its cells, the programs that were published of it, what each port has of it, the bytes
@@ -50,21 +55,14 @@ abbrev pub job_node : List BankValue → (words : List (List ℕ)) → List Publ
 job_node banks words programs passes held reply =
     record { banks = banks; words = words; programs = programs; passes = passes; held = held; reply = reply }
 
--- logical address FE, and one bank of 65,536 zero bytes at A0000000 with room for 1,024 entries
-abbrev pub own_bank : BankConfig
-own_bank = record { base = BANK_BASE; size = BANK_SIZE; room = BANK_ROOM }
-
--- an empty journal with room for 1,024 entries
-abbrev pub own_journal : JournalValue
-own_journal = record { entries = []; room = BANK_ROOM }
-
 -- how many entries the journal of each bank has room for
 abbrev pub rooms_of : List BankValue → List ℕ
 rooms_of banks = map (λ (b : BankValue). b.journal.room) banks
 
--- there is one bank, whose journal has room for 1,024 entries, and each port holds some bytes
+-- the journal of each bank has room for an entry or more, there is a port, and each port holds some bytes
 pub record IsJobNode (s : JobNodeValue) : Type 0 where
-  pub rooms : rooms_of s.banks ≡ own_journal.room ∷ []
+  pub some : 1 ≤ length s.passes
+  pub rooms : list_all (λ room. nat_le 1 room) (rooms_of s.banks) ≡ true
   pub ports : length s.held ≡ length s.passes
 
 -- the configuration of the node with so many ports, and maps of these sizes
@@ -74,11 +72,18 @@ pub record IsConfig (ports : ℕ) (sizes : Maps) (config : NodeConfig) : Type 0 
   pub banks : config.banks.now ≡ own_bank ∷ []
   pub sizes_are : config.sizes ≡ sizes
 
+-- a fresh node of that configuration, with cells of 0, at each of whose ports the program judges, and which hold nothing
+abbrev pub IsFreshOf : NodeConfig → AcceptedValue → JobNodeValue → Type 0
+IsFreshOf config program node =
+    node
+    ≡ job_node (fresh_banks config) (zero_words program.sizes) (first_programs program)
+    (all_first_passes config program gnil) (replicate config.ports []) []
+
 -- what each of so many ports has of a fresh node at first, with seats at those cells
 abbrev pub first_passes : (ports : ℕ) → AcceptedValue → (home : Gv) → List PassValue
 first_passes ports program home = map (first_pass NODE_ADDRESS (own_bank ∷ []) program home) (range_with_len 0 ports)
 
--- a fresh node with cells of 0 and so many ports, at each of which the program judges, and which hold nothing
+-- the same of the node with so many ports that has logical address FE and that one bank
 abbrev pub IsFresh : (ports : ℕ) → AcceptedValue → JobNodeValue → Type 0
 IsFresh ports program node =
     node
@@ -128,23 +133,43 @@ abbrev pub journal_of : Option BankValue → JournalValue
 journal_of None = record { entries = []; room = 0 }
 journal_of (Some b) = b.journal
 
--- the journal of the bank, if there is one, has room for no more entries
+-- the address of the first byte of a bank, if there is one
+abbrev pub first_of : Option BankValue → ℕ
+first_of None = 0
+first_of (Some b) = b.first
+
+-- the first byte of the load result of a port, if there is one, in which its reason is
+abbrev pub reason_of : Option Staged → ℕ
+reason_of None = 0
+reason_of (Some staged) = slice_index_or staged.load_result 0 0
+
+-- that of port 0
+abbrev pub load_reason : JobNodeValue → ℕ
+load_reason node = reason_of (staging_in (slice_get node.passes 0))
+
+-- the journal of a bank, if there is one, has room for no more entries
 abbrev pub is_full : Option BankValue → Bool
 is_full None = false
 is_full (Some b) = nat_le b.journal.room (length b.journal.entries)
+
+-- an empty journal with as much room as that of the bank of that number, if there is one
+abbrev pub emptied : JobNodeValue → (number : ℕ) → JournalValue
+emptied node number = empty_journal (room_in (slice_get node.banks number))
 
 -- what ports hold, and the reply, are as before
 pub record AreKept (before after : JobNodeValue) : Type 0 where
   pub held : after.held ≡ before.held
   pub reply : after.reply ≡ before.reply
 
--- the journal of the bank came out, whose replay is the memory of now, and an empty one began; nothing else changed
-pub record HandsOut (before after : JobNodeValue) (old : JournalValue) : Type 0 where
-  pub rotated : Rotates 0 own_journal (alone before) (alone after) old
+-- the journal of the bank of that number came out, whose replay is the memory of now, and an empty one with as much room
+-- began; nothing else changed
+pub record HandsOut (number : ℕ) (before after : JobNodeValue) (old : JournalValue) : Type 0 where
+  pub rotated : Rotates number (emptied before number) (alone before) (alone after) old
   pub kept : AreKept before after
 
--- the journal of the bank came out, whose replay is the memory before, and an empty one began behind those bytes at
--- that address; nothing else changed
-pub record SetsBytes (address : ℕ) (bytes : List ℕ) (before after : JobNodeValue) (old : JournalValue) : Type 0 where
-  pub set : SetsMemory 0 address bytes own_journal (alone before) (alone after) old
-  pub kept : AreKept before after
+-- the journal of the bank of that number came out, whose replay is the memory before, and an empty one with as much room
+-- began behind those bytes at that address; nothing else changed
+pub record SetsBytes (number address : ℕ) (bytes : List ℕ) (before after : JobNodeValue) (old : JournalValue) : Type 0
+  where
+    pub set : SetsMemory number address bytes (emptied before number) (alone before) (alone after) old
+    pub kept : AreKept before after

@@ -4,5 +4,7 @@ pub mod JobNode
 pub mod JudgeJob
 pub mod Judged
 pub mod Lines
+pub mod Making
 pub mod SimJob
 pub mod Simulated
+pub mod Sources

@@ -21,7 +21,7 @@ use Rattle.job_parts.specs.declared.stops.LineEnd.TheVariants.{Bad, NoMemory}
 use Rattle.job_nodes.specs.EventLines.{IsBadEvent, IsEventOf}
 use Rattle.job_nodes.specs.JobNode.{own_bank}
 use Rattle.job_nodes.specs.SimJob.{outcome_line, outcome_lines}
-use Rattle.job_nodes.specs.declared.node.TheConstants.{NODE_ADDRESS}
+use Rattle.job_config.specs.declared.own_node.TheConstants.{NODE_ADDRESS}
 
 -- the node of these words, with that factory program: logical address FE, and the one bank that the jobs have
 abbrev pub node_by : NodeWords → Program → Node

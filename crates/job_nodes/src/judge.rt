@@ -3,18 +3,19 @@
 ghost use Rattle.std.specs.Prelude.{◌≡◌, IfErr, IfOk, OnOk, false, string_bytes};
 ghost use Rattle.clap.specs.Simple.{app_of};
 ghost use Rattle.clap.specs.declared.builder.command.Command.TheViews.{out-Command as fields_of};
-ghost use Rattle.job_parts.specs.Given.{IsNotReady};
 ghost use Rattle.job_parts.specs.Printed.{Prints};
 ghost use Rattle.job_parts.specs.Statuses.{IsDoneWith};
 ghost use Rattle.job_parts.specs.Stops.{StopsBy};
 ghost use Rattle.job_nodes.specs.JudgeJob.{discard_line, judge_app};
-ghost use Rattle.job_nodes.specs.Judged.{IsNotJudged, IsReady, JudgesFile};
+ghost use Rattle.job_nodes.specs.Judged.{IsNotJudged, IsNotReady, IsReady, JudgesFile};
 ghost use Rattle.job_nodes.specs.Lines.{IsBadLine, Judges, served_line};
 
 use crate::node::JobNode;
+use crate::sources::node_from;
 use clap::Command;
+use job_config::node_lines::{NodeLines, node_lines_command};
 use job_parts::faults::Fault;
-use job_parts::lines::{LinesArgs, lines_and_program, lines_command};
+use job_parts::programs::text_in;
 use job_parts::replies::print_reply;
 use job_parts::status::Status;
 use job_parts::stops::{Halt, LineHalt};
@@ -26,14 +27,14 @@ use std::alloc::{AllocError, Global};
 use std::io::{self, Write};
 use std::marker::Model;
 
-/// `judge LINES [--image FILE] [--maps LIST] [--ports N]`.
+/// `judge LINES [--image FILE] [--maps LIST] [--ports N]` or `judge LINES --node FILE`.
 pub fn judge_command<'a>(alloc: Global) -> Result<Command<'a>, AllocError>
     ensures shape { IfOk result (λ c. app_of c ≡ judge_app) }
     ensures local { IfOk result (λ c. (fields_of c).has_globals ≡ false) }
 {
     let about = "Judges each packet line and prints its reply";
     let help = "The file of packet lines, or - for standard input";
-    lines_command(alloc, "judge", about, help)
+    node_lines_command(alloc, "judge", about, help)
 }
 
 /// Prints that a packet was discarded: `PORT discard C`.
@@ -80,12 +81,22 @@ fn is_refused(served: Served) -> bool {
     }
 }
 
+/// Whether the journal of one of the banks has room for no more entries.
+fn is_any_full(node: &JobNode) -> bool {
+    for bank in 0..node.banks() {
+        if node.is_full(bank) {
+            return true;
+        }
+    }
+    false
+}
+
 impl Judging {
     /// Notes the line that was taken last, if its command is the first that met a full journal.
     fn note(&mut self, served: Served)
         ensures { self.new ≡ self.old }
     {
-        if self.full.is_none() && is_refused(served) && self.node.is_full() {
+        if self.full.is_none() && is_refused(served) && is_any_full(&self.node) {
             self.full = Some(self.taken);
         }
     }
@@ -107,19 +118,18 @@ impl TakesLines for Judging {
     }
 }
 
-/// The text of the file of packet lines, and a fresh node of these arguments, whose commands the program of its
-/// image file, or the factory program, judges.
+/// The text of the file of packet lines, and the node of these arguments.
 fn lines_and_node<'a, F: Files>(
     alloc: Global,
-    args: &'a LinesArgs,
+    args: &'a NodeLines,
     files: &mut F,
 ) -> Result<(String, Judging), Fault<'a>>
     ensures ready { IfOk result
         (λ made. IsReady F.reads args.now files.old (string_bytes made.0) made.1 files.new) }
     ensures refused { IfErr result (IsNotReady F.reads args.now files.old files.new) }
 {
-    let (text, program) = lines_and_program(alloc, args, files)?;
-    let node = JobNode::new(alloc, args.node.ports, program)?;
+    let text = text_in(alloc, files, args.lines.as_str())?;
+    let node = node_from(alloc, &args.node, files)?;
     let judging = Judging {
         node,
         taken: 0,
@@ -128,14 +138,14 @@ fn lines_and_node<'a, F: Files>(
     Ok((text, judging))
 }
 
-/// Judges the packet lines of a file by the program of an image file, or by the factory program, on the node
-/// of these arguments. `full` is then the first line whose command found the journal of the bank full, if there is one.
+/// Judges the packet lines of a file on the node of these arguments. `full` is then the first line whose command found the
+/// journal of its bank full, if there is one.
 ///
-/// Faults are found in this order: the file of lines (`CannotRead`, also where it is not UTF-8),
-/// the image file, its image, and then each line.
+/// Faults are found in this order: the file of lines (`CannotRead`, also where it is not UTF-8), those of the node
+/// ([`node_from`]), and then each line.
 pub fn judge_file<'a, F: Files, W: Write>(
     alloc: Global,
-    args: &'a LinesArgs,
+    args: &'a NodeLines,
     files: &mut F,
     out: &mut W,
     full: &mut Option<usize>,

@@ -4,5 +4,7 @@
 pub mod events;
 pub mod feeds;
 pub mod judge;
+pub mod making;
 pub mod node;
 pub mod sim;
+pub mod sources;

@@ -1,7 +1,7 @@
 //! The node that the jobs run.
 
-ghost use Rattle.std.specs.Prelude.{◌≡◌, ◌≤◌, ◌<◌, ◌↔◌, IfErr, IfOk, IsSome, length, slice_get, true};
-ghost use Rattle.job_nodes.specs.JobNode.{HandsOut, IsConfig, IsFresh, RefusesLine, Serves, SetsBytes, TakesLine, is_full, journal_of};
+ghost use Rattle.std.specs.Prelude.{◌≡◌, ◌≤◌, ◌<◌, ◌+◌, ◌↔◌, IfErr, IfOk, IsSome, length, slice_get, true};
+ghost use Rattle.job_nodes.specs.JobNode.{HandsOut, IsConfig, IsFreshOf, RefusesLine, Serves, SetsBytes, TakesLine, first_of, is_full, journal_of, load_reason};
 ghost use Rattle.machine.specs.Sizes.{IsInside};
 ghost use Rattle.node_programs.specs.Published.{sizes_of};
 ghost use Rattle.plain_cells.specs.Words.{word_in};
@@ -10,32 +10,14 @@ ghost use Rattle.single_node.specs.Nodes.{covers_in};
 use crate::feeds::Feeds;
 use bank::Entry;
 use bver::{Accepted, MapSizes};
+use job_config::own_node::{NODE_ADDRESS, OWN_BANK};
 use job_parts::bad_lines::BadLine;
-use node_parts::{BankConfig, NodeConfig, Served};
+use node_parts::{NodeConfig, Served};
 use rmap::{MAX_REPLY, ReplyBuf};
 use single_node::SingleNode;
 use spw::Packet;
 use std::alloc::{AllocError, Global};
 use std::marker::Model;
-
-/// The logical address of the node.
-pub const NODE_ADDRESS: u8 = 0xFE;
-
-/// The first address of the bank of the node.
-pub const BANK_BASE: u32 = 0xA000_0000;
-
-/// How many bytes the bank of the node has.
-pub const BANK_SIZE: u32 = 0x1_0000;
-
-/// How many entries the journal of the bank has room for.
-pub const BANK_ROOM: u32 = 1024;
-
-/// The bank of the node.
-const BANK: BankConfig = BankConfig {
-    base: BANK_BASE,
-    size: BANK_SIZE,
-    room: BANK_ROOM,
-};
 
 /// The configuration of the node of the jobs, with so many ports and with maps of these sizes.
 pub fn node_config(ports: u8, sizes: MapSizes) -> NodeConfig<'static>
@@ -44,12 +26,12 @@ pub fn node_config(ports: u8, sizes: MapSizes) -> NodeConfig<'static>
     NodeConfig {
         address: NODE_ADDRESS,
         ports,
-        banks: &[BANK],
+        banks: &[OWN_BANK],
         sizes,
     }
 }
 
-/// A node of one thread with one bank and some ports, each with what it holds of a packet that has not ended, and with
+/// A node of one thread with some banks and some ports, each port with what it holds of a packet that has not ended, and with
 /// room for one reply. Nothing of it waits.
 #[derive(Drop)]
 pub struct JobNode {
@@ -69,14 +51,20 @@ impl Model for JobNode {
 }
 
 impl JobNode {
-    /// A node of zero bytes with so many ports, at each of which this program judges at first.
-    pub fn new(alloc: Global, ports: u8, program: Accepted) -> Result<JobNode, AllocError>
-        ensures { IfOk result (IsFresh ports program) }
+    /// A node of that configuration, of zero bytes, at each of whose ports this program judges at first. The condition is a
+    /// program that was accepted for the maps of the configuration.
+    ///
+    /// `AllocError` where memory was refused, and where [`SingleNode::new`] refuses the configuration.
+    pub fn fresh(
+        alloc: Global,
+        config: &NodeConfig,
+        program: Accepted,
+    ) -> Result<JobNode, AllocError>
+        requires { program.sizes ≡ config.now.sizes }
+        ensures { IfOk result (IsFreshOf config.now program) }
     {
-        let config = node_config(ports, program.sizes());
-        let feeds = Feeds::new(alloc, ports)?;
-        // Memory alone can be refused to it: the command line gives no other number of ports than a node has.
-        let Ok(node) = SingleNode::new(alloc, &config, program) else {
+        let feeds = Feeds::new(alloc, config.ports)?;
+        let Ok(node) = SingleNode::new(alloc, config, program) else {
             return Err(AllocError);
         };
         Ok(JobNode {
@@ -86,9 +74,10 @@ impl JobNode {
         })
     }
 
-    /// How many ports the node has.
+    /// How many ports the node has: 1 to 32.
     pub fn ports(&self) -> u8
-        ensures { result ≡ length self.now.passes }
+        ensures value { result ≡ length self.now.passes }
+        ensures some { 1 ≤ result }
     {
         self.node.ports()
     }
@@ -125,27 +114,50 @@ impl JobNode {
         self.reply.bytes()
     }
 
-    /// The entries of the journal of the bank, oldest first.
-    pub fn entries(&self) -> &[Entry]
-        ensures { result.now ≡ (journal_of (slice_get self.now.banks 0)).entries }
+    /// How many banks the node has: 1 to 8.
+    pub fn banks(&self) -> u8
+        ensures value { result ≡ length self.now.banks }
+        ensures few { result ≤ 8 }
     {
-        self.node.bank(0).entries()
+        self.node.banks()
     }
 
-    /// Whether the journal of the bank has room for no more entries: a command for the bank is then answered with a
-    /// general error, and leaves none, until [`JobNode::turn`].
-    pub fn is_full(&self) -> bool
-        ensures { result ≡ is_full (slice_get self.now.banks 0) }
+    /// The address of the first byte of a bank. The condition is a number below [`JobNode::banks`].
+    pub fn first(&self, bank: u8) -> u32
+        requires { bank < length self.now.banks }
+        ensures { result ≡ first_of (slice_get self.now.banks bank) }
     {
-        self.node.bank(0).entries().len() >= BANK.room as usize
+        self.node.bank(bank).range().0
     }
 
-    /// Begins an empty journal at the bank: the entries of the one before ([`JobNode::entries`]) are gone then, and what
-    /// they tell is the memory of now. Memory, counts, and what ports hold stay. It takes no memory.
-    pub fn turn(&mut self)
-        ensures { HandsOut self.old self.new (journal_of (slice_get self.old.banks 0)) }
+    /// The entries of the journal of a bank, oldest first. The condition is a number below [`JobNode::banks`].
+    pub fn entries(&self, bank: u8) -> &[Entry]
+        requires { bank < length self.now.banks }
+        ensures { result.now ≡ (journal_of (slice_get self.now.banks bank)).entries }
     {
-        self.node.turn(0, BANK.room);
+        self.node.bank(bank).entries()
+    }
+
+    /// Whether the journal of a bank has room for no more entries: a command for the bank is then answered with a
+    /// general error, and leaves none, until [`JobNode::turn`]. The condition is a number below [`JobNode::banks`].
+    pub fn is_full(&self, bank: u8) -> bool
+        requires { bank < length self.now.banks }
+        ensures { result ≡ is_full (slice_get self.now.banks bank) }
+    {
+        let bank = self.node.bank(bank);
+        bank.entries().len() >= bank.room() as usize
+    }
+
+    /// Begins an empty journal at a bank: the entries of the one before ([`JobNode::entries`]) are gone then, and what
+    /// they tell is the memory of now. Memory, counts, and what ports hold stay. It takes no memory. The condition is a
+    /// number below [`JobNode::banks`].
+    pub fn turn(&mut self, bank: u8)
+        requires { bank < length self.old.banks }
+        ensures out { HandsOut bank self.old self.new (journal_of (slice_get self.old.banks bank)) }
+        ensures banks { length self.new.banks ≡ length self.old.banks }
+    {
+        let room = self.node.room(bank);
+        self.node.turn(bank, room);
     }
 
     /// How many cells each map of the node has, and of which kind it is.
@@ -163,21 +175,36 @@ impl JobNode {
         self.node.word(map, key)
     }
 
-    /// Whether so many bytes from the address on lie in the bank.
-    pub fn covers(&self, address: u32, count: usize) -> bool
-        ensures { result ≡ covers_in (slice_get self.now.banks 0) address count }
+    /// Whether so many bytes from the address on lie in the bank of that number; not if there is no such bank.
+    pub fn covers(&self, bank: u8, address: u32, count: usize) -> bool
+        ensures { result ≡ covers_in (slice_get self.now.banks bank) address count }
     {
-        self.node.covers(0, address, count)
+        self.node.covers(bank, address, count)
     }
 
-    /// Puts bytes at an address of the bank without a command: the write of an instrument, of which no entry tells. So an
+    /// Puts bytes at an address of a bank without a command: the write of an instrument, of which no entry tells. So an
     /// empty journal begins with the memory that is then there, and the entries of the one before are gone. Counts, and what
     /// ports hold, stay. It takes no memory, and costs a copy of the bank's. The condition is that the bytes lie in the bank
     /// ([`JobNode::covers`]).
-    pub fn set(&mut self, address: u32, bytes: &[u8])
-        requires { covers_in (slice_get self.old.banks 0) address (length bytes.now) ≡ true }
-        ensures { SetsBytes address bytes.now self.old self.new (journal_of (slice_get self.old.banks 0)) }
+    pub fn set(&mut self, bank: u8, address: u32, bytes: &[u8])
+        requires { covers_in (slice_get self.old.banks bank) address (length bytes.now) ≡ true }
+        ensures { SetsBytes bank address bytes.now self.old self.new (journal_of (slice_get self.old.banks bank)) }
     {
-        self.node.turn_and_set(0, address, bytes, BANK.room);
+        let room = self.node.room(bank);
+        self.node.turn_and_set(bank, address, bytes, room);
+    }
+
+    /// The first byte of the load result of port 0, in which its reason is.
+    pub fn load_reason(&self) -> u8
+        ensures { result ≡ load_reason self.now }
+    {
+        self.node.staging(0).load_result()[0]
+    }
+
+    /// How many programs were loaded.
+    pub fn loaded(&self) -> u32
+        ensures { result + 1 ≡ length self.now.programs }
+    {
+        self.node.loaded()
     }
 }

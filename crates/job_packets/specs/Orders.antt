@@ -54,15 +54,20 @@ is_plain rows = not (is_set (codes "verify") rows) && not (is_set (codes "no-rep
 
 -- there are no words but those of a read
 abbrev pub is_read_alone : List Row → Bool
-is_read_alone rows = is_plain rows && not (is_given (codes "mask") rows) && not (is_given (codes "slot") rows)
+is_read_alone rows =
+    is_plain rows && not (is_given (codes "mask") rows) && not (is_given (codes "slot") rows)
+    && not (is_set (codes "final") rows)
 
 -- there are no words but those of a write
 abbrev pub is_write_alone : List Row → Bool
-is_write_alone rows = not (is_given (codes "mask") rows) && not (is_given (codes "slot") rows)
+is_write_alone rows =
+    not (is_given (codes "mask") rows) && not (is_given (codes "slot") rows) && not (is_set (codes "final") rows)
 
 -- there are no words but those of a read-modify-write
 abbrev pub is_rmw_alone : List Row → Bool
-is_rmw_alone rows = is_plain rows && not (is_set (codes "no-increment") rows) && not (is_given (codes "slot") rows)
+is_rmw_alone rows =
+    is_plain rows && not (is_set (codes "no-increment") rows) && not (is_given (codes "slot") rows)
+    && not (is_set (codes "final") rows)
 
 -- there are no words but those of a load
 abbrev pub is_load_alone : List Row → Bool

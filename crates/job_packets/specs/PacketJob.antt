@@ -1,8 +1,8 @@
 -- The words of the job `packet`.
-use Rattle.std.specs.Prelude.{List, codes}
+use Rattle.std.specs.Prelude.{◌≡◌, List, codes}
 use Rattle.clap.specs.Walk.{Row}
 use Rattle.clap.specs.Simple.{App, new_app, with_rule}
-use Rattle.job_parts.specs.Arguments.{file_rule, flag_rule, option_rule, optional_rule}
+use Rattle.job_parts.specs.Arguments.{file_rule, flag_rule, is_set, option_rule, optional_rule}
 use Rattle.job_packets.specs.HexWords.{Has}
 use Rattle.job_packets.specs.Orders.{NamesOrder}
 use Rattle.job_packets.specs.PacketOptions.{GivesHeader, with_field_options}
@@ -16,11 +16,11 @@ with_order_words app =
     with_rule (with_rule (with_rule (with_rule app (file_rule (codes "kind"))) (file_rule (codes "address")))
     (optional_rule (codes "data"))) (optional_rule (codes "mask"))
 
--- a subcommand with the options of what is made: `[--slot LIST] [--verify] [--no-reply] [--no-increment]`
+-- a subcommand with the options of what is made: `[--slot LIST] [--verify] [--no-reply] [--no-increment] [--final]`
 abbrev pub with_order_options : App → App
 with_order_options app =
-    with_rule (with_rule (with_rule (with_rule app (option_rule (codes "slot"))) (flag_rule (codes "verify")))
-    (flag_rule (codes "no-reply"))) (flag_rule (codes "no-increment"))
+    with_rule (with_rule (with_rule (with_rule (with_rule app (option_rule (codes "slot"))) (flag_rule (codes "verify")))
+    (flag_rule (codes "no-reply"))) (flag_rule (codes "no-increment"))) (flag_rule (codes "final"))
 
 -- `packet KIND ADDRESS [DATA] [MASK] [OPTIONS]`
 abbrev pub packet_app : App
@@ -30,7 +30,8 @@ packet_app =
 
 -- the words are those of packet with these matches
 abbrev pub NamesPacket : List Row → PacketWords → Type 0
-NamesPacket rows words = GivesHeader rows words.header × NamesOrder rows words.order
+NamesPacket rows words =
+    GivesHeader rows words.header × NamesOrder rows words.order × (words.is_final ≡ is_set (codes "final") rows)
 
 -- matches that no words of packet have
 abbrev pub SpoilsPacket : List Row → Type 0

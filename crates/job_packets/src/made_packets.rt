@@ -142,7 +142,7 @@ fn add_packets(
 }
 
 /// The lines of the packets that are ordered, or `None` where there are no such packets.
-fn made_text(
+pub fn made_text(
     alloc: Global,
     words: &PacketWords,
     content: &[u8],

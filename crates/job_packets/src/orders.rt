@@ -103,21 +103,27 @@ fn is_plain(found: &ArgMatches) -> bool
 fn is_read_alone(found: &ArgMatches) -> bool
     ensures { result ≡ is_read_alone (rows_of (found_of found.now)) }
 {
-    is_plain(found) && !is_given(found, "mask") && !is_given(found, "slot")
+    is_plain(found)
+        && !is_given(found, "mask")
+        && !is_given(found, "slot")
+        && !is_set(found, "final")
 }
 
 /// Whether there are no words but those of a write.
 fn is_write_alone(found: &ArgMatches) -> bool
     ensures { result ≡ is_write_alone (rows_of (found_of found.now)) }
 {
-    !is_given(found, "mask") && !is_given(found, "slot")
+    !is_given(found, "mask") && !is_given(found, "slot") && !is_set(found, "final")
 }
 
 /// Whether there are no words but those of a read-modify-write.
 fn is_rmw_alone(found: &ArgMatches) -> bool
     ensures { result ≡ is_rmw_alone (rows_of (found_of found.now)) }
 {
-    is_plain(found) && !is_set(found, "no-increment") && !is_given(found, "slot")
+    is_plain(found)
+        && !is_set(found, "no-increment")
+        && !is_given(found, "slot")
+        && !is_set(found, "final")
 }
 
 /// Whether there are no words but those of a load.
@@ -211,8 +217,13 @@ fn read_named(found: &ArgMatches) -> Result<(u8, u32, u32), PacketFault>
     ensures err { IfErr result (IsBadWord (HasRead (rows_of (found_of found.now)))) }
 {
     if !is_read_alone(found) {
-        let others = [PacketWord::Verify, PacketWord::NoReply, PacketWord::Mask];
-        return Err(foreign(found, &others, PacketWord::Slot));
+        let others = [
+            PacketWord::Verify,
+            PacketWord::NoReply,
+            PacketWord::Mask,
+            PacketWord::Slot,
+        ];
+        return Err(foreign(found, &others, PacketWord::Final));
     }
     let address = address_of(found)?;
     let count = number_in(found, "data", PacketWord::Length, MAX_LENGTH)?;
@@ -236,7 +247,8 @@ fn write_named(alloc: Global, found: &ArgMatches) -> Result<(u8, u32, Source), P
     ensures err { IfErr result (IsWordFault (HasWrite (rows_of (found_of found.now)))) }
 {
     if !is_write_alone(found) {
-        return Err(foreign(found, &[PacketWord::Mask], PacketWord::Slot));
+        let others = [PacketWord::Mask, PacketWord::Slot];
+        return Err(foreign(found, &others, PacketWord::Final));
     }
     let address = address_of(found)?;
     let source = source_of(alloc, found)?;
@@ -284,8 +296,9 @@ fn rmw_named(alloc: Global, found: &ArgMatches) -> Result<(u32, Vec<u8>), Packet
             PacketWord::Verify,
             PacketWord::NoReply,
             PacketWord::NoIncrement,
+            PacketWord::Slot,
         ];
-        return Err(foreign(found, &others, PacketWord::Slot));
+        return Err(foreign(found, &others, PacketWord::Final));
     }
     let address = address_of(found)?;
     let bytes = masked_of(alloc, found)?;

@@ -13,7 +13,7 @@ use crate::orders::{Order, Source, order_of};
 use crate::packet_options::{HeaderWords, field_arguments, header_words};
 use crate::slips::PacketFault;
 use clap::{ArgMatches, Command};
-use job_parts::arguments::{file, flag, option, optional};
+use job_parts::arguments::{file, flag, is_set, option, optional};
 use job_parts::inputs::{Content, InputFile, Inputs};
 use job_parts::usage::UsageFault;
 use rmap::STAGING_SIZE;
@@ -27,6 +27,8 @@ pub struct PacketWords {
     pub header: HeaderWords,
     /// What is made.
     pub order: Order,
+    /// Whether a load is meant to be the last, so that nothing is said if its program denies the same load after it.
+    pub is_final: bool,
 }
 
 impl PacketWords {
@@ -79,11 +81,14 @@ fn order_options<'a>(alloc: Global, command: Command<'a>) -> Result<Command<'a>,
     let no_reply = flag(alloc, "no-reply", "Of a write: no reply is asked for");
     let help = "Of a read or a write: all bytes have the one address";
     let no_increment = flag(alloc, "no-increment", help);
+    let help = "Of a load: its program may deny the same load after it, and nothing is said of it";
+    let last = flag(alloc, "final", help);
     command
         .arg(slot)?
         .arg(verify)?
         .arg(no_reply)?
-        .arg(no_increment)
+        .arg(no_increment)?
+        .arg(last)
 }
 
 /// `packet KIND ADDRESS [DATA] [MASK]` with its options.
@@ -112,7 +117,12 @@ pub fn packet_words(alloc: Global, found: &ArgMatches) -> Result<PacketWords, Pa
 {
     let header = header_words(alloc, found)?;
     let order = order_of(alloc, found)?;
-    Ok(PacketWords { header, order })
+    let is_final = is_set(found, "final");
+    Ok(PacketWords {
+        header,
+        order,
+        is_final,
+    })
 }
 
 /// The same, with a slip as `BadOption`.

@@ -30,6 +30,8 @@ pub enum PacketWord {
     NoReply,
     /// `--no-increment`.
     NoIncrement,
+    /// `--final`.
+    Final,
     /// The port of the line.
     Port,
     /// The target logical address.
@@ -58,6 +60,7 @@ impl PacketWord {
             PacketWord::Verify => "verify",
             PacketWord::NoReply => "no-reply",
             PacketWord::NoIncrement => "no-increment",
+            PacketWord::Final => "final",
             PacketWord::Port => "port",
             PacketWord::Target => "target",
             PacketWord::Key => "key",
@@ -80,6 +83,7 @@ impl PacketWord {
             PacketWord::Verify => "--verify",
             PacketWord::NoReply => "--no-reply",
             PacketWord::NoIncrement => "--no-increment",
+            PacketWord::Final => "--final",
             PacketWord::Port => "--port",
             PacketWord::Target => "--target",
             PacketWord::Key => "--key",
@@ -101,7 +105,10 @@ impl PacketWord {
             PacketWord::Masked => "pairs of hexadecimal digits, at most four bytes, or - for none",
             PacketWord::Mask => "pairs of hexadecimal digits, as many as in DATA, or - for none",
             PacketWord::Slot => "all, or decimal numbers from 0 to 3 with commas between them",
-            PacketWord::Verify | PacketWord::NoReply | PacketWord::NoIncrement => "a flag",
+            PacketWord::Verify
+            | PacketWord::NoReply
+            | PacketWord::NoIncrement
+            | PacketWord::Final => "a flag",
             PacketWord::Port => "a decimal number from 0 to 31",
             PacketWord::Target | PacketWord::Key | PacketWord::Initiator | PacketWord::Extended =>
                 "at most two hexadecimal digits",
@@ -117,6 +124,7 @@ impl PacketWord {
         match self {
             PacketWord::Mask => "an rmw alone has one, and DATA is one word",
             PacketWord::Slot => "a load alone has one",
+            PacketWord::Final => "a load alone has it",
             PacketWord::Verify | PacketWord::NoReply => "a write alone has it",
             PacketWord::NoIncrement => "a read or a write alone has it",
             PacketWord::Extended => "a load has none, and goes to FF",
@@ -138,7 +146,7 @@ impl PacketWord {
     pub fn is_flag(self) -> bool {
         matches!(
             self,
-            PacketWord::Verify | PacketWord::NoReply | PacketWord::NoIncrement
+            PacketWord::Verify | PacketWord::NoReply | PacketWord::NoIncrement | PacketWord::Final
         )
     }
 }

@@ -4,6 +4,7 @@ pub mod Factory
 pub mod Files
 pub mod Given
 pub mod Lines
+pub mod NodeCodes
 pub mod Options
 pub mod Printed
 pub mod Reading

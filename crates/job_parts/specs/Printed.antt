@@ -8,6 +8,7 @@ use Rattle.bpf.specs.Fault.{image_fault_code, image_fault_slot}
 use Rattle.bver_form.specs.Codes.{refusal_code}
 use Rattle.policy_table.specs.Codes.{policy_fault_code}
 use Rattle.job_parts.specs.BadLines.{bad_line_number}
+use Rattle.job_parts.specs.NodeCodes.{node_code}
 use Rattle.job_parts.specs.declared.faults.Fault.{Fault}
 use Rattle.job_parts.specs.declared.faults.Fault.TheVariants.{
   CannotRead,
@@ -17,6 +18,7 @@ use Rattle.job_parts.specs.declared.faults.Fault.TheVariants.{
   BadTable,
   BadImage,
   Refused,
+  BadNode,
   BadLine,
 }
 
@@ -52,6 +54,7 @@ fault_text (BadImage fault) =
     codes "image fault " ++ decimal (image_fault_code fault) ++ codes " slot " ++ decimal (image_fault_slot fault)
 fault_text (Refused refused) =
     codes "refused V" ++ decimal (refusal_code refused.code) ++ codes " slot " ++ decimal refused.slot
+fault_text (BadNode code place) = codes "node fault " ++ decimal (node_code code)
 fault_text (BadLine number fault) =
     codes "line " ++ decimal number ++ codes " fault " ++ decimal (bad_line_number fault)
 

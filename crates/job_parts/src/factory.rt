@@ -36,7 +36,7 @@ fn factory_insns() -> [Insn; 2]
 }
 
 /// The factory program, which judges where no image is named.
-fn factory_program<'a>(alloc: Global, sizes: MapSizes) -> Result<Accepted, Fault<'a>>
+pub fn factory_program<'a>(alloc: Global, sizes: MapSizes) -> Result<Accepted, Fault<'a>>
     ensures program { IfOk result (λ program. program.program ≡ factory) }
     ensures sizes { IfOk result (λ program. program.sizes ≡ sizes) }
     ensures justified { IfOk result (λ program. IsJustified program.program sizes) }

@@ -5,6 +5,7 @@ ghost use Rattle.job_parts.specs.Printed.{fault_text};
 ghost use Rattle.job_parts.specs.declared.faults.Fault.TheVariants.{BadImage, BadTable, BadText, NoMemory, Refused as IsRefused};
 
 use crate::bad_lines::BadLine;
+use crate::node_codes::NodeCode;
 use basm::AsmFault;
 use bpf::ImageFault;
 use bver::Refused;
@@ -29,6 +30,13 @@ pub enum Fault<'a> {
     BadImage(ImageFault),
     /// The verifier refuses an image.
     Refused(Refused),
+    /// A node's file is bad.
+    BadNode {
+        /// What is wrong with it.
+        code: NodeCode,
+        /// Its place, in the words of the file, for the user.
+        place: String,
+    },
     /// A packet line or an event line is bad.
     BadLine {
         /// The number of the line, from 1.
@@ -104,6 +112,10 @@ impl fmt::Display for Fault<'_> {
                 let code = refused.number();
                 let slot = refused.slot;
                 write!(f, "refused V{code} slot {slot}")
+            }
+            Fault::BadNode { code, .. } => {
+                let code = code.number();
+                write!(f, "node fault {code}")
             }
             Fault::BadLine { number, fault } => {
                 let code = fault.number();

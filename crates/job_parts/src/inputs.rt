@@ -9,6 +9,8 @@ pub enum Content {
     Text,
     /// The table of a policy.
     Table,
+    /// The file of a node, and after it those that it names.
+    Node,
     /// A BPF image.
     Image,
     /// A BPF image, or a text in place of one.

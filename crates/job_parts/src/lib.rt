@@ -9,6 +9,7 @@ pub mod faults;
 pub mod host;
 pub mod inputs;
 pub mod lines;
+pub mod node_codes;
 pub mod options;
 pub mod paths;
 pub mod printing;

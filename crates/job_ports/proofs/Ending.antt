@@ -2,7 +2,7 @@
 use Rattle.std.proofs.Common.{◌≡◌, ◌<◌, ◌+◌, ℕ, zero, suc, List, [], ◌∷◌, ◌++◌, length, map, get_or, refl, sym, ap, ap₂, subst, arith, ◌∙◌}
 use Rattle.std.specs.Prelude.{slice_index_or, zip}
 use Rattle.std.specs.List.{range_with_len}
-use Rattle.std.proofs.lemmas.List.{length-append, length-map, length-replicate}
+use Rattle.std.proofs.lemmas.List.{get_or-map, length-append, length-map, length-replicate}
 use Rattle.std.proofs.lemmas.List.FromFn.{get_or-map-range_with_len, length-map-range_with_len}
 use base.Stored.{Gv}
 use mathlib.Core.List.{IsPrefix}
@@ -11,6 +11,7 @@ use Rattle.spw.specs.Cargo.{Cargo}
 use Rattle.bank.specs.Records.{first_share}
 use Rattle.node_parts.specs.Nodes.{first_pass}
 use Rattle.node_parts.specs.Passes.{PassValue}
+use Rattle.target.specs.Passes.{PortPass, port_pass, unasked}
 use Rattle.ports.specs.Queue.{IsServePassOf, put_of, taken_of}
 use Rattle.ports.specs.Serves.{AreServed, HaveServed, IsWorkerOf, ShareOneHistory, total_of}
 use Rattle.ports.specs.Sinks.{SentReply, SinkValue}
@@ -92,14 +93,14 @@ module _ {J : Type 0} where
   end_at (w ∷ workers) (r ∷ reports) zero worker report end many low = refl
   end_at (w ∷ workers) (r ∷ reports) (suc k) worker report end many low = end_at workers reports k worker report end (omega (arith, many)) (omega (arith, low))
 
-  worker_at : (passes : List PassValue) (serves : List ServePass) (k : ℕ) (pass : PassValue) (serve : ServePass) (worker : Worker J SinkValue) → k < length passes → k < length serves
+  worker_at : (passes : List PortPass) (serves : List ServePass) (k : ℕ) (pass : PortPass) (serve : ServePass) (worker : Worker J SinkValue) → k < length passes → k < length serves
       → slice_index_or (map new_worker (zip passes serves)) k worker ≡ new_worker (slice_index_or passes k pass, slice_index_or serves k serve)
   worker_at [] serves k pass serve worker low few = absurd (omega (arith, low))
   worker_at (p ∷ passes) [] k pass serve worker low few = absurd (omega (arith, few))
   worker_at (p ∷ passes) (s ∷ serves) zero pass serve worker low few = refl
   worker_at (p ∷ passes) (s ∷ serves) (suc k) pass serve worker low few = worker_at passes serves k pass serve worker (omega (arith, low)) (omega (arith, few))
 
-workers_count : (J : Type 0) (passes : List PassValue) (serves : List ServePass) → length passes ≡ length serves → length (map (new_worker {J = J}) (zip passes serves)) ≡ length passes
+workers_count : (J : Type 0) (passes : List PortPass) (serves : List ServePass) → length passes ≡ length serves → length (map (new_worker {J = J}) (zip passes serves)) ≡ length passes
 workers_count J [] [] same = refl
 workers_count J [] (s ∷ serves) same = absurd (omega (arith, same))
 workers_count J (p ∷ passes) [] same = absurd (omega (arith, same))
@@ -109,24 +110,32 @@ workers_count J (p ∷ passes) (s ∷ serves) same = ap (λ n. suc n) (workers_c
 pub record AreFresh {J : Type 0} (program : AcceptedValue) (home : Gv) (ports : ℕ) (by_port : List (List Cargo)) (queues : List Port) (puts : List PutPass) (serves : List ServePass) (workers : List (Worker J SinkValue)) : Type 0 where
   pub count : length by_port ≡ ports
   pub filled : AreFilled by_port queues puts serves
-  pub workers_are : workers ≡ map new_worker (zip (first_passes ports program home) serves)
+  pub workers_are : workers ≡ map new_worker (zip (unasked (first_passes ports program home)) serves)
 
 module _ {J : Type 0} (program : AcceptedValue) (home : Gv) (ports : ℕ) (by_port : List (List Cargo)) (queues : List Port) (puts : List PutPass) (serves : List ServePass) (workers : List (Worker J SinkValue))
     (fresh : AreFresh program home ports by_port queues puts serves workers) where
-  passes_count : length (first_passes ports program home) ≡ ports
-  passes_count = length-map-range_with_len (first_pass 254 (own_bank ∷ []) program home) 0 ports
+  -- what the port of that number has at first
+  abbrev fresh_pass : ℕ → PortPass
+  fresh_pass k = port_pass (first_pass 254 (own_bank ∷ []) program home k) []
+
+  first_count : length (first_passes ports program home) ≡ ports
+  first_count = length-map-range_with_len (first_pass 254 (own_bank ∷ []) program home) 0 ports
+
+  passes_count : length (unasked (first_passes ports program home)) ≡ ports
+  passes_count = length-map (first_passes ports program home) (λ (h : PassValue). port_pass h []) ∙ first_count
 
   pub fresh_count : length workers ≡ ports
-  fresh_count = ap (λ (l : List (Worker J SinkValue)). length l) fresh.workers_are ∙ workers_count J (first_passes ports program home) serves (omega (arith, passes_count, fresh.filled.serves_count, fresh.count)) ∙ passes_count
+  fresh_count = ap (λ (l : List (Worker J SinkValue)). length l) fresh.workers_are ∙ workers_count J (unasked (first_passes ports program home)) serves (omega (arith, passes_count, fresh.filled.serves_count, fresh.count)) ∙ passes_count
 
   -- the worker at a place
   fresh_at : (k : ℕ) (serve : ServePass) (worker : Worker J SinkValue) → k < ports
-      → slice_index_or workers k worker ≡ new_worker (first_pass 254 (own_bank ∷ []) program home k, slice_index_or serves k serve)
+      → slice_index_or workers k worker ≡ new_worker (fresh_pass k, slice_index_or serves k serve)
   fresh_at k serve worker low =
       ap (λ (l : List (Worker J SinkValue)). slice_index_or l k worker) fresh.workers_are
-      ∙ worker_at (first_passes ports program home) serves k worker.pass serve worker (omega (arith, low, passes_count)) (omega (arith, low, fresh.filled.serves_count, fresh.count))
-      ∙ ap (λ (p : PassValue). new_worker (p, slice_index_or serves k serve))
-      (get_or-map-range_with_len (first_pass 254 (own_bank ∷ []) program home) 0 ports k k worker.pass low (omega arith))
+      ∙ worker_at (unasked (first_passes ports program home)) serves k worker.pass serve worker (omega (arith, low, passes_count)) (omega (arith, low, fresh.filled.serves_count, fresh.count))
+      ∙ ap (λ (p : PortPass). new_worker (p, slice_index_or serves k serve))
+      (get_or-map (λ (h : PassValue). port_pass h []) (first_passes ports program home) k worker.pass.pass worker.pass (omega (arith, low, first_count))
+      ∙ ap (λ (h : PassValue). port_pass h []) (get_or-map-range_with_len (first_pass 254 (own_bank ∷ []) program home) 0 ports k k worker.pass.pass low (omega arith)))
 
   -- They may serve their ports.
   pub fresh_served : AreServed 1 ports queues workers
@@ -135,7 +144,7 @@ module _ {J : Type 0} (program : AcceptedValue) (home : Gv) (ports : ℕ) (by_po
     each = λ k port worker low.
         let serve = worker.serve_pass in
         let own : IsServePassOf (slice_index_or queues k port) (slice_index_or serves k serve) = fresh.filled.serves k port serve (omega (arith, low, fresh.count)) in
-        let new : Worker J SinkValue = new_worker (first_pass 254 (own_bank ∷ []) program home k, slice_index_or serves k serve) in
+        let new : Worker J SinkValue = new_worker (fresh_pass k, slice_index_or serves k serve) in
         let here : IsWorkerOf 1 (slice_index_or queues k port) new = record { pass = own; shares = length-replicate 1 (first_share k) } in
         subst (λ (w : Worker J SinkValue). IsWorkerOf 1 (slice_index_or queues k port) w) (sym (fresh_at k serve worker low)) here;
   }
@@ -152,9 +161,9 @@ module _ {J : Type 0} (program : AcceptedValue) (home : Gv) (ports : ℕ) (by_po
 
     -- what each port's worker did with its packets
     served_at : AreBeginnings puts left → (k : ℕ) (put : PutPass) (serve : ServePass) (worker : Worker J SinkValue) (report : Report) → k < ports
-        → HasServed sent failed (standing (first_pass 254 (own_bank ∷ []) program home k) []) (standing_of (slice_index_or left k worker)) no_replies (slice_index_or left k worker).sink (slice_index_or by_port k []) (slice_index_or served.reports k report)
+        → HasServed sent failed (standing (port_pass (first_pass 254 (own_bank ∷ []) program home k) []) []) (standing_of (slice_index_or left k worker)) no_replies (slice_index_or left k worker).sink (slice_index_or by_port k []) (slice_index_or served.reports k report)
     served_at begins k put serve worker report low =
-        let new : Worker J SinkValue = new_worker (first_pass 254 (own_bank ∷ []) program home k, slice_index_or serves k serve) in
+        let new : Worker J SinkValue = new_worker (fresh_pass k, slice_index_or serves k serve) in
         let low' : k < length by_port = omega (arith, low, fresh.count) in
         let worked : IsWorked sent failed new (slice_index_or left k worker) (slice_index_or served.reports k report)
         = subst (λ (w : Worker J SinkValue). IsWorked sent failed w (slice_index_or left k worker) (slice_index_or served.reports k report)) (fresh_at k serve worker low)

@@ -3,7 +3,6 @@ use Rattle.std.specs.Prelude.{◌≡◌, ◌<◌, ◌≤◌, ℕ, List, [], ◌�
 use base.Stored.{Gv}
 use Rattle.bver.specs.Justified.{AcceptedValue}
 use Rattle.spw.specs.Cargo.{Cargo}
-use Rattle.node_parts.specs.Passes.{PassValue}
 use Rattle.ports.specs.Queue.{IsPutPassOf, IsServePassOf, put_of, taken_of}
 use Rattle.ports.specs.Sinks.{SinkValue}
 use Rattle.ports.specs.declared.item.Item.{Item}
@@ -13,6 +12,7 @@ use Rattle.ports.specs.declared.port.PutPass.{PutPass}
 use Rattle.ports.specs.declared.port.ServePass.{ServePass}
 use Rattle.ports.specs.declared.worker.Report.{Report}
 use Rattle.ports.specs.declared.worker.Worker.{Worker}
+use Rattle.target.specs.Passes.{PortPass, unasked}
 use Rattle.job_nodes.specs.JobNode.{first_passes}
 use Rattle.job_ports.specs.ServedFile.{BeginOneHistory, EndsSo, PortEnd, no_replies, report_of}
 
@@ -45,7 +45,7 @@ pub record AreFilled (by_port : List (List Cargo)) (ports : List Port) (put_pass
 
 -- a worker with what its port has of the node and what takes from the port's queue, which knows nothing yet of the history of
 -- the node's banks, and whose sink has taken nothing
-abbrev pub new_worker : {J : Type 0} → PassValue × ServePass → Worker J SinkValue
+abbrev pub new_worker : {J : Type 0} → PortPass × ServePass → Worker J SinkValue
 new_worker parts = record { pass = parts.0; front = []; serve_pass = parts.1; sink = no_replies }
 
 -- a fresh node of one bank, whose ports hold these packets, what puts into them, and their workers
@@ -56,7 +56,7 @@ pub record IsDesk {J : Type 0} (program : AcceptedValue) (ports : ℕ) (by_port 
   pub one : banks ≡ 1
   pub count : length by_port ≡ ports
   pub filled : AreFilled by_port queues puts serves
-  pub workers_are : workers ≡ map new_worker (zip (first_passes ports program home) serves)
+  pub workers_are : workers ≡ map new_worker (zip (unasked (first_passes ports program home)) serves)
 
 -- the first list is a beginning of the second
 pub record IsBeginning (taken put : List Item) : Type 0 where

@@ -8,7 +8,7 @@ use Rattle.bver.specs.Justified.{AcceptedValue}
 use Rattle.spw.specs.Cargo.{Cargo}
 use Rattle.spw.specs.Line.{lines_of}
 use Rattle.node_parts.specs.Nodes.{first_pass}
-use Rattle.node_parts.specs.Passes.{PassValue}
+use Rattle.target.specs.Passes.{PortPass, port_pass}
 use Rattle.ports.specs.Due.{standing}
 use Rattle.ports.specs.Serves.{total_of}
 use Rattle.ports.specs.Sinks.{SinkValue, replies_in}
@@ -24,10 +24,10 @@ use Rattle.job_nodes.specs.JobNode.{own_bank}
 use Rattle.job_ports.specs.Arrivals.{AreLines, BreaksAt, packets_at}
 use Rattle.job_ports.specs.ServeJob.{lines_from, report_line}
 
--- what became of a port: what it has of the node then, what it knows of the history of the node's banks, its replies, and the
+-- what became of a port: what it has of the node and asked for then, what it knows of the history of the node's banks, its replies, and the
 -- report of its worker
 pub record PortEnd : Type 0 where
-  pub pass : PassValue
+  pub pass : PortPass
   pub front : List Link
   pub sink : SinkValue
   pub report : Report
@@ -41,7 +41,7 @@ no_replies = record { sent = []; failed = 0 }
 abbrev pub EndsSo : AcceptedValue → (home : Gv) → (port : ℕ) → List Cargo → PortEnd → Type 0
 EndsSo program home port packets end =
     HasServed (λ (s : SinkValue). s.sent) (λ (s : SinkValue). s.failed)
-    (standing (first_pass 254 (own_bank ∷ []) program home port) []) (standing end.pass end.front) no_replies end.sink
+    (standing (port_pass (first_pass 254 (own_bank ∷ []) program home port) []) []) (standing end.pass end.front) no_replies end.sink
     packets end.report
 
 -- what the ports know of the history of the node's banks begins one list

@@ -1,6 +1,7 @@
 //! The job `rehearse` of `rmapctl`: the load of a new policy at a node on which the old one judges, and the way back.
 #![tactic(auto)]
 
+pub mod again;
 mod askers;
 mod judging;
 pub mod loaders;

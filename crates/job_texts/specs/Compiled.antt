@@ -6,11 +6,11 @@ use Rattle.std.specs.Str.{IsUtf8, bytes_eq}
 use Rattle.bpf.specs.Program.{Program, image_bytes}
 use Rattle.bver.specs.Justified.{IsJustified}
 use Rattle.machine.specs.Sizes.{Maps}
-use Rattle.policy.specs.Compiled.{IsCompileFault, IsCompiled}
-use Rattle.policy_table.specs.FirstFault.{compile_fault}
-use Rattle.policy_table.specs.Lines.{IsReadFault, IsTable}
+use Rattle.policy.specs.Compiled.{IsPortCompiled, IsPortFault}
+use Rattle.policy_table.specs.Policies.{IsUnreadPolicy, PolicyValue, WritesPolicy, policy_fault}
+use Rattle.policy_table.specs.TextFaults.{text_fault_of}
 use Rattle.policy_table.specs.declared.faults.PolicyFault.{PolicyFault}
-use Rattle.policy_table.specs.declared.rules.Rule.{Rule}
+use Rattle.policy_table.specs.declared.text_faults.TextFault.{TextFault}
 use Rattle.spw.specs.Line.{lines_of}
 use Rattle.job_parts.specs.Files.{Reads, Writes}
 use Rattle.job_parts.specs.Reading.{TextUnread}
@@ -19,20 +19,26 @@ use Rattle.job_texts.specs.PolicyJob.{slots_line}
 use Rattle.job_parts.specs.declared.faults.Fault.{Fault}
 use Rattle.job_parts.specs.declared.faults.Fault.TheVariants.{CannotWrite, NoMemory, BadTable}
 
+-- the text is that of a table, of the version that its first line says
+abbrev pub IsTableText : (text : List ℕ) → PolicyValue → Type 0
+IsTableText text policy = WritesPolicy (lines_of text) policy
+
 module _ {S : Type 0} (reads : Reads S) where
-  -- the file was read, and gave UTF-8 that is the table of these rules
-  pub record HoldsTable (before : S) (name : List ℕ) (rules : List Rule) (after : S) : Type 0 where
+  -- the file was read, and gave UTF-8 that is this table
+  pub record HoldsTable (before : S) (name : List ℕ) (policy : PolicyValue) (after : S) : Type 0 where
     pub bytes : List ℕ
     pub read : reads before name (Some bytes) after
     pub utf8 : IsUtf8 bytes
-    pub table : IsTable bytes rules
+    pub table : IsTableText bytes policy
 
   -- the file was read, and gave UTF-8 that is no table, unless memory was refused
   pub record HoldsBadTable (before : S) (name : List ℕ) (after : S) (fault : PolicyFault) : Type 0 where
     pub bytes : List ℕ
     pub read : reads before name (Some bytes) after
     pub utf8 : IsUtf8 bytes
-    pub bad : IsReadFault (lines_of bytes) fault
+    pub found : TextFault
+    pub bad : IsUnreadPolicy (lines_of bytes) found
+    pub told : fault ≡ text_fault_of found
 
   -- the file gives no table
   abbrev pub IsNoTable : (before : S) (name : List ℕ) (after : S) → Fault → Type 0
@@ -42,17 +48,19 @@ module _ {S : Type 0} (reads : Reads S) where
 
   -- the file holds a table that was compiled to the program, for maps of these sizes, on a node with which it may judge
   pub record HoldsPolicy (before : S) (name : List ℕ) (sizes : Maps) (p : Program) (after : S) : Type 0 where
-    pub rules : List Rule
-    pub table : HoldsTable before name rules after
-    pub compiled : IsCompiled sizes rules p
+    pub policy : PolicyValue
+    pub table : HoldsTable before name policy after
+    pub compiled : IsPortCompiled sizes policy p
     pub justified : IsJustified p sizes
 
   -- the file holds a table whose first fault with maps of these sizes it is, or to whose program memory was refused
   pub record HoldsFaultyTable (before : S) (name : List ℕ) (sizes : Maps) (after : S) (fault : PolicyFault) : Type 0
     where
-      pub rules : List Rule
-      pub table : HoldsTable before name rules after
-      pub faulty : IsCompileFault (compile_fault sizes rules) fault
+      pub policy : PolicyValue
+      pub table : HoldsTable before name policy after
+      pub found : TextFault
+      pub faulty : IsPortFault (policy_fault sizes policy) found
+      pub told : fault ≡ text_fault_of found
 
   -- the file gives no table that is compiled for maps of these sizes
   abbrev pub IsNoPolicy : (before : S) (name : List ℕ) (sizes : Maps) (after : S) → Fault → Type 0

@@ -15,7 +15,7 @@ use crate::outputs::other_file;
 use bpf::Image;
 use bver::MapSizes;
 use clap::{ArgMatches, Command};
-use job_parts::arguments::{file, name_of};
+use job_parts::arguments::{file, flag, is_set, name_of};
 use job_parts::faults::Fault;
 use job_parts::inputs::{Content, InputFile, Inputs};
 use job_parts::options::{maps_option, sizes_of};
@@ -24,7 +24,7 @@ use job_parts::status::Status;
 use job_parts::stops::Halt;
 use job_parts::storage::Files;
 use job_parts::usage::UsageFault;
-use policy::{Table, compile};
+use policy::{Policy, compile_policy};
 use std::alloc::{AllocError, Global};
 use std::io::{self, Write};
 
@@ -37,6 +37,8 @@ pub struct PolicyWords {
     pub image: String,
     /// How many cells each map has of the node, and of which kind it is, that the image is to judge on.
     pub sizes: MapSizes,
+    /// Whether the table is meant to be the last, so that nothing is said if it lets nobody load another.
+    pub is_final: bool,
 }
 
 impl PolicyWords {
@@ -47,7 +49,7 @@ impl PolicyWords {
     }
 }
 
-/// `policy FILE OUT [--maps LIST]`.
+/// `policy FILE OUT [--maps LIST] [--final]`.
 pub fn policy_command<'a>(alloc: Global) -> Result<Command<'a>, AllocError>
     ensures shape { IfOk result (λ c. app_of c ≡ policy_app) }
     ensures local { IfOk result (λ c. (fields_of c).has_globals ≡ false) }
@@ -57,11 +59,14 @@ pub fn policy_command<'a>(alloc: Global) -> Result<Command<'a>, AllocError>
     let help = "The file that the BPF image is written to";
     let image = file(alloc, "image", "OUT", help);
     let maps = maps_option(alloc);
+    let help = "The table may let nobody load another: nothing is said of it";
+    let last = flag(alloc, "final", help);
     Command::new(alloc, "policy")
         .about("Compiles a policy table to a BPF image")
         .arg(table)?
         .arg(image)?
-        .arg(maps)
+        .arg(maps)?
+        .arg(last)
 }
 
 /// The words of `policy` with these matches.
@@ -72,20 +77,25 @@ pub fn policy_job(alloc: Global, found: &ArgMatches) -> Result<PolicyWords, Usag
     let table = name_of(alloc, found, "table")?;
     let image = name_of(alloc, found, "image")?;
     let sizes = sizes_of(alloc, found)?;
+    let is_final = is_set(found, "final");
     Ok(PolicyWords {
         table,
         image,
         sizes,
+        is_final,
     })
 }
 
-/// The table in the file of this name.
-fn table_in<'a, F: Files>(alloc: Global, files: &mut F, name: &'a str) -> Result<Table, Fault<'a>>
+/// The table, of either version, in the file of this name.
+fn table_in<'a, F: Files>(alloc: Global, files: &mut F, name: &'a str) -> Result<Policy, Fault<'a>>
     ensures table { IfOk result (λ table. HoldsTable F.reads files.old name.now table files.new) }
     ensures refused { IfErr result (IsNoTable F.reads files.old name.now files.new) }
 {
     let text = text_in(alloc, files, name)?;
-    Ok(Table::read(alloc, text.as_str())?)
+    match Policy::read(alloc, text.as_str()) {
+        Ok(table) => Ok(table),
+        Err(fault) => Err(Fault::BadTable(fault.fault())),
+    }
 }
 
 /// The image of the table in the file of this name.
@@ -100,7 +110,10 @@ fn compiled<'a, F: Files>(
     ensures refused { IfErr result (IsNoPolicy F.reads files.old name.now sizes files.new) }
 {
     let table = table_in(alloc, files, name)?;
-    Ok(compile(alloc, &table, &sizes)?)
+    match compile_policy(alloc, &table, &sizes) {
+        Ok(image) => Ok(image),
+        Err(fault) => Err(Fault::BadTable(fault.fault())),
+    }
 }
 
 /// Prints how many slots an image has: `slots S`.

@@ -1,5 +1,5 @@
 -- How a judged control write ends.
-use Rattle.std.specs.Prelude.{◌≡◌, ◌⊎◌, ℕ, List, [], length, Option, Some, None}
+use Rattle.std.specs.Prelude.{◌≡◌, ◌⊎◌, ℕ, List, [], ◌∷◌, ◌++◌, length, Option, Some, None}
 use mathlib.Core.List.{IsPrefix}
 use Rattle.rmap.specs.declared.status.Status.{Status}
 use Rattle.rmap.specs.declared.status.Status.TheVariants.{Success, GeneralError}
@@ -39,6 +39,16 @@ pub record IsPublished (control : ControlData) (staged : List ℕ) (old new know
 -- a port that has learnt so much, with that load result
 abbrev pub after_load : PassValue → (seen : List Publish) → (load_result : List ℕ) → PassValue
 after_load h seen load_result = record h { programs = seen; staging = staged h.staging.bytes load_result }
+
+-- a program was published by a port, which noted that
+pub record HasNoted {K : Type 0} (notes : K → Publish → K → Type 0) (had has : K) (old new : List Publish) : Type 0 where
+  pub publish : Publish
+  pub longer : new ≡ old ++ publish ∷ []
+  pub noted : notes had publish has
+
+-- one program was published by a port, which noted that, or nothing was, and the port has what it had
+abbrev pub NotesPublish : {K : Type 0} → (K → Publish → K → Type 0) → (had has : K) → (old new : List Publish) → Type 0
+NotesPublish notes had has old new = HasNoted notes had has old new ⊎ ((new ≡ old) × (has ≡ had))
 
 -- the staged program was published, and the load result has its generation
 pub record HasLoaded (holder after : PassValue) (old new : List Publish) (j : JudgedValue)

@@ -1,12 +1,12 @@
 //! Loads: a program that was staged is verified and published.
 
-ghost use Rattle.std.specs.Prelude.{◌≡◌, ◌⊎◌, None, IfErr, IfOk, List, OnErr, length};
+ghost use Rattle.std.specs.Prelude.{◌≡◌, ◌⊎◌, None, IfErr, IfOk, List, OnErr, OnOk, length};
 ghost use mathlib.Core.List.{IsPrefix};
 ghost use Rattle.bank.specs.Records.{ShareValue};
 ghost use Rattle.bpf.specs.Program.{IsProgram, image_bytes};
 ghost use Rattle.bver.specs.Justified.{IsJustified};
 ghost use Rattle.node_programs.specs.Published.{sizes_of};
-ghost use Rattle.node_parts.specs.Loaded.{IsLoadEnd, IsPublished};
+ghost use Rattle.node_parts.specs.Loaded.{HasNoted, IsLoadEnd, IsPublished, NotesPublish};
 ghost use Rattle.node_parts.specs.Outcomes.{IsLoadRefusal};
 ghost use Rattle.node_parts.specs.Passes.{RunContextValue, pass_of};
 ghost use Rattle.node_parts.specs.Loads.{IsFirstFault, IsPrepared, IsUnprepared, IsUnpreparedBy, IsUnspelled, WantsToPrepare, WantsToVerify, control_fault, loaded_bytes};
@@ -101,8 +101,10 @@ fn publish_staged<K, S: ProgramStore<K>>(
         (S.published store.old) (S.published store.new) (S.known reader.old) (S.known reader.new) n) }
     ensures refused { IfErr result (IsLoadRefusal control staging.now.bytes
         (sizes_of (S.published store.old)) (length (S.published store.old))) }
+    ensures noted { OnOk result (HasNoted S.notes reader.old reader.new
+        (S.published store.old) (S.published store.new)) }
     ensures same { OnErr result ((S.published store.new ≡ S.published store.old)
-        × (S.known reader.new ≡ S.known reader.old)) }
+        × (reader.new ≡ reader.old)) }
 {
     let (slot, program) = prepare(alloc, staging, control, &store.sizes())?;
     let generation = store.publish(alloc, reader, slot, program)?;
@@ -111,8 +113,8 @@ fn publish_staged<K, S: ProgramStore<K>>(
 
 /// Loads what a port staged, where the verdict on the control write is yes and its body is right, and leaves the reply:
 /// the program is verified for the maps of the node and published for the slot that the control data name, the port
-/// knows of it, and the load result tells its generation, or why the load was refused. Nothing else changes, whatever
-/// context and shares the port has. The conditions are a control write, and a port that knows a beginning of the list.
+/// knows of it and notes it, and the load result tells its generation, or why the load was refused. Nothing else changes,
+/// whatever context and shares the port has. The conditions are a control write, and a port that knows a beginning of the list.
 pub fn load<K, S: ProgramStore<K>>(
     alloc: Global,
     reader: &mut K,
@@ -123,7 +125,9 @@ pub fn load<K, S: ProgramStore<K>>(
 ) -> Status
     requires place { judged.place ≡ Place.Control }
     requires begins { IsPrefix (S.known reader.old) (S.published store.old) }
-    ensures { (b : RunContextValue) (shares : List ShareValue)
+    ensures noted { NotesPublish S.notes reader.old reader.new
+        (S.published store.old) (S.published store.new) }
+    ensures ended { (b : RunContextValue) (shares : List ShareValue)
         → IsLoadEnd (pass_of b (S.known reader.old) shares staging.old)
         (pass_of b (S.known reader.new) shares staging.new)
         (S.published store.old) (S.published store.new) judged result reply.new }

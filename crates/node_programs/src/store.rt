@@ -3,7 +3,7 @@
 ghost use Rattle.std.specs.Prelude.{◌≡◌, ◌<◌, ◌≤◌, ◌^◌, IfErr, IfOk, List, OnErr, OnOk, length};
 ghost use mathlib.Core.List.{IsPrefix};
 ghost use Rattle.node_programs.specs.Codes.{IsUnpublished};
-ghost use Rattle.node_programs.specs.Histories.{longer_history};
+ghost use Rattle.node_programs.specs.Histories.{entry, longer_history};
 ghost use Rattle.node_programs.specs.Published.{sizes_of};
 ghost use Rattle.node_programs.specs.declared.publishes.Publish.{Publish};
 
@@ -20,6 +20,9 @@ pub trait ProgramStore<K> {
     /// What a port knows of it.
     ghost known: { K → List Publish };
 
+    /// What becomes of what a port has, where it published that.
+    ghost notes: { K → Publish → K → Type 0 };
+
     /// The maps for which each program was accepted, with their kinds: those of the factory program.
     fn sizes(&self) -> MapSizes
         ensures { result ≡ sizes_of (published self.now) };
@@ -30,7 +33,7 @@ pub trait ProgramStore<K> {
     /// # Errors
     ///
     /// `GenerationsFull` after 4,294,967,295 publishes, else `Memory` where memory was refused. What is published and
-    /// what the port knows of it stay.
+    /// what the port has stay.
     fn publish(
         &mut self,
         alloc: Global,
@@ -45,8 +48,9 @@ pub trait ProgramStore<K> {
             (published self.new ≡ longer_history (published self.old) slot program) }
         ensures generation { IfOk result (λ n. n ≡ length (published self.old)) }
         ensures learnt { OnOk result (known reader.new ≡ published self.new) }
+        ensures noted { OnOk result (notes reader.old (entry slot program) reader.new) }
         ensures same { OnErr result
-            ((published self.new ≡ published self.old) × (known reader.new ≡ known reader.old)) }
+            ((published self.new ≡ published self.old) × (reader.new ≡ reader.old)) }
         ensures refused { IfErr result (IsUnpublished (length (published self.old))) }
         ensures fewer { OnOk result (length (published self.old) < 2 ^ 32) };
 }

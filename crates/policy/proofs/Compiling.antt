@@ -1,6 +1,6 @@
 -- Compiled tables: a rule by its tests, the rules from the last, and what comes before them.
-use Rattle.std.specs.Prelude.{◌≢◌, pos, ◌&&◌, ◌==◌, not, bit_and, if◌then◌else◌, slice_index}
-use Rattle.std.proofs.Common.{◌≡◌, ◌<◌, ◌^◌, ◌+◌, ◌-◌, ◌%◌, ℕ, suc, Bool, true, false, List, [], ◌∷◌, ◌++◌, length, Option, Some, None, refl, sym, ap, ◌∙◌, subst, arith, append_assoc}
+use Rattle.std.specs.Prelude.{◌≢◌, pos, is_some, ◌||◌, ◌/◌, ◌&&◌, ◌==◌, not, bit_and, if◌then◌else◌, slice_index}
+use Rattle.std.proofs.Common.{◌≡◌, ◌<◌, ◌^◌, ◌+◌, ◌-◌, ◌%◌, ℕ, zero, suc, Bool, true, false, List, [], ◌∷◌, ◌++◌, length, Option, Some, None, refl, sym, ap, ◌∙◌, subst, arith, append_assoc}
 use Rattle.std.specs.Prelude.{All}
 use Rattle.std.proofs.lemmas.List.Elements.{All-head, All-tail}
 use Rattle.bpf.specs.declared.version.Version.TheVariants.{One}
@@ -18,19 +18,21 @@ use Rattle.machine.specs.declared.regions.Region.TheVariants.{Front, Tail}
 use Rattle.machine.specs.declared.values.Value.{Value}
 use Rattle.machine.specs.declared.values.Value.TheVariants.{Num, Ptr}
 use Rattle.machine.specs.Laws.{AnswersDecide, RunsFromTheFront, StepPerforms}
-use Rattle.machine.specs.Memory.{Header, IsHeader}
+use Rattle.machine.specs.Memory.{Header, IsHeader, byte_after}
 use Rattle.machine.specs.Runs.{Ends, Runs}
 use Rattle.machine.specs.State.{State, entry_register, entry_state, register_after, state}
 use Rattle.machine.specs.Step.{Next, alu, knows_insn, loads, perform, perform_at, writes}
 use Rattle.machine.specs.Words.{swapped_bytes}
 use Rattle.rmap.specs.Command.{address_of, extended_of, increments, command_kind, initiator_of, key_of, length_of}
-use Rattle.policy.specs.Code.{address_code, applied, behind_extended, behind_initiator, behind_key, behind_kind, behind_range, field_slots, field_test, kind_slots, kind_test, last_address_code, loaded, quota_slots, quota_test, range_test, rule_code, rules_code, skips_if, swapped, table_code, verdict_code}
+use Rattle.policy.specs.Code.{address_code, applied, asks_ports, keep_code, port_kept, port_rule_code, port_test, rule_slots, behind_extended, behind_initiator, behind_key, behind_kind, behind_range, field_slots, field_test, kind_slots, kind_test, last_address_code, loaded, quota_slots, quota_test, range_test, rule_code, rules_code, skips_if, swapped, table_code, verdict_code}
 use Rattle.rmap.specs.Verdict.{verdict_number}
-use Rattle.policy.specs.Compiled.{HasMeaning}
+use Rattle.policy.specs.Compiled.{HasPortMeaning}
 use Rattle.policy_table.specs.Laws.{DrawsAreAnswered}
 use Rattle.policy_table.specs.Limits.{FitsFields}
+use Rattle.policy_table.specs.Ports.{FitsPort, port_decision, rules_at}
 use Rattle.policy.specs.Meant.{table_program}
 use Rattle.policy_table.specs.Meaning.{AreWords, agrees, decision, fields_of, has_kind, last_address_of, lies_between, ruled}
+use Rattle.policy_table.specs.declared.port_rules.PortRule.{PortRule}
 use Rattle.policy_table.specs.declared.rules.Quota.{Quota}
 use Rattle.policy_table.specs.declared.rules.Rule.{Rule}
 use Rattle.policy_table.specs.declared.rules.RuleKind.{RuleKind}
@@ -39,7 +41,7 @@ use Rattle.rmap.specs.declared.verdict.Verdict.{Verdict}
 use Rattle.rmap.specs.declared.verdict.Verdict.TheVariants.{Authorised, InvalidKey, NotAuthorised, InvalidLogicalAddress}
 use Rattle.policy.proofs.Finishing.{Decision, Finishes, StandAt, branched, next, slot_after, split, stand}
 use Rattle.policy.proofs.Headers.{big_three, big_word, front_byte, front_loaded, high_first, is_increment, low_first, tail_byte, tail_loaded, word_loaded, word_swapped}
-use Rattle.policy.proofs.Testing.{EndsFrom, Setting, Stands, field_tested, in_front, in_tail, kind_tested, quota_tested, range_tested, verdict_given}
+use Rattle.policy.proofs.Testing.{EndsFrom, Keeps, Setting, Stands, field_tested, in_front, in_tail, kept, kind_tested, port_tested, quota_tested, range_tested, verdict_given}
 
 -- ---- how many slots the tests have
 
@@ -70,7 +72,7 @@ cut_at program slot other xs ys same h =
     let parts = split program slot xs ys h in
     (parts.0, subst (λ (k : ℕ). StandAt program k ys) same parts.1)
 
-after_both : (slot other : ℕ) (xs ys : List Insn) → slot_after slot xs ≡ other → slot_after slot (xs ++ ys) ≡ slot_after other ys
+pub after_both : (slot other : ℕ) (xs ys : List Insn) → slot_after slot xs ≡ other → slot_after slot (xs ++ ys) ≡ slot_after other ys
 after_both slot other [] ys same = ap (λ (k : ℕ). slot_after k ys) same
 after_both slot other (x ∷ xs) ys same = after_both (slot + slots_of x) other xs ys same
 
@@ -211,12 +213,48 @@ rule_decides m slot rule rules fits code others = record {
 
 -- ---- the rules, from the last
 
-pub rules_decide : (m : Setting) (slot : ℕ) (rules : List Rule) → All FitsFields rules → StandAt m.program slot (rules_code rules) → RulesEnd m slot rules
-rules_decide m slot [] fits code = record { ends = λ told words. verdict_given m slot 10 (omega arith) code }
-rules_decide m slot (rule ∷ rules) fits code =
-    let parts = cut_at m.program slot (end_of slot rule) (rule_code rule) (rules_code rules) (rule_after slot rule) code in
-    rule_decides m slot rule rules (All-head FitsFields rule rules fits) (rule_stands m.program slot rule parts.0)
-    (rules_decide m (end_of slot rule) rules (All-tail FitsFields rule rules fits) parts.1)
+port_after : (slot : ℕ) (field : Option ℕ) (behind : ℕ) → slot_after slot (port_test field behind) ≡ slot + field_slots field
+port_after slot None behind = omega arith
+port_after slot (Some port) behind = omega arith
+
+pub port_rule_after : (slot : ℕ) (own : PortRule) → slot_after slot (port_rule_code own) ≡ end_of (slot + field_slots own.port) own.rule
+port_rule_after slot own =
+    after_both slot (slot + field_slots own.port) (port_test own.port (rule_slots own.rule)) (rule_code own.rule) (port_after slot own.port (rule_slots own.rule))
+    ∙ rule_after (slot + field_slots own.port) own.rule
+
+-- a rule that is asked stands before the others, and else they stand alone
+chosen : (t : Bool) (a b : List Rule) (header : Header) (told : ℕ → ℕ) → (if t then decision a header told else decision b header told) ≡ decision (if t then a else b) header told
+chosen true a b header told = refl
+chosen false a b header told = refl
+
+pub first_asks : (a b : Bool) → a ≡ true → (a || b) ≡ true
+first_asks true b h = refl
+first_asks false b h = cc
+
+pub later_asks : (a b : Bool) → b ≡ true → (a || b) ≡ true
+later_asks true b h = refl
+later_asks false b h = h
+
+-- at a port: it is kept on the stack, where a rule asks it
+pub rules_decide : (m : Setting) (port slot : ℕ) (rules : List PortRule) → (asks_ports rules ≡ true → m.held ≡ Some port) → All FitsPort rules
+    → StandAt m.program slot (rules_code rules) → RulesEnd m slot (rules_at port rules)
+rules_decide m port slot [] held fits code = record { ends = λ told words. verdict_given m slot 10 (omega arith) code }
+rules_decide m port slot (own ∷ rules) held fits code =
+    let begins : ℕ = slot + field_slots own.port in
+    let end : ℕ = end_of begins own.rule in
+    let parts = cut_at m.program slot end (port_rule_code own) (rules_code rules) (port_rule_after slot own) code in
+    let both = cut_at m.program slot begins (port_test own.port (rule_slots own.rule)) (rule_code own.rule) (port_after slot own.port (rule_slots own.rule)) parts.0 in
+    let own_fits : FitsPort own = All-head FitsPort own rules fits in
+    let later : RulesEnd m end (rules_at port rules) = rules_decide m port end rules (λ asked. held (later_asks (is_some own.port) (asks_ports rules) asked)) (All-tail FitsPort own rules fits) parts.1 in
+    let met : RulesEnd m begins (own.rule ∷ rules_at port rules) = rule_decides m begins own.rule (rules_at port rules) own_fits.rule (rule_stands m.program begins own.rule both.1) later in
+    record {
+      ends = λ told words.
+          let asked : Decision = decision (own.rule ∷ rules_at port rules) m.header told in
+          let others : Decision = decision (rules_at port rules) m.header told in
+          let tested : EndsFrom m slot (if agrees own.port port then asked else others) =
+          port_tested m slot port (rule_slots own.rule) end own.port asked others (λ has. held (first_asks (is_some own.port) (asks_ports rules) has)) both.0 own_fits.port (omega arith) (met.ends told words) (later.ends told words) in
+          subst (λ (d : Decision). EndsFrom m slot d) (chosen (agrees own.port port) (own.rule ∷ rules_at port rules) (rules_at port rules) m.header told) tested;
+    }
 
 -- ---- before the rules
 
@@ -235,84 +273,82 @@ far_last true true far near h g = cc
 far_last true false far near h g = refl
 far_last false b far near h g = cc
 
-with_last : (first last : ℕ) (registers : ℕ → Value) → Stands first last registers → (other : ℕ) → last ≡ other → Stands first other registers
-with_last first last registers stands other same = subst (λ (n : ℕ). Stands first n registers) same stands
+with_last : (held : Option ℕ) (first last : ℕ) (registers : ℕ → Value) (stack : ℕ → Option ℕ) → Stands held first last registers stack → (other : ℕ) → last ≡ other → Stands held first other registers stack
+with_last held first last registers stack stands other same = subst (λ (n : ℕ). Stands held first n registers stack) same stands
 
-kept : (first last : ℕ) (registers : ℕ → Value) (value : Value) → Stands first last registers → Stands first last (register_after registers 0 value)
-kept first last registers value h = record {
-  front = h.front;
-  tail = h.tail;
-  first_address = h.first_address;
-  last_address = h.last_address;
-}
-
-moved_last : (first last other : ℕ) (registers : ℕ → Value) → Stands first last registers → Stands first other (register_after registers 9 (Num other))
-moved_last first last other registers h = record {
+moved_last : (held : Option ℕ) (first last other : ℕ) (registers : ℕ → Value) (stack : ℕ → Option ℕ) → Stands held first last registers stack → Stands held first other (register_after registers 9 (Num other)) stack
+moved_last held first last other registers stack h = record {
   front = h.front;
   tail = h.tail;
   first_address = h.first_address;
   last_address = refl;
+  frame = h.frame;
+  port = h.port;
 }
 
+-- so many slots after one
+abbrev pub at : (slot count : ℕ) → ℕ
+at slot zero = slot
+at slot (suc count) = at slot count + 1
+
 -- the address, and where it is when the rules begin
-start : (m : Setting) (port : ℕ) (d : Decision) → StandAt m.program 0 address_code
-    → ((registers : ℕ → Value) (stack : ℕ → Option ℕ) → Stands (address_of (fields_of m.header)) (address_of (fields_of m.header)) registers → Finishes m.program m.header (state 5 registers stack) d)
-    → Finishes m.program m.header (entry_state port) d
-start m port d code rest =
+start : (m : Setting) (b port : ℕ) (stack : ℕ → Option ℕ) (d : Decision) → Keeps m.held stack → StandAt m.program b address_code
+    → ((registers : ℕ → Value) → Stands m.held (address_of (fields_of m.header)) (address_of (fields_of m.header)) registers stack → Finishes m.program m.header (state (at b 5) registers stack) d)
+    → Finishes m.program m.header (state b (entry_register port) stack) d
+start m b port stack d keeps code rest =
     let header : Header = m.header in
     let tail : List ℕ = header.tail in
     let address : ℕ = address_of (fields_of header) in
     let word : ℕ = low_first (slice_index tail 4) (slice_index tail 5) (slice_index tail 6) (slice_index tail 7) in
-    let stack : ℕ → Option ℕ = λ place. None in
     let r0 : ℕ → Value = entry_register port in
     let r1 : ℕ → Value = register_after r0 6 (Ptr Front (pos 0)) in
     let r2 : ℕ → Value = register_after r1 7 (Ptr Tail (pos 0)) in
     let r3 : ℕ → Value = register_after r2 8 (Num word) in
     let r4 : ℕ → Value = register_after r3 8 (Num address) in
     let r5 : ℕ → Value = register_after r4 9 (Num address) in
-    let load : perform header (state 2 r2 stack) (loaded LoadWord 8 7 4) ≡ Next (state 3 r3 stack) =
-    ap (λ (o : Option Value). writes (state 2 r2 stack) 3 8 o) (word_loaded header m.is_header 4 (omega arith) refl (state 2 r2 stack)) in
+    let load : perform header (state (at b 2) r2 stack) (loaded LoadWord 8 7 4) ≡ Next (state (at b 3) r3 stack) =
+    ap (λ (o : Option Value). writes (state (at b 2) r2 stack) (at b 3) 8 o) (word_loaded header m.is_header 4 (omega arith) refl (state (at b 2) r2 stack)) in
     let big : swapped_bytes ToBig Swap32 word ≡ address =
     word_swapped _ _ _ _ (tail_byte header m.is_header 4 (omega arith)) (tail_byte header m.is_header 5 (omega arith)) (tail_byte header m.is_header 6 (omega arith)) (tail_byte header m.is_header 7 (omega arith))
     ∙ sym (big_word tail) in
-    let swap : perform header (state 3 r3 stack) (swapped 8) ≡ Next (state 4 r4 stack) =
-    ap (λ (k : ℕ). writes (state 3 r3 stack) 4 8 (Some (Num k))) big in
-    next m.program header (state 0 r0 stack) (state 1 r1 stack) (applied Mov 6 (FromRegister 1)) d m.performs code.0 refl refl
-    (next m.program header (state 1 r1 stack) (state 2 r2 stack) (applied Mov 7 (FromRegister 2)) d m.performs code.1.0 refl refl
-    (next m.program header (state 2 r2 stack) (state 3 r3 stack) (loaded LoadWord 8 7 4) d m.performs code.1.1.0 refl load
-    (next m.program header (state 3 r3 stack) (state 4 r4 stack) (swapped 8) d m.performs code.1.1.1.0 refl swap
-    (next m.program header (state 4 r4 stack) (state 5 r5 stack) (applied Mov 9 (FromRegister 8)) d m.performs code.1.1.1.1.0 refl refl
-    (rest r5 stack (record { front = refl; tail = refl; first_address = refl; last_address = refl }))))))
+    let swap : perform header (state (at b 3) r3 stack) (swapped 8) ≡ Next (state (at b 4) r4 stack) =
+    ap (λ (k : ℕ). writes (state (at b 3) r3 stack) (at b 4) 8 (Some (Num k))) big in
+    next m.program header (state b r0 stack) (state (at b 1) r1 stack) (applied Mov 6 (FromRegister 1)) d m.performs code.0 refl refl
+    (next m.program header (state (at b 1) r1 stack) (state (at b 2) r2 stack) (applied Mov 7 (FromRegister 2)) d m.performs code.1.0 refl refl
+    (next m.program header (state (at b 2) r2 stack) (state (at b 3) r3 stack) (loaded LoadWord 8 7 4) d m.performs code.1.1.0 refl load
+    (next m.program header (state (at b 3) r3 stack) (state (at b 4) r4 stack) (swapped 8) d m.performs code.1.1.1.0 refl swap
+    (next m.program header (state (at b 4) r4 stack) (state (at b 5) r5 stack) (applied Mov 9 (FromRegister 8)) d m.performs code.1.1.1.1.0 refl refl
+    (rest r5 (record { front = refl; tail = refl; first_address = refl; last_address = refl; frame = refl; port = keeps }))))))
 
 -- the last address where there is a length
-long : (m : Setting) (registers : ℕ → Value) (stack : ℕ → Option ℕ) (address length last : ℕ) (d : Decision) → Stands address address registers
+long : (m : Setting) (b : ℕ) (registers : ℕ → Value) (stack : ℕ → Option ℕ) (address length last : ℕ) (d : Decision) → Stands m.held address address registers stack
     → registers 0 ≡ Num length → length ≢ 0 → address < 2 ^ 32 → length < 2 ^ 24 → address + length - 1 ≡ last
-    → insn_at m.program 12 ≡ Some (applied Add 9 (FromRegister 0)) → insn_at m.program 13 ≡ Some (applied Sub 9 (Immediate (pos 1)))
-    → ((after : ℕ → Value) → Stands address last after → Finishes m.program m.header (state 14 after stack) d)
-    → Finishes m.program m.header (state 12 registers stack) d
-long m registers stack address length last d stands value some address_fits length_fits is first second rest =
+    → insn_at m.program (at b 12) ≡ Some (applied Add 9 (FromRegister 0)) → insn_at m.program (at b 13) ≡ Some (applied Sub 9 (Immediate (pos 1)))
+    → ((after : ℕ → Value) → Stands m.held address last after stack → Finishes m.program m.header (state (at b 14) after stack) d)
+    → Finishes m.program m.header (state (at b 12) registers stack) d
+long m b registers stack address length last d stands value some address_fits length_fits is first second rest =
     let header : Header = m.header in
     let r1 : ℕ → Value = register_after registers 9 (Num (address + length)) in
     let r2 : ℕ → Value = register_after r1 9 (Num last) in
-    let s : State = state 12 registers stack in
-    let t : State = state 13 r1 stack in
+    let s : State = state (at b 12) registers stack in
+    let t : State = state (at b 13) r1 stack in
     let sum : (address + length) % 2 ^ 64 ≡ address + length = omega arith in
     let less : (address + length + (2 ^ 64 - 1)) % 2 ^ 64 ≡ last = omega (arith, is) in
     let add : perform header s (applied Add 9 (FromRegister 0)) ≡ Next t =
-    ap (λ (v : Value). writes s 13 9 (alu Add Bits64 v (registers 0))) stands.last_address
-    ∙ ap (λ (v : Value). writes s 13 9 (alu Add Bits64 (Num address) v)) value
-    ∙ ap (λ (k : ℕ). writes s 13 9 (Some (Num k))) sum in
-    let sub : perform header t (applied Sub 9 (Immediate (pos 1))) ≡ Next (state 14 r2 stack) =
-    ap (λ (k : ℕ). writes t 14 9 (Some (Num k))) less in
-    let then_one : Stands address (address + length) r1 = moved_last address address (address + length) registers stands in
+    ap (λ (v : Value). writes s (at b 13) 9 (alu Add Bits64 v (registers 0))) stands.last_address
+    ∙ ap (λ (v : Value). writes s (at b 13) 9 (alu Add Bits64 (Num address) v)) value
+    ∙ ap (λ (k : ℕ). writes s (at b 13) 9 (Some (Num k))) sum in
+    let sub : perform header t (applied Sub 9 (Immediate (pos 1))) ≡ Next (state (at b 14) r2 stack) =
+    ap (λ (k : ℕ). writes t (at b 14) 9 (Some (Num k))) less in
+    let then_one : Stands m.held address (address + length) r1 stack = moved_last m.held address address (address + length) registers stack stands in
     next m.program header s t (applied Add 9 (FromRegister 0)) d m.performs first refl add
-    (next m.program header t (state 14 r2 stack) (applied Sub 9 (Immediate (pos 1))) d m.performs second refl sub
-    (rest r2 (moved_last address (address + length) last r1 then_one)))
+    (next m.program header t (state (at b 14) r2 stack) (applied Sub 9 (Immediate (pos 1))) d m.performs second refl sub
+    (rest r2 (moved_last m.held address (address + length) last r1 stack then_one)))
 
 -- the last address
-finish : (m : Setting) (registers : ℕ → Value) (stack : ℕ → Option ℕ) (d : Decision) → StandAt m.program 5 last_address_code
-    → Stands (address_of (fields_of m.header)) (address_of (fields_of m.header)) registers → EndsFrom m 14 d → Finishes m.program m.header (state 5 registers stack) d
-finish m registers stack d code stands there =
+finish : (m : Setting) (b : ℕ) (registers : ℕ → Value) (stack : ℕ → Option ℕ) (d : Decision) → StandAt m.program (at b 5) last_address_code
+    → Stands m.held (address_of (fields_of m.header)) (address_of (fields_of m.header)) registers stack → EndsFrom m (at b 14) d → Finishes m.program m.header (state (at b 5) registers stack) d
+finish m b registers stack d code stands there =
     let header : Header = m.header in
     let tail : List ℕ = header.tail in
     let address : ℕ = address_of (fields_of header) in
@@ -336,73 +372,110 @@ finish m registers stack d code stands there =
     let r3 : ℕ → Value = register_after r2 0 (Num word) in
     let r4 : ℕ → Value = register_after r3 0 (Num high) in
     let r5 : ℕ → Value = register_after r4 0 (Num length) in
-    let stands_1 : Stands address address r1 = kept address address registers (Num byte) stands in
-    let stands_2 : Stands address address r2 = kept address address r1 (Num (bit_and byte 4)) stands_1 in
-    let stands_3 : Stands address address r3 = kept address address r2 (Num word) stands_2 in
-    let stands_4 : Stands address address r4 = kept address address r3 (Num high) stands_3 in
-    let stands_5 : Stands address address r5 = kept address address r4 (Num length) stands_4 in
-    let load : perform header (state 5 registers stack) (loaded LoadByte 0 6 2) ≡ Next (state 6 r1 stack) =
-    ap (λ (v : Value). writes (state 5 registers stack) 6 0 (loads header (state 5 registers stack) LoadByte v (pos 2))) stands.front
-    ∙ ap (λ (o : Option Value). writes (state 5 registers stack) 6 0 o) (front_loaded header m.is_header 2 (omega arith) refl (state 5 registers stack)) in
-    let load_length : perform header (state 8 r2 stack) (loaded LoadWord 0 7 8) ≡ Next (state 9 r3 stack) =
-    ap (λ (v : Value). writes (state 8 r2 stack) 9 0 (loads header (state 8 r2 stack) LoadWord v (pos 8))) stands_2.tail
-    ∙ ap (λ (o : Option Value). writes (state 8 r2 stack) 9 0 o) (word_loaded header m.is_header 8 (omega arith) refl (state 8 r2 stack)) in
-    let swap : perform header (state 9 r3 stack) (swapped 0) ≡ Next (state 10 r4 stack) =
-    ap (λ (k : ℕ). writes (state 9 r3 stack) 10 0 (Some (Num k))) (word_swapped _ _ _ _ b8 b9 b10 b11) in
-    let shift : perform header (state 10 r4 stack) (applied Rsh 0 (Immediate (pos 8))) ≡ Next (state 11 r5 stack) =
-    ap (λ (k : ℕ). writes (state 10 r4 stack) 11 0 (Some (Num k))) (big_three tail b11) in
+    let stands_1 : Stands m.held address address r1 stack = kept m.held address address registers stack (Num byte) stands in
+    let stands_2 : Stands m.held address address r2 stack = kept m.held address address r1 stack (Num (bit_and byte 4)) stands_1 in
+    let stands_3 : Stands m.held address address r3 stack = kept m.held address address r2 stack (Num word) stands_2 in
+    let stands_4 : Stands m.held address address r4 stack = kept m.held address address r3 stack (Num high) stands_3 in
+    let stands_5 : Stands m.held address address r5 stack = kept m.held address address r4 stack (Num length) stands_4 in
+    let load : perform header (state (at b 5) registers stack) (loaded LoadByte 0 6 2) ≡ Next (state (at b 6) r1 stack) =
+    ap (λ (v : Value). writes (state (at b 5) registers stack) (at b 6) 0 (loads header (state (at b 5) registers stack) LoadByte v (pos 2))) stands.front
+    ∙ ap (λ (o : Option Value). writes (state (at b 5) registers stack) (at b 6) 0 o) (front_loaded header m.is_header 2 (omega arith) refl (state (at b 5) registers stack)) in
+    let load_length : perform header (state (at b 8) r2 stack) (loaded LoadWord 0 7 8) ≡ Next (state (at b 9) r3 stack) =
+    ap (λ (v : Value). writes (state (at b 8) r2 stack) (at b 9) 0 (loads header (state (at b 8) r2 stack) LoadWord v (pos 8))) stands_2.tail
+    ∙ ap (λ (o : Option Value). writes (state (at b 8) r2 stack) (at b 9) 0 o) (word_loaded header m.is_header 8 (omega arith) refl (state (at b 8) r2 stack)) in
+    let swap : perform header (state (at b 9) r3 stack) (swapped 0) ≡ Next (state (at b 10) r4 stack) =
+    ap (λ (k : ℕ). writes (state (at b 9) r3 stack) (at b 10) 0 (Some (Num k))) (word_swapped _ _ _ _ b8 b9 b10 b11) in
+    let shift : perform header (state (at b 10) r4 stack) (applied Rsh 0 (Immediate (pos 8))) ≡ Next (state (at b 11) r5 stack) =
+    ap (λ (k : ℕ). writes (state (at b 10) r4 stack) (at b 11) 0 (Some (Num k))) (big_three tail b11) in
     let address_small : address < 2 ^ 32 = omega (arith, big_word tail, b4, b5, b6, b7) in
     let length_small : length < 2 ^ 24 = omega (arith, big_three tail b11, b8, b9, b10, b11) in
     let inc = is_increment byte (front_byte header m.is_header 2 (omega arith)) in
-    next m.program header (state 5 registers stack) (state 6 r1 stack) (loaded LoadByte 0 6 2) d m.performs code.0 refl load
-    (next m.program header (state 6 r1 stack) (state 7 r2 stack) (applied And 0 (Immediate (pos 4))) d m.performs code.1.0 refl refl
-    (branched m.program header 7 6 14 r2 stack (skips_if Equal 0 (Immediate (pos 0)) 6) d (bit_and byte 4 == 0) m.performs code.1.1.0 refl refl refl
+    next m.program header (state (at b 5) registers stack) (state (at b 6) r1 stack) (loaded LoadByte 0 6 2) d m.performs code.0 refl load
+    (next m.program header (state (at b 6) r1 stack) (state (at b 7) r2 stack) (applied And 0 (Immediate (pos 4))) d m.performs code.1.0 refl refl
+    (branched m.program header (at b 7) 6 (at b 14) r2 stack (skips_if Equal 0 (Immediate (pos 0)) 6) d (bit_and byte 4 == 0) m.performs code.1.1.0 refl refl (omega arith)
     (λ zero.
     let same : address ≡ last = sym (plain_last grows (not (length == 0)) far address (sym inc ∙ zero)) in
-    there.from r2 stack (with_last address address r2 stands_2 last same))
+    there.from r2 stack (with_last m.held address address r2 stack stands_2 last same))
     (λ one.
-    next m.program header (state 8 r2 stack) (state 9 r3 stack) (loaded LoadWord 0 7 8) d m.performs code.1.1.1.0 refl load_length
-    (next m.program header (state 9 r3 stack) (state 10 r4 stack) (swapped 0) d m.performs code.1.1.1.1.0 refl swap
-    (next m.program header (state 10 r4 stack) (state 11 r5 stack) (applied Rsh 0 (Immediate (pos 8))) d m.performs code.1.1.1.1.1.0 refl shift
-    (branched m.program header 11 2 14 r5 stack (skips_if Equal 0 (Immediate (pos 0)) 2) d (length == 0) m.performs code.1.1.1.1.1.1.0 refl refl refl
+    next m.program header (state (at b 8) r2 stack) (state (at b 9) r3 stack) (loaded LoadWord 0 7 8) d m.performs code.1.1.1.0 refl load_length
+    (next m.program header (state (at b 9) r3 stack) (state (at b 10) r4 stack) (swapped 0) d m.performs code.1.1.1.1.0 refl swap
+    (next m.program header (state (at b 10) r4 stack) (state (at b 11) r5 stack) (applied Rsh 0 (Immediate (pos 8))) d m.performs code.1.1.1.1.1.0 refl shift
+    (branched m.program header (at b 11) 2 (at b 14) r5 stack (skips_if Equal 0 (Immediate (pos 0)) 2) d (length == 0) m.performs code.1.1.1.1.1.1.0 refl refl (omega arith)
     (λ zero.
     let same : address ≡ last = sym (empty_last grows (length == 0) far address zero) in
-    there.from r5 stack (with_last address address r5 stands_5 last same))
+    there.from r5 stack (with_last m.held address address r5 stack stands_5 last same))
     (λ some.
     let same : far ≡ last = sym (far_last grows (length == 0) far address (sym inc ∙ one) some) in
     let positive : length ≢ 0 = λ e. cc (some, ap (λ (k : ℕ). k == 0) e) in
-    long m r5 stack address length last d stands_5 refl positive address_small length_small same code.1.1.1.1.1.1.1.0 code.1.1.1.1.1.1.1.1.0
+    long m b r5 stack address length last d stands_5 refl positive address_small length_small same code.1.1.1.1.1.1.1.0 code.1.1.1.1.1.1.1.1.0
     (λ after stands_6. there.from after stack stands_6))))))))
+
+-- ---- the port
+
+-- what is kept on the stack
+abbrev held_for : (asked : Bool) → (port : ℕ) → Option ℕ
+held_for true port = Some port
+held_for false port = None
+
+held_where : (asked : Bool) (port : ℕ) → asked ≡ true → held_for asked port ≡ Some port
+held_where true port h = refl
+held_where false port h = cc
+
+abbrev pub keep_slots : (asked : Bool) → ℕ
+keep_slots true = 1
+keep_slots false = 0
+
+pub keep_after : (asked : Bool) → slot_after 0 (keep_code asked) ≡ keep_slots asked
+keep_after true = refl
+keep_after false = refl
+
+-- the port is put on the stack, if a rule asks it
+kept_first : (m : Setting) (asked : Bool) (port : ℕ) (d : Decision) → port < 32 → StandAt m.program 0 (keep_code asked)
+    → ((stack : ℕ → Option ℕ) → Keeps (held_for asked port) stack → Finishes m.program m.header (state (keep_slots asked) (entry_register port) stack) d)
+    → Finishes m.program m.header (entry_state port) d
+kept_first m false port d small code rest = rest (λ place. None) tt
+kept_first m true port d small code rest =
+    let stack : ℕ → Option ℕ = byte_after (λ place. None) 1 511 port in
+    let same : port / 256 ^ (511 - 511) % 256 ≡ port = omega (arith, small) in
+    let keeps : stack 511 ≡ Some port = ap (λ (k : ℕ). Some k) same in
+    next m.program m.header (entry_state port) (state 1 (entry_register port) stack) port_kept d m.performs code.0 refl refl (rest stack keeps)
 
 -- ---- the whole
 
-whole_ends : StepPerforms → (rules : List Rule) (budget : ℕ) → All FitsFields rules → (header : Header) (port : ℕ) (told : ℕ → ℕ) → IsHeader header → AreWords told
-    → Finishes (table_program budget rules) header (entry_state port) (decision rules header told)
-whole_ends performs rules budget fits header port told is_header words =
-    let p : Program = table_program budget rules in
-    let m : Setting = record { program = p; header = header; performs = λ h s insn here known. performs p h s (subst (λ (o : Option Insn). knows_insn One o ≡ true) (sym here) known) ∙ ap (λ (o : Option Insn). perform_at h s o) here; is_header = is_header } in
-    let d : Decision = decision rules header told in
-    let code : StandAt p 0 (table_code rules) = stand p [] (table_code rules) refl in
-    let apart : StandAt p 0 (address_code ++ (last_address_code ++ rules_code rules)) = subst (λ (insns : List Insn). StandAt p 0 insns) (append_assoc address_code last_address_code (rules_code rules)) code in
-    let one = split p 0 address_code (last_address_code ++ rules_code rules) apart in
-    let two = split p 5 last_address_code (rules_code rules) one.1 in
-    let there : EndsFrom m 14 d = (rules_decide m 14 rules fits two.1).ends told words in
-    start m port d one.0 (λ registers stack stands. finish m registers stack d two.0 stands there)
+pub four_parts : (a b c d : List Insn) → a ++ b ++ c ++ d ≡ a ++ (b ++ (c ++ d))
+four_parts a b c d = simp append_assoc
 
-pub has_meaning : StepPerforms → RunsFromTheFront → AnswersDecide → DrawsAreAnswered → (rules : List Rule) (budget : ℕ) → All FitsFields rules → HasMeaning rules (table_program budget rules)
+whole_ends : StepPerforms → (rules : List PortRule) (budget : ℕ) → All FitsPort rules → (header : Header) (port : ℕ) (told : ℕ → ℕ) → IsHeader header → port < 32 → AreWords told
+    → Finishes (table_program budget rules) header (entry_state port) (port_decision rules header port told)
+whole_ends performs rules budget fits header port told is_header small words =
+    let p : Program = table_program budget rules in
+    let asked : Bool = asks_ports rules in
+    let m : Setting = record { program = p; header = header; held = held_for asked port; performs = λ h s insn here known. performs p h s (subst (λ (o : Option Insn). knows_insn One o ≡ true) (sym here) known) ∙ ap (λ (o : Option Insn). perform_at h s o) here; is_header = is_header } in
+    let d : Decision = port_decision rules header port told in
+    let b : ℕ = keep_slots asked in
+    let code : StandAt p 0 (table_code rules) = stand p [] (table_code rules) refl in
+    let apart : StandAt p 0 (keep_code asked ++ (address_code ++ (last_address_code ++ rules_code rules))) = subst (λ (insns : List Insn). StandAt p 0 insns) (four_parts (keep_code asked) address_code last_address_code (rules_code rules)) code in
+    let keep = cut_at p 0 b (keep_code asked) (address_code ++ (last_address_code ++ rules_code rules)) (keep_after asked) apart in
+    let one = cut_at p b (at b 5) address_code (last_address_code ++ rules_code rules) refl keep.1 in
+    let two = cut_at p (at b 5) (at b 14) last_address_code (rules_code rules) refl one.1 in
+    let there : EndsFrom m (at b 14) d = (rules_decide m port (at b 14) rules (held_where asked port) fits two.1).ends told words in
+    kept_first m asked port d small keep.0
+    (λ stack keeps. start m b port stack d keeps one.0 (λ registers stands. finish m b registers stack d two.0 stands there))
+
+pub has_meaning : StepPerforms → RunsFromTheFront → AnswersDecide → DrawsAreAnswered → (rules : List PortRule) (budget : ℕ) → All FitsPort rules → HasPortMeaning rules (table_program budget rules)
 has_meaning performs front decide draws rules budget fits =
     let p : Program = table_program budget rules in
-    let run : (header : Header) (port : ℕ) (told : ℕ → ℕ) → IsHeader header → AreWords told
-    → (n : ℕ) × Runs p header port (decision rules header told).0 n (decision rules header told).1 =
-    λ header port told is_header words.
-    let ends : Finishes p header (entry_state port) (decision rules header told) = whole_ends performs rules budget fits header port told is_header words in
-    (ends.steps, (front p header port (decision rules header told).0 ends.steps (decision rules header told).1).1 ends.ends) in
+    let run : (header : Header) (port : ℕ) (told : ℕ → ℕ) → IsHeader header → port < 32 → AreWords told
+    → (n : ℕ) × Runs p header port (port_decision rules header port told).0 n (port_decision rules header port told).1 =
+    λ header port told is_header small words.
+    let ends : Finishes p header (entry_state port) (port_decision rules header port told) = whole_ends performs rules budget fits header port told is_header small words in
+    (ends.steps, (front p header port (port_decision rules header port told).0 ends.steps (port_decision rules header port told).1).1 ends.ends) in
     record {
-      runs = λ header port told is_header small words. run header port told is_header words;
+      runs = λ header port told is_header small words. run header port told is_header small words;
       only = λ header port told calls n verdict is_header small words answered other.
-          let mine = run header port told is_header words in
+          let mine = run header port told is_header small words in
           let ends : Ends p header n (entry_state port) calls verdict = (front p header port calls n verdict).0 other in
-          let ours : Ends p header mine.0 (entry_state port) (decision rules header told).0 (decision rules header told).1 = (front p header port (decision rules header told).0 mine.0 (decision rules header told).1).0 mine.1 in
-          let same = decide p header (entry_state port) told n mine.0 calls (decision rules header told).0 verdict (decision rules header told).1 ends ours answered (draws rules header told) in
+          let ours : Ends p header mine.0 (entry_state port) (port_decision rules header port told).0 (port_decision rules header port told).1 = (front p header port (port_decision rules header port told).0 mine.0 (port_decision rules header port told).1).0 mine.1 in
+          let same = decide p header (entry_state port) told n mine.0 calls (port_decision rules header port told).0 verdict (port_decision rules header port told).1 ends ours answered (draws (rules_at port rules) header told) in
           (same.1, same.2);
     }

@@ -105,7 +105,7 @@ placed_by : (insn : Insn) (second : Option ℤ) → length (Some insn ∷ second
 placed_by insn None = refl
 placed_by insn (Some immediate) = refl
 
-placed_length : (insn : Insn) → length (placed_slots insn) ≡ slots_of insn
+pub placed_length : (insn : Insn) → length (placed_slots insn) ≡ slots_of insn
 placed_length insn = placed_by insn (second_immediate insn)
 
 pub stand : (program : Program) (before : List (Option Insn)) (insns : List Insn) → program.slots ≡ before ++ flat_map placed_slots insns → StandAt program (length before) insns

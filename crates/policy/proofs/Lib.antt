@@ -5,3 +5,4 @@ mod Compiling
 mod Weighing
 mod Refused
 mod Justified
+mod Made

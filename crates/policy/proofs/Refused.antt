@@ -1,9 +1,9 @@
 -- What the faults of tables tell.
-use Rattle.std.specs.Prelude.{All, ◌&&◌, nat_lt, if◌then◌else◌, slice_index}
+use Rattle.std.specs.Prelude.{All, ◌&&◌, ◌-◌, ◌*◌, ◌^◌, min, nat_lt, if◌then◌else◌, option_map, slice_index}
 use Rattle.std.specs.Option.{option_or}
-use Rattle.std.proofs.Common.{◌≡◌, ◌≤◌, ℕ, suc, Bool, true, false, List, [], ◌∷◌, length, Option, Some, None, refl, subst}
+use Rattle.std.proofs.Common.{◌≡◌, ◌≤◌, ℕ, suc, Bool, true, false, List, [], ◌∷◌, length, Option, Some, None, refl, ap, subst, arith}
 use Rattle.std.proofs.lemmas.Bool.{ltb-false, ltb-true, and_parts}
-use Rattle.std.proofs.lemmas.List.Elements.{All-cons, All-nil}
+use Rattle.std.proofs.lemmas.List.Elements.{All-cons, All-head, All-nil, All-tail}
 use Rattle.machine.specs.declared.calls.Call.{Call}
 use Rattle.machine.specs.Helpers.{takes_kind}
 use Rattle.machine.specs.declared.helpers.Helper.TheVariants.{Ticket}
@@ -11,13 +11,29 @@ use Rattle.machine.specs.Sizes.{IsInside, Maps, kind_of_map}
 use Rattle.machine.specs.declared.kinds.MapKind.{MapKind}
 use Rattle.machine.specs.declared.kinds.MapKind.TheVariants.{Counter, Peak}
 use Rattle.rmap.specs.Verdict.{verdict_number}
-use Rattle.policy.specs.Compiled.{HasCells, IsCompileFault, IsOfCounter}
+use Rattle.policy.specs.Compiled.{HasCells, HasPortCells, IsCompileFault, IsOfCounter}
+use Rattle.policy.specs.Meant.{HaveCells}
 use Rattle.policy_table.specs.FirstFault.{compile_fault, has_cell, quota_fault, rule_fault, rules_fault}
-use Rattle.policy_table.specs.Meaning.{decision, draw, holds, ruled}
+use Rattle.policy_table.specs.Meaning.{agrees, decision, draw, holds, ruled}
+use Rattle.policy_table.specs.Policies.{PolicyValue, is_before, length_told, policy_fault, reversed_told, rule_told, rules_told}
+use Rattle.policy_table.specs.Ports.{at_every_port, on_lines, rules_at}
+use Rattle.policy_table.specs.Slots.{asks_ports, field_slots, kind_slots, quota_slots, rules_slots, table_slots}
+use Rattle.policy_table.specs.TableFaults.{rule_fault_at}
 use Rattle.policy_table.specs.declared.faults.PolicyFault.{PolicyFault}
 use Rattle.policy_table.specs.declared.faults.PolicyFault.TheVariants.{TooLong, BadRange, Memory, NoCell, BadLine}
+use Rattle.policy_table.specs.declared.port_rules.PortRule.{PortRule}
 use Rattle.policy_table.specs.declared.rules.Quota.{Quota}
 use Rattle.policy_table.specs.declared.rules.Rule.{Rule}
+use Rattle.policy_table.specs.declared.rules.RuleKind.{RuleKind}
+use Rattle.policy_table.specs.declared.rules.RuleKind.TheVariants.{Read, Write, Rmw, Any}
+use Rattle.policy_table.specs.declared.statement_faults.StatementFault.TheVariants as lines
+use Rattle.policy_table.specs.declared.table_faults.TableFault.{TableFault}
+use Rattle.policy_table.specs.declared.table_faults.TableFault.TheVariants as plain
+use Rattle.policy_table.specs.declared.text_faults.TextFault.{TextFault}
+use Rattle.policy_table.specs.declared.text_faults.TextFault.TheVariants.{Plain, Line}
+use Rattle.policy_table.specs.declared.text_faults.TextFault.TheVariants as texts
+use Rattle.policy_table.specs.declared.versions.TableVersion.{TableVersion}
+use Rattle.policy_table.specs.declared.versions.TableVersion.TheVariants.{One, Two}
 
 -- ---- the faults that a table can have
 
@@ -117,21 +133,44 @@ ruled_inside sizes (Some quota) code told rest none are =
     let more : List Call × ℕ = (first ∷ rest.0, rest.1) in
     either_inside (nat_lt (told 0) quota.limit) sizes alone more (All-cons P first [] here (All-nil P)) (All-cons P first rest.0 here are)
 
-decision_inside : (sizes : Maps) (rules : List Rule) → rules_fault sizes rules ≡ None → HasCells sizes rules
-decision_inside sizes [] none header told = All-nil (IsOfCounter sizes)
-decision_inside sizes (rule ∷ rules) none header told =
+-- one rule more
+rule_inside : (sizes : Maps) (rule : Rule) (rules : List Rule) → quota_fault sizes rule.quota ≡ None → HasCells sizes rules → HasCells sizes (rule ∷ rules)
+rule_inside sizes rule rules none others header told =
     let later : List Call × ℕ = decision rules header (λ k. told (suc k)) in
-    let faults = no_faults sizes rule rules none in
     either_inside (holds rule header) sizes (ruled rule.quota (verdict_number rule.verdict) told later) (decision rules header told)
-    (ruled_inside sizes rule.quota (verdict_number rule.verdict) told later faults.0 (decision_inside sizes rules faults.1 header (λ k. told (suc k))))
-    (decision_inside sizes rules faults.1 header told)
+    (ruled_inside sizes rule.quota (verdict_number rule.verdict) told later none (others header (λ k. told (suc k))))
+    (others header told)
+
+asked_inside : (t : Bool) (sizes : Maps) (rule : Rule) (rules : List Rule) → quota_fault sizes rule.quota ≡ None → HasCells sizes rules → HasCells sizes (if t then rule ∷ rules else rules)
+asked_inside true sizes rule rules none others = rule_inside sizes rule rules none others
+asked_inside false sizes rule rules none others = others
+
+-- the quota of a rule has its cell
+abbrev IsThere : Maps → PortRule → Type 0
+IsThere sizes own = quota_fault sizes own.rule.quota ≡ None
+
+port_inside : (sizes : Maps) (port : ℕ) (rules : List PortRule) → HaveCells sizes rules → HasCells sizes (rules_at port rules)
+port_inside sizes port [] have = λ header told. All-nil (IsOfCounter sizes)
+port_inside sizes port (own ∷ rules) have =
+    asked_inside (agrees own.port port) sizes own.rule (rules_at port rules) (All-head (IsThere sizes) own rules have)
+    (port_inside sizes port rules (All-tail (IsThere sizes) own rules have))
+
+pub port_cells : (sizes : Maps) (rules : List PortRule) → HaveCells sizes rules → HasPortCells sizes rules
+port_cells sizes rules have header port told = port_inside sizes port rules have header told
 
 -- the rules of a table without a fault have none
 pub no_rules_fault : (sizes : Maps) (rules : List Rule) → compile_fault sizes rules ≡ None → rules_fault sizes rules ≡ None
 no_rules_fault sizes rules none = no_fault (nat_lt 12 (length rules)) TooLong (rules_fault sizes rules) none
 
-pub cells : (sizes : Maps) (rules : List Rule) → compile_fault sizes rules ≡ None → HasCells sizes rules
-cells sizes rules none = decision_inside sizes rules (no_rules_fault sizes rules none)
+lines_have : (sizes : Maps) (line : ℕ) (rules : List Rule) → rules_fault sizes rules ≡ None → HaveCells sizes (on_lines line rules)
+lines_have sizes line [] none = All-nil (IsThere sizes)
+lines_have sizes line (rule ∷ rules) none =
+    let faults = no_faults sizes rule rules none in
+    All-cons (IsThere sizes) (at_every_port line rule) (on_lines (suc line) rules) faults.0 (lines_have sizes (suc line) rules faults.1)
+
+-- the cells of a table without a fault are there
+pub table_cells : (sizes : Maps) (rules : List Rule) → compile_fault sizes rules ≡ None → HaveCells sizes (on_lines 1 rules)
+table_cells sizes rules none = lines_have sizes 1 rules (no_rules_fault sizes rules none)
 
 not_long : (t : Bool) (rest : Option PolicyFault) → (if t then Some TooLong else rest) ≡ None → t ≡ false
 not_long true rest is = cc
@@ -140,3 +179,119 @@ not_long false rest is = refl
 -- a table without a fault has at most 12 rules
 pub few : (sizes : Maps) (rules : List Rule) → compile_fault sizes rules ≡ None → length rules ≤ 12
 few sizes rules none = ltb-false 12 (length rules) (not_long (nat_lt 12 (length rules)) (rules_fault sizes rules) none)
+
+-- ---- tables of either version
+
+fault_behind : (t : Bool) (fault : TextFault) (rest : Option TextFault) → (if t then Some fault else rest) ≡ None → rest ≡ None
+fault_behind true fault rest is = cc
+fault_behind false fault rest is = is
+
+first_none : (f g : Option TextFault) → option_or f g ≡ None → f ≡ None
+first_none None g is = refl
+first_none (Some fault) g is = cc
+
+second_none : (f g : Option TextFault) → option_or f g ≡ None → g ≡ None
+second_none None g is = is
+second_none (Some fault) g is = cc
+
+plain_none : (o : Option TableFault) → option_map Plain o ≡ None → o ≡ None
+plain_none None is = refl
+plain_none (Some fault) is = cc
+
+cell_none : (line : ℕ) (o : Option PolicyFault) → option_map (λ _. plain.NoCell line) o ≡ None → o ≡ None
+cell_none line None is = refl
+cell_none line (Some fault) is = cc
+
+line_none : (line : ℕ) (named : Bool) (o : Option PolicyFault) → option_map (λ _. Line line (lines.NoCell named)) o ≡ None → o ≡ None
+line_none line named None is = refl
+line_none line named (Some fault) is = cc
+
+place_behind : (t : Bool) (fault : TableFault) (rest : Option TableFault) → (if t then Some fault else rest) ≡ None → rest ≡ None
+place_behind true fault rest is = cc
+place_behind false fault rest is = is
+
+rule_there : (version : TableVersion) (sizes : Maps) (own : PortRule) → rule_told version sizes own ≡ None → quota_fault sizes own.rule.quota ≡ None
+rule_there One sizes own none =
+    cell_none own.line (quota_fault sizes own.rule.quota)
+    (place_behind (nat_lt own.rule.high own.rule.low) (plain.BadRange own.line) (option_map (λ _. plain.NoCell own.line) (quota_fault sizes own.rule.quota)) (plain_none (rule_fault_at sizes own.line own.rule) none))
+rule_there Two sizes own none =
+    line_none own.line own.named (quota_fault sizes own.rule.quota)
+    (fault_behind (nat_lt own.rule.high own.rule.low) (Line own.line lines.RuleOrder) (option_map (λ _. Line own.line (lines.NoCell own.named)) (quota_fault sizes own.rule.quota)) none)
+
+range_behind : (reversed : Option ℕ) (line : ℕ) (rest : Option TextFault) → (if is_before reversed line then reversed_told reversed else rest) ≡ None → rest ≡ None
+range_behind None line rest is = is
+range_behind (Some at) line rest is = fault_behind (nat_lt at line) (Line at lines.RangeOrder) rest is
+
+told_have : (version : TableVersion) (sizes : Maps) (reversed : Option ℕ) (rules : List PortRule) → rules_told version sizes reversed rules ≡ None → HaveCells sizes rules
+told_have version sizes reversed [] none = All-nil (IsThere sizes)
+told_have version sizes reversed (own ∷ rules) none =
+    let both : option_or (rule_told version sizes own) (rules_told version sizes reversed rules) ≡ None = range_behind reversed own.line (option_or (rule_told version sizes own) (rules_told version sizes reversed rules)) none in
+    All-cons (IsThere sizes) own rules (rule_there version sizes own (first_none (rule_told version sizes own) (rules_told version sizes reversed rules) both))
+    (told_have version sizes reversed rules (second_none (rule_told version sizes own) (rules_told version sizes reversed rules) both))
+
+-- the cells of a table without a fault are there
+pub policy_cells : (sizes : Maps) (policy : PolicyValue) → policy_fault sizes policy ≡ None → HaveCells sizes policy.rules
+policy_cells sizes policy none =
+    told_have policy.version sizes policy.reversed policy.rules (second_none (length_told policy.version policy.rules) (rules_told policy.version sizes policy.reversed policy.rules) none)
+
+-- ---- room
+
+field_most : (field : Option ℕ) → field_slots field ≤ 2
+field_most None = omega arith
+field_most (Some wanted) = omega arith
+
+kind_most : (kind : RuleKind) → kind_slots kind ≤ 3
+kind_most Any = omega arith
+kind_most Read = omega arith
+kind_most Write = omega arith
+kind_most Rmw = omega arith
+
+quota_most : (quota : Option Quota) → quota_slots quota ≤ 5
+quota_most None = omega arith
+quota_most (Some quota) = omega arith
+
+rules_most : (rules : List PortRule) → rules_slots rules ≤ 22 * length rules
+rules_most [] = omega arith
+rules_most (own ∷ rules) =
+    omega (arith, rules_most rules, field_most own.port, kind_most own.rule.kind, field_most own.rule.key, field_most own.rule.initiator, field_most own.rule.extended, quota_most own.rule.quota)
+
+port_most : (t : Bool) → (if t then 1 else 0) ≤ 1
+port_most true = omega arith
+port_most false = omega arith
+
+-- twelve rules have room
+pub few_fit : (rules : List PortRule) → length rules ≤ 12 → table_slots rules ≤ 512
+few_fit rules short = omega (arith, rules_most rules, port_most (asks_ports rules), short)
+
+long_told : (t : Bool) (fault : TextFault) → (if t then Some fault else None) ≡ None → t ≡ false
+long_told true fault is = cc
+long_told false fault is = refl
+
+version_fits : (version : TableVersion) (rules : List PortRule) → length_told version rules ≡ None → table_slots rules ≤ 512
+version_fits One rules none =
+    few_fit rules (ltb-false 12 (length rules) (long_told (nat_lt 12 (length rules)) (Plain (plain.TooLong (length rules))) none))
+version_fits Two rules none =
+    let cut : ℕ = min (table_slots rules) (2 ^ 64 - 1) in
+    let short : cut ≤ 512 = ltb-false 512 cut (long_told (nat_lt 512 cut) (texts.TooLong (cut - 512)) none) in
+    omega (arith, short)
+
+-- and so does a table without a fault
+pub policy_fits : (sizes : Maps) (policy : PolicyValue) → policy_fault sizes policy ≡ None → table_slots policy.rules ≤ 512
+policy_fits sizes policy none =
+    version_fits policy.version policy.rules (first_none (length_told policy.version policy.rules) (rules_told policy.version sizes policy.reversed policy.rules) none)
+
+lines_long : (line : ℕ) (rules : List Rule) → length (on_lines line rules) ≡ length rules
+lines_long line [] = refl
+lines_long line (rule ∷ rules) = ap suc (lines_long (suc line) rules)
+
+pub table_fits : (sizes : Maps) (rules : List Rule) → compile_fault sizes rules ≡ None → table_slots (on_lines 1 rules) ≤ 512
+table_fits sizes rules none =
+    let short : length (on_lines 1 rules) ≤ 12 = omega (arith, lines_long 1 rules, few sizes rules none) in
+    few_fit (on_lines 1 rules) short
+
+-- ---- rules that are asked at every port
+
+-- at each port they are the rules
+pub lines_at : (port line : ℕ) (rules : List Rule) → rules_at port (on_lines line rules) ≡ rules
+lines_at port line [] = refl
+lines_at port line (rule ∷ rules) = ap (λ (rs : List Rule). rule ∷ rs) (lines_at port (suc line) rules)

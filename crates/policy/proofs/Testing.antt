@@ -1,7 +1,7 @@
 -- What each test of a compiled table does: where its fact holds, what ends from the slot behind it ends from its
 -- first slot, and where not, what ends from the end of its rule.
-use Rattle.std.proofs.Common.{◌≡◌, ◌<◌, ◌^◌, ◌+◌, ℕ, Bool, true, false, [], ◌∷◌, Option, Some, None, refl, sym, ap, ◌∙◌, subst, arith}
-use Rattle.std.specs.Prelude.{pos, ◌&&◌, ◌==◌, not, nat_lt, nat_le, bit_and, if◌then◌else◌, slice_index}
+use Rattle.std.proofs.Common.{◌≡◌, ◌<◌, ◌^◌, ◌+◌, ◌*◌, ℕ, Bool, true, false, [], ◌∷◌, Option, Some, None, refl, sym, ap, ◌∙◌, subst, arith}
+use Rattle.std.specs.Prelude.{pos, negsuc, is_some, ◌&&◌, ◌==◌, not, nat_lt, nat_le, bit_and, if◌then◌else◌, slice_index}
 use Rattle.bpf_parts.specs.declared.callee.Callee.TheVariants as callees
 use Rattle.machine.specs.declared.helpers.Helper.TheVariants.{Ticket}
 use Rattle.machine.specs.Helpers.{helper_number}
@@ -15,16 +15,17 @@ use Rattle.bpf_insn.specs.declared.insn.Insn.{Insn}
 use Rattle.bpf_insn.specs.declared.insn.Insn.TheVariants.{LoadMap, Call, Exit}
 use Rattle.machine.specs.declared.calls.Call as calls
 use Rattle.machine.specs.declared.regions.Region.{Region}
-use Rattle.machine.specs.declared.regions.Region.TheVariants.{Front, Tail}
+use Rattle.machine.specs.declared.regions.Region.TheVariants.{Front, Tail, Stack}
 use Rattle.machine.specs.declared.values.Value.{Value}
 use Rattle.machine.specs.declared.values.Value.TheVariants.{Num, Ptr, Map}
-use Rattle.machine.specs.Memory.{Header, IsHeader}
+use Rattle.machine.specs.Memory.{Header, IsHeader, byte_below, little_endian}
 use Rattle.machine.specs.State.{State, state, register_after, register_after_call}
-use Rattle.machine.specs.Step.{Next, Trap, after_answer, branches, compares, loads, perform, question, writes}
+use Rattle.machine.specs.Step.{Next, Trap, after_answer, branches, compares, load_value, loads, perform, question, writes}
 use Rattle.machine.specs.Words.{word}
 use Rattle.rmap.specs.Command.{address_of, command_kind}
-use Rattle.policy.specs.Code.{applied, field_slots, field_test, kind_slots, kind_test, loaded, masked_test, quota_slots, quota_test, range_test, set_to, set_to_bits, skips_if, verdict_code}
+use Rattle.policy.specs.Code.{applied, field_slots, field_test, kind_slots, kind_test, loaded, masked_test, port_loaded, port_test, quota_slots, quota_test, range_test, set_to, set_to_bits, skips_if, verdict_code}
 use Rattle.policy_table.specs.Limits.{IsByteField, IsLimited}
+use Rattle.policy_table.specs.Ports.{IsPortField}
 use Rattle.policy_table.specs.Meaning.{agrees, draw, fields_of, has_kind, last_address_of, lies_between, ruled}
 use Rattle.policy_table.specs.declared.rules.Quota.{Quota}
 use Rattle.policy_table.specs.declared.rules.RuleKind.{RuleKind}
@@ -32,45 +33,57 @@ use Rattle.policy_table.specs.declared.rules.RuleKind.TheVariants.{Read, Write, 
 use Rattle.policy.proofs.Finishing.{Decision, Finishes, IsOfFirst, Performs, StandAt, asked, next, stopped}
 use Rattle.policy.proofs.Headers.{below_fails, bits_moved, front_byte, front_loaded, is_read, is_rmw, is_write, reach_fails, same_word, word_moved}
 
--- a program on a header
+-- a program on a header, and the port that it has on the last byte of the stack, if it keeps one there
 pub record Setting : Type 0 where
   pub program : Program
   pub header : Header
+  pub held : Option ℕ
   pub performs : Performs program
   pub is_header : IsHeader header
 
--- the registers from the first rule on: the parts of the header, and these first and last addresses
-pub record Stands (first last : ℕ) (registers : ℕ → Value) : Type 0 where
+-- the port stands on the last byte of the stack, if it is kept there
+abbrev pub Keeps : (held : Option ℕ) → (stack : ℕ → Option ℕ) → Type 0
+Keeps None stack = Unit {0}
+Keeps (Some port) stack = stack 511 ≡ Some port
+
+-- the registers from the first rule on: the parts of the header, these first and last addresses, and the end of the
+-- stack, on which the port is kept
+pub record Stands (held : Option ℕ) (first last : ℕ) (registers : ℕ → Value) (stack : ℕ → Option ℕ) : Type 0 where
   pub front : registers 6 ≡ Ptr Front (pos 0)
   pub tail : registers 7 ≡ Ptr Tail (pos 0)
   pub first_address : registers 8 ≡ Num first
   pub last_address : registers 9 ≡ Num last
+  pub frame : registers 10 ≡ Ptr Stack (pos 0)
+  pub port : Keeps held stack
 
 -- those of the header
-abbrev pub StandsOn : Header → (registers : ℕ → Value) → Type 0
-StandsOn header registers = Stands (address_of (fields_of header)) (last_address_of (fields_of header)) registers
+abbrev pub StandsOn : Setting → (registers : ℕ → Value) → (stack : ℕ → Option ℕ) → Type 0
+StandsOn m registers stack =
+    Stands m.held (address_of (fields_of m.header)) (last_address_of (fields_of m.header)) registers stack
 
 -- from a slot on, every such state ends with this decision
 pub record EndsFrom (m : Setting) (slot : ℕ) (d : Decision) : Type 0 where
-  pub from : (registers : ℕ → Value) (stack : ℕ → Option ℕ) → StandsOn m.header registers → Finishes m.program m.header (state slot registers stack) d
+  pub from : (registers : ℕ → Value) (stack : ℕ → Option ℕ) → StandsOn m registers stack → Finishes m.program m.header (state slot registers stack) d
 
 pub from_slot : (m : Setting) (slot other : ℕ) (d : Decision) → slot ≡ other → EndsFrom m slot d → EndsFrom m other d
 from_slot m slot other d same ends = subst (λ (k : ℕ). EndsFrom m k d) same ends
 
 -- a write of r0 keeps what stands
-kept : (first last : ℕ) (registers : ℕ → Value) (value : Value) → Stands first last registers → Stands first last (register_after registers 0 value)
-kept first last registers value h = record {
+pub kept : (held : Option ℕ) (first last : ℕ) (registers : ℕ → Value) (stack : ℕ → Option ℕ) (value : Value) → Stands held first last registers stack → Stands held first last (register_after registers 0 value) stack
+kept held first last registers stack value h = record {
   front = h.front;
   tail = h.tail;
   first_address = h.first_address;
   last_address = h.last_address;
+  frame = h.frame;
+  port = h.port;
 }
 
 -- the jump of a test
 turned : (m : Setting) (slot skipped end : ℕ) (registers : ℕ → Value) (stack : ℕ → Option ℕ) (insn : Insn) (met unmet : Decision) (holds : Bool)
     → insn_at m.program slot ≡ Some insn → IsOfFirst insn
     → perform m.header (state slot registers stack) insn ≡ branches (state slot registers stack) (pos skipped) (not holds)
-    → slot + 1 + skipped ≡ end → StandsOn m.header registers → EndsFrom m (slot + 1) met → EndsFrom m end unmet
+    → slot + 1 + skipped ≡ end → StandsOn m registers stack → EndsFrom m (slot + 1) met → EndsFrom m end unmet
     → Finishes m.program m.header (state slot registers stack) (if holds then met else unmet)
 turned m slot skipped end registers stack insn met unmet true here known done target stands behind there =
     next m.program m.header (state slot registers stack) (state (slot + 1) registers stack) insn met m.performs here known done (behind.from registers stack stands)
@@ -83,24 +96,24 @@ turned m slot skipped end registers stack insn met unmet false here known done t
 -- the byte at an offset from a register is that number
 pub record Finds (m : Setting) (base offset byte : ℕ) : Type 0 where
   pub region : Region
-  pub points : (registers : ℕ → Value) → StandsOn m.header registers → registers base ≡ Ptr region (pos 0)
+  pub points : (registers : ℕ → Value) (stack : ℕ → Option ℕ) → StandsOn m registers stack → registers base ≡ Ptr region (pos 0)
   pub gives : (s : State) → loads m.header s LoadByte (Ptr region (pos 0)) (pos offset) ≡ Some (Num byte)
 
 pub in_front : (m : Setting) (k byte : ℕ) → ((s : State) → loads m.header s LoadByte (Ptr Front (pos 0)) (pos k) ≡ Some (Num byte)) → Finds m 6 k byte
-in_front m k byte gives = record { region = Front; points = λ registers stands. stands.front; gives = gives }
+in_front m k byte gives = record { region = Front; points = λ registers stack stands. stands.front; gives = gives }
 
 pub in_tail : (m : Setting) (k byte : ℕ) → ((s : State) → loads m.header s LoadByte (Ptr Tail (pos 0)) (pos k) ≡ Some (Num byte)) → Finds m 7 k byte
-in_tail m k byte gives = record { region = Tail; points = λ registers stands. stands.tail; gives = gives }
+in_tail m k byte gives = record { region = Tail; points = λ registers stack stands. stands.tail; gives = gives }
 
 -- a load of a byte into r0
 loaded_next : (m : Setting) (slot base offset byte : ℕ) (registers : ℕ → Value) (stack : ℕ → Option ℕ) (d : Decision) → Finds m base offset byte
-    → insn_at m.program slot ≡ Some (loaded LoadByte 0 base offset) → StandsOn m.header registers
+    → insn_at m.program slot ≡ Some (loaded LoadByte 0 base offset) → StandsOn m registers stack
     → Finishes m.program m.header (state (slot + 1) (register_after registers 0 (Num byte)) stack) d
     → Finishes m.program m.header (state slot registers stack) d
 loaded_next m slot base offset byte registers stack d found here stands rest =
     let s : State = state slot registers stack in
     let done : perform m.header s (loaded LoadByte 0 base offset) ≡ Next (state (slot + 1) (register_after registers 0 (Num byte)) stack) =
-    ap (λ (v : Value). writes s (slot + 1) 0 (loads m.header s LoadByte v (pos offset))) (found.points registers stands)
+    ap (λ (v : Value). writes s (slot + 1) 0 (loads m.header s LoadByte v (pos offset))) (found.points registers stack stands)
     ∙ ap (λ (o : Option Value). writes s (slot + 1) 0 o) (found.gives s) in
     next m.program m.header s (state (slot + 1) (register_after registers 0 (Num byte)) stack) (loaded LoadByte 0 base offset) d m.performs here refl done rest
 
@@ -119,7 +132,7 @@ compared m slot base offset byte wanted behind end met unmet found code small ta
       let aim : slot + 1 + 1 + behind ≡ end = omega (arith, target) in
       let on : EndsFrom m (slot + 1 + 1) met = from_slot m (slot + 2) (slot + 1 + 1) met two rest in
       loaded_next m slot base offset byte registers stack (if byte == wanted then met else unmet) found code.0 stands
-      (turned m (slot + 1) behind end after stack jump met unmet (byte == wanted) code.1.0 refl done aim (kept _ _ registers (Num byte) stands) on there);
+      (turned m (slot + 1) behind end after stack jump met unmet (byte == wanted) code.1.0 refl done aim (kept _ _ _ registers stack (Num byte) stands) on there);
 }
 
 -- a field
@@ -131,6 +144,55 @@ field_tested m slot base offset byte behind end None met unmet found code small 
     from_slot m (slot + 0) slot met (omega arith) rest
 field_tested m slot base offset byte behind end (Some wanted) met unmet found code small target rest there =
     compared m slot base offset byte wanted behind end met unmet found code small target rest there
+
+-- ---- the port
+
+-- the port that is kept comes from the stack
+port_load : (header : Header) (s : State) (port : ℕ) → s.stack 511 ≡ Some port → loads header s LoadByte (Ptr Stack (pos 0)) (negsuc 0) ≡ Some (Num port)
+unfolding little_endian
+port_load header s port is =
+    let one : port + 256 * 0 ≡ port = omega arith in
+    ap (λ (o : Option ℕ). load_value LoadByte (byte_below o (Some 0))) is ∙ ap (λ (k : ℕ). Some (Num k)) one
+
+port_next : (m : Setting) (slot port : ℕ) (registers : ℕ → Value) (stack : ℕ → Option ℕ) (d : Decision) → m.held ≡ Some port
+    → insn_at m.program slot ≡ Some port_loaded → StandsOn m registers stack
+    → Finishes m.program m.header (state (slot + 1) (register_after registers 0 (Num port)) stack) d
+    → Finishes m.program m.header (state slot registers stack) d
+port_next m slot port registers stack d held here stands rest =
+    let s : State = state slot registers stack in
+    let keeps : stack 511 ≡ Some port = subst (λ (o : Option ℕ). Keeps o stack) held stands.port in
+    let done : perform m.header s port_loaded ≡ Next (state (slot + 1) (register_after registers 0 (Num port)) stack) =
+    ap (λ (v : Value). writes s (slot + 1) 0 (loads m.header s LoadByte v (negsuc 0))) stands.frame
+    ∙ ap (λ (o : Option Value). writes s (slot + 1) 0 o) (port_load m.header s port keeps) in
+    next m.program m.header s (state (slot + 1) (register_after registers 0 (Num port)) stack) port_loaded d m.performs here refl done rest
+
+port_compared : (m : Setting) (slot port wanted behind end : ℕ) (met unmet : Decision) → m.held ≡ Some port
+    → StandAt m.program slot (port_test (Some wanted) behind) → wanted < 32
+    → slot + 2 + behind ≡ end → EndsFrom m (slot + 2) met → EndsFrom m end unmet → EndsFrom m slot (if port == wanted then met else unmet)
+port_compared m slot port wanted behind end met unmet held code small target rest there = record {
+  from = λ registers stack stands.
+      let after : ℕ → Value = register_after registers 0 (Num port) in
+      let s : State = state (slot + 1) after stack in
+      let jump : Insn = skips_if NotEqual 0 (Immediate (pos wanted)) behind in
+      let same : word (pos wanted) ≡ wanted = same_word wanted (omega arith) in
+      let done : perform m.header s jump ≡ branches s (pos behind) (not (port == wanted)) =
+      ap (λ (k : ℕ). branches s (pos behind) (not (port == k))) same in
+      let two : slot + 2 ≡ slot + 1 + 1 = omega arith in
+      let aim : slot + 1 + 1 + behind ≡ end = omega (arith, target) in
+      let on : EndsFrom m (slot + 1 + 1) met = from_slot m (slot + 2) (slot + 1 + 1) met two rest in
+      port_next m slot port registers stack (if port == wanted then met else unmet) held code.0 stands
+      (turned m (slot + 1) behind end after stack jump met unmet (port == wanted) code.1.0 refl done aim (kept _ _ _ registers stack (Num port) stands) on there);
+}
+
+-- the port of a rule, which is kept where there is one
+pub port_tested : (m : Setting) (slot port behind end : ℕ) (field : Option ℕ) (met unmet : Decision) → (is_some field ≡ true → m.held ≡ Some port)
+    → StandAt m.program slot (port_test field behind) → IsPortField field
+    → slot + field_slots field + behind ≡ end → EndsFrom m (slot + field_slots field) met → EndsFrom m end unmet
+    → EndsFrom m slot (if agrees field port then met else unmet)
+port_tested m slot port behind end None met unmet held code small target rest there =
+    from_slot m (slot + 0) slot met (omega arith) rest
+port_tested m slot port behind end (Some wanted) met unmet held code small target rest there =
+    port_compared m slot port wanted behind end met unmet (held refl) code small target rest there
 
 -- ---- the kind
 
@@ -154,8 +216,8 @@ masked m slot mask wanted behind end holds met unmet code mask_fits wanted_fits 
       let three : slot + 3 ≡ slot + 1 + 1 + 1 = omega arith in
       let aim : slot + 1 + 1 + 1 + behind ≡ end = omega (arith, target) in
       let on : EndsFrom m (slot + 1 + 1 + 1) met = from_slot m (slot + 3) (slot + 1 + 1 + 1) met three rest in
-      let stand_one : StandsOn m.header one = kept _ _ registers (Num byte) stands in
-      let stand_two : StandsOn m.header two = kept _ _ one (Num (bit_and byte mask)) stand_one in
+      let stand_one : StandsOn m one stack = kept _ _ _ registers stack (Num byte) stands in
+      let stand_two : StandsOn m two stack = kept _ _ _ one stack (Num (bit_and byte mask)) stand_one in
       loaded_next m slot 6 2 byte registers stack d found code.0 stands
       (next m.program m.header s t (applied And 0 (Immediate (pos mask))) d m.performs code.1.0 refl cut
       (turned m (slot + 1 + 1) behind end two stack jump met unmet holds code.1.1.0 refl done aim stand_two on there));
@@ -203,7 +265,7 @@ low_tested m slot low behind end met unmet small first second target rest there 
       ap (λ (v : Value). compares Less Bits64 s (pos behind) v (Num low)) stands.first_address
       ∙ ap (λ (b : Bool). branches s (pos behind) b) (below_fails address low) in
       end_next m slot low registers stack (if nat_le low address then met else unmet) small first
-      (turned m (slot + 1) behind end after stack (skips_if Less 8 (FromRegister 0) behind) met unmet (nat_le low address) second refl done target (kept _ _ registers (Num low) stands) rest there);
+      (turned m (slot + 1) behind end after stack (skips_if Less 8 (FromRegister 0) behind) met unmet (nat_le low address) second refl done target (kept _ _ _ registers stack (Num low) stands) rest there);
 }
 
 high_tested : (m : Setting) (slot high behind end : ℕ) (met unmet : Decision) → high < 2 ^ 32
@@ -219,7 +281,7 @@ high_tested m slot high behind end met unmet small first second target rest ther
       ap (λ (v : Value). compares Greater Bits64 s (pos behind) v (Num high)) stands.last_address
       ∙ ap (λ (b : Bool). branches s (pos behind) b) (below_fails high last) in
       end_next m slot high registers stack (if nat_le last high then met else unmet) small first
-      (turned m (slot + 1) behind end after stack (skips_if Greater 9 (FromRegister 0) behind) met unmet (nat_le last high) second refl done target (kept _ _ registers (Num high) stands) rest there);
+      (turned m (slot + 1) behind end after stack (skips_if Greater 9 (FromRegister 0) behind) met unmet (nat_le last high) second refl done target (kept _ _ _ registers stack (Num high) stands) rest there);
 }
 
 -- the range of the addresses
@@ -285,7 +347,7 @@ drawn m slot end code answer quota rest small limited insns target behind there 
       let five : slot + 5 ≡ slot + 2 + 1 + 1 + 1 = omega arith in
       let aim : slot + 2 + 1 + 1 + 1 + 2 ≡ end = omega (arith, target) in
       let on : EndsFrom m (slot + 2 + 1 + 1 + 1) ([], code) = from_slot m (slot + 5) (slot + 2 + 1 + 1 + 1) ([], code) five behind in
-      let stand_three : StandsOn m.header three = record { front = stands.front; tail = stands.tail; first_address = stands.first_address; last_address = stands.last_address } in
+      let stand_three : StandsOn m three stack = record { front = stands.front; tail = stands.tail; first_address = stands.first_address; last_address = stands.last_address; frame = stands.frame; port = stands.port } in
       let last : Finishes m.program m.header v d = turned m (slot + 2 + 1 + 1) 2 end three stack jump ([], code) rest holds insns.1.1.1.0 refl done aim stand_three on there in
       let call_done : Finishes m.program m.header u whole = asked m.program m.header u (question Ticket quota.map quota.cell 0) (after_answer u) (Call callees.Helper (pos (helper_number Ticket))) answer d m.performs insns.1.1.0 refl refl small last in
       let key : Finishes m.program m.header t whole = number_next m (slot + 2) 2 quota.cell one stack whole cell_small refl insns.1.0 call_done in

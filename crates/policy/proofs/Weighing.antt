@@ -1,7 +1,7 @@
 -- How large compiled tables are.
-use Rattle.std.specs.Prelude.{is_some}
+use Rattle.std.specs.Prelude.{is_some, if◌then◌else◌}
 use Rattle.std.specs.List.{flat_map}
-use Rattle.std.proofs.Common.{◌≡◌, ◌≤◌, ◌+◌, ◌*◌, ℕ, Bool, true, false, List, [], ◌∷◌, ◌++◌, length, Option, Some, None, Ok, refl, ap, arith, add-zero, length-append}
+use Rattle.std.proofs.Common.{◌≡◌, ◌≤◌, ◌+◌, ◌*◌, ℕ, Bool, true, false, List, [], ◌∷◌, ◌++◌, length, Option, Some, None, Ok, refl, ap, ◌∙◌, arith, add-zero, length-append}
 use Rattle.std.proofs.lemmas.Bool.{le-leb}
 use Rattle.bpf.specs.declared.version.Version.TheVariants.{One}
 use Rattle.bpf.specs.Parts.{parts_fault, parts_reading, placed_slots, second_slots, unless}
@@ -10,68 +10,52 @@ use Rattle.bpf.specs.Reading.{is_budget, is_count}
 use Rattle.bpf.specs.Weight.{times_at, weight_from, weight_of}
 use Rattle.bpf.specs.declared.fault.ImageFault.{ImageFault}
 use Rattle.bpf_insn.specs.declared.insn.Insn.{Insn}
-use Rattle.bpf_insn.specs.Spelling.{second_immediate}
-use Rattle.policy.specs.Code.{address_code, behind_extended, behind_initiator, behind_key, behind_kind, behind_range, field_test, kind_test, last_address_code, quota_test, range_test, rule_code, rules_code, table_code, verdict_code}
-use Rattle.rmap.specs.Verdict.{verdict_number}
-use Rattle.policy_table.specs.declared.rules.Quota.{Quota}
-use Rattle.policy_table.specs.declared.rules.Rule.{Rule}
-use Rattle.policy_table.specs.declared.rules.RuleKind.{RuleKind}
-use Rattle.policy_table.specs.declared.rules.RuleKind.TheVariants.{Read, Write, Rmw, Any}
+use Rattle.bpf_insn.specs.Spelling.{second_immediate, slots_of}
+use Rattle.policy.specs.Code.{address_code, asks_ports, field_slots, keep_code, last_address_code, port_rule_code, rules_code, table_code}
+use Rattle.policy_table.specs.Slots.{rules_slots, table_slots}
+use Rattle.policy_table.specs.declared.port_rules.PortRule.{PortRule}
+use Rattle.policy.proofs.Compiling.{after_both, at, end_of, four_parts, keep_after, keep_slots, port_rule_after}
+use Rattle.policy.proofs.Finishing.{placed_length, slot_after}
 
--- ---- how many instructions
+-- ---- how many slots
 
-kind_few : (kind : RuleKind) (behind : ℕ) → length (kind_test kind behind) ≤ 3
-kind_few Any behind = omega arith
-kind_few Read behind = omega arith
-kind_few Write behind = omega arith
-kind_few Rmw behind = omega arith
+slots_are : (slot : ℕ) (insns : List Insn) → slot + length (flat_map placed_slots insns) ≡ slot_after slot insns
+slots_are slot [] = omega arith
+slots_are slot (insn ∷ insns) =
+    let both = length-append (placed_slots insn) (flat_map placed_slots insns) in
+    omega (arith, both, placed_length insn, slots_are (slot + slots_of insn) insns)
 
-field_few : (field : Option ℕ) (base offset behind : ℕ) → length (field_test field base offset behind) ≤ 2
-field_few None base offset behind = omega arith
-field_few (Some wanted) base offset behind = omega arith
+rules_after : (slot : ℕ) (rules : List PortRule) → slot_after slot (rules_code rules) ≡ slot + rules_slots rules + 2
+rules_after slot [] = omega arith
+rules_after slot (own ∷ rules) =
+    let end : ℕ = end_of (slot + field_slots own.port) own.rule in
+    after_both slot end (port_rule_code own) (rules_code rules) (port_rule_after slot own) ∙ rules_after end rules ∙ omega arith
 
-quota_few : (quota : Option Quota) (behind : ℕ) → length (quota_test quota behind) ≤ 4
-quota_few None behind = omega arith
-quota_few (Some quota) behind = omega arith
+keep_is : (t : Bool) → keep_slots t ≡ (if t then 1 else 0)
+keep_is true = refl
+keep_is false = refl
 
-all_lengths : (a b c d e f g : List Insn) → length (a ++ b ++ c ++ d ++ e ++ f ++ g) ≡ length a + length b + length c + length d + length e + length f + length g
-all_lengths a b c d e f g = simp length-append
+-- the slots of a table's program
+pub table_long : (rules : List PortRule) → length (flat_map placed_slots (table_code rules)) ≡ table_slots rules
+table_long rules =
+    let b : ℕ = keep_slots (asks_ports rules) in
+    let parts = ap (λ (insns : List Insn). slot_after 0 insns) (four_parts (keep_code (asks_ports rules)) address_code last_address_code (rules_code rules))
+    ∙ after_both 0 b (keep_code (asks_ports rules)) (address_code ++ (last_address_code ++ rules_code rules)) (keep_after (asks_ports rules))
+    ∙ after_both b (at b 5) address_code (last_address_code ++ rules_code rules) refl
+    ∙ after_both (at b 5) (at b 14) last_address_code (rules_code rules) refl
+    ∙ rules_after (at b 14) rules in
+    let fourteen : at b 14 ≡ b + 14 = omega arith in
+    omega (arith, slots_are 0 (table_code rules), parts, fourteen, keep_is (asks_ports rules))
 
-rule_few : (rule : Rule) → length (rule_code rule) ≤ 19
-rule_few rule =
-    let all = all_lengths (kind_test rule.kind (behind_kind rule)) (field_test rule.key 6 3 (behind_key rule)) (field_test rule.initiator 7 0 (behind_initiator rule)) (field_test rule.extended 7 3 (behind_extended rule)) (range_test rule.low rule.high (behind_range rule)) (quota_test rule.quota 2) (verdict_code (verdict_number rule.verdict)) in
-    omega (arith, all, kind_few rule.kind (behind_kind rule), field_few rule.key 6 3 (behind_key rule), field_few rule.initiator 7 0 (behind_initiator rule), field_few rule.extended 7 3 (behind_extended rule), quota_few rule.quota 2)
+four_lengths : (a b c d : List Insn) → length (a ++ b ++ c ++ d) ≡ length a + length b + length c + length d
+four_lengths a b c d = simp length-append
 
-rules_few : (rules : List Rule) → length (rules_code rules) ≤ 2 + 19 * length rules
-rules_few [] = omega arith
-rules_few (rule ∷ rules) =
-    let both = length-append (rule_code rule) (rules_code rules) in
-    omega (arith, both, rule_few rule, rules_few rules)
-
-pub table_few : (rules : List Rule) → length (table_code rules) ≤ 16 + 19 * length rules
-table_few rules =
-    let whole = length-append (address_code ++ last_address_code) (rules_code rules) in
-    omega (arith, whole, rules_few rules)
-
-pub table_some : (rules : List Rule) → 1 ≤ length (table_code rules)
-table_some rules =
-    let whole = length-append (address_code ++ last_address_code) (rules_code rules) in
-    omega (arith, whole)
+pub table_some : (rules : List PortRule) → 1 ≤ length (table_code rules)
+table_some rules = omega (arith, four_lengths (keep_code (asks_ports rules)) address_code last_address_code (rules_code rules))
 
 -- ---- slots and weight
 
-second_few : (t : Bool) → length (second_slots t) ≤ 1
-second_few true = omega arith
-second_few false = omega arith
-
-slots_few : (insns : List Insn) → length (flat_map placed_slots insns) ≤ 2 * length insns
-slots_few [] = omega arith
-slots_few (insn ∷ insns) =
-    let t : Bool = is_some (second_immediate insn) in
-    let both = length-append (placed_slots insn) (flat_map placed_slots insns) in
-    omega (arith, both, second_few t, slots_few insns)
-
-slots_many : (insns : List Insn) → length insns ≤ length (flat_map placed_slots insns)
+pub slots_many : (insns : List Insn) → length insns ≤ length (flat_map placed_slots insns)
 slots_many [] = omega arith
 slots_many (insn ∷ insns) =
     let both = length-append (placed_slots insn) (flat_map placed_slots insns) in
@@ -111,12 +95,11 @@ counted : (slots budget : ℕ) → is_count 0 slots 0 ≡ true → is_budget bud
 unfolding parts_fault
 counted slots budget count small = rw (count, small) refl
 
--- so many instructions are a program
-pub are_parts : (insns : List Insn) → 1 ≤ length insns → length insns ≤ 256 → parts_reading One insns [] (length insns) ≡ Ok (program One (length insns) [] (flat_map placed_slots insns))
-are_parts insns some few =
+-- instructions with room are a program
+pub are_parts : (insns : List Insn) → 1 ≤ length insns → length (flat_map placed_slots insns) ≤ 512 → parts_reading One insns [] (length insns) ≡ Ok (program One (length insns) [] (flat_map placed_slots insns))
+are_parts insns some up =
     let n : ℕ = length (flat_map placed_slots insns) in
-    let up : n ≤ 512 = omega (arith, slots_few insns) in
-    let down : 1 ≤ n = omega (arith, slots_many insns) in
+    let down : 1 ≤ n = omega (arith, some, slots_many insns) in
     let count : is_count 0 n 0 ≡ true = rw (le-leb 1 n down, le-leb n 512 up) refl in
-    let budget : is_budget (length insns) ≡ true = rw (le-leb 1 (length insns) some, le-leb (length insns) 65536 (omega arith)) refl in
+    let budget : is_budget (length insns) ≡ true = rw (le-leb 1 (length insns) some, le-leb (length insns) 65536 (omega (arith, up, slots_many insns))) refl in
     ap (λ (o : Option ImageFault). unless o (program One (length insns) [] (flat_map placed_slots insns))) (counted n (length insns) count budget)

@@ -1,11 +1,13 @@
 -- The program that stands for a policy table, instruction by instruction (RFC 9669). While it runs r6 points to the
 -- first four bytes of the header and r7 to its last twelve, r8 is the first address of the command and r9 the last;
 -- r0 is what is compared.
-use Rattle.std.specs.Prelude.{ℕ, ◌+◌, pos, List, [], ◌∷◌, ◌++◌, Option, Some, None}
+use Rattle.std.specs.Prelude.{ℕ, ◌+◌, Bool, pos, negsuc, if◌then◌else◌, List, [], ◌∷◌, ◌++◌, Option, Some, None}
 use Rattle.std.specs.Int.{w32, cast_signed}
 use Rattle.bpf_parts.specs.declared.callee.Callee.TheVariants as callees
 use Rattle.bpf_parts.specs.declared.memory.LoadSize.{LoadSize}
 use Rattle.bpf_parts.specs.declared.memory.LoadSize.TheVariants.{LoadByte, LoadWord}
+use Rattle.bpf_parts.specs.declared.memory.MemoryOperand.{MemoryOperand}
+use Rattle.bpf_parts.specs.declared.memory.Size.TheVariants.{Byte}
 use Rattle.bpf_parts.specs.declared.operation.AluOp.{AluOp}
 use Rattle.bpf_parts.specs.declared.operation.AluOp.TheVariants.{Add, And, Mov, Rsh, Sub}
 use Rattle.bpf_parts.specs.declared.operation.Condition.{Condition}
@@ -16,7 +18,7 @@ use Rattle.bpf_parts.specs.declared.operation.Swap.TheVariants.{ToBig}
 use Rattle.bpf_parts.specs.declared.operation.SwapBits.TheVariants.{Swap32}
 use Rattle.bpf_parts.specs.declared.operation.Width.TheVariants.{Bits32, Bits64}
 use Rattle.bpf_insn.specs.declared.insn.Insn.{Insn}
-use Rattle.bpf_insn.specs.declared.insn.Insn.TheVariants.{Alu, ByteSwap, Load, Jump, LoadMap, Call, Exit}
+use Rattle.bpf_insn.specs.declared.insn.Insn.TheVariants.{Alu, ByteSwap, Load, Store, Jump, LoadMap, Call, Exit}
 use Rattle.machine.specs.declared.helpers.Helper.TheVariants.{Ticket}
 use Rattle.machine.specs.Helpers.{helper_number}
 use Rattle.rmap.specs.declared.field.TheConstants.{INSTRUCTION, KEY, INITIATOR, EXTENDED, ADDRESS, LENGTH}
@@ -31,6 +33,8 @@ use Rattle.rmap.specs.declared.instruction.TheConstants.{
 }
 use Rattle.rmap.specs.declared.verdict.Verdict.TheVariants.{NotAuthorised}
 use Rattle.rmap.specs.Verdict.{verdict_number}
+pub use Rattle.policy_table.specs.Slots.{asks_ports, field_slots, kind_slots, quota_slots, rule_slots}
+use Rattle.policy_table.specs.declared.port_rules.PortRule.{PortRule}
 use Rattle.policy_table.specs.declared.rules.Quota.{Quota}
 use Rattle.policy_table.specs.declared.rules.Rule.{Rule}
 use Rattle.policy_table.specs.declared.rules.RuleKind.{RuleKind}
@@ -104,23 +108,6 @@ verdict_code number = set_to 0 number ∷ Exit ∷ []
 
 -- ---- rules
 
--- how many slots a test of the kind has
-abbrev pub kind_slots : RuleKind → ℕ
-kind_slots Any = 0
-kind_slots Read = 3
-kind_slots Write = 3
-kind_slots Rmw = 3
-
--- how many slots a test of the field has
-abbrev pub field_slots : Option ℕ → ℕ
-field_slots None = 0
-field_slots (Some wanted) = 2
-
--- how many slots a test of the quota has: the load of a map has two
-abbrev pub quota_slots : Option Quota → ℕ
-quota_slots None = 0
-quota_slots (Some quota) = 5
-
 -- how many slots of a rule stand behind its range
 abbrev pub behind_range : Rule → ℕ
 behind_range rule = 2 + quota_slots rule.quota
@@ -170,11 +157,38 @@ last_address_code =
     ∷ skips_if Equal 0 (Immediate (pos 0)) 2
     ∷ applied Add 9 (FromRegister 0) ∷ applied Sub 9 (Immediate (pos 1)) ∷ []
 
--- the rules in order, and behind them the verdict where none matches
-abbrev pub rules_code : List Rule → List Insn
-rules_code [] = verdict_code (verdict_number NotAuthorised)
-rules_code (rule ∷ rules) = rule_code rule ++ rules_code rules
+-- ---- ports
 
--- the program of a table
-abbrev pub table_code : List Rule → List Insn
-table_code rules = address_code ++ last_address_code ++ rules_code rules
+-- the last byte of the stack: r10 points to the byte after it
+abbrev pub port_place : MemoryOperand
+port_place = record { base = 10; offset = negsuc 0 }
+
+-- the port, which is in r3 at entry, is put there
+abbrev pub port_kept : Insn
+port_kept = Store Byte port_place (FromRegister 3)
+
+-- it is loaded from there
+abbrev pub port_loaded : Insn
+port_loaded = Load LoadByte 0 port_place
+
+-- the port is that of the field
+abbrev pub port_test : Option ℕ → (behind : ℕ) → List Insn
+port_test None behind = []
+port_test (Some port) behind = port_loaded ∷ skips_if NotEqual 0 (Immediate (pos port)) behind ∷ []
+
+-- a rule with a port: its port is asked before all else
+abbrev pub port_rule_code : PortRule → List Insn
+port_rule_code own = port_test own.port (rule_slots own.rule) ++ rule_code own.rule
+
+-- the rules in order, and after them the verdict where none matches
+abbrev pub rules_code : List PortRule → List Insn
+rules_code [] = verdict_code (verdict_number NotAuthorised)
+rules_code (own ∷ rules) = port_rule_code own ++ rules_code rules
+
+-- what puts the port on the stack, where a rule asks it
+abbrev pub keep_code : (asked : Bool) → List Insn
+keep_code asked = if asked then port_kept ∷ [] else []
+
+-- the program of a table with ports
+abbrev pub table_code : List PortRule → List Insn
+table_code rules = keep_code (asks_ports rules) ++ address_code ++ last_address_code ++ rules_code rules

@@ -10,9 +10,15 @@ use Rattle.machine.specs.Sizes.{IsInside, Maps, kind_of_map}
 use Rattle.machine.specs.declared.kinds.MapKind.TheVariants.{Counter}
 use Rattle.policy_table.specs.FirstFault.{compile_fault}
 use Rattle.policy_table.specs.Meaning.{AreWords, decision}
+use Rattle.policy_table.specs.Policies.{PolicyValue, policy_fault}
+use Rattle.policy_table.specs.Ports.{port_decision}
 use Rattle.policy_table.specs.declared.faults.PolicyFault.{PolicyFault}
 use Rattle.policy_table.specs.declared.faults.PolicyFault.TheVariants.{TooLong, BadRange, Memory, NoCell, BadLine}
+use Rattle.policy_table.specs.declared.port_rules.PortRule.{PortRule}
 use Rattle.policy_table.specs.declared.rules.Rule.{Rule}
+use Rattle.policy_table.specs.declared.table_faults.TableFault.TheVariants as plain
+use Rattle.policy_table.specs.declared.text_faults.TextFault.{TextFault}
+use Rattle.policy_table.specs.declared.text_faults.TextFault.TheVariants.{Plain}
 
 -- ---- faults
 
@@ -23,6 +29,11 @@ IsCompileFault first BadRange = first ≡ Some BadRange
 IsCompileFault first Memory = first ≡ None
 IsCompileFault first NoCell = first ≡ Some NoCell
 IsCompileFault first BadLine = ⊥
+
+-- the same of a table of either version, with the place of the fault
+abbrev pub IsPortFault : (first : Option TextFault) → TextFault → Type 0
+IsPortFault None fault = fault ≡ Plain plain.Memory
+IsPortFault (Some first) fault = fault ≡ first
 
 -- ---- meaning
 
@@ -36,6 +47,15 @@ pub record HasMeaning (rules : List Rule) (program : Program) : Type 0 where
       → AreAnswered told calls → Runs program header port calls n verdict
       → (calls ≡ (decision rules header told).0) × (verdict ≡ (decision rules header told).1)
 
+-- The same of a table with ports: at each port the draws and the verdict are those of the rules that are asked there.
+pub record HasPortMeaning (rules : List PortRule) (program : Program) : Type 0 where
+  pub runs : (header : Header) (port : ℕ) (told : ℕ → ℕ) → IsHeader header → port < 32 → AreWords told
+      → (n : ℕ) × Runs program header port (port_decision rules header port told).0 n (port_decision rules header port told).1
+  pub only : (header : Header) (port : ℕ) (told : ℕ → ℕ) (calls : List Call) (n verdict : ℕ)
+      → IsHeader header → port < 32 → AreWords told
+      → AreAnswered told calls → Runs program header port calls n verdict
+      → (calls ≡ (port_decision rules header port told).0) × (verdict ≡ (port_decision rules header port told).1)
+
 -- the call is of a cell that is there, in a counter map
 pub record IsOfCounter (sizes : Maps) (c : Call) : Type 0 where
   pub inside : IsInside sizes c.question.map c.question.key
@@ -46,6 +66,11 @@ abbrev pub HasCells : Maps → List Rule → Type 0
 HasCells sizes rules =
     (header : Header) (told : ℕ → ℕ) → All (IsOfCounter sizes) (decision rules header told).0
 
+-- every cell that the table draws from at a port is there, in a counter map
+abbrev pub HasPortCells : Maps → List PortRule → Type 0
+HasPortCells sizes rules =
+    (header : Header) (port : ℕ) (told : ℕ → ℕ) → All (IsOfCounter sizes) (port_decision rules header port told).0
+
 -- a program of a table: it has the table's meaning, version 1, no loop, and its weight as its budget, and the maps have
 -- the cells that are drawn from
 pub record IsCompiled (sizes : Maps) (rules : List Rule) (program : Program) : Type 0 where
@@ -55,3 +80,12 @@ pub record IsCompiled (sizes : Maps) (rules : List Rule) (program : Program) : T
   pub no_loop : program.loops ≡ []
   pub budget : program.budget ≡ weight_of program
   pub cells : HasCells sizes rules
+
+-- the same of a table of either version
+pub record IsPortCompiled (sizes : Maps) (policy : PolicyValue) (program : Program) : Type 0 where
+  pub faultless : policy_fault sizes policy ≡ None
+  pub meaning : HasPortMeaning policy.rules program
+  pub version : program.version ≡ One
+  pub no_loop : program.loops ≡ []
+  pub budget : program.budget ≡ weight_of program
+  pub cells : HasPortCells sizes policy.rules

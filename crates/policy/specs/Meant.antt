@@ -9,10 +9,10 @@ use Rattle.bpf_insn.specs.declared.insn.Insn.{Insn}
 use Rattle.machine.specs.Sizes.{Maps}
 use Rattle.bver.specs.Justified.{IsJustified}
 use Rattle.policy.specs.Code.{table_code}
-use Rattle.policy.specs.Compiled.{HasMeaning}
-use Rattle.policy_table.specs.FirstFault.{compile_fault}
-use Rattle.policy_table.specs.Limits.{FitsFields}
-use Rattle.policy_table.specs.declared.rules.Rule.{Rule}
+use Rattle.policy.specs.Compiled.{HasPortMeaning}
+use Rattle.policy_table.specs.FirstFault.{quota_fault}
+use Rattle.policy_table.specs.Ports.{FitsPort}
+use Rattle.policy_table.specs.declared.port_rules.PortRule.{PortRule}
 
 -- the program of these instructions, without a loop, in version 1 of the format
 abbrev pub straight_program : (budget : ℕ) → List Insn → Program
@@ -23,16 +23,21 @@ pub record IsMadeOf (insns : List Insn) (program : Program) : Type 0 where
   pub whole : program ≡ straight_program (length insns) insns
 
 -- the program of a table
-abbrev pub table_program : (budget : ℕ) → List Rule → Program
+abbrev pub table_program : (budget : ℕ) → List PortRule → Program
 table_program budget rules = straight_program budget (table_code rules)
 
 -- the program of a table has its meaning, whatever its budget
 abbrev pub CodeHasMeaning : Type 0
-CodeHasMeaning = (rules : List Rule) (budget : ℕ) → All FitsFields rules → HasMeaning rules (table_program budget rules)
+CodeHasMeaning =
+    (rules : List PortRule) (budget : ℕ) → All FitsPort rules → HasPortMeaning rules (table_program budget rules)
 
--- the program of a table without a fault is justified, within the limits of the format and of its budget
+-- the maps have the cell of each quota, in a counter map
+abbrev pub HaveCells : Maps → List PortRule → Type 0
+HaveCells sizes rules = All (λ own. quota_fault sizes own.rule.quota ≡ None) rules
+
+-- the program of a table whose cells are there is justified, within the limits of the format and of its budget
 abbrev pub CodeIsJustified : Type 0
 CodeIsJustified =
-    (sizes : Maps) (rules : List Rule) (budget : ℕ) → All FitsFields rules → compile_fault sizes rules ≡ None
+    (sizes : Maps) (rules : List PortRule) (budget : ℕ) → All FitsPort rules → HaveCells sizes rules
     → IsProgram (table_program budget rules) → weight_of (table_program budget rules) ≤ budget
     → IsJustified (table_program budget rules) sizes

@@ -2,12 +2,12 @@
 //! stand behind it, to the end of its rule.
 
 ghost use Rattle.std.specs.Prelude.{◌≡◌, ◌≤◌, ◌<◌, ◌++◌, OnOk};
-ghost use Rattle.policy.specs.Code.{address_code, field_slots, field_test, kind_test, last_address_code, masked_test, quota_slots, quota_test, range_test, verdict_code};
+ghost use Rattle.policy.specs.Code.{address_code, field_test, keep_code, kind_test, last_address_code, masked_test, port_place, port_test, quota_test, range_test, verdict_code};
 ghost use Rattle.policy_table.specs.Limits.{IsLimited};
 ghost use Rattle.rmap.specs.Verdict.{verdict_number};
 
 use crate::insns::{apply, load, register, set, set_bits, skip_if, source, swap};
-use bpf_insn::{AluOp, Callee, Condition, Insn, LoadSize, Operand};
+use bpf_insn::{AluOp, Callee, Condition, Insn, LoadSize, MemoryOperand, Operand, Size};
 use machine::Helper;
 use policy_table::{Quota, RuleKind};
 use rmap::field::{ADDRESS, INSTRUCTION, LENGTH};
@@ -31,6 +31,12 @@ const MAP: u8 = 1;
 /// r2 at a call: the cell of the map.
 const CELL: u8 = 2;
 
+/// r3 at entry: the number of the port.
+const GIVEN_PORT: u8 = 3;
+
+/// r10: points to the byte after the last of the stack.
+const FRAME: u8 = 10;
+
 /// r6: points to the first four bytes of the header. No call changes r6 to r9.
 pub const FRONT: u8 = 6;
 
@@ -42,22 +48,6 @@ const FIRST: u8 = 8;
 
 /// r9: the last address of the command, which may pass the last of 32 bits.
 const LAST: u8 = 9;
-
-/// How many slots a test of the field has.
-pub fn field_slots(field: Option<u8>) -> u8
-    ensures slots { result ≡ field_slots field }
-    ensures few { result ≤ 2 }
-{
-    if field.is_some() { 2 } else { 0 }
-}
-
-/// How many slots a test of the quota has: the load of a map has two.
-pub fn quota_slots(quota: Option<Quota>) -> u8
-    ensures slots { result ≡ quota_slots quota }
-    ensures few { result ≤ 5 }
-{
-    if quota.is_some() { 5 } else { 0 }
-}
 
 /// Tests that the instruction byte under a mask is that number.
 fn push_masked(insns: &mut Vec<Insn>, mask: u8, wanted: u8, behind: u8) -> Result<(), AllocError>
@@ -104,6 +94,46 @@ pub fn push_field(
         load(LoadSize::LoadByte, VALUE, base, offset),
         skip_if(Condition::NotEqual, VALUE, wanted, behind),
     ])
+}
+
+/// The last byte of the stack, which has the port.
+fn port_place() -> MemoryOperand
+    ensures { result ≡ port_place }
+{
+    MemoryOperand {
+        base: register(FRAME),
+        offset: -1,
+    }
+}
+
+/// Puts the port on the stack, where a rule asks it: a call unsets r3.
+pub fn push_keep(insns: &mut Vec<Insn>, asked: bool) -> Result<(), AllocError>
+    ensures { OnOk result (insns.new.items ≡ insns.old.items ++ keep_code asked) }
+{
+    if !asked {
+        return Ok(());
+    }
+    insns.extend_from_slice(&[Insn::Store {
+        size: Size::Byte,
+        place: port_place(),
+        src: source(GIVEN_PORT),
+    }])
+}
+
+/// Tests that the port is that of the field.
+pub fn push_port(insns: &mut Vec<Insn>, port: Option<u8>, behind: u8) -> Result<(), AllocError>
+    ensures { OnOk result (insns.new.items ≡ insns.old.items ++ port_test port behind) }
+{
+    let Some(port) = port else {
+        return Ok(());
+    };
+    let wanted = Operand::Immediate(i32::from(port));
+    let loaded = Insn::Load {
+        size: LoadSize::LoadByte,
+        dst: register(VALUE),
+        place: port_place(),
+    };
+    insns.extend_from_slice(&[loaded, skip_if(Condition::NotEqual, VALUE, wanted, behind)])
 }
 
 /// Tests that the address is not below the range, and the last address not above it.

@@ -1,25 +1,20 @@
-//! The program of a table: where its addresses are found, a block of tests and a verdict for each rule, and the
+//! The program of a table: where its port and its addresses are found, a block of tests and a verdict for each rule, and the
 //! verdict where no rule matches.
 
-ghost use Rattle.std.specs.Prelude.{◌≡◌, ◌≤◌, ◌++◌, All, IfOk, OnOk, length};
-ghost use Rattle.policy.specs.Code.{rule_code, table_code};
-ghost use Rattle.policy_table.specs.Limits.{FitsFields, IsLimited};
+ghost use Rattle.std.specs.Prelude.{◌≡◌, ◌≤◌, ◌++◌, All, IfOk, OnOk};
+ghost use Rattle.policy.specs.Code.{port_rule_code, rule_code, table_code};
+ghost use Rattle.policy_table.specs.Limits.{IsLimited};
+ghost use Rattle.policy_table.specs.Ports.{FitsPort};
 
 use crate::blocks::{
-    FRONT, TAIL, field_slots, push_address, push_field, push_kind, push_last_address, push_quota,
-    push_range, push_verdict, quota_slots,
+    FRONT, TAIL, push_address, push_field, push_keep, push_kind, push_last_address, push_port,
+    push_quota, push_range, push_verdict,
 };
 use bpf_insn::Insn;
-use policy_table::Rule;
+use policy_table::{PortRule, Rule, asks_ports, field_slots, quota_slots, rule_slots, table_slots};
 use rmap::Verdict;
 use rmap::field::{EXTENDED, INITIATOR, KEY};
 use std::alloc::{AllocError, Global};
-
-/// The most instructions of a rule.
-const RULE_INSNS: usize = 19;
-
-/// The instructions before and behind the rules.
-const OTHER_INSNS: usize = 16;
 
 /// How many slots the test of a range has.
 const RANGE_SLOTS: u8 = 4;
@@ -46,17 +41,26 @@ fn push_rule(insns: &mut Vec<Insn>, rule: &Rule) -> Result<(), AllocError>
     push_verdict(insns, rule.verdict)
 }
 
-/// The instructions of a table with these rules, at most 12.
-pub fn table_insns(alloc: Global, rules: &[Rule]) -> Result<Vec<Insn>, AllocError>
-    requires few { length rules.now ≤ 12 }
-    requires fit { All FitsFields rules.now }
+/// A rule with the test of its port, if it has one, before all its other tests: another port draws nothing.
+fn push_port_rule(insns: &mut Vec<Insn>, own: &PortRule) -> Result<(), AllocError>
+    requires { IsLimited own.now.rule.quota }
+    ensures { OnOk result (insns.new.items ≡ insns.old.items ++ port_rule_code own.now) }
+{
+    push_port(insns, own.port, rule_slots(&own.rule))?;
+    push_rule(insns, &own.rule)
+}
+
+/// The instructions of a table with these rules.
+pub fn table_insns(alloc: Global, rules: &[PortRule]) -> Result<Vec<Insn>, AllocError>
+    requires { All FitsPort rules.now }
     ensures { IfOk result (λ insns. insns.items ≡ table_code rules.now) }
 {
-    let mut insns = Vec::with_capacity(alloc, OTHER_INSNS + RULE_INSNS * rules.len())?;
+    let mut insns = Vec::with_capacity(alloc, table_slots(rules))?;
+    push_keep(&mut insns, asks_ports(rules))?;
     push_address(&mut insns)?;
     push_last_address(&mut insns)?;
-    for rule in rules {
-        push_rule(&mut insns, rule)?;
+    for own in rules {
+        push_port_rule(&mut insns, own)?;
     }
     push_verdict(&mut insns, Verdict::NotAuthorised)?;
     Ok(insns)

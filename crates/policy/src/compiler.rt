@@ -1,18 +1,24 @@
 //! From a policy table to a program.
 
-ghost use Rattle.std.specs.Prelude.{◌≡◌, ◌≤◌, length, IfErr, IfOk};
+ghost use Rattle.std.specs.Prelude.{◌≡◌, ◌≤◌, All, length, IfErr, IfOk};
+ghost use Rattle.std.specs.List.{flat_map};
+ghost use Rattle.bpf.specs.Parts.{placed_slots};
 ghost use Rattle.bpf.specs.Program.{IsProgram};
 ghost use Rattle.bver.specs.Justified.{IsJustified};
-ghost use Rattle.policy.specs.Compiled.{IsCompiled, IsCompileFault};
+ghost use Rattle.policy.specs.Code.{table_code};
+ghost use Rattle.policy.specs.Compiled.{IsCompiled, IsCompileFault, IsPortCompiled, IsPortFault};
 ghost use Rattle.policy.specs.Meant.{CodeHasMeaning, CodeIsJustified, IsMadeOf};
 ghost use Rattle.policy_table.specs.FirstFault.{compile_fault};
+ghost use Rattle.policy_table.specs.Policies.{policy_fault};
+ghost use Rattle.policy_table.specs.Ports.{FitsPort};
+ghost use Rattle.policy_table.specs.Slots.{table_slots};
 
 use crate::code::table_insns;
 use absdom::{order_of_states, refine_shrinks};
 use bpf::{Image, ImageFault, Version};
 use bpf_insn::Insn;
 use machine::{MapSizes, runs_from_the_front, steps_perform};
-use policy_table::{PolicyFault, Table, decisions};
+use policy_table::{Policy, PolicyFault, PortRule, Table, TextFault, decisions, on_lines};
 use std::alloc::{AllocError, Global};
 
 /// The program of a table has its meaning, whatever its budget.
@@ -32,11 +38,11 @@ fn code_is_justified()
     refine_shrinks();
 }
 
-/// The image of these instructions, at most 256, without a loop. Each is performed once at most, so their number is
-/// its weight, and its budget.
+/// The image of these instructions, which have room in an image, without a loop. Each is performed once at most, so their
+/// number is its weight, and its budget.
 fn image_of(alloc: Global, insns: &[Insn]) -> Result<Image, AllocError>
     requires some { 1 ≤ length insns.now }
-    requires few { length insns.now ≤ 256 }
+    requires few { length (flat_map placed_slots insns.now) ≤ 512 }
     ensures image { IfOk result (IsMadeOf insns.now) }
     ensures limits { IfOk result IsProgram }
 {
@@ -47,6 +53,17 @@ fn image_of(alloc: Global, insns: &[Insn]) -> Result<Image, AllocError>
             _ => unreachable!(),
         },
     }
+}
+
+/// The image of a table of these rules, which has room.
+fn image_of_rules(alloc: Global, rules: &[PortRule]) -> Result<Image, AllocError>
+    requires room { table_slots rules.now ≤ 512 }
+    requires fit { All FitsPort rules.now }
+    ensures image { IfOk result (IsMadeOf (table_code rules.now)) }
+    ensures limits { IfOk result IsProgram }
+{
+    let insns = table_insns(alloc, rules)?;
+    image_of(alloc, insns.as_slice())
 }
 
 /// The image of a table: a run of it on any header makes exactly the table's draws and gives its verdict, whatever
@@ -68,9 +85,29 @@ pub fn compile(alloc: Global, table: &Table, sizes: &MapSizes) -> Result<Image, 
     if let Some(fault) = table.fault_for(sizes) {
         return Err(fault.fault());
     }
-    let rules = table.rules();
-    let insns = table_insns(alloc, rules)?;
-    let insns = insns.as_slice();
-    let image = image_of(alloc, insns)?;
+    let rules = on_lines(alloc, table.rules())?;
+    let image = image_of_rules(alloc, rules.as_slice())?;
+    Ok(image)
+}
+
+/// The image of a table of either version: a run of it on any header at a port makes exactly the draws of the rules that are
+/// asked at that port, and gives their verdict, whatever the cells answer. All else is as [`compile`] says, and the image of
+/// a table that asks no port is the same.
+///
+/// # Errors
+///
+/// The first fault of the table, with its place ([`Policy::fault_for`]). `Plain` of `Memory` where there is none and memory
+/// was refused.
+pub fn compile_policy(alloc: Global, policy: &Policy, sizes: &MapSizes) -> Result<Image, TextFault>
+    ensures compiled { IfOk result (IsPortCompiled sizes.now policy.now) }
+    ensures justified { IfOk result (λ image. IsJustified image sizes.now) }
+    ensures fault { IfErr result (IsPortFault (policy_fault sizes.now policy.now)) }
+{
+    code_has_meaning();
+    code_is_justified();
+    if let Some(fault) = policy.fault_for(sizes) {
+        return Err(fault);
+    }
+    let image = image_of_rules(alloc, policy.rules())?;
     Ok(image)
 }

@@ -10,8 +10,9 @@ mod code;
 mod compiler;
 mod insns;
 
-pub use compiler::compile;
+pub use compiler::{compile, compile_policy};
 pub use policy_table::{
-    Counts, Match, Mismatch, OtherByte, Passed, PolicyFault, Rule, RuleKind, RuleWord, Table,
-    TableFault, decisions, headers_have_fields, table_is_unambiguous,
+    Counts, Match, Mismatch, OtherByte, Passed, Policy, PolicyFault, PortRule, Rule, RuleKind,
+    RuleWord, StatementFault, Table, TableFault, TableVersion, TextFault, decisions,
+    headers_have_fields, table_is_unambiguous,
 };

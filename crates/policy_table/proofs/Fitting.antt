@@ -7,6 +7,7 @@ use Rattle.std.specs.Str.Parse.{digits_value}
 use Rattle.policy_table.specs.Fields.{IsField, IsQuota, WritesHex}
 use Rattle.policy_table.specs.Limits.{FitsFields, IsByteField, IsLimited}
 use Rattle.policy_table.specs.Lines.{AreRules, IsRule}
+use Rattle.policy_table.specs.Words.{AreWordsOf, LineWords}
 use Rattle.policy_table.specs.declared.rules.Quota.{Quota}
 use Rattle.policy_table.specs.declared.rules.Rule.{Rule}
 
@@ -35,6 +36,17 @@ rule_fits line rule is = record {
   low = hex_fits 8 (2 ^ 32) is.low rule.low refl is.is_low;
   high = hex_fits 8 (2 ^ 32) is.high rule.high refl is.is_high;
   quota = quota_fits is.quota rule.quota is.is_quota;
+}
+
+-- of eight words
+pub words_fit : (w : LineWords) (rule : Rule) → AreWordsOf w rule → FitsFields rule
+words_fit w rule is = record {
+  key = field_fits w.key rule.key is.is_key;
+  initiator = field_fits w.initiator rule.initiator is.is_initiator;
+  extended = field_fits w.extended rule.extended is.is_extended;
+  low = hex_fits 8 (2 ^ 32) w.low rule.low refl is.is_low;
+  high = hex_fits 8 (2 ^ 32) w.high rule.high refl is.is_high;
+  quota = quota_fits w.quota rule.quota is.is_quota;
 }
 
 pub rules_fit : (lines : List (List ℕ)) (rules : List Rule) → AreRules lines rules → All FitsFields rules

@@ -10,3 +10,6 @@ mod Walks
 mod Placing
 mod FirstMatches
 mod BadLines
+mod PortRules
+mod PortsFit
+mod PortTables

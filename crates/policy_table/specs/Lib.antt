@@ -13,3 +13,12 @@ pub mod TableFaults
 pub mod Tickets
 pub mod Counts
 pub mod Walked
+pub mod Ports
+pub mod PortTables
+pub mod Ranges
+pub mod StatementFaults
+pub mod TextFaults
+pub mod Statements
+pub mod Drafts
+pub mod Slots
+pub mod Policies

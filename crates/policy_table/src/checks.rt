@@ -38,7 +38,7 @@ fn quota_fault(quota: Option<Quota>, sizes: &MapSizes) -> Option<PolicyFault>
 }
 
 /// The first fault of the rule of this line.
-fn rule_fault_at(rule: &Rule, line: usize, sizes: &MapSizes) -> Option<TableFault>
+pub fn rule_fault_at(rule: &Rule, line: usize, sizes: &MapSizes) -> Option<TableFault>
     ensures { result ≡ rule_fault_at sizes.now line rule.now }
 {
     if rule.high < rule.low {

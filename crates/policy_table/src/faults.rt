@@ -8,9 +8,9 @@ use std::alloc::AllocError;
 use thiserror::Error;
 
 const TOO_LONG: &str = "\
-A table has at most 12 rules. The number is a choice: twelve with every field and a quota have 256 of an image's
-512 slots.
-Join rules that differ in their range alone, or write the program by hand.";
+A table of version 1 has at most 12 rules, and one of version 2 as many as its program has room for in the 512
+slots of an image: 24 with every field and a quota, and 22 if each asks its port too.
+Join rules that differ in their range only, or write the program by hand.";
 
 const BAD_RANGE: &str = "\
 In a rule LOW is above HIGH, so it would hold of no address.
@@ -26,15 +26,15 @@ a peak map, of which no tickets are drawn.
 Give the maps that the node has by `--maps`, and count cells from 0.";
 
 const BAD_LINE: &str = "\
-A line is `KIND KEY INITIATOR EXTENDED LOW HIGH QUOTA VERDICT`, with spaces between the words, and there are no
-empty lines and no comments.
+A line is `KIND KEY INITIATOR EXTENDED LOW HIGH QUOTA VERDICT`, with spaces between the words. If the first line
+is `.version 2`, comments, empty lines, names of ranges and `port P` after VERDICT are allowed, and else not.
 Compare the line with the table in docs/POLICIES.md; `rmapctl decide LINES TABLE` tells its number and its word.";
 
 /// Why a policy table is refused.
 #[derive(Clone, Copy, Debug, PartialEq, Eq, Error)]
 pub enum PolicyFault {
-    /// More than 12 rules, the most that are compiled.
-    #[error("more than 12 rules")]
+    /// More than 12 rules; of version 2, a program of more slots than an image may have.
+    #[error("too many rules")]
     TooLong,
     /// A rule's last address lies before its first.
     #[error("a range ends before it begins")]

@@ -9,6 +9,7 @@
 mod checks;
 mod counts;
 mod deciding;
+mod drafts;
 mod faults;
 mod fields;
 mod laws;
@@ -16,10 +17,19 @@ mod lines;
 mod matching;
 mod mismatches;
 mod passing;
+mod policies;
+mod port_rules;
+mod port_tables;
+mod ranges;
 mod rules;
+mod slots;
+mod statement_faults;
+mod statements;
 mod table_faults;
 mod tables;
+mod text_faults;
 mod tickets;
+mod versions;
 mod words;
 
 pub use checks::faults_have_places;
@@ -29,7 +39,16 @@ pub use faults::PolicyFault;
 pub use laws::{decisions, first_rule_matches, headers_have_fields, table_is_unambiguous};
 pub use matching::Match;
 pub use mismatches::{Mismatch, OtherByte, Passed};
+pub use policies::{Policy, on_lines};
+pub use port_rules::PortRule;
+pub use port_tables::unnamed_ports_are_alike;
 pub use rules::{Quota, Rule, RuleKind};
+pub use slots::{
+    asks_ports, field_slots, kind_slots, port_rule_slots, quota_slots, rule_slots, table_slots,
+};
+pub use statement_faults::StatementFault;
 pub use table_faults::TableFault;
 pub use tables::Table;
+pub use text_faults::TextFault;
+pub use versions::TableVersion;
 pub use words::RuleWord;

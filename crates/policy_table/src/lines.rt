@@ -15,15 +15,23 @@ use std::alloc::{AllocError, Global};
 
 /// The words of a line that writes a rule.
 #[derive(Drop)]
-struct Words<'a> {
-    kind: &'a str,
-    key: &'a str,
-    initiator: &'a str,
-    extended: &'a str,
-    low: &'a str,
-    high: &'a str,
-    quota: &'a str,
-    verdict: &'a str,
+pub struct Words<'a> {
+    /// What the command asks for.
+    pub kind: &'a str,
+    /// The key.
+    pub key: &'a str,
+    /// The initiator logical address.
+    pub initiator: &'a str,
+    /// The extended address.
+    pub extended: &'a str,
+    /// The first address.
+    pub low: &'a str,
+    /// The last address.
+    pub high: &'a str,
+    /// The quota.
+    pub quota: &'a str,
+    /// The verdict.
+    pub verdict: &'a str,
 }
 
 /// The eight words of a line, where it has so many.
@@ -57,7 +65,7 @@ fn eight_words(line: &str) -> Option<Words<'_>>
 }
 
 /// How many words a line has.
-fn words_in(line: &str) -> usize
+pub fn words_in(line: &str) -> usize
     ensures { result ≡ length (words_of line.now) }
 {
     let words = line.split(' ').filter(|word| !word.is_empty());
@@ -65,7 +73,7 @@ fn words_in(line: &str) -> usize
 }
 
 /// The rule that eight words write, or the first of them that is none of its field.
-fn rule_of(words: &Words) -> Result<Rule, RuleWord>
+pub fn rule_of(words: &Words) -> Result<Rule, RuleWord>
     ensures { MatchResult result (AreWordsOf (texts_of words.now))
         (IsFirstBad (texts_of words.now)) }
 {

@@ -69,6 +69,14 @@ fn decide_by(
 }
 
 impl Table {
+    /// The table of these rules.
+    pub(crate) fn of_rules(rules: Vec<Rule>) -> Table
+        requires { All FitsFields rules.items }
+        ensures { result ≡ rules.items }
+    {
+        Table { rules }
+    }
+
     /// The table that a text writes, one rule a line.
     ///
     /// A line is ended by a line feed, which the last may lack. It has eight words, with spaces between

@@ -1,5 +1,5 @@
 -- What became of one packet, by how far it came.
-use Rattle.std.proofs.Common.{◌≡◌, ◌⊎◌, ℕ, ◌<◌, Bool, true, false, ◌&&◌, List, [], length, sym, refl, ap, subst, inl, inr, arith}
+use Rattle.std.proofs.Common.{◌≡◌, ◌⊎◌, ℕ, ◌<◌, Bool, true, false, ◌&&◌, List, [], length, Option, None, sym, refl, ap₂, ◌∙◌, subst, inl, inr, arith}
 use Rattle.std.proofs.lemmas.List.{append-nil}
 use mathlib.Core.List.{IsPrefix}
 use Rattle.spw.specs.Cargo.{Cargo}
@@ -17,78 +17,89 @@ use Rattle.node_parts.specs.Stagings.{IsStagingPlace}
 use Rattle.node_parts.specs.Served.{EndsAtWindow, IsStagedAt}
 use Rattle.annals.specs.declared.deed.Link.{Link}
 use Rattle.annals.specs.Banks.{takes}
-use Rattle.ports.specs.Due.{Judging, standing, IsBanked, IsWindowed, HasFinished, HasLoadEnd, HasDealt}
+use Rattle.annals.specs.Chains.{Due}
+use Rattle.target.specs.Loads.{AsksForLoad}
+use Rattle.target.specs.Passes.{PortPass}
+use Rattle.ports.specs.Due.{Judging, stand, standing, IsBanked, IsWindowed, HasFinished, HasLoadEnd, HasDealt}
 use Rattle.ports.specs.Due.Deed.{Dropped, Answered, Judged}
 
-pub stopped : (h after : PassValue) (f : List Link) (p : Cargo) (d : Discard) (reply : List ℕ) → IsStopped (stops.Discarded d) p h.windows reply → after ≡ h → HasDealt p (standing h f) (standing after f) reply true
-stopped h after f p d reply is same = record {
+pub stopped : (h after : PortPass) (f : List Link) (p : Cargo) (d : Discard) (reply : List ℕ) → IsStopped (stops.Discarded d) p h.pass.windows reply → after.pass ≡ h.pass → after.asked ≡ h.asked → HasDealt p (standing h f) (standing after f) reply true
+stopped h after f p d reply is same line = record {
   deed = Dropped;
-  dealt = record { discard = d; discarded = is.0; same = ap (λ x. standing x f) same };
+  dealt = record { discard = d; discarded = is.0; same = ap₂ (λ x y. stand x y f) same line };
   reply_is = is.1;
   dropped_is = refl;
 }
 
-pub answered : (h after : PassValue) (f : List Link) (p : Cargo) (status : Status) (reply : List ℕ) → IsStopped (stops.Answered status) p h.windows reply → after ≡ h → HasDealt p (standing h f) (standing after f) reply false
-answered h after f p status reply is same = record {
+pub answered : (h after : PortPass) (f : List Link) (p : Cargo) (status : Status) (reply : List ℕ) → IsStopped (stops.Answered status) p h.pass.windows reply → after.pass ≡ h.pass → after.asked ≡ h.asked → HasDealt p (standing h f) (standing after f) reply false
+answered h after f p status reply is same line = record {
   deed = Answered reply;
-  dealt = record { answered = inl (status, is); same = ap (λ x. standing x f) same };
+  dealt = record { answered = inl (status, is); same = ap₂ (λ x y. stand x y f) same line };
   reply_is = refl;
   dropped_is = refl;
 }
 
-pub unread : (h after : PassValue) (f : List Link) (p : Cargo) (reply : List ℕ) → IsUnread p h.windows reply → after ≡ h → HasDealt p (standing h f) (standing after f) reply false
-unread h after f p reply is same = record {
+pub unread : (h after : PortPass) (f : List Link) (p : Cargo) (reply : List ℕ) → IsUnread p h.pass.windows reply → after.pass ≡ h.pass → after.asked ≡ h.asked → HasDealt p (standing h f) (standing after f) reply false
+unread h after f p reply is same line = record {
   deed = Answered reply;
-  dealt = record { answered = inr is; same = ap (λ x. standing x f) same };
+  dealt = record { answered = inr is; same = ap₂ (λ x y. stand x y f) same line };
   reply_is = refl;
   dropped_is = refl;
 }
 
--- a command that was judged in a run, and left an entry or not
-judging_of : (h between : PassValue) (p : Cargo) (j : JudgedValue) (reply : List ℕ) (entered : Bool) → IsJudgement h between p j → Judging
-judging_of h between p j reply entered is =
-    record { judged = j; program = is.program; calls = is.calls; entered = entered; reply = reply }
+-- a command that was judged in a run, left an entry or not, and published or not
+judging_of : (h between : PassValue) (p : Cargo) (j : JudgedValue) (reply : List ℕ) (entered : Bool) (loaded : Option Publish) → IsJudgement h between p j → Judging
+judging_of h between p j reply entered loaded is =
+    record { judged = j; program = is.program; calls = is.calls; entered = entered; loaded = loaded; reply = reply }
 
-judged_so : (h between after : PassValue) (f reached : List Link) (p : Cargo) (j : JudgedValue) (reply : List ℕ) (entered : Bool) → (is : IsJudgement h between p j) → IsBanked (judging_of h between p j reply entered is) (standing between f) (standing after reached) ⊎ IsWindowed (judging_of h between p j reply entered is) (standing between f) (standing after reached) → HasDealt p (standing h f) (standing after reached) reply false
+judged_so : (h after : PortPass) (between : PassValue) (f reached : List Link) (p : Cargo) (j : JudgedValue) (reply : List ℕ) (entered : Bool) (loaded : Option Publish) → (is : IsJudgement h.pass between p j) → IsBanked (judging_of h.pass between p j reply entered loaded is) (stand between h.asked f) (standing after reached) ⊎ IsWindowed (judging_of h.pass between p j reply entered loaded is) (stand between h.asked f) (standing after reached) → HasDealt p (standing h f) (standing after reached) reply false
 unfolding judging_of
-judged_so h between after f reached p j reply entered is end = record {
-  deed = Judged (judging_of h between p j reply entered is);
+judged_so h after between f reached p j reply entered loaded is end = record {
+  deed = Judged (judging_of h.pass between p j reply entered loaded is);
   dealt = record { between = between; judgement = is; program = refl; calls = refl; ended = end };
   reply_is = refl;
   dropped_is = refl;
 }
 
-pub banked : (h between after : PassValue) (f reached : List Link) (p : Cargo) (j : JudgedValue) (k : ℕ) (reply : List ℕ) → IsJudgement h between p j → j.place ≡ Bank k → HasFinished f reached between after j reply → HasDealt p (standing h f) (standing after reached) reply false
+pub banked : (h between after : PortPass) (f reached : List Link) (p : Cargo) (j : JudgedValue) (k : ℕ) (reply : List ℕ) → IsJudgement h.pass between.pass p j → between.asked ≡ h.asked → j.place ≡ Bank k
+    → HasFinished f reached between.pass after.pass between.asked after.asked j reply → HasDealt p (standing h f) (standing after reached) reply false
 unfolding judging_of
-banked h between after f reached p j k reply is at end =
-    let entered = takes end.before (share_of between j.place) j && has_room end.before.bank j.port in
-    judged_so h between after f reached p j reply entered is (inl (record { number = k; place = at; ended = end; entered = refl }))
+banked h between after f reached p j k reply is line at end =
+    let own : HasFinished f reached between.pass after.pass h.asked after.asked j reply = subst (λ (l : List Due). HasFinished f reached between.pass after.pass l after.asked j reply) line end in
+    let entered = takes own.before (share_of between.pass j.place) j && has_room own.before.bank j.port in
+    judged_so h after between.pass f reached p j reply entered None is (inl (record { number = k; place = at; ended = own; entered = refl; loaded = refl }))
 
 begins_itself : (xs : List Publish) → IsPrefix xs xs
 begins_itself xs = ([], append-nil xs)
 
-windowed : (h between after : PassValue) (f : List Link) (p : Cargo) (j : JudgedValue) (result : Status) (reply : List ℕ) → IsJudgement h between p j → EndsAtWindow j.place between after between.programs between.programs j result reply → HasDealt p (standing h f) (standing after f) reply false
+windowed : (h between after : PortPass) (f : List Link) (p : Cargo) (j : JudgedValue) (result : Status) (reply : List ℕ) → IsJudgement h.pass between.pass p j → after.asked ≡ h.asked
+    → EndsAtWindow j.place between.pass after.pass between.pass.programs between.pass.programs j result reply → HasDealt p (standing h f) (standing after f) reply false
 unfolding judging_of
-windowed h between after f p j result reply is end =
-    judged_so h between after f f p j reply false is (inr (record { old = between.programs; new = between.programs; begins = begins_itself between.programs; result = result; ended = end; entered = refl; front = refl }))
+windowed h between after f p j result reply is line end =
+    let programs = between.pass.programs in
+    judged_so h after between.pass f f p j reply false None is (inr (record { old = programs; new = programs; begins = begins_itself programs; result = result; ended = end; entered = refl; asks_for = (refl, line); front = refl }))
 
-pub staged : (h between after : PassValue) (f : List Link) (p : Cargo) (j : JudgedValue) (place : Place) (result : Status) (reply : List ℕ) → IsJudgement h between p j → place ≡ j.place → IsStagingPlace place → IsStagedAt between after j result reply → HasDealt p (standing h f) (standing after f) reply false
-staged h between after f p j place result reply is same at end =
-    windowed h between after f p j result reply is (subst (λ x. EndsAtWindow x between after between.programs between.programs j result reply) same (elim at [
-      | inl bytes ↦ subst (λ x. EndsAtWindow x between after between.programs between.programs j result reply) (sym bytes) (end, refl)
-      | inr loaded ↦ subst (λ x. EndsAtWindow x between after between.programs between.programs j result reply) (sym loaded) (end, refl)
+pub staged : (h between after : PortPass) (f : List Link) (p : Cargo) (j : JudgedValue) (place : Place) (result : Status) (reply : List ℕ) → IsJudgement h.pass between.pass p j → between.asked ≡ h.asked → place ≡ j.place → IsStagingPlace place
+    → IsStagedAt between.pass after.pass j result reply → after.asked ≡ between.asked → HasDealt p (standing h f) (standing after f) reply false
+staged h between after f p j place result reply is line same at end still =
+    let programs = between.pass.programs in
+    windowed h between after f p j result reply is (still ∙ line) (subst (λ x. EndsAtWindow x between.pass after.pass programs programs j result reply) same (elim at [
+      | inl bytes ↦ subst (λ x. EndsAtWindow x between.pass after.pass programs programs j result reply) (sym bytes) (end, refl)
+      | inr loaded ↦ subst (λ x. EndsAtWindow x between.pass after.pass programs programs j result reply) (sym loaded) (end, refl)
     ]))
 
-pub loaded : (h between after : PassValue) (f : List Link) (p : Cargo) (j : JudgedValue) (reply : List ℕ) → IsJudgement h between p j → j.place ≡ Control → HasLoadEnd between after j reply → HasDealt p (standing h f) (standing after f) reply false
+pub loaded : (h between after : PortPass) (f : List Link) (p : Cargo) (j : JudgedValue) (reply : List ℕ) → IsJudgement h.pass between.pass p j → between.asked ≡ h.asked → j.place ≡ Control
+    → HasLoadEnd between.pass after.pass between.asked after.asked j reply → HasDealt p (standing h f) (standing after f) reply false
 unfolding judging_of
-loaded h between after f p j reply is at end =
-    judged_so h between after f f p j reply false is (inr (record {
+loaded h between after f p j reply is line at end =
+    judged_so h after between.pass f f p j reply false end.loaded is (inr (record {
       old = end.old;
       new = end.new;
       begins = end.begins;
       result = end.result;
-      ended = subst (λ place. EndsAtWindow place between after end.old end.new j end.result reply) (sym at) end.ended;
+      ended = subst (λ place. EndsAtWindow place between.pass after.pass end.old end.new j end.result reply) (sym at) end.ended;
       entered = refl;
+      asks_for = subst (λ (l : List Due). AsksForLoad between.pass.port end.loaded end.old end.new l after.asked) line end.asks_for;
       front = refl;
     }))
 

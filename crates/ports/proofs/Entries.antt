@@ -12,7 +12,7 @@ use Rattle.annals.specs.declared.deed.Link.{Link}
 use Rattle.annals.specs.Banks.{takes}
 use Rattle.annals.specs.Publishes.{publishes_of}
 use Rattle.target.specs.Finished.{IsDoneBehind}
-use Rattle.ports.specs.Due.{Judging, Deed, Standing, standing, Worked, IsBanked, IsWindowed, IsJudged, judgings}
+use Rattle.ports.specs.Due.{Judging, Deed, Standing, stand, Worked, IsBanked, IsWindowed, IsJudged, judgings}
 use Rattle.ports.specs.Due.Deed.{Dropped, Answered, Judged}
 use Rattle.ports.specs.Laws.{HasEntered, IsByPublished, EntriesFollow}
 use Rattle.ports.proofs.Following.{dealt_stays, judged_by}
@@ -94,4 +94,4 @@ entries_follow h after (p ∷ ps) (Judged j ∷ ds) w =
     let port = (dealt_stays (Judged j) p h w.0 w.1).port in
     let rest = subst (λ (n : ℕ). EntriesFollow n w.0.front (judgings ds) after.front) port (entries_follow w.0 after ps ds w.2) in
     follows j.entered h.pass.port j (judgings ds) h.front w.0.front after.front
-    (step h.pass.port j (standing w.1.between h.front) w.0 (λ published begins. judged_by j p h w.0 published w.1 begins) w.1.ended) rest
+    (step h.pass.port j (stand w.1.between h.asked h.front) w.0 (λ published begins. judged_by j p h w.0 published w.1 begins) w.1.ended) rest

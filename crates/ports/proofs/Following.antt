@@ -23,7 +23,7 @@ use Rattle.node_parts.specs.Steps.{IsJudgement, IsVerdict}
 use Rattle.node_parts.specs.Applied.{share_of, with_share}
 use Rattle.node_parts.specs.Loaded.{EndsAs}
 use Rattle.node_parts.specs.Served.{EndsAtWindow}
-use Rattle.ports.specs.Due.{Judging, Deed, Standing, standing, Worked, IsBanked, IsWindowed, IsJudged, IsDealt, judgings}
+use Rattle.ports.specs.Due.{Judging, Deed, Standing, stand, Worked, IsBanked, IsWindowed, IsJudged, IsDealt, judgings}
 use Rattle.ports.specs.Due.Deed.{Dropped, Answered, Judged}
 use Rattle.ports.specs.Laws.{IsByPublished, calls_of, is_bank_of, is_entry_at, entries_at, number_at, SharesCount}
 use Rattle.ports.proofs.Keeping.{end_keeps, prefix_same, prefix_trans}
@@ -35,6 +35,7 @@ pub record Stays (h after : PassValue) : Type 0 where
   pub port : after.port ≡ h.port
   pub windows : after.windows ≡ h.windows
   pub sizes : after.seat.sizes ≡ h.seat.sizes
+  pub home : after.seat.home ≡ h.seat.home
   pub count : length after.shares ≡ length h.shares
 
 stays_same : (h after : PassValue) → after ≡ h → Stays h after
@@ -43,6 +44,7 @@ stays_same h after same = record {
   port = ap (λ (x : PassValue). x.port) same;
   windows = ap (λ (x : PassValue). x.windows) same;
   sizes = ap (λ (x : PassValue). x.seat.sizes) same;
+  home = ap (λ (x : PassValue). x.seat.home) same;
   count = ap (λ (x : PassValue). length x.shares) same;
 }
 
@@ -52,6 +54,7 @@ stays_on h between after a b = record {
   port = b.port ∙ a.port;
   windows = b.windows ∙ a.windows;
   sizes = b.sizes ∙ a.sizes;
+  home = b.home ∙ a.home;
   count = b.count ∙ a.count;
 }
 
@@ -62,6 +65,7 @@ run_stays h between p j is = record {
   port = ap (λ (x : PassValue). x.port) is.asked;
   windows = ap (λ (x : PassValue). x.windows) is.asked;
   sizes = ap (λ (x : PassValue). x.seat.sizes) is.asked;
+  home = ap (λ (x : PassValue). x.seat.home) is.asked;
   count = ap (λ (x : PassValue). length x.shares) is.asked;
 }
 
@@ -71,6 +75,7 @@ end_stays j between after end = let keeps = end_keeps j between after end in rec
   port = keeps.port;
   windows = keeps.windows;
   sizes = ap (λ (s : SeatValue). s.sizes) keeps.seat;
+  home = ap (λ (s : SeatValue). s.home) keeps.seat;
   count = keeps.count;
 }
 
@@ -81,7 +86,7 @@ pub dealt_stays : (d : Deed) (p : Cargo) (h after : Standing) → IsDealt d p h 
 dealt_stays Dropped p h after is = same_stays h after is.same
 dealt_stays (Answered reply) p h after is = same_stays h after is.same
 dealt_stays (Judged j) p h after is =
-    stays_on h.pass is.between after.pass (run_stays h.pass is.between p j.judged is.judgement) (end_stays j (standing is.between h.front) after is.ended)
+    stays_on h.pass is.between after.pass (run_stays h.pass is.between p j.judged is.judgement) (end_stays j (stand is.between h.asked h.front) after is.ended)
 
 pub worked_stays : (h after : Standing) (ps : List Cargo) (ds : List Deed) → Worked h ps ds after → Stays h.pass after.pass
 worked_stays h after [] [] w = same_stays h after w
@@ -115,7 +120,7 @@ judged_by j p h after published is begins =
     }
 
 judged_published : (j : Judging) (p : Cargo) (h after : Standing) → IsJudged j p h after → IsByPublished after.pass.programs h.pass.port j
-judged_published j p h after is = judged_by j p h after after.pass.programs is (end_stays j (standing is.between h.front) after is.ended).programs
+judged_published j p h after is = judged_by j p h after after.pass.programs is (end_stays j (stand is.between h.asked h.front) after is.ended).programs
 
 pub programs_were_published : (h after : Standing) (ps : List Cargo) (ds : List Deed) → Worked h ps ds after → All (IsByPublished after.pass.programs h.pass.port) (judgings ds)
 programs_were_published h after [] [] w = All-nil (IsByPublished after.pass.programs h.pass.port)
@@ -136,7 +141,7 @@ programs_were_published h after (p ∷ ps) (Judged j ∷ ds) w =
 
 judged_asks : (j : Judging) (p : Cargo) (h after : Standing) → IsJudged j p h after → after.pass.seat.asked ≡ h.pass.seat.asked ++ j.calls
 judged_asks j p h after is =
-    let end = end_keeps j (standing is.between h.front) after is.ended in
+    let end = end_keeps j (stand is.between h.asked h.front) after is.ended in
     ap (λ (s : SeatValue). s.asked) end.seat ∙ ap (λ (x : PassValue). x.seat.asked) is.judgement.asked ∙ ap (λ l. h.pass.seat.asked ++ l) (sym is.calls)
 
 pub ask_once : (h after : Standing) (ps : List Cargo) (ds : List Deed) → Worked h ps ds after → after.pass.seat.asked ≡ h.pass.seat.asked ++ calls_of ds
@@ -250,7 +255,7 @@ pub judged_number : (k : ℕ) (j : Judging) (p : Cargo) (h after : Standing) →
 judged_number k j p h after is below =
     let same : number_at is.between k ≡ number_at h.pass k = ap (λ x. number_at x k) is.judgement.asked in
     let count = (run_stays h.pass is.between p j.judged is.judgement).count in
-    let end = end_number k j (standing is.between h.front) after is.ended (omega (arith, count, below)) in
+    let end = end_number k j (stand is.between h.asked h.front) after is.ended (omega (arith, count, below)) in
     omega (arith, same, end)
 
 entries_more : (k : ℕ) (j : Judging) (js : List Judging) → length (filter (is_entry_at k) (j ∷ js)) ≡ one_at k j + length (filter (is_entry_at k) js)
@@ -283,4 +288,5 @@ shares_count h after ps ds w = let stays = worked_stays h after ps ds w in recor
   port = stays.port;
   windows = stays.windows;
   sizes = stays.sizes;
+  home = stays.home;
 }

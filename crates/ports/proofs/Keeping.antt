@@ -12,6 +12,7 @@ use Rattle.node_parts.specs.Applied.{with_share}
 use Rattle.node_parts.specs.Loaded.{EndsAs, IsLoadEnd}
 use Rattle.node_parts.specs.Served.{EndsAtWindow, IsStagedAt}
 use Rattle.annals.specs.declared.deed.Link.{Link}
+use Rattle.annals.specs.Chains.{Due}
 use Rattle.ports.specs.Due.{Judging, Standing, HasFinished, IsBanked, IsWindowed}
 
 pub prefix_same : {A : Type 0} (xs ys : List A) → ys ≡ xs → IsPrefix xs ys
@@ -43,8 +44,8 @@ share_keeps h Staging share = keeps_same h h refl
 share_keeps h LoadResult share = keeps_same h h refl
 share_keeps h Control share = keeps_same h h refl
 
-finish_keeps : (known reached : List Link) (h after : PassValue) (j : JudgedValue) (reply : List ℕ) → HasFinished known reached h after j reply → Keeps h after
-finish_keeps known reached h after j reply end =
+finish_keeps : (known reached : List Link) (h after : PassValue) (asked asks : List Due) (j : JudgedValue) (reply : List ℕ) → HasFinished known reached h after asked asks j reply → Keeps h after
+finish_keeps known reached h after asked asks j reply end =
     subst (λ x. Keeps h x) (sym end.finished.shares) (share_keeps h j.place end.finished.share)
 
 staged_keeps : (h after : PassValue) (j : JudgedValue) (result : Status) (reply : List ℕ) → IsStagedAt h after j result reply → Keeps h after
@@ -85,5 +86,5 @@ window_keeps Control h after old new j result reply end = load_keeps _ h after o
 
 -- how a judged command ends leaves the port as it was, but for its shares, its staging and its programs
 pub end_keeps : (judging : Judging) (between after : Standing) → IsBanked judging between after ⊎ IsWindowed judging between after → Keeps between.pass after.pass
-end_keeps judging between after (inl banked) = finish_keeps between.front after.front between.pass after.pass judging.judged judging.reply banked.ended
+end_keeps judging between after (inl banked) = finish_keeps between.front after.front between.pass after.pass between.asked after.asked judging.judged judging.reply banked.ended
 end_keeps judging between after (inr windowed) = window_keeps judging.judged.place between.pass after.pass windowed.old windowed.new judging.judged windowed.result judging.reply windowed.ended

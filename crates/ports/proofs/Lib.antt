@@ -9,4 +9,5 @@ mod Reports
 mod Starting
 mod Served
 mod Entries
+mod Loading
 mod Whole

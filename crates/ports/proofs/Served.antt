@@ -7,8 +7,11 @@ use Rattle.std.specs.List.{All}
 use Rattle.std.proofs.lemmas.List.Elements.{All-append, All-cons, All-nil}
 use mathlib.Core.List.{IsPrefix}
 use Rattle.annals.specs.declared.deed.Link.{Link}
-use Rattle.node_parts.specs.Passes.{PassValue}
+use Rattle.annals.specs.Chains.{ActsGrow, Due, done_for}
+use Rattle.annals.specs.Publishes.{EntriesAreNoLoads, LoadsAreListed}
+use Rattle.target.specs.Passes.{PortPass}
 use Rattle.ports.proofs.Keeping.{prefix_trans}
+use Rattle.ports.proofs.Loading.{publishes_are_all}
 use Rattle.ports.proofs.Whole.{entries_are_all}
 use Rattle.ports.specs.Worked.{standing_of}
 use Rattle.ports.specs.Queue.{IsServePassOf, IsServePassAfter}
@@ -18,7 +21,7 @@ use Rattle.ports.specs.declared.starts.Ended.{Ended}
 use Rattle.ports.specs.declared.worker.Worker.{Worker}
 use Rattle.ports.specs.declared.worker.Report.{Report}
 use Rattle.ports.specs.Sinks.{SentReply}
-use Rattle.ports.specs.Serves.{IsWorkerOf, AreLast, AreServed, HasReturned, HaveComeBack, IsBack, IsOneMissing, IsShort, IsTotalOf, HaveServed, ShareOneHistory}
+use Rattle.ports.specs.Serves.{IsWorkerOf, AreLast, AreServed, HasReturned, HaveComeBack, IsBack, IsOneMissing, IsShort, IsTold, IsTotalOf, HaveServed, ShareOneHistory}
 
 -- A pass that is the port's is so later.
 same_port : (port : Port) (old new : ServePass) → IsServePassOf port old → IsServePassAfter old new → IsServePassOf port new
@@ -74,8 +77,8 @@ module _ {J S : Type 0} (sent : S → List SentReply) (failed : S → ℕ) (bank
 
     -- Where each has a report, each served its port.
     pub have_served : AreServed banks (length old) ports old → AreBack → length ended ≡ length old → (total : Report) → IsTotalOf (map (λ (e : Ended J S). e.report) ended) total
-        → ShareOneHistory returned → HaveServed sent failed banks ports old returned total
-    have_served were each long total told history =
+        → EntriesAreNoLoads → LoadsAreListed → ShareOneHistory returned → HaveServed sent failed banks ports old returned total
+    have_served were each long total told no_loads listed history =
         let reports = told.reports in
         let many : length reports ≡ length old = sym (length-map reports Some) ∙ ap length (sym told.all) ∙ length-map ended (λ (e : Ended J S). e.report) ∙ long in
         let here : (k : ℕ) (w : Worker J S) (r : Report) → k < length old → HasReturned sent failed (slice_index_or old k w) (slice_index_or returned k w) (slice_index_or reports k r)
@@ -102,6 +105,10 @@ module _ {J S : Type 0} (sent : S → List SentReply) (failed : S → ℕ) (bank
               let it = (here k w r below).worked in
               let low : k < length returned = subst (λ n. k < n) (sym (length-map ended (λ (e : Ended J S). e.worker) ∙ long)) below in
               entries_are_all (standing_of (slice_index_or old k w)) (standing_of (slice_index_or returned k w)) it.packets it.served.deeds history.whole it.served.worked (history.begin k w low) (history.counted k w low);
+          publishes = λ k w r below.
+              let it = (here k w r below).worked in
+              let low : k < length returned = subst (λ n. k < n) (sym (length-map ended (λ (e : Ended J S). e.worker) ∙ long)) below in
+              publishes_are_all no_loads listed (standing_of (slice_index_or old k w)) (standing_of (slice_index_or returned k w)) it.packets it.served.deeds history.whole it.served.worked (history.asked k w low);
         }
 
     -- Where a thread could not be made, fewer workers came back than went in.
@@ -156,12 +163,12 @@ empty_is [] none = refl
 empty_is (x ∷ xs) none = absurd (omega (arith, none))
 
 -- A worker whose pass was asked is as it was.
-pub same_worker : {J S : Type 0} (w : Worker J S) (pass : PassValue) → pass ≡ w.pass → record w { pass = pass } ≡ w
-same_worker {J} {S} w pass same = ap (λ (x : PassValue). record w { pass = x }) same
+pub same_worker : {J S : Type 0} (w : Worker J S) (pass : PortPass) → pass ≡ w.pass → record w { pass = pass } ≡ w
+same_worker {J} {S} w pass same = ap (λ (x : PortPass). record w { pass = x }) same
 
--- Of the first threads, what their workers know of the history begins what is known.
+-- Of the first threads, what their workers know of the history, and did there, is known.
 abbrev pub AreKnownTo : {J S : Type 0} → ℕ → List (Ended J S) → List Link → Type 0
-AreKnownTo {J} {S} n ended known = (k : ℕ) (e : Ended J S) → k < n → IsPrefix (slice_index_or ended k e).worker.front known
+AreKnownTo {J} {S} n ended known = (k : ℕ) (e : Ended J S) → k < n → IsTold known (slice_index_or ended k e).worker
 
 other_default : {A : Type 0} (xs : List A) (k : ℕ) (d e : A) → k < length xs → slice_index_or xs k d ≡ slice_index_or xs k e
 other_default [] k d e below = absurd (omega (arith, below))
@@ -169,15 +176,20 @@ other_default (x ∷ xs) zero d e below = refl
 other_default (x ∷ xs) (suc k) d e below = other_default xs k d e (omega (arith, below))
 
 -- One more of them.
-pub known_more : {J S : Type 0} (n : ℕ) (ended : List (Ended J S)) (old new : List Link) (d : Ended J S) → n < length ended → IsPrefix old new → IsPrefix (slice_index_or ended n d).worker.front new
+pub known_more : {J S : Type 0} → ActsGrow → (n : ℕ) (ended : List (Ended J S)) (old new : List Link) (d : Ended J S) → n < length ended → IsPrefix old new → IsTold new (slice_index_or ended n d).worker
     → AreKnownTo n ended old → AreKnownTo (n + 1) ended new
-known_more {J} {S} n ended old new d below longer here known = λ k e low.
+known_more {J} {S} grow n ended old new d below longer here known = λ k e low.
     ⊎_elim
-    (λ (before : k < n). prefix_trans (slice_index_or ended k e).worker.front old new (known k e before) longer)
+    (λ (before : k < n).
+    let w = (slice_index_or ended k e).worker in
+    let was = known k e before in (
+      prefix_trans w.front old new was.0 longer,
+      prefix_trans w.pass.asked (done_for w.pass.pass.port old) (done_for w.pass.pass.port new) was.1 (grow w.pass.pass.port old new longer),
+    ))
     (λ high.
     let same : k ≡ n = omega (arith, low, high) in
     let at : slice_index_or ended k e ≡ slice_index_or ended n d = ap (λ (i : ℕ). slice_index_or ended i e) same ∙ other_default ended n e d below in
-    subst (λ (x : Ended J S). IsPrefix x.worker.front new) (sym at) here)
+    subst (λ (x : Ended J S). IsTold new x.worker) (sym at) here)
     (cases_lt k n)
 
 -- Where no thread was started, all came back as they went in.
@@ -196,3 +208,10 @@ all_came_back {J} {S} sent failed old = record {
 pub none_served : {J S : Type 0} (old : List (Worker J S)) → IsShort old old
 none_served [] = inr (inl refl)
 none_served (worker ∷ workers) = inr (inr (0, omega arith, λ other. refl))
+
+-- Two lists that begin each other are one.
+pub both_begin : (xs ys : List Due) → IsPrefix xs ys → IsPrefix ys xs → xs ≡ ys
+both_begin [] [] p q = refl
+both_begin [] (y ∷ ys) p q = absurd (cc (q.1))
+both_begin (x ∷ xs) [] p q = absurd (cc (p.1))
+both_begin (x ∷ xs) (y ∷ ys) p q = let rest = both_begin xs ys (p.0, cc (p.1)) (q.0, cc (q.1)) in cc (p.1, rest)

@@ -13,13 +13,14 @@ use Rattle.bank.specs.declared.bank.Applied.{Applied}
 use Rattle.bank.specs.Records.{EntryValue, numbers_of, entry_of, numbered_entry}
 use Rattle.node_parts.specs.Passes.{PassValue}
 use Rattle.node_parts.specs.Applied.{share_of}
+use Rattle.annals.specs.declared.deed.Act.TheVariants as acts
 use Rattle.annals.specs.declared.deed.Deed.{Deed as BankDeed}
 use Rattle.annals.specs.declared.deed.Deed.TheVariants as deeds
 use Rattle.annals.specs.declared.deed.Link.{Link}
 use Rattle.annals.specs.Chains.{chain_of, link}
 use Rattle.annals.specs.Banks.{entries_by, entries_in, entries_of, with_entry}
 use Rattle.annals.specs.Publishes.{publishes_of}
-use Rattle.ports.specs.Due.{Judging, Deed, Standing, standing, Worked, IsBanked, IsWindowed, IsJudged, judgings}
+use Rattle.ports.specs.Due.{Judging, Deed, Standing, stand, Worked, IsBanked, IsWindowed, IsJudged, judgings}
 use Rattle.ports.specs.Due.Deed.{Dropped, Answered, Judged}
 use Rattle.ports.specs.Laws.{AreEntriesOf, EntriesFollow, HasEntered, IsEntryOf, WorkersEntriesAreAll, is_bank_of, is_entry_at, number_at}
 use Rattle.ports.proofs.Entries.{IsJudgedBehind, both_are, done_behind, entries_follow}
@@ -51,10 +52,11 @@ prefix_length xs ys p = omega (arith, sym (ap length p.1) ∙ length-append xs p
 
 with_joined : (d : BankDeed) (xs ys : List EntryValue) → with_entry d (xs ++ ys) ≡ with_entry d xs ++ ys
 with_joined (deeds.Opens x) xs ys = refl
-with_joined (deeds.Does e) xs ys = refl
-with_joined (deeds.Sets x) xs ys = refl
+with_joined (deeds.Does (acts.Leaves e)) xs ys = refl
+with_joined (deeds.Does (acts.Sets x)) xs ys = refl
+with_joined (deeds.Does (acts.Rotates x)) xs ys = refl
+with_joined (deeds.Does (acts.Publishes x)) xs ys = refl
 with_joined (deeds.Asks x) xs ys = refl
-with_joined (deeds.Publishes x) xs ys = refl
 
 entries_append : (ls ms : List Link) → entries_in (ls ++ ms) ≡ entries_in ls ++ entries_in ms
 entries_append [] ms = refl
@@ -67,11 +69,11 @@ by_append port k xs ys =
     ∙ filter-append (λ (e : EntryValue). e.port == port) (entries_of k xs) (entries_of k ys))
 
 -- the entry of one command
-by_one : (port k place next : ℕ) (e : EntryValue) → e.port ≡ port → entries_by port k (link k place (deeds.Does e) next ∷ []) ≡ e ∷ []
+by_one : (port k place next : ℕ) (e : EntryValue) → e.port ≡ port → entries_by port k (link k place (deeds.Does (acts.Leaves e)) next ∷ []) ≡ e ∷ []
 by_one port k place next e is =
     let here : (k == k) ≡ true = grind (arith, nat_tests) in
     let own : (e.port == port) ≡ true = grind (arith, nat_tests, is) in
-    ap (λ (b : Bool). filter (λ (x : EntryValue). x.port == port) (entries_in (cond b (link k place (deeds.Does e) next ∷ []) []))) here
+    ap (λ (b : Bool). filter (λ (x : EntryValue). x.port == port) (entries_in (cond b (link k place (deeds.Does (acts.Leaves e)) next ∷ []) []))) here
     ∙ ap (λ (b : Bool). cond b (e ∷ []) []) own
 
 -- ---- fronts
@@ -114,15 +116,15 @@ left_at port k j h after own by is here =
     let before = done.last.before in
     let e = entry_of share j.judged is.ended.result.status in
     let place = length (chain_of n before) in
-    let one : entries_by port k (link n place (deeds.Does e) done.last.next ∷ []) ≡ e ∷ [] =
-    ap (λ (i : ℕ). entries_by port k (link i place (deeds.Does e) done.last.next ∷ [])) same ∙ by_one port k place done.last.next e own in
+    let one : entries_by port k (link n place (deeds.Does (acts.Leaves e)) done.last.next ∷ []) ≡ e ∷ [] =
+    ap (λ (i : ℕ). entries_by port k (link i place (deeds.Does (acts.Leaves e)) done.last.next ∷ [])) same ∙ by_one port k place done.last.next e own in
     let numbers : numbers_of port (entries_of k before) ≡ range_with_len 0 share.number =
     subst (λ (p : ℕ). numbers_of p (entries_of k before) ≡ range_with_len 0 share.number) own
     (subst (λ (i : ℕ). numbers_of j.judged.port (entries_of i before) ≡ range_with_len 0 share.number) same done.numbers) in
     record {
       before = entries_by port k before;
       entry = e;
-      all = ap (entries_by port k) done.last.log ∙ (by_append port k before (link n place (deeds.Does e) done.last.next ∷ []) ∙ ap (λ (es : List EntryValue). entries_by port k before ++ es) one);
+      all = ap (entries_by port k) done.last.log ∙ (by_append port k before (link n place (deeds.Does (acts.Leaves e)) done.last.next ∷ []) ∙ ap (λ (es : List EntryValue). entries_by port k before ++ es) one);
       count = sym (length-map (entries_by port k before) (λ (x : EntryValue). x.number)) ∙ (ap length numbers ∙ (range_length 0 share.number ∙ number));
       is = record {
         known = h.front;
@@ -147,7 +149,7 @@ judged_left : (k : ℕ) (j : Judging) (p : Cargo) (h after : Standing) → IsJud
 judged_left k j p h after is here =
     let port = h.pass.port in
     let own : j.judged.port ≡ port = is.judgement.judged_for.port_of in
-    let middle = standing is.between h.front in
+    let middle = stand is.between h.asked h.front in
     let number : number_at is.between k ≡ number_at h.pass k = ap (λ (x : PassValue). number_at x k) is.judgement.asked in
     elim is.ended [
       | inl banked ↦

@@ -1,7 +1,7 @@
 -- What became of the packets that a worker took, and the replies that are due then (ECSS-E-ST-50-52C). Banks and the
--- publisher stand behind locks: a command that left an entry stands in the one history of the node's banks; of any other it
--- is known that some bank, or some list of publishes, was what it met.
-use Rattle.std.specs.Prelude.{◌≡◌, ◌⊎◌, ℕ, Bool, true, false, ◌&&◌, List, [], ◌∷◌, length, map, filter, Some}
+-- publisher stand behind locks: a command that left an entry stands in the one history of the node, and so does a load that
+-- published; of any other it is known that some bank, or some list of publishes, was what it met.
+use Rattle.std.specs.Prelude.{◌≡◌, ◌⊎◌, ℕ, Bool, true, false, ◌&&◌, List, [], ◌∷◌, length, map, filter, Option, None, Some}
 use mathlib.Core.List.{IsPrefix}
 use Rattle.machine.specs.declared.calls.Call.{Call}
 use Rattle.spw.specs.Cargo.{Cargo}
@@ -21,24 +21,33 @@ use Rattle.node_parts.specs.Loaded.{IsLoadEnd}
 use Rattle.node_parts.specs.Served.{EndsAtWindow}
 use Rattle.annals.specs.declared.deed.Link.{Link}
 use Rattle.annals.specs.Banks.{KeptValue, takes}
-use Rattle.target.specs.Finished.{IsFinishedAt}
+use Rattle.annals.specs.Chains.{Due}
+use Rattle.target.specs.Finished.{AsksForEntry, IsFinishedAt}
+use Rattle.target.specs.Loads.{AsksForLoad}
+use Rattle.target.specs.Passes.{PortPass}
 
--- what a port has of its node, and what it knows of the history of the node's banks
+-- what a port has of its node, what it asked for in its line of the node's history, and what it knows of that history
 pub record Standing : Type 0 where
   pub pass : PassValue
+  pub asked : List Due
   pub front : List Link
 
--- the port that has this and knows that
-abbrev pub standing : PassValue → List Link → Standing
-standing pass front = record { pass = pass; front = front }
+-- the port that has this, asked for that, and knows so much
+abbrev pub stand : PassValue → List Due → List Link → Standing
+stand pass asked front = record { pass = pass; asked = asked; front = front }
 
--- a command that was judged: the program and the calls of its run, whether it left an entry in a bank's journal, and
--- the reply that is due
+-- the port with that pass, which knows so much
+abbrev pub standing : PortPass → List Link → Standing
+standing port front = stand port.pass port.asked front
+
+-- a command that was judged: the program and the calls of its run, whether it left an entry in a bank's journal, what it
+-- published, if it did, and the reply that is due
 pub record Judging : Type 0 where
   pub judged : JudgedValue
   pub program : AcceptedValue
   pub calls : List Call
   pub entered : Bool
+  pub loaded : Option Publish
   pub reply : List ℕ
 
 -- what became of a packet: it was no command; or it was answered without a verdict, and that reply is due; or it was
@@ -98,34 +107,39 @@ pub record IsUnjudged (reply : List ℕ) (p : Cargo) (h after : Standing) : Type
   pub same : after ≡ h
 
 -- a judged command ended at some bank with its chain: where it left an entry, that is the last of the history that the port
--- then knows, and status and reply are the definition's on the replay of what stands before it there
-pub record HasFinished (known reached : List Link) (holder after : PassValue) (j : JudgedValue) (reply : List ℕ)
-    : Type 0 where
+-- then knows, its port asked for it, and status and reply are the definition's on the replay of what stands before it there
+pub record HasFinished (known reached : List Link) (holder after : PassValue) (asked asks : List Due) (j : JudgedValue)
+    (reply : List ℕ) : Type 0 where
   pub before : KeptValue
   pub behind : KeptValue
   pub result : Applied
   pub bank : IsBank before.bank
   pub finished : IsFinishedAt before behind known reached holder after j result reply
+  pub asks_for : AsksForEntry before.chain.number holder j result asked asks
 
 -- the command's place is a bank, and it ended at some bank, where it left an entry if it was applied and there was room
 pub record IsBanked (judging : Judging) (h after : Standing) : Type 0 where
   pub number : ℕ
   pub place : judging.judged.place ≡ Bank number
-  pub ended : HasFinished h.front after.front h.pass after.pass judging.judged judging.reply
+  pub ended : HasFinished h.front after.front h.pass after.pass h.asked after.asked judging.judged judging.reply
+  pub loaded : judging.loaded ≡ None
   pub entered : judging.entered
       ≡ (takes ended.before (share_of h.pass judging.judged.place) judging.judged
       && has_room ended.before.bank judging.judged.port)
 
--- a judged control write ended, where some list had been published, which began with all that the port knew
-pub record HasLoadEnd (holder after : PassValue) (j : JudgedValue) (reply : List ℕ) : Type 0 where
+-- a judged control write ended, where some list had been published, which began with all that the port knew; its port asked
+-- for what it published, and for nothing else
+pub record HasLoadEnd (holder after : PassValue) (asked asks : List Due) (j : JudgedValue) (reply : List ℕ) : Type 0 where
   pub old : List Publish
   pub new : List Publish
   pub begins : IsPrefix holder.programs old
   pub result : Status
   pub ended : IsLoadEnd holder after old new j result reply
+  pub loaded : Option Publish
+  pub asks_for : AsksForLoad holder.port loaded old new asked asks
 
 -- a judged command ended in the boot window, where some list had been published, which began with all that the port
--- knew; of the history of the banks the port knows what it knew
+-- knew; its port asked for what it published, and for nothing else, and knows of the history what it knew
 pub record IsWindowed (judging : Judging) (h after : Standing) : Type 0 where
   pub old : List Publish
   pub new : List Publish
@@ -133,6 +147,7 @@ pub record IsWindowed (judging : Judging) (h after : Standing) : Type 0 where
   pub result : Status
   pub ended : EndsAtWindow judging.judged.place h.pass after.pass old new judging.judged result judging.reply
   pub entered : judging.entered ≡ false
+  pub asks_for : AsksForLoad h.pass.port judging.loaded old new h.asked after.asked
   pub front : after.front ≡ h.front
 
 -- the command of the packet was judged in one run, which left the port so, and ended at some bank or in the boot window
@@ -141,7 +156,8 @@ pub record IsJudged (judging : Judging) (p : Cargo) (h after : Standing) : Type 
   pub judgement : IsJudgement h.pass between p judging.judged
   pub program : judging.program ≡ judgement.program
   pub calls : judging.calls ≡ judgement.calls
-  pub ended : IsBanked judging (standing between h.front) after ⊎ IsWindowed judging (standing between h.front) after
+  pub ended : IsBanked judging (stand between h.asked h.front) after
+      ⊎ IsWindowed judging (stand between h.asked h.front) after
 
 -- what became of one packet and of its port: it was dropped, answered without a run, or judged
 abbrev pub IsDealt : Deed → Cargo → (h after : Standing) → Type 0

@@ -1,5 +1,5 @@
 -- Laws of what a worker did.
-use Rattle.std.specs.Prelude.{◌≡◌, ◌<◌, ℕ, ◌+◌, ◌==◌, ◌&&◌, Bool, false, List, [], ◌∷◌, ◌++◌, drop, length, filter, MatchBool, Some, All}
+use Rattle.std.specs.Prelude.{◌≡◌, ◌<◌, ℕ, ◌+◌, ◌==◌, ◌&&◌, Bool, false, List, [], ◌∷◌, ◌++◌, drop, length, filter, MatchBool, Option, None, Some, All}
 use Rattle.std.specs.List.{flat_map}
 use mathlib.Core.List.{IsPrefix}
 use Rattle.machine.specs.declared.calls.Call.{Call}
@@ -17,7 +17,8 @@ use Rattle.bank.specs.declared.bank.Applied.{Applied}
 use Rattle.bank.specs.Records.{EntryValue, ShareValue, numbered_entry}
 use Rattle.annals.specs.declared.deed.Link.{Link}
 use Rattle.annals.specs.Banks.{IsDone, entries_by}
-use Rattle.annals.specs.Publishes.{publishes_of}
+use Rattle.annals.specs.Chains.{done_for}
+use Rattle.annals.specs.Publishes.{loads_by, loads_in, publishes_of}
 use Rattle.target.specs.Lines.{CountsAllOf}
 use Rattle.ports.specs.Due.{Judging, Deed, Standing, Worked, judgings}
 
@@ -72,6 +73,7 @@ pub record SharesCount (h after : PassValue) (deeds : List Deed) : Type 0 where
   pub port : after.port ≡ h.port
   pub windows : after.windows ≡ h.windows
   pub sizes : after.seat.sizes ≡ h.seat.sizes
+  pub home : after.seat.home ≡ h.seat.home
 
 -- the shares of a port grew by the entries that its commands left
 abbrev pub WorkersSharesCount : Type 0
@@ -136,3 +138,24 @@ abbrev pub WorkersEntriesFollow : Type 0
 WorkersEntriesFollow =
     (h after : Standing) (packets : List Cargo) (deeds : List Deed) → Worked h packets deeds after
     → EntriesFollow h.pass.port h.front (judgings deeds) after.front
+
+-- what a command published, if it did, before those
+abbrev pub with_loaded : Option Publish → List Publish → List Publish
+with_loaded None publishes = publishes
+with_loaded (Some publish) publishes = publish ∷ publishes
+
+-- what the commands published, in order
+abbrev pub loaded_by : List Judging → List Publish
+loaded_by [] = []
+loaded_by (judging ∷ judgings) = with_loaded judging.loaded (loaded_by judgings)
+
+-- the publishes of the port in that history, but for those that it had asked for at first, are those of its commands that
+-- published, in order and each once
+abbrev pub AreAllPublishes : List Link → Standing → List Deed → Type 0
+AreAllPublishes log h deeds = loads_by h.pass.port log ≡ loads_in h.asked ++ loaded_by (judgings deeds)
+
+-- a history that has of a port what it asked for, and nothing else, has no publish of it that no command of the worker published
+abbrev pub WorkersPublishesAreAll : Type 0
+WorkersPublishesAreAll =
+    (h after : Standing) (packets : List Cargo) (deeds : List Deed) (log : List Link) → Worked h packets deeds after
+    → done_for after.pass.port log ≡ after.asked → AreAllPublishes log h deeds

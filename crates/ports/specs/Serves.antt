@@ -24,10 +24,11 @@ use Rattle.std.specs.List.{All, sum_by}
 use mathlib.Core.List.{IsPrefix}
 use Rattle.annals.specs.declared.deed.Link.{Link}
 use Rattle.target.specs.Lines.{CountsAllOf}
-use Rattle.ports.specs.Laws.{AreAllEntries}
+use Rattle.annals.specs.Chains.{done_for}
+use Rattle.ports.specs.Laws.{AreAllEntries, AreAllPublishes}
 use Rattle.ports.specs.Queue.{IsServePassOf, IsServePassAfter}
 use Rattle.ports.specs.Sinks.{SentReply, cut}
-use Rattle.ports.specs.Worked.{report_sum, IsWorked}
+use Rattle.ports.specs.Worked.{report_sum, standing_of, IsWorked}
 use Rattle.std.specs.declared.thread.PromisedHandle.{PromisedHandle}
 use Rattle.std.specs.declared.vec.Vec.{Vec}
 use Rattle.ports.specs.declared.port.Port.{Port}
@@ -40,7 +41,7 @@ use Rattle.ports.specs.declared.worker.Report.{Report}
 -- of each bank
 pub record IsWorkerOf {J S : Type 0} (banks : ℕ) (port : Port) (worker : Worker J S) : Type 0 where
   pub pass : IsServePassOf port worker.serve_pass
-  pub shares : length worker.pass.shares ≡ banks
+  pub shares : length worker.pass.pass.shares ≡ banks
 
 -- there are so many ports, and below that number each worker is that of the port at its place
 pub record AreServed {J S : Type 0} (banks n : ℕ) (ports : List Port) (workers : List (Worker J S)) : Type 0 where
@@ -53,7 +54,7 @@ pub record HasReturned {J S : Type 0} (sent : S → List SentReply) (failed : S 
     (report : Report) : Type 0 where
   pub worked : IsWorked sent failed old new report
   pub pass : IsServePassAfter old.serve_pass new.serve_pass
-  pub shares : length new.pass.shares ≡ length old.pass.shares
+  pub shares : length new.pass.pass.shares ≡ length old.pass.pass.shares
 
 -- what a thread gives back of its worker: the worker as it went in, or with a report, where it served its port
 abbrev pub IsBack : {J S : Type 0} → (S → List SentReply) → (S → ℕ) → Worker J S → Worker J S → Option Report → Type 0
@@ -113,16 +114,23 @@ pub record HaveComeBack {J S : Type 0} (sent : S → List SentReply) (failed : S
   pub most : length new ≤ length old
   pub few : length old ≤ length new + 1
 
--- what the workers know of the history of their node's banks begins one list, which has no entries of their ports but those
--- that their shares count
+-- all that the worker's port knows stands in that history, and all that it asked for, done
+abbrev pub IsTold : {J S : Type 0} → List Link → Worker J S → Type 0
+IsTold log worker =
+    IsPrefix worker.front log × IsPrefix worker.pass.asked (done_for worker.pass.pass.port log)
+
+-- what the workers know of the history of their node begins one list, which has no entries of their ports but those that their
+-- shares count, and of their ports what they asked for, and nothing else
 pub record ShareOneHistory {J S : Type 0} (workers : List (Worker J S)) : Type 0 where
   pub whole : List Link
   pub begin : All (λ (w : Worker J S). IsPrefix w.front whole) workers
-  pub counted : All (λ (w : Worker J S). CountsAllOf w.pass whole) workers
+  pub counted : All (λ (w : Worker J S). CountsAllOf w.pass.pass whole) workers
+  pub asked : All (λ (w : Worker J S). done_for w.pass.pass.port whole ≡ w.pass.asked) workers
 
 -- each worker served its port until the end mark and stands at its place again; that report is the sum of theirs; what they
 -- know of the history of the node's banks begins one list, and of that list each entry of a worker's port, but for those
--- that its shares counted at first, is that of one command of the worker, in the order of its packets at each bank
+-- that its shares counted at first, is that of one command of the worker, in the order of its packets at each bank, and each
+-- publish of its port, but for those that it had asked for at first, that of one of its loads
 pub record HaveServed {J S : Type 0} (sent : S → List SentReply) (failed : S → ℕ) (banks : ℕ) (ports : List Port)
     (old new : List (Worker J S)) (total : Report) : Type 0 where
   pub reports : List Report
@@ -135,7 +143,9 @@ pub record HaveServed {J S : Type 0} (sent : S → List SentReply) (failed : S �
   pub sum : total ≡ total_of reports
   pub history : ShareOneHistory new
   pub entries : (k : ℕ) (worker : Worker J S) (report : Report) (below : k < length old)
-      → AreAllEntries history.whole (slice_index_or old k worker).pass (each k worker report below).served.deeds
+      → AreAllEntries history.whole (slice_index_or old k worker).pass.pass (each k worker report below).served.deeds
+  pub publishes : (k : ℕ) (worker : Worker J S) (report : Report) (below : k < length old)
+      → AreAllPublishes history.whole (standing_of (slice_index_or old k worker)) (each k worker report below).served.deeds
 
 -- the list is empty and has room for so many
 abbrev pub HasRoomFor : {X Z : Type 0} → ℕ → Vec X Z → Type 0

@@ -4,7 +4,7 @@ use Rattle.spw.specs.Cargo.{Cargo}
 use Rattle.ports.specs.declared.item.Item.TheVariants.{Data, Mark}
 use Rattle.ports.specs.declared.worker.Report.{Report}
 use Rattle.ports.specs.declared.worker.Worker.{Worker}
-use Rattle.ports.specs.Due.{Deed, Standing, Worked, due, discarded}
+use Rattle.ports.specs.Due.{Deed, Standing, Worked, due, discarded, standing}
 use Rattle.ports.specs.Queue.{taken_of}
 use Rattle.ports.specs.Sinks.{SentReply, cut, sent_at}
 
@@ -38,9 +38,9 @@ pub record HasServed {S : Type 0} (sent : S → List SentReply) (failed : S → 
   pub lost_count : report.lost ≡ cut lost
   pub discarded_count : report.discarded ≡ cut (discarded deeds)
 
--- what the worker's port has of its node, and knows of its history
+-- what the worker's port has of its node, asked for, and knows of its history
 abbrev pub standing_of : {J S : Type 0} → Worker J S → Standing
-standing_of worker = record { pass = worker.pass; front = worker.front }
+standing_of worker = standing worker.pass worker.front
 
 -- the worker took packets and then the end mark, and served each packet
 pub record IsWorked {J S : Type 0} (sent : S → List SentReply) (failed : S → ℕ)

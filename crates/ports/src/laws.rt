@@ -1,6 +1,8 @@
 //! Laws of what workers do. Each function does no work: its contract is the law.
 
-ghost use Rattle.ports.specs.Laws.{WorkersProgramsWerePublished, WorkersAskOnce, WorkersEntriesAreAll, WorkersEntriesFollow, WorkersSharesCount};
+ghost use Rattle.ports.specs.Laws.{WorkersProgramsWerePublished, WorkersAskOnce, WorkersEntriesAreAll, WorkersEntriesFollow, WorkersPublishesAreAll, WorkersSharesCount};
+
+use annals::loads_are_apart;
 
 /// Each verdict of a worker is that of a run of a program that was published in the slot of its command: one that the
 /// worker's pass has seen in the end.
@@ -33,3 +35,12 @@ pub fn workers_entries_follow()
 pub fn workers_entries_are_all()
     ensures { WorkersEntriesAreAll }
 {}
+
+/// A law and no work: a history that has of a worker's port what it asked for, and nothing else ([`Pass::tell`](target::Pass::tell),
+/// [`Pass::knows_entries`](target::Pass::knows_entries)), has of its publishes, behind those that it had asked for at first, those
+/// of the worker's loads that published, in the order of their packets, each once, and no others.
+pub fn workers_publishes_are_all()
+    ensures { WorkersPublishesAreAll }
+{
+    loads_are_apart();
+}

@@ -19,7 +19,7 @@ pub use gate::{Gate, NoGate};
 pub use item::{Item, Log};
 pub use laws::{
     workers_ask_once, workers_entries_are_all, workers_entries_follow,
-    workers_programs_were_published, workers_shares_count,
+    workers_programs_were_published, workers_publishes_are_all, workers_shares_count,
 };
 pub use port::{Full, MAX_CAPACITY, Port, PutPass, ServePass};
 pub use serves::{ServeFault, serve};

@@ -22,9 +22,10 @@ fn finish_locked<R: Wait, J: Family>(
     reply: &mut ReplyBuf,
 )
     requires place { judged.place ≡ Place.Bank lock.now }
-    requires pass { lock.now < length pass.old.shares }
-    ensures ended { HasFinished front.old front.new pass.old pass.new judged reply.new }
-    ensures banks { length pass.new.shares ≡ length pass.old.shares }
+    requires pass { lock.now < length pass.old.pass.shares }
+    ensures ended { HasFinished front.old front.new pass.old.pass pass.new.pass
+        pass.old.asked pass.new.asked judged reply.new }
+    ensures banks { length pass.new.pass.shares ≡ length pass.old.pass.shares }
 {
     let mut guard = lock.lock(rt);
     let kept = &mut *guard;
@@ -43,8 +44,9 @@ fn load_locked<R: Wait, J: Family, Q: Wait + Drop>(
     reply: &mut ReplyBuf,
 )
     requires { judged.place ≡ Place.Control }
-    ensures ended { HasLoadEnd pass.old pass.new judged reply.new }
-    ensures banks { length pass.new.shares ≡ length pass.old.shares }
+    ensures ended { HasLoadEnd pass.old.pass pass.new.pass pass.old.asked pass.new.asked judged
+        reply.new }
+    ensures banks { length pass.new.pass.shares ≡ length pass.old.pass.shares }
 {
     let mut guard = node.publisher().lock(rt);
     let publisher = &mut *guard;
@@ -66,10 +68,10 @@ pub(crate) fn serve_packet<R: Wait, J: Family, Q: Wait + Drop>(
     packet: Packet,
     reply: &mut ReplyBuf,
 ) -> bool
-    requires { length pass.old.shares ≡ node.now }
+    requires { length pass.old.pass.shares ≡ node.now }
     ensures dealt { HasDealt packet (standing pass.old front.old) (standing pass.new front.new)
         reply.new result }
-    ensures banks { length pass.new.shares ≡ length pass.old.shares }
+    ensures banks { length pass.new.pass.shares ≡ length pass.old.pass.shares }
 {
     let _banks = pass.banks();
     let judged = match judge(pass, packet, reply) {

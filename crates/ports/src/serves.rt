@@ -3,14 +3,14 @@
 ghost use Rattle.std.specs.Prelude.{◌≡◌, ◌+◌, ◌≤◌, ◌++◌, ◌⊎◌, true, false, IfNone, IfOk, IfSome, None, Some, OnErr, length, map, vec_len, vec_capacity};
 ghost use Rattle.std.specs.List.{All};
 ghost use Rattle.std.specs.PromisedHandle.{KeepsEach};
-ghost use mathlib.Core.List.{IsPrefix};
-ghost use Rattle.ports.specs.Serves.{AreServed, HasRoomFor, HaveComeBack, HaveServed, IsOneMissing, IsShort, IsSumOf, IsTotalOf, ShareOneHistory};
+ghost use Rattle.ports.specs.Serves.{AreServed, HasRoomFor, HaveComeBack, HaveServed, IsOneMissing, IsShort, IsSumOf, IsTold, IsTotalOf, ShareOneHistory};
 
 use crate::gate::Gate;
 use crate::port::Port;
 use crate::sink::Sink;
 use crate::starts::{Ended, start_each};
 use crate::worker::{Report, Worker};
+use annals::{acts_grow, loads_are_apart};
 use std::alloc::Global;
 use std::sync::{Mutex, Wait};
 use std::thread::{Promise, PromisedHandle, Threads};
@@ -62,18 +62,21 @@ fn both(total: Option<Report>, report: Option<Report>) -> Option<Report>
     Some(total?.plus(report?))
 }
 
-/// What anybody knew of the history, and all that the workers know of it.
+/// What anybody knew of the history, all that the workers know of it, and all that their ports did there.
 fn all_known<J: Family, S: Sink + Drop>(ended: &[Ended<J, S>], mut known: Front<J>) -> Front<J>
-    ensures { All (λ e. IsPrefix e.worker.front result) ended.now }
+    ensures { All (λ e. IsTold result e.worker) ended.now }
 {
+    acts_grow();
     for one in ended {
         known.learn(&one.worker.front);
+        one.worker.pass.tell(&mut known);
     }
     known
 }
 
 /// The workers that came back, in order, in a list that has the room, and the sum of their reports where each served. What
-/// the workers know of the history begins one list, which has no entries of their ports but those that their shares count.
+/// the workers know of the history begins one list, which has no entries of their ports but those that their shares count, and
+/// of their ports what they asked for.
 fn gather<J: Family, S: Sink + Drop>(
     ended: Vec<Ended<J, S>>,
     mut workers: Vec<Worker<J, S>>,
@@ -130,7 +133,9 @@ fn with_rest<T: Drop>(mut workers: Vec<T>, rest: Vec<T>) -> Vec<T>
 /// What comes back are the workers, in order, and the sum of their reports. Each command that left an entry at a bank stands
 /// in what its worker knows then of the history of the node's banks, and what the workers know begins one list. Of that list
 /// each entry of a worker's port, but for those that the port had left before, is that of one of these commands: at each bank
-/// they stand in the order of the port's packets, each once. Of entries of ports that were not served nothing is said.
+/// they stand in the order of the port's packets, each once. And each publish of a worker's port there, but for those that the
+/// port had asked for before, is that of one of its loads, in the order of its packets, each once. Of entries and publishes of
+/// ports that were not served nothing is said.
 ///
 /// # Errors
 ///
@@ -160,6 +165,7 @@ pub fn serve<
     ensures back { length result.0.items ≡ length workers.items
         → AreServed node.now (length workers.items) ports.now result.0.items }
 {
+    loads_are_apart();
     let count = workers.len();
     let (Ok(threads), Ok(rest), Ok(ended), Ok(back)) = (
         Vec::with_capacity(alloc, count),

@@ -45,10 +45,10 @@ fn one_more<R: Wait, J: Family, Q: Wait + Drop, S: Sink>(
     packet: Packet,
     reply: &mut ReplyBuf,
 ) -> Report
-    requires { length pass.old.shares ≡ node.now }
+    requires { length pass.old.pass.shares ≡ node.now }
     ensures served { HasServed S.sent S.failed (standing pass.old front.old)
         (standing pass.new front.new) sink.old sink.new (packet ∷ []) result }
-    ensures banks { length pass.new.shares ≡ length pass.old.shares }
+    ensures banks { length pass.new.pass.shares ≡ length pass.old.pass.shares }
 {
     let port = pass.port();
     let discarded = u64::from(serve_packet(rt, alloc, node, pass, front, packet, reply));
@@ -63,8 +63,9 @@ fn one_more<R: Wait, J: Family, Q: Wait + Drop, S: Sink>(
 /// bank of the node.
 ///
 /// A command that left an entry at a bank stands in the one history of the node's banks, behind all that the port knew, and
-/// its status and reply are the definition's on the replay of what stands before it there. Of any other command at a bank,
-/// and of a load, it is said that some bank, or some list of publishes, was what it met: a lock hides which. What the gate
+/// its status and reply are the definition's on the replay of what stands before it there. The port asks in its line for each
+/// entry and each publish of its commands, in the order of its packets, and for nothing else. Of any other command at a bank, and
+/// of a load, it is said that some bank, or some list of publishes, was what it met: a lock hides which. What the gate
 /// is told, and that no lock is held meanwhile, is tested.
 pub fn work<R: Wait, J: Family, Q: Wait + Drop, S: Sink + Drop, G: Gate>(
     rt: &R,
@@ -75,10 +76,10 @@ pub fn work<R: Wait, J: Family, Q: Wait + Drop, S: Sink + Drop, G: Gate>(
     gate: &G,
 ) -> Report
     requires served { IsServePassOf port.now worker.old.serve_pass }
-    requires banks { length worker.old.pass.shares ≡ node.now }
+    requires banks { length worker.old.pass.pass.shares ≡ node.now }
     ensures served { IsServePassOf port.now worker.new.serve_pass }
     ensures same { IsServePassAfter worker.old.serve_pass worker.new.serve_pass }
-    ensures banks { length worker.new.pass.shares ≡ node.now }
+    ensures banks { length worker.new.pass.pass.shares ≡ node.now }
     ensures worked { IsWorked S.sent S.failed worker.old worker.new result }
 {
     let mut report = Report {

@@ -1,3 +1,4 @@
 pub mod Reached
 pub mod Tables
 pub mod Sights
+pub mod Lines

@@ -4,11 +4,12 @@
 ghost use Rattle.std.specs.Prelude.{◌≡◌, ◌<◌, ◌≤◌, ◌^◌, ◌∷◌, [], IfOk, length};
 ghost use Rattle.std.specs.Arc.{arc_value};
 ghost use mathlib.Core.List.{IsPrefix};
-ghost use Rattle.annals.specs.Publishes.{publishes_chain, publishes_of};
+ghost use Rattle.annals.specs.Chains.{instrument};
+ghost use Rattle.annals.specs.Publishes.{line_loading, publishes_chain, publishes_of};
 ghost use Rattle.node_programs.specs.Histories.{entry, longer_history};
 ghost use Rattle.publish.specs.Reached.{reached};
 
-use annals::{BANK_CHAINS, Beginning, Chain, Family, publishes_grow};
+use annals::{BANK_CHAINS, Beginning, Chain, Family, Line, publishes_grow};
 use bver::Accepted;
 use std::alloc::AllocError;
 use std::marker::Model;
@@ -28,7 +29,7 @@ impl Model for Opened {
 
     ghost view = { λ o. o.chains.0 };
 
-    ghost invariant = { λ o. o.chains.1 ≡ 41 };
+    ghost invariant = { λ o. o.chains.1 ≡ 42 };
 }
 
 impl Opened {
@@ -39,28 +40,32 @@ impl Opened {
         }
     }
 
-    /// The chain of its publishes, in which nothing was published yet: nobody adds to others.
+    /// The chain of its publishes, in which nothing was published yet, and the instrument's line: nobody adds to others.
     ///
     /// # Errors
     ///
     /// The chain has begun already (no test met that).
-    pub fn into_publishes<J: Family>(self) -> Result<Chain<J>, AllocError>
+    pub fn into_publishes<J: Family>(self) -> Result<(Chain<J>, Line<J>), AllocError>
         requires { self ≡ J.book }
-        ensures number { IfOk result (λ c. c.number ≡ publishes_chain) }
-        ensures none { IfOk result (λ c. publishes_of c.log ≡ []) }
+        ensures number { IfOk result (λ made. made.0.number ≡ publishes_chain) }
+        ensures none { IfOk result (λ made. publishes_of made.0.log ≡ []) }
+        ensures line { IfOk result (λ made. made.1 ≡ record { port = instrument; asked = [] }) }
     {
         let mut chains = self.into_chains();
         chains.skip(BANK_CHAINS);
         let Some(chain) = chains.publishes() else {
             return Err(AllocError);
         };
-        Ok(chain)
+        let Some(line) = Line::of_instrument(&mut chains) else {
+            return Err(AllocError);
+        };
+        Ok((chain, line))
     }
 
     /// The history, as its chains are taken.
     pub fn into_chains(self) -> annals::Opened
         ensures book { result.0 ≡ self }
-        ensures all { result.1 ≡ 41 }
+        ensures all { result.1 ≡ 42 }
     {
         let Opened { chains } = self;
         chains
@@ -87,25 +92,33 @@ impl<J: Family> Model for History<J> {
 }
 
 impl<J: Family> History<J> {
-    /// The history with its first program, for a slot. The condition is a chain of publishes that has none.
-    pub(crate) fn begin(chain: Chain<J>, publish: &(u8, Arc<Accepted>)) -> History<J>
+    /// The history with its first program, for a slot, as the line asks. The condition is a chain of publishes that has none.
+    pub(crate) fn begin(
+        chain: Chain<J>,
+        line: &mut Line<J>,
+        publish: &(u8, Arc<Accepted>),
+    ) -> History<J>
         requires number { chain.number ≡ publishes_chain }
         requires none { publishes_of chain.log ≡ [] }
-        ensures { result ≡ entry publish.now.0 (arc_value publish.now.1) ∷ [] }
+        ensures value { result ≡ entry publish.now.0 (arc_value publish.now.1) ∷ [] }
+        ensures asked { line.new
+            ≡ line_loading line.old (entry publish.now.0 (arc_value publish.now.1)) }
     {
         let mut chain = chain;
-        chain.publish(publish);
+        chain.publish(line, publish);
         History { chain, count: 1 }
     }
 
-    /// Adds a program for a slot.
-    pub(crate) fn add(&mut self, publish: &(u8, Arc<Accepted>))
+    /// Adds a program for a slot, as the line asks.
+    pub(crate) fn add(&mut self, line: &mut Line<J>, publish: &(u8, Arc<Accepted>))
         requires few { length self.old < 2 ^ 62 }
-        ensures { self.new
+        ensures value { self.new
             ≡ longer_history self.old publish.now.0 (arc_value publish.now.1) }
+        ensures asked { line.new
+            ≡ line_loading line.old (entry publish.now.0 (arc_value publish.now.1)) }
     {
         let count = self.count;
-        self.chain.publish(publish);
+        self.chain.publish(line, publish);
         self.count = count + 1;
     }
 

@@ -2,13 +2,14 @@
 //!
 //! [`Programs::new`] makes the [`Publisher`] and a [`Reader`] for each port. The list of publishes is a chain of the
 //! node's annals, and what is known of it is carried by tokens of that one history, which exists in proofs alone: a
-//! [`Reader`] knows a beginning of it, [`Publisher::install`] adds to it and tells how far it went then ([`Told`]),
-//! [`Reader::take`] shows the program that judges at a slot ([`Taken`]), and [`Reader::tell`] lets its port know in that
+//! [`Reader`] knows a beginning of it, [`Publisher::install`] adds to it, as a line asks, and tells how far it went then
+//! ([`Told`]), [`Reader::take`] shows the program that judges at a slot ([`Taken`]), and [`Reader::tell`] lets its port know in that
 //! history what the reader knows.
 #![tactic(auto)]
 
 mod history;
 mod laws;
+mod loader;
 mod programs;
 mod publisher;
 mod reader;
@@ -16,9 +17,10 @@ mod rule;
 mod table;
 mod told;
 
-pub use annals::Family;
+pub use annals::{Family, Line};
 pub use history::Opened;
 pub use laws::readers_know_a_beginning;
+pub use loader::Loader;
 pub use node_programs::{PublishFault, Staging};
 pub use programs::Programs;
 pub use publisher::Publisher;

@@ -1,17 +1,18 @@
 //! A node's table of programs, as it is made.
 
 ghost use Rattle.std.specs.Prelude.{◌≡◌, ◌<◌, ◌∷◌, [], length, None, IfOk, replicate};
-ghost use Rattle.annals.specs.Publishes.{publishes_chain, publishes_of};
+ghost use Rattle.annals.specs.Publishes.{line_loading, publishes_chain, publishes_of};
 ghost use Rattle.node_programs.specs.Histories.{entry};
 ghost use Rattle.node_programs.specs.Published.{sizes_of};
 ghost use Rattle.publish.specs.Reached.{known};
+ghost use Rattle.publish.specs.Lines.{opening_line};
 
 use crate::history::{Front, History, Opened};
 use crate::publisher::Publisher;
 use crate::reader::Reader;
 use crate::rule::{InFamily, Sight};
 use crate::table::Table;
-use annals::{Chain, Family};
+use annals::{Chain, Family, Line};
 use bver::{Accepted, MapSizes};
 use left_right::writer::Writer;
 use std::alloc::{AllocError, Global};
@@ -21,8 +22,9 @@ use std::sync::{Arc, Wait};
 pub struct Programs;
 
 impl Programs {
-    /// The programs of a node: what publishes them, and so many readers of them. Each slot begins with the
-    /// factory program, of generation 0. The publisher keeps `rt`, since its end waits for readers.
+    /// The programs of a node: what publishes them, so many readers of them, and the instrument's line of the history, which asked
+    /// for the factory program. Each slot begins with that, of generation 0. The publisher keeps `rt`, since its end waits for
+    /// readers.
     ///
     /// # Errors
     ///
@@ -33,18 +35,22 @@ impl Programs {
         opened: Opened,
         factory: Accepted,
         readers: u8,
-    ) -> Result<(Publisher<J, R>, Vec<Reader<J>>), AllocError>
+    ) -> Result<(Publisher<J, R>, Vec<Reader<J>>, Line<J>), AllocError>
         requires { opened ≡ J.book }
         ensures publisher { IfOk result (λ made. made.0 ≡ entry 0 factory ∷ []) }
         ensures readers { IfOk result
             (λ made. made.1.items ≡ replicate readers (known (entry 0 factory ∷ []) None)) }
+        ensures line { IfOk result (λ made. made.2 ≡ opening_line factory) }
     {
-        let chain = opened.into_publishes()?;
-        Programs::with_chain(alloc, rt, chain, factory, readers)
+        let (chain, mut line) = opened.into_publishes()?;
+        let (publisher, readers) = Programs::with_chain(
+            alloc, rt, chain, &mut line, factory, readers,
+        )?;
+        Ok((publisher, readers, line))
     }
 
-    /// The programs of a node whose history has chains of banks as well, as [`Programs::new`] makes them. The condition is
-    /// the chain of its publishes, in which nothing was published.
+    /// The programs of a node whose history has chains of banks as well, as [`Programs::new`] makes them. The line asks for the
+    /// factory program. The condition is the chain of its publishes, in which nothing was published.
     ///
     /// # Errors
     ///
@@ -53,6 +59,7 @@ impl Programs {
         alloc: Global,
         rt: R,
         chain: Chain<J>,
+        line: &mut Line<J>,
         factory: Accepted,
         readers: u8,
     ) -> Result<(Publisher<J, R>, Vec<Reader<J>>), AllocError>
@@ -61,10 +68,11 @@ impl Programs {
         ensures publisher { IfOk result (λ made. made.0 ≡ entry 0 factory ∷ []) }
         ensures readers { IfOk result
             (λ made. made.1.items ≡ replicate readers (known (entry 0 factory ∷ []) None)) }
+        ensures asked { IfOk result (λ _. line.new ≡ line_loading line.old (entry 0 factory)) }
     {
         let sizes = factory.sizes();
         let first = (0u8, Arc::new(alloc, factory)?);
-        let history = History::begin(chain, &first);
+        let history = History::begin(chain, line, &first);
         let front = history.front();
         let table = Table::first(first.1, front.again())?;
         let spare = table.copy()?;

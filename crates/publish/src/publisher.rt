@@ -2,16 +2,17 @@
 
 ghost use Rattle.std.specs.Prelude.{◌≡◌, ◌<◌, ◌≤◌, ◌^◌, [], length, drop, fold, IfOk, OnOk, OnErr, IfErr, Err};
 ghost use mathlib.Core.List.{IsPrefix};
-ghost use Rattle.node_programs.specs.Histories.{longer_history};
+ghost use Rattle.annals.specs.Publishes.{line_loading};
+ghost use Rattle.node_programs.specs.Histories.{entry, longer_history};
 ghost use Rattle.node_programs.specs.Published.{sizes_of};
 ghost use Rattle.publish.specs.Reached.{reached};
 
 use crate::history::{Front, History};
-use crate::reader::Reader;
+use crate::loader::Loader;
 use crate::rule::{InFamily, Shows, Sight};
 use crate::table::Table;
 use crate::told::Told;
-use annals::Family;
+use annals::{Family, Line};
 use bver::{Accepted, MapSizes};
 use core::mem::replace_with;
 use left_right::writer::Writer;
@@ -60,18 +61,25 @@ impl<J: Family, R: Wait + Drop> Publisher<J, R> {
         self.writer.published().shown(0).program().sizes()
     }
 
-    /// Publishes a program for a slot, and tells it. It may wait for readers. The condition is a program that was
+    /// Publishes a program for a slot, as the line asks, and tells it. It may wait for readers. The condition is a program that was
     /// accepted for the maps of the node ([`Reader::sizes`](crate::Reader::sizes)).
     ///
     /// # Errors
     ///
     /// `Slot` for a slot above 3; `GenerationsFull` after 4,294,967,295 publishes; `Memory` where memory was
     /// refused. What is published stays as it was.
-    pub fn install(&mut self, slot: u8, program: Accepted) -> Result<Told<J>, PublishFault>
+    pub fn install(
+        &mut self,
+        line: &mut Line<J>,
+        slot: u8,
+        program: Accepted,
+    ) -> Result<Told<J>, PublishFault>
         requires { program.sizes ≡ sizes_of self.old }
         ensures published { OnOk result (self.new ≡ longer_history self.old slot program) }
         ensures told { IfOk result (λ told. told ≡ self.new) }
         ensures same { OnErr result (self.new ≡ self.old) }
+        ensures asked { OnOk result (line.new ≡ line_loading line.old (entry slot program)) }
+        ensures unasked { OnErr result (line.new ≡ line.old) }
         ensures slot { 3 < slot → result ≡ Err PublishFault.Slot }
         ensures full { slot ≤ 3 → 2 ^ 32 ≤ length self.old
             → result ≡ Err PublishFault.GenerationsFull }
@@ -87,7 +95,7 @@ impl<J: Family, R: Wait + Drop> Publisher<J, R> {
         let mut table = self.writer.published().copy()?;
         let publish = (slot, Arc::new(self.alloc, program)?);
         // From here on nothing asks for memory, and nothing is refused.
-        self.history.add(&publish);
+        self.history.add(line, &publish);
         let told = Told::new(self.history.front());
         table.put(slot, publish.1, self.history.front());
         replace_with(&mut self.writer, (table, &self.rt), |writer, (table, rt)| {
@@ -127,11 +135,16 @@ impl<J: Family, R: Wait + Drop> Publisher<J, R> {
     }
 }
 
-/// What is published grows by [`Publisher::install`], which may wait, and the port's reader learns of it.
-impl<J: Family, R: Wait + Drop> ProgramStore<Reader<J>> for Publisher<J, R> {
+/// What is published grows by [`Publisher::install`], which may wait, as the port's line asks, and the port's reader learns of it.
+impl<J: Family, R: Wait + Drop> ProgramStore<Loader<J>> for Publisher<J, R> {
+    ghost use Rattle.std.specs.Prelude.{◌≡◌};
+    ghost use Rattle.annals.specs.Publishes.{line_loading};
+
     ghost published = { λ p. p };
 
-    ghost known = { λ r. r.programs };
+    ghost known = { λ l. l.reader.programs };
+
+    ghost notes = { λ old publish new. new.line ≡ line_loading old.line publish };
 
     fn sizes(&self) -> MapSizes {
         self.writer.published().shown(0).program().sizes()
@@ -141,13 +154,13 @@ impl<J: Family, R: Wait + Drop> ProgramStore<Reader<J>> for Publisher<J, R> {
     fn publish(
         &mut self,
         _alloc: Global,
-        reader: &mut Reader<J>,
+        loader: &mut Loader<J>,
         slot: u8,
         program: Accepted,
     ) -> Result<u32, PublishFault> {
-        let told = self.install(slot, program)?;
-        self.begins_with(reader.front());
-        reader.learn(&told);
+        let told = self.install(&mut loader.line, slot, program)?;
+        self.begins_with(loader.reader.front());
+        loader.reader.learn(&told);
         Ok(told.generation())
     }
 }

@@ -3,9 +3,9 @@
 #![tactic(auto)]
 
 use commands::{
-    Asked, Course, DumpTalk, Fault, HostLink, HostTalk, Job, NodeWords, OWN_SOURCE, ShowWords,
+    Asked, Course, DumpTalk, Fault, HostLink, HostTalk, Job, NodeSource, OWN_SOURCE, ShowWords,
     Status, ToldFiles, ToldTalk, UsageFault, WITHOUT_WORDS, Work, WriteFault, asked_of, live,
-    live_frames, own_source, perform_told, show_talk, told_end, told_node, told_option, told_wait,
+    live_frames, own_source, perform_told, show_talk, told_node, told_option, told_wait,
 };
 use std::alloc::{AllocError, Global};
 use std::io::{BufReader, BufWriter, IsTerminal, Write};
@@ -74,7 +74,7 @@ fn do_job<R: rt::Files + Input + Print + Eprint + Threads + Wait + Sync>(
     // What was held back fails again where it failed before, with the reason.
     match (done, out.flush()) {
         (Ok(end), Ok(())) => {
-            tell(rt, told_end(alloc, job, &end, files.noted()));
+            tell(rt, files.told_end(alloc, job, &end));
             end.status.code()
         }
         (_, flushed) => lose_output(rt, flushed),
@@ -93,7 +93,7 @@ fn end_talk<R: Eprint>(rt: &R, done: Result<Status, WriteFault>, lost: io::Resul
 fn talk_lines<R: rt::Files + Input + Print + Eprint>(
     rt: &R,
     alloc: Global,
-    node: &NodeWords,
+    node: &NodeSource,
 ) -> u8 {
     // Over a buffer a pipe gives what there is, and not a byte at a time.
     let input = match BufReader::new(alloc, rt.reader()) {
@@ -102,8 +102,9 @@ fn talk_lines<R: rt::Files + Input + Print + Eprint>(
     };
     let mut talk = ToldTalk::new(rt, alloc, HostTalk::new(input, io::writer(rt)));
     let mut files = ToldFiles::new(rt, node.inputs());
-    let done = live(alloc, node, &mut files, &mut talk);
-    tell(rt, told_node(alloc, node, files.noted()));
+    let mut place = None;
+    let done = live(alloc, node, &mut files, &mut talk, &mut place);
+    tell(rt, told_node(alloc, node, place.as_deref(), files.noted()));
     end_talk(rt, done, talk.into_talk().into_output().1)
 }
 
@@ -123,12 +124,13 @@ fn show_input<R: Input + Print + Eprint>(rt: &R, alloc: Global, words: &ShowWord
 fn talk_frames<R: rt::Files + Input + Print + Eprint>(
     rt: &R,
     alloc: Global,
-    node: &NodeWords,
+    node: &NodeSource,
 ) -> u8 {
     let mut link = HostLink::new(rt, rt.reader(), io::writer(rt));
     let mut files = ToldFiles::new(rt, node.inputs());
-    let done = live_frames(alloc, node, &mut files, &mut link);
-    tell(rt, told_node(alloc, node, files.noted()));
+    let mut place = None;
+    let done = live_frames(alloc, node, &mut files, &mut link, &mut place);
+    tell(rt, told_node(alloc, node, place.as_deref(), files.noted()));
     let untold = link.untold();
     if untold > 0 {
         let _ = rt.eprint(&"texts that standard error did not take: ");

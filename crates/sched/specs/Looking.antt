@@ -49,7 +49,7 @@ use Rattle.brun.specs.declared.turns.Turn.TheVariants as turns
 use Rattle.brun.specs.Runs.{header}
 use Rattle.bank.specs.Answer.{effect_at, is_success}
 use Rattle.bank.specs.Effect.{Memory, memory_at}
-use Rattle.bank.specs.Records.{EntryValue, numbers_of, replay}
+use Rattle.bank.specs.Records.{EntryValue, checked_entry, numbers_of, replay}
 use Rattle.node_programs.specs.Staged.{Staged, staged}
 use Rattle.node_parts.specs.declared.config.BankConfig.{BankConfig}
 use Rattle.node_parts.specs.Loads.{loaded_bytes}
@@ -285,14 +285,8 @@ verdict_at (Some (turns.Verdict verdict)) = verdict
 
 -- the entry of that number that an open command of the port leaves, which was done with that status
 abbrev pub entry_left : Node → (port number : ℕ) → Open → Status → EntryValue
-entry_left n port number o status = record {
-  port = port;
-  number = number;
-  packet = o.packet;
-  generation = o.generation;
-  verdict = verdict_at (turn_of n port o);
-  status = status;
-}
+entry_left n port number o status =
+    checked_entry port number o.packet o.generation (verdict_at (turn_of n port o)) status
 
 -- how many entries the journal of a bank has room for
 abbrev pub room_of : Option BankConfig → ℕ

@@ -154,6 +154,8 @@ impl ProgramStore<ProgramList> for SlotPrograms {
 
     ghost known = { λ l. l };
 
+    ghost notes = { λ old publish new. Unit {0} };
+
     fn sizes(&self) -> MapSizes {
         self.sizes
     }

@@ -1,11 +1,11 @@
 -- What calls on journals tell and do.
 use Rattle.std.specs.Prelude.{◌≡◌, ◌+◌, ℕ, List, [], length, nat_le, nat_lt, not, Option, Some, None, Result, Ok, Err, if◌then◌else◌, slice_get}
 use Rattle.bank.specs.Limits.{is_room}
-use Rattle.bank.specs.Records.{BankValue, EntryValue}
+use Rattle.bank.specs.Records.{BankValue, EntryValue, is_whole}
 use Rattle.single_node.specs.Nodes.{SingleNodeValue, room_in}
 use Rattle.single_node_c.specs.Numbers.{entry_numbers}
 use Rattle.single_node.specs.Serving.{put_front}
-use Rattle.single_node_c.specs.declared.codes.TheConstants.{OK, BAD_CONFIG, NO_BANK, NO_ENTRY, NO_ROOM}
+use Rattle.single_node_c.specs.declared.codes.TheConstants.{OK, BAD_CONFIG, DAMAGED, NO_BANK, NO_ENTRY, NO_ROOM}
 use Rattle.single_node_c.specs.declared.numbers.EntryNumbers.{EntryNumbers}
 use Rattle.single_node_c.specs.declared.numbers.JournalNumbers.{JournalNumbers}
 
@@ -26,10 +26,10 @@ abbrev pub entries_of : Option BankValue → List EntryValue
 entries_of None = []
 entries_of (Some bank) = bank.journal.entries
 
--- an entry, or the code that there is none
+-- an entry, or the code that there is none, or that it is not as it was made
 abbrev pub found_entry : Option EntryValue → Result EntryValue ℕ
 found_entry None = Err NO_ENTRY
-found_entry (Some entry) = Ok entry
+found_entry (Some entry) = if is_whole entry then Ok entry else Err DAMAGED
 
 -- the entry at a place of the journal of the bank of that number, or the code that there is no such bank or entry
 abbrev pub entry_at : (number place : ℕ) → SingleNodeValue → Result EntryValue ℕ

@@ -44,3 +44,6 @@ pub const IS_OPEN: u32 = 13;
 
 /// The node has no such map or cell.
 pub const NO_CELL: u32 = 14;
+
+/// What memory holds is not what was written there: a bit of it flipped.
+pub const DAMAGED: u32 = 15;

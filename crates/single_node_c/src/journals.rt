@@ -8,7 +8,7 @@ ghost use Rattle.single_node.specs.Nodes.{RotatesTo, room_in};
 ghost use Rattle.single_node.specs.Serving.{put_front};
 ghost use Rattle.single_node_c.specs.declared.codes.TheConstants.{NO_MEMORY, OK};
 
-use crate::codes::{BAD_CONFIG, NO_BANK, NO_ENTRY, NO_MEMORY, NO_NODE, NO_ROOM, OK};
+use crate::codes::{BAD_CONFIG, DAMAGED, NO_BANK, NO_ENTRY, NO_MEMORY, NO_NODE, NO_ROOM, OK};
 use crate::handle::Handle;
 use crate::held::{put, take};
 use crate::numbers::{EntryNumbers, JournalNumbers};
@@ -61,7 +61,7 @@ pub extern "C" fn sandbar_journal_of(
     code
 }
 
-/// The entry at a place of the journal of a bank, or the code that there is none.
+/// The entry at a place of the journal of a bank, or the code that there is none, or that it is not as it was made.
 fn entry_at(node: &SingleNode, bank: u8, place: u32) -> Result<&Entry, u32>
     ensures found { MatchResult result (λ entry. entry_at bank place node.now ≡ Ok entry.now)
         (λ code. entry_at bank place node.now ≡ Err code) }
@@ -70,10 +70,13 @@ fn entry_at(node: &SingleNode, bank: u8, place: u32) -> Result<&Entry, u32>
     if bank >= node.banks() {
         return Err(NO_BANK);
     }
-    match node.bank(bank).entries().get(place as usize) {
-        Some(entry) => Ok(entry),
-        None => Err(NO_ENTRY),
+    let Some(entry) = node.bank(bank).entries().get(place as usize) else {
+        return Err(NO_ENTRY);
+    };
+    if !entry.is_whole() {
+        return Err(DAMAGED);
     }
+    Ok(entry)
 }
 
 /// Copies an entry, where there is room for its packet: a code.
@@ -113,7 +116,8 @@ fn tell_entry(
 }
 
 /// Reads the entry at a place of the journal of a bank, 0 for the oldest, and copies its packet. The node stays as it
-/// is; at any code but `OK` nothing is written.
+/// is; at any code but `OK` nothing is written. An entry whose numbers do not agree with their check, or its packet with
+/// its CRCs, is `DAMAGED`.
 #[unsafe(no_mangle)]
 pub extern "C" fn sandbar_entry_at(
     alloc: Global,

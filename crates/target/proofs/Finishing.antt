@@ -6,15 +6,17 @@ use mathlib.Core.List.{IsPrefix}
 use Rattle.rmap.specs.declared.places.Place.{Place}
 use Rattle.rmap.specs.declared.places.Place.TheVariants.{Bank}
 use Rattle.bank.specs.declared.bank.Applied.{Applied}
-use Rattle.bank.specs.Records.{ShareValue, JudgedValue, first_share, fits, is_place_of}
+use Rattle.bank.specs.Records.{ShareValue, JudgedValue, entry_of, first_share, fits, is_place_of}
 use Rattle.node_parts.specs.Passes.{PassValue}
 use Rattle.node_parts.specs.Steps.{IsBankBelow}
 use Rattle.node_parts.specs.Applied.{share_of, with_share, IsFinished}
+use Rattle.annals.specs.declared.deed.Act.TheVariants.{Leaves}
 use Rattle.annals.specs.declared.deed.Link.{Link}
+use Rattle.annals.specs.Chains.{Due, LineValue, line_with}
 use Rattle.annals.specs.Banks.{KeptValue, IsAppliedTo, IsDone, IsRefusedAt, takes}
 use Rattle.annals.specs.Publishes.{PublishesGrow, publishes_of}
 use Rattle.node_programs.specs.declared.publishes.Publish.{Publish}
-use Rattle.target.specs.Finished.{IsDoneBehind, IsFinishedAt}
+use Rattle.target.specs.Finished.{AsksForEntry, IsDoneBehind, IsFinishedAt}
 
 pub both_are : (a b : Bool) → (a && b) ≡ true → (a ≡ true) × (b ≡ true)
 both_are true b e = (refl, e)
@@ -50,6 +52,25 @@ finished_at old new known reached h k from first share j result reply at same be
       done = subst (λ s. IfSome result.number (λ n. IsDoneBehind h.programs old.chain.number known reached s j result reply)) (sym is) done;
       none = none;
     }
+
+-- what the port's line asked for, told by the port's own share
+pub asked_at : (bank : ℕ) (h : PassValue) (k from : ℕ) (first : ShareValue) (j : JudgedValue) (result : Applied) (line after : LineValue) → j.place ≡ Bank k → from ≡ k → IsBankBelow j.place (length h.shares) → first ≡ get_or h.shares from first
+    → IfSome result.number (λ n. after ≡ line_with line bank (Leaves (entry_of first j result.status))) → IfNone result.number (after ≡ line)
+    → AsksForEntry bank h j result line.asked after.asked
+asked_at bank h k from first j result line after at same below read asked unasked =
+    let is : share_of h j.place ≡ first = lent h k from j.place first at same below read in record {
+      entry = told result.number (subst (λ s. IfSome result.number (λ n. after ≡ line_with line bank (Leaves (entry_of s j result.status)))) (sym is) asked);
+      nothing = none result.number unasked;
+    }
+  where
+    told : (number : Option ℕ) → IfSome number (λ n. after ≡ line_with line bank (Leaves (entry_of (share_of h j.place) j result.status)))
+        → IfSome number (λ n. after.asked ≡ (line_with line bank (Leaves (entry_of (share_of h j.place) j result.status))).asked)
+    told None is = tt
+    told (Some n) is = ap (λ (l : LineValue). l.asked) is
+
+    none : (number : Option ℕ) → IfNone number (after ≡ line) → IfNone number (after.asked ≡ line.asked)
+    none None is = ap (λ (l : LineValue). l.asked) is
+    none (Some n) is = tt
 
 prefix_trans : {A : Type 0} (xs ys zs : List A) → IsPrefix xs ys → IsPrefix ys zs → IsPrefix xs zs
 prefix_trans xs ys zs p q = (p.0 ++ q.0, sym (append_assoc xs p.0 q.0) ∙ (ap (λ w. w ++ q.0) p.1 ∙ q.1))

@@ -1,12 +1,14 @@
 -- How a judged command ends at a bank with its chain.
-use Rattle.std.specs.Prelude.{◌≡◌, ℕ, List, true, false, IfSome, IfNone}
+use Rattle.std.specs.Prelude.{◌≡◌, ℕ, List, [], ◌∷◌, ◌++◌, true, false, IfSome, IfNone}
 use mathlib.Core.List.{IsPrefix}
 use Rattle.bank.specs.declared.bank.Applied.{Applied}
-use Rattle.bank.specs.Records.{ShareValue, JudgedValue}
+use Rattle.bank.specs.Records.{ShareValue, JudgedValue, entry_of}
 use Rattle.node_programs.specs.declared.publishes.Publish.{Publish}
 use Rattle.node_parts.specs.Passes.{PassValue}
 use Rattle.node_parts.specs.Applied.{share_of, with_share}
+use Rattle.annals.specs.declared.deed.Act.TheVariants.{Leaves}
 use Rattle.annals.specs.declared.deed.Link.{Link}
+use Rattle.annals.specs.Chains.{Due}
 use Rattle.annals.specs.Banks.{KeptValue, IsAppliedTo, IsDone, IsRefusedAt, takes}
 use Rattle.annals.specs.Publishes.{publishes_of}
 
@@ -30,3 +32,11 @@ pub record IsFinishedAt (old new : KeptValue) (known reached : List Link) (holde
   pub done : IfSome result.number
       (λ n. IsDoneBehind holder.programs old.chain.number known reached (share_of holder judged.place) judged result bytes)
   pub none : IfNone result.number (reached ≡ known)
+
+-- where a command left an entry at the bank, its port asked for that, behind what it asked for before, and else for nothing
+pub record AsksForEntry (bank : ℕ) (holder : PassValue) (judged : JudgedValue) (result : Applied) (asked after : List Due) :
+    Type 0
+  where
+    pub entry : IfSome result.number
+        (λ n. after ≡ asked ++ (bank, Leaves (entry_of (share_of holder judged.place) judged result.status)) ∷ [])
+    pub nothing : IfNone result.number (after ≡ asked)

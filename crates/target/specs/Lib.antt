@@ -3,3 +3,4 @@ pub mod Steps
 pub mod Nodes
 pub mod Finished
 pub mod Lines
+pub mod Loads

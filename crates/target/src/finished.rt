@@ -5,7 +5,7 @@ ghost use Rattle.bank.specs.Records.{is_next};
 ghost use Rattle.node_parts.specs.Steps.{IsBankBelow};
 ghost use Rattle.node_parts.specs.Applied.{share_of};
 ghost use Rattle.annals.specs.Banks.{takes};
-ghost use Rattle.target.specs.Finished.{IsFinishedAt};
+ghost use Rattle.target.specs.Finished.{AsksForEntry, IsFinishedAt};
 
 use crate::pass::Pass;
 use annals::{Family, Front, Kept, publishes_grow};
@@ -36,15 +36,17 @@ pub fn finish<J: Family>(
     judged: Judged,
     reply: &mut ReplyBuf,
 ) -> Applied
-    requires { IsBankBelow judged.place (length pass.old.shares) }
-    ensures finished { IsFinishedAt kept.old kept.new front.old front.new pass.old pass.new judged
-        result reply.new }
-    ensures kept { length pass.new.shares ≡ length pass.old.shares }
+    requires { IsBankBelow judged.place (length pass.old.pass.shares) }
+    ensures finished { IsFinishedAt kept.old kept.new front.old front.new pass.old.pass
+        pass.new.pass judged result reply.new }
+    ensures asked { AsksForEntry kept.old.chain.number pass.old.pass judged result
+        pass.old.asked pass.new.asked }
+    ensures kept { length pass.new.pass.shares ≡ length pass.old.pass.shares }
     ensures number { kept.new.chain.number ≡ kept.old.chain.number }
 
     // Where it is applied, share and count agree before, and so they do afterwards.
-    ensures agrees { takes kept.old (share_of pass.old judged.place) judged ≡ true
-        → is_next kept.new.bank (share_of pass.new judged.place) ≡ true }
+    ensures agrees { takes kept.old (share_of pass.old.pass judged.place) judged ≡ true
+        → is_next kept.new.bank (share_of pass.new.pass judged.place) ≡ true }
 {
     shares_agree();
     let Place::Bank(k) = judged.place() else {
@@ -52,10 +54,10 @@ pub fn finish<J: Family>(
     };
     publishes_grow();
     let mut known = front.again();
-    pass.reader.tell(&mut known);
+    pass.loader.reader.tell(&mut known);
     let applied = kept.finish(
         &mut known,
-        &mut pass.line,
+        &mut pass.loader.line,
         &mut pass.shares[usize::from(k)],
         judged,
         reply,

@@ -18,7 +18,7 @@ mod pass;
 mod staged;
 mod step;
 
-pub use annals::Front;
+pub use annals::{Front, Line};
 pub use finished::finish;
 pub use loads::load;
 pub use lock::BankLock;

@@ -4,15 +4,18 @@ ghost use Rattle.std.specs.Prelude.{◌≡◌, ◌<◌, ◌≤◌, ◌+◌, ◌-
 ghost use base.Stored.{Gv};
 ghost use Rattle.std.specs.List.{All};
 ghost use Rattle.annals.specs.Banks.{IsFresh};
+ghost use Rattle.annals.specs.Chains.{instrument};
 ghost use Rattle.annals.specs.Publishes.{publishes_chain, publishes_of};
 ghost use Rattle.cells.specs.Seats.{cells};
 ghost use Rattle.node_parts.specs.Nodes.{IsNodeFault, first_passes, limit_fault};
+ghost use Rattle.publish.specs.Lines.{opening_line};
 ghost use Rattle.target.specs.Nodes.{AreNumbered};
+ghost use Rattle.target.specs.Passes.{unasked};
 
 use crate::lock::BankLock;
 use crate::parts::cells_and_passes;
 use crate::pass::Pass;
-use annals::{BANK_CHAINS, Chain, Family, Front, Kept};
+use annals::{BANK_CHAINS, Chain, Family, Front, Kept, Line};
 use bver::Accepted;
 use cells::Cells;
 use node_parts::{Banks, NodeConfig, NodeFault};
@@ -52,12 +55,12 @@ fn locks<J: Family>(
     history: &mut annals::Opened,
 ) -> Result<Vec<BankLock<J>>, AllocError>
     requires family { history.old.0 ≡ J.book }
-    requires chains { history.old.1 ≡ 41 }
+    requires chains { history.old.1 ≡ 42 }
     requires few { length banks ≤ MAX_BANKS }
     requires fresh { All IsFresh banks }
     ensures count { IfOk result (λ locks. length locks.items ≡ length banks) }
     ensures numbers { IfOk result (λ locks. AreNumbered locks.items) }
-    ensures chains { IfOk result (λ _. history.new.1 + publishes_chain ≡ 41) }
+    ensures chains { IfOk result (λ _. history.new.1 + publishes_chain ≡ 42) }
     ensures family { IfOk result (λ _. history.new.0 ≡ history.old.0) }
 {
     let mut locks = Vec::with_capacity(alloc, banks.len())?;
@@ -73,21 +76,22 @@ fn locks<J: Family>(
     Ok(locks)
 }
 
-/// The banks behind their locks, as [`locks`] makes them, and the chain of what is published, which is empty. Behind it stand
-/// the lines of ports.
+/// The banks behind their locks, as [`locks`] makes them, the chain of what is published, which is empty, and the instrument's
+/// line, in which nothing was asked for. Behind it stand the lines of ports.
 fn locks_and_chain<J: Family>(
     alloc: Global,
     banks: Banks,
     history: &mut annals::Opened,
-) -> Result<(Vec<BankLock<J>>, Chain<J>), AllocError>
+) -> Result<(Vec<BankLock<J>>, Chain<J>, Line<J>), AllocError>
     requires family { history.old.0 ≡ J.book }
-    requires chains { history.old.1 ≡ 41 }
+    requires chains { history.old.1 ≡ 42 }
     requires few { length banks ≤ MAX_BANKS }
     requires fresh { All IsFresh banks }
     ensures count { IfOk result (λ made. length made.0.items ≡ length banks) }
     ensures numbers { IfOk result (λ made. AreNumbered made.0.items) }
     ensures chain { IfOk result (λ made. made.1.number ≡ publishes_chain) }
     ensures none { IfOk result (λ made. publishes_of made.1.log ≡ []) }
+    ensures line { IfOk result (λ made. made.2 ≡ record { port = instrument; asked = [] }) }
     ensures chains { IfOk result (λ _. history.new.1 ≡ 32) }
     ensures family { IfOk result (λ _. history.new.0 ≡ history.old.0) }
 {
@@ -95,7 +99,10 @@ fn locks_and_chain<J: Family>(
     let Some(chain) = history.publishes() else {
         return Err(AllocError);
     };
-    Ok((locks, chain))
+    let Some(line) = Line::of_instrument(history) else {
+        return Err(AllocError);
+    };
+    Ok((locks, chain, line))
 }
 
 impl<J: Family, R: Wait + Drop> Node<J, R> {
@@ -118,42 +125,45 @@ impl<J: Family, R: Wait + Drop> Node<J, R> {
         requires sizes { factory.sizes ≡ config.now.sizes }
         ensures banks { IfOk result (λ made. made.0 ≡ length config.now.banks.now) }
         ensures passes { IfOk result
-            (λ made. (home : Gv) × (made.1.items ≡ first_passes config.now factory home)) }
+            (λ made. (home : Gv) × (made.1.items ≡ unasked (first_passes config.now factory home))) }
         ensures limits { IfOk result (λ _. limit_fault config.now ≡ None) }
         ensures fault { IfErr result (IsNodeFault (limit_fault config.now)) }
     {
-        let (node, _cells, passes) = Node::with_cells(alloc, rt, opened, config, factory)?;
+        let (node, _cells, passes, _line) = Node::with_cells(alloc, rt, opened, config, factory)?;
         Ok((node, passes))
     }
 
-    /// A node as [`Node::new`] makes it, and beside it the cells of its maps. They are no part of the node, which
-    /// is shared: whoever keeps them may take each pass's seat back ([`Pass::into_seat`]) and then knows which
-    /// tickets were drawn.
+    /// A node as [`Node::new`] makes it, and beside it the cells of its maps, and the instrument's line. They are no part of the
+    /// node, which is shared: whoever keeps the cells may take each pass's seat back ([`Pass::into_seat`]) and then knows which
+    /// tickets were drawn; and without the line nobody sets memory or takes a journal ([`Kept`](annals::Kept)), or publishes but
+    /// a port's load.
     pub fn with_cells(
         alloc: Global,
         rt: R,
         opened: Opened,
         config: &NodeConfig,
         factory: Accepted,
-    ) -> Result<(Node<J, R>, Cells, Vec<Pass<J>>), NodeFault>
+    ) -> Result<(Node<J, R>, Cells, Vec<Pass<J>>, Line<J>), NodeFault>
         requires family { opened ≡ J.book }
         requires sizes { factory.sizes ≡ config.now.sizes }
         ensures banks { IfOk result (λ made. made.0 ≡ length config.now.banks.now) }
         ensures cells { IfOk result
             (λ made. made.1 ≡ cells config.now.sizes made.1.home (256 - config.now.ports) []) }
         ensures passes { IfOk result
-            (λ made. made.2.items ≡ first_passes config.now factory made.1.home) }
+            (λ made. made.2.items ≡ unasked (first_passes config.now factory made.1.home)) }
+        ensures line { IfOk result (λ made. made.3 ≡ opening_line factory) }
         ensures limits { IfOk result (λ _. limit_fault config.now ≡ None) }
         ensures fault { IfErr result (IsNodeFault (limit_fault config.now)) }
     {
         let mut history = opened.into_chains();
         let front = history.front();
         let (banks, mut by_port) = Banks::new(alloc, config)?;
-        let (banks, chain) = locks_and_chain(alloc, banks, &mut history)?;
+        let (banks, chain, mut line) = locks_and_chain(alloc, banks, &mut history)?;
         let (cells, publisher, passes) = cells_and_passes(
             alloc,
             rt,
             chain,
+            &mut line,
             &mut history,
             config,
             factory,
@@ -165,7 +175,7 @@ impl<J: Family, R: Wait + Drop> Node<J, R> {
             publisher,
             front,
         };
-        Ok((node, cells, passes))
+        Ok((node, cells, passes, line))
     }
 
     /// How many banks the node has.

@@ -2,11 +2,13 @@
 
 ghost use Rattle.std.specs.Prelude.{◌≡◌, ◌≤◌, ◌-◌, [], length, IfOk};
 ghost use base.Stored.{Gv};
-ghost use Rattle.annals.specs.Publishes.{publishes_chain, publishes_of};
+ghost use Rattle.annals.specs.Publishes.{line_loading, publishes_chain, publishes_of};
 ghost use Rattle.bver.specs.Justified.{AcceptedValue};
 ghost use Rattle.cells.specs.Seats.{cells};
 ghost use Rattle.node_parts.specs.Nodes.{AreSharesOf, first_passes, first_programs};
+ghost use Rattle.node_programs.specs.Histories.{entry};
 ghost use Rattle.target.specs.Nodes.{AreFirst};
+ghost use Rattle.target.specs.Passes.{unasked};
 
 use crate::pass::Pass;
 use annals::{Chain, Family, Line};
@@ -14,7 +16,7 @@ use bver::Accepted;
 use cells::{CellSeat, Cells};
 use node_parts::{NodeConfig, PortShares, RunContext};
 use node_programs::Staging;
-use publish::{Programs, Publisher, Reader};
+use publish::{Loader, Programs, Publisher, Reader};
 use rmap::MAX_BANKS;
 use spw::PORTS;
 use std::alloc::{AllocError, Global};
@@ -39,7 +41,7 @@ fn passes<J: Family>(
     requires chains { history.old.1 ≡ 32 }
     ensures { (factory : AcceptedValue) (home : Gv)
         → AreFirst factory home config.now.ports seats.items readers.items
-        → IfOk result (λ passes. passes.items ≡ first_passes config.now factory home) }
+        → IfOk result (λ passes. passes.items ≡ unasked (first_passes config.now factory home)) }
 {
     let mut passes = Vec::with_capacity(alloc, by_port.len())?;
     for port in 0..config.ports {
@@ -51,10 +53,9 @@ fn passes<J: Family>(
         };
         let pass = Pass {
             context: RunContext::new(port, config.windows(), seat),
-            reader,
+            loader: Loader { reader, line },
             shares: by_port[usize::from(port)].take(alloc),
             staging: Staging::new(alloc)?,
-            line,
         };
         passes.push(pass)?;
     }
@@ -62,12 +63,13 @@ fn passes<J: Family>(
 }
 
 /// The cells of a node's maps, each 0, what publishes its programs in that chain of its history, and a pass for each port, in
-/// order, with its shares of the banks and its line of the history. The conditions are a chain of publishes that has none, the
+/// order, with its shares of the banks and its line of the history. The line that is lent asks for the factory program. The conditions are a chain of publishes that has none, the
 /// chains of lines, and numbers within their limits.
 pub(crate) fn cells_and_passes<J: Family, R: Wait + Drop>(
     alloc: Global,
     rt: R,
     chain: Chain<J>,
+    line: &mut Line<J>,
     history: &mut annals::Opened,
     config: &NodeConfig,
     factory: Accepted,
@@ -85,10 +87,11 @@ pub(crate) fn cells_and_passes<J: Family, R: Wait + Drop>(
         (λ made. made.0 ≡ cells config.now.sizes made.0.home (256 - config.now.ports) []) }
     ensures publisher { IfOk result (λ made. made.1 ≡ first_programs factory) }
     ensures passes { IfOk result
-        (λ made. made.2.items ≡ first_passes config.now factory made.0.home) }
+        (λ made. made.2.items ≡ unasked (first_passes config.now factory made.0.home)) }
+    ensures asked { IfOk result (λ _. line.new ≡ line_loading line.old (entry 0 factory)) }
 {
     let (cells, seats) = Cells::new(alloc, &config.sizes, config.ports)?;
-    let (publisher, readers) = Programs::with_chain(alloc, rt, chain, factory, config.ports)?;
+    let (publisher, readers) = Programs::with_chain(alloc, rt, chain, line, factory, config.ports)?;
     let passes = passes(alloc, config, by_port, seats, readers, history)?;
     Ok((cells, publisher, passes))
 }

@@ -2,45 +2,51 @@
 
 ghost use Rattle.std.specs.Prelude.{◌≡◌, ◌<◌, length};
 ghost use Rattle.node_parts.specs.Passes.{IsPass};
+ghost use mathlib.Core.List.{IsPrefix};
+ghost use Rattle.annals.specs.Chains.{done_for};
 ghost use Rattle.target.specs.Lines.{CountsAllOf};
 ghost use Rattle.target.specs.Passes.{seat_of};
 
-use annals::{Family, Front, Line};
+use annals::{Family, Front};
 use bank::Share;
 use cells::CellSeat;
 use node_parts::RunContext;
 use node_programs::Staging;
-use publish::Reader;
+use publish::Loader;
 use spw::PORTS;
 use std::marker::Model;
 
 /// What one port has of its node: its context, with its seat at the cells, its reader of the programs that judge, a share
-/// of each bank, its staging, and its line of the history of the banks. Only [`Node`](crate::Node) makes passes.
+/// of each bank, its staging, and its line of the node's history. Contracts see what it has, and what it asked for in its line.
+/// Only [`Node`](crate::Node) makes passes.
 #[derive(Drop)]
 pub struct Pass<J: Family> {
     pub(crate) context: RunContext<CellSeat>,
-    pub(crate) reader: Reader<J>,
+    pub(crate) loader: Loader<J>,
     pub(crate) shares: Vec<Share>,
     pub(crate) staging: Staging,
-    pub(crate) line: Line<J>,
 }
 
 impl<J: Family> Model for Pass<J> {
-    ghost use Rattle.node_parts.specs.Passes.{PassValue, IsPass, pass_of};
+    ghost use Rattle.node_parts.specs.Passes.{IsPass, pass_of};
     ghost use Rattle.target.specs.Lines.{IsLineOf};
+    ghost use Rattle.target.specs.Passes.{PortPass, port_pass};
 
-    ghost Value = { PassValue };
+    ghost Value = { PortPass };
 
-    ghost view = { λ p. pass_of p.context p.reader.programs p.shares.items p.staging };
+    ghost view = { λ p. port_pass
+        (pass_of p.context p.loader.reader.programs p.shares.items p.staging)
+        p.loader.line.asked };
 
-    ghost invariant = { λ p. IsPass (pass_of p.context p.reader.programs p.shares.items p.staging)
-        × IsLineOf p.context.port p.shares.items p.line };
+    ghost invariant = { λ p. IsPass
+        (pass_of p.context p.loader.reader.programs p.shares.items p.staging)
+        × IsLineOf p.context.port p.shares.items p.loader.line };
 }
 
 impl<J: Family> Pass<J> {
     /// The port's number.
     pub fn port(&self) -> u8
-        ensures value { result ≡ self.now.port }
+        ensures value { result ≡ self.now.pass.port }
         ensures few { result < PORTS }
     {
         self.context.port()
@@ -48,15 +54,15 @@ impl<J: Family> Pass<J> {
 
     /// How many banks the node has.
     pub fn banks(&self) -> usize
-        ensures value { result ≡ length self.now.shares }
-        ensures holder { IsPass self.now }
+        ensures value { result ≡ length self.now.pass.shares }
+        ensures holder { IsPass self.now.pass }
     {
         self.shares.len()
     }
 
     /// The port's staging, with the result of its last load.
     pub fn staging(&self) -> &Staging
-        ensures { result.now ≡ self.now.staging }
+        ensures { result.now ≡ self.now.pass.staging }
     {
         &self.staging
     }
@@ -64,24 +70,33 @@ impl<J: Family> Pass<J> {
     /// Takes the pass apart: its seat, to be given back to the cells
     /// ([`Cells::take_back`](cells::Cells::take_back)). The other parts end.
     pub fn into_seat(self) -> CellSeat
-        ensures { seat_of result ≡ self.seat }
+        ensures { seat_of result ≡ self.pass.seat }
     {
         let Pass {
             context,
-            reader: _reader,
+            loader: _loader,
             shares: _shares,
             staging: _staging,
-            line: _line,
         } = self;
         context.into_seat()
     }
 
     /// What anybody has seen of the history of the node's banks has no entries of the port but those that its shares count:
-    /// at each bank they have the numbers from 0 on, each once and in order, below its share's.
+    /// at each bank they have the numbers from 0 on, each once and in order, below its share's. And what the port did, as anybody
+    /// has seen it, begins what it asked for.
     pub fn knows_entries(&mut self, known: &Front<J>)
-        ensures entries { CountsAllOf self.old known.now }
+        ensures entries { CountsAllOf self.old.pass known.now }
+        ensures begins { IsPrefix (done_for self.old.pass.port known.now) self.old.asked }
         ensures same { self.new ≡ self.old }
     {
-        self.line.knows_all(known);
+        self.loader.line.knows_all(known);
+    }
+
+    /// Somebody learns so much of the history that all which the port asked for stands there, done.
+    pub fn tell(&self, known: &mut Front<J>)
+        ensures known { IsPrefix known.old known.new }
+        ensures told { IsPrefix self.now.asked (done_for self.now.pass.port known.new) }
+    {
+        self.loader.line.tell(known);
     }
 }

@@ -1,5 +1,6 @@
 //! Commands to a port's own staging, and reads of the result of its last load.
 
+ghost use Rattle.std.specs.Prelude.{◌≡◌};
 ghost use Rattle.node_parts.specs.Stagings.{IsStagingPlace};
 ghost use Rattle.node_parts.specs.Served.{IsStagedAt};
 
@@ -14,7 +15,8 @@ use rmap::{ReplyBuf, Status};
 /// places.
 pub fn stage<J: Family>(pass: &mut Pass<J>, judged: Judged, reply: &mut ReplyBuf) -> Status
     requires { IsStagingPlace judged.place }
-    ensures { IsStagedAt pass.old pass.new judged result reply.new }
+    ensures staged { IsStagedAt pass.old.pass pass.new.pass judged result reply.new }
+    ensures asked { pass.new.asked ≡ pass.old.asked }
 {
     answer_staged(&mut pass.staging, judged, reply)
 }

@@ -56,14 +56,15 @@ fn judge_taken<J: Family>(
 /// all that the port knew; that it is the last published, and that one is taken at all, is tested. `reply` holds the reply
 /// that is due then, if any.
 pub fn judge<J: Family>(pass: &mut Pass<J>, packet: Packet, reply: &mut ReplyBuf) -> Step
-    ensures step { IsStep result packet pass.old pass.new reply.new }
+    ensures step { IsStep result packet pass.old.pass pass.new.pass reply.new }
+    ensures asked { pass.new.asked ≡ pass.old.asked }
 {
     let admitted = match admit(packet, pass.context.windows(), reply) {
         Ok(admitted) => admitted,
         Err((Stop::Discarded(discard), packet)) => return Step::Discarded(discard, packet),
         Err((Stop::Answered(status), packet)) => return Step::Answered(status, packet),
     };
-    let judged = match judge_taken(&mut pass.context, &mut pass.reader, admitted) {
+    let judged = match judge_taken(&mut pass.context, &mut pass.loader.reader, admitted) {
         Ok(judged) => judged,
         Err(admitted) => {
             put_reply(reply, &admitted.command(), Status::GeneralError, &[]);

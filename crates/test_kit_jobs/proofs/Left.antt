@@ -10,7 +10,12 @@ use Rattle.job_parts.specs.Options.{image_name}
 use Rattle.job_texts.specs.Assembled.{Assembles, IsNotAssembled}
 use Rattle.job_texts.specs.Compiled.{CompilesTable, IsNoTable, IsNotCompiled}
 use Rattle.job_texts.specs.Disassembled.{IsNotPrinted}
-use Rattle.job_nodes.specs.Judged.{IsNotJudged}
+use Rattle.job_config.specs.declared.node_lines.NodeLines.{NodeLines}
+use Rattle.job_config.specs.declared.sources.NodeSource.{NodeSource}
+use Rattle.job_config.specs.declared.sources.NodeSource.TheVariants.{File, Words}
+use Rattle.job_nodes.specs.JobNode.{JobNodeValue}
+use Rattle.job_nodes.specs.Judged.{IsNotJudged, IsReady}
+use Rattle.job_nodes.specs.Sources.{HoldsNoNode, HoldsNode}
 use Rattle.job_nodes.specs.Simulated.{IsNotSimulated}
 use Rattle.job_ports.specs.ServedFile.{IsNotServed}
 use Rattle.job_trace.specs.Traced.{IsNotTraced}
@@ -30,6 +35,7 @@ use Rattle.commands.specs.declared.jobs.Job.TheVariants.{
   Explain,
   Why,
   Weigh,
+  Node,
   Packet,
   Show,
   Decide,
@@ -41,6 +47,7 @@ use Rattle.commands.specs.declared.jobs.Job.TheVariants.{
 use Rattle.test_kit_jobs.proofs.ChartsLeft.{compares_file, maps_file, uncompared, unmapped}
 use Rattle.test_kit_jobs.proofs.DecidesLeft.{decides_file, undecided}
 use Rattle.test_kit_jobs.proofs.RehearsesLeft.{rehearses_file, unrehearsed}
+use Rattle.test_kit_jobs.proofs.NodesLeft.{no_node, some_read, untold}
 use Rattle.test_kit_jobs.proofs.PacketsLeft.{made_file, unmade, unshown}
 use Rattle.folders.specs.Folders.{FolderReads, FolderValue, FolderWrites, Sets}
 use Rattle.test_kit_jobs.specs.Jobs.{AssemblesIn, CompilesIn, Leaves}
@@ -92,11 +99,30 @@ given_all : (args : LinesArgs) (before : FolderValue) (text : List ℕ) (program
     → AreGiven FolderReads args before text program after → after ≡ before
 given_all args before text program after given = read_all before _ _ text program.program after given.read
 
+-- a node of words or of a file was read, or there is none
+held : (source : NodeSource) (before : FolderValue) (node : JobNodeValue) (after : FolderValue)
+    → HoldsNode FolderReads source before node after → after ≡ before
+held (Words words) before node after holds = programmed before _ _ after holds.given
+held (File name) before node after holds = some_read before after holds.read.only_reads
+
+unheld : (source : NodeSource) (before after : FolderValue) (fault : Fault) → HoldsNoNode FolderReads source before after fault
+    → after ≡ before
+unheld (Words words) before after fault (inl none) = unprogrammed before _ words.sizes after fault none
+unheld (Words words) before after fault (inr unmade) = programmed before _ unmade.program after unmade.given
+unheld (File name) before after fault (inl none) = no_node _ before after fault none
+unheld (File name) before after fault (inr unmade) = some_read before after unmade.read.only_reads
+
+-- lines and node were read
+ready_all : (args : NodeLines) (before : FolderValue) (text : List ℕ) (node : JobNodeValue) (after : FolderValue)
+    → IsReady FolderReads args before text node after → after ≡ before
+ready_all args before text node after ready = held args.node ready.between node after ready.holds ∙ ready.read.0
+
 -- a job on lines that a fault ended
-unjudged : (args : LinesArgs) (before after : FolderValue) (old new : Option (List ℕ)) (fault : Fault)
+unjudged : (args : NodeLines) (before after : FolderValue) (old new : Option (List ℕ)) (fault : Fault)
     → IsNotJudged FolderReads args before after old new fault → after ≡ before
-unjudged args before after old new fault (inl is) = unready args before after fault is.1
-unjudged args before after old new fault (inr stops) = given_all args before stops.text stops.ready.program after stops.ready.given
+unjudged args before after old new fault (inl (same, inl unread_lines)) = no_text before _ after fault unread_lines
+unjudged args before after old new fault (inl (same, inr lacks)) = unheld args.node lacks.between after fault lacks.no_node ∙ lacks.read.0
+unjudged args before after old new fault (inr stops) = ready_all args before stops.text stops.fresh after stops.ready
 
 unsimulated : (args : LinesArgs) (before after : FolderValue) (old new : Option (List ℕ)) (fault : Fault)
     → IsNotSimulated FolderReads args before after old new fault → after ≡ before
@@ -150,7 +176,7 @@ compiled before table image sizes after old new done =
     let holds = done.compiled.read in
     record {
       bytes = holds.table.bytes;
-      rules = holds.rules;
+      policy = holds.policy;
       program = done.program;
       stands = holds.table.read.1;
       is_table = holds.table.table;
@@ -170,7 +196,7 @@ done_leaves (Assemble words) before after old new status done =
 done_leaves (Disassemble words) before after old new status done = done.1.image.read.0
 done_leaves (Verify args) before after old new status done = done.1.image.read.0
 done_leaves (Judge args) before after old new status done =
-    given_all args before done.1.text done.1.ready.program after done.1.ready.given
+    ready_all args before done.1.text done.1.fresh after done.1.ready
 done_leaves (Policy words) before after old new status done =
     at_done (Policy words) before after status done.0 (compiled before _ _ words.sizes after old new done.1)
 done_leaves (Serve args) before after old new status done = given_all args before done.1.text done.1.program after done.1.given
@@ -178,6 +204,7 @@ done_leaves (Simulate args) before after old new status done = given_all args be
 done_leaves (Explain words) before after old new status done = done.0
 done_leaves (Why args) before after old new status done = done.read.0
 done_leaves (Weigh words) before after old new status done = done.1.image.read.0
+done_leaves (Node words) before after old new status done = some_read before after done.1.read.only_reads
 done_leaves (Packet words) before after old new status done = made_file words before after old new status done
 done_leaves (Show words) before after old new status done = done.1.read.0
 done_leaves (Decide words) before after old new status done = decides_file words before after old new status done
@@ -199,6 +226,7 @@ ended_leaves (Simulate args) before after old new fault ended = unsimulated args
 ended_leaves (Explain words) before after old new fault ended = ended.1
 ended_leaves (Why args) before after old new fault ended = ended.0.unread
 ended_leaves (Weigh words) before after old new fault ended = unfit before _ words.sizes after fault ended.0
+ended_leaves (Node words) before after old new fault ended = untold words before after fault ended.0
 ended_leaves (Packet words) before after old new fault ended = unmade words before after fault ended.0
 ended_leaves (Show words) before after old new fault ended = unshown before _ after old new fault ended
 ended_leaves (Decide words) before after old new fault ended = undecided words before after old new fault ended

@@ -1,5 +1,6 @@
 mod ChartsLeft
 mod Left
 mod DecidesLeft
+mod NodesLeft
 mod PacketsLeft
 mod RehearsesLeft

@@ -14,6 +14,7 @@ use Rattle.commands.specs.declared.jobs.Job.TheVariants.{
   Explain,
   Why,
   Weigh,
+  Node,
   Packet,
   Show,
   Decide,
@@ -23,9 +24,9 @@ use Rattle.commands.specs.declared.jobs.Job.TheVariants.{
   Rehearse,
 }
 use Rattle.machine.specs.Sizes.{Maps}
-use Rattle.policy.specs.Compiled.{IsCompiled}
-use Rattle.policy_table.specs.Lines.{IsTable}
-use Rattle.policy_table.specs.declared.rules.Rule.{Rule}
+use Rattle.policy.specs.Compiled.{IsPortCompiled}
+use Rattle.policy_table.specs.Policies.{PolicyValue}
+use Rattle.job_texts.specs.Compiled.{IsTableText}
 use Rattle.folders.specs.Folders.{FolderValue, Sets, content_of}
 
 -- the one file has the text of a program, and the other was set to its image
@@ -36,14 +37,14 @@ pub record AssemblesIn (before : FolderValue) (text image : List ℕ) (after : F
   pub is_text : IsText bytes program
   pub set : Sets before image (image_bytes program) after
 
--- the one file has a table of rules, and the other was set to the image that it was compiled to
+-- the one file has a table of either version, and the other was set to the image that it was compiled to
 pub record CompilesIn (before : FolderValue) (table image : List ℕ) (sizes : Maps) (after : FolderValue) : Type 0 where
   pub bytes : List ℕ
-  pub rules : List Rule
+  pub policy : PolicyValue
   pub program : Program
   pub stands : content_of before table ≡ Some bytes
-  pub is_table : IsTable bytes rules
-  pub compiled : IsCompiled sizes rules program
+  pub is_table : IsTableText bytes policy
+  pub compiled : IsPortCompiled sizes policy program
   pub set : Sets before image (image_bytes program) after
 
 -- what a job that ended with this status leaves: `asm` and `policy` set OUT alone where they were done, and nothing
@@ -63,6 +64,7 @@ Leaves (Serve words) before after status = after ≡ before
 Leaves (Explain words) before after status = after ≡ before
 Leaves (Why words) before after status = after ≡ before
 Leaves (Weigh words) before after status = after ≡ before
+Leaves (Node words) before after status = after ≡ before
 Leaves (Packet words) before after status = after ≡ before
 Leaves (Show words) before after status = after ≡ before
 Leaves (Decide words) before after status = after ≡ before

@@ -2,7 +2,7 @@
 
 ghost use Rattle.std.specs.Prelude.{◌≡◌};
 
-use crate::nodes::shared_node;
+use crate::nodes::node_and_line;
 use bank::{Applied, Judged};
 use bpf::Image;
 use bver::{Accepted, verify};
@@ -13,15 +13,16 @@ use spw::Packet;
 use std::alloc::Global;
 use std::sync::Wait;
 use std::test::Fail;
-use target::{BankLock, Family, Node, Opened, Pass, Step, finish, judge, load, stage};
+use target::{BankLock, Family, Line, Node, Opened, Pass, Step, finish, judge, load, stage};
 use test_kit::{SpareBank, packet};
 
-/// A node behind its locks, the passes of its ports, a spare bank for commands to no bank of the node, and the reply to the
+/// A node behind its locks, the instrument's line, the passes of its ports, a spare bank for commands to no bank of the node, and the reply to the
 /// packet that came last.
 #[derive(Drop)]
 pub struct LockedNode<J: Family, R: Wait + Drop> {
     alloc: Global,
     node: Node<J, R>,
+    instrument: Line<J>,
     passes: Vec<Pass<J>>,
     spare: SpareBank,
     reply: ReplyBuf,
@@ -101,10 +102,11 @@ impl<J: Family, R: Wait + Drop> LockedNode<J, R> {
     ) -> Result<LockedNode<J, R>, Fail>
         requires { opened ≡ J.book }
     {
-        let (node, passes) = shared_node(rt, alloc, opened, ports, banks, factory)?;
+        let (node, passes, instrument) = node_and_line(rt, alloc, opened, ports, banks, factory)?;
         Ok(LockedNode {
             alloc,
             node,
+            instrument,
             passes,
             spare: SpareBank::new(alloc)?,
             reply: ReplyBuf::new(),
@@ -152,12 +154,12 @@ impl<J: Family, R: Wait + Drop> LockedNode<J, R> {
         Ok(found)
     }
 
-    /// Verifies an image for the node's maps, and publishes the program for a slot.
-    pub fn install(&self, rt: &impl Wait, slot: u8, image: Image) -> Result<(), Fail> {
+    /// Verifies an image for the node's maps, and publishes the program for a slot, as the instrument's line asks.
+    pub fn install(&mut self, rt: &impl Wait, slot: u8, image: Image) -> Result<(), Fail> {
         let mut guard = self.node.publisher().lock(rt);
         let publisher = &mut *guard;
         let program = verify(self.alloc, image, &publisher.sizes())?;
-        publisher.install(slot, program)?;
+        publisher.install(&mut self.instrument, slot, program)?;
         Ok(())
     }
 

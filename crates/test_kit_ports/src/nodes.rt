@@ -7,7 +7,7 @@ use node_parts::{BankConfig, NodeConfig};
 use std::alloc::Global;
 use std::sync::Wait;
 use std::test::Fail;
-use target::{Family, Node, Opened, Pass};
+use target::{Family, Line, Node, Opened, Pass};
 use test_kit::{image_of_text, sizes};
 
 /// The program of a text, with that budget, for maps of those sizes.
@@ -27,11 +27,27 @@ pub fn shared_node<J: Family, R: Wait + Drop>(
 ) -> Result<(Node<J, R>, Vec<Pass<J>>), Fail>
     requires { opened ≡ J.book }
 {
+    let (node, passes, _line) = node_and_line(rt, alloc, opened, ports, banks, factory)?;
+    Ok((node, passes))
+}
+
+/// The same, and the instrument's line.
+pub(crate) fn node_and_line<J: Family, R: Wait + Drop>(
+    rt: R,
+    alloc: Global,
+    opened: Opened,
+    ports: u8,
+    banks: &[BankConfig],
+    factory: Accepted,
+) -> Result<(Node<J, R>, Vec<Pass<J>>, Line<J>), Fail>
+    requires { opened ≡ J.book }
+{
     let config = NodeConfig {
         address: 0xFE,
         ports,
         banks,
         sizes: factory.sizes(),
     };
-    Ok(Node::new(alloc, rt, opened, &config, factory)?)
+    let (node, _cells, passes, line) = Node::with_cells(alloc, rt, opened, &config, factory)?;
+    Ok((node, passes, line))
 }

@@ -289,6 +289,26 @@ value_52 = refl
 value_53 : is_ascii_alphabetic 65 ≡ true
 value_53 = refl
 
+-- `IsUtf8 bs`: the bytes are a text in UTF-8
+
+-- `bytes_eq a b`: whether two texts have the same bytes
+
+-- `digit_value b`: the number that a digit or a letter writes, 0 to 35, and 36 of any other code
+
+-- `RFindsChar`: where a character stands last in a text; `SplitsAroundMatch`: what is before it and behind it
+
+-- `to_be_bytes w n`: the bytes of a number of that width, the most significant first
+
+-- ---- TOML
+
+-- `parse_document bs`: the table that a text in TOML is, if it is one
+
+-- `Data`: a value; `as_str`, `as_integer`, `as_bool`, `as_array`, `as_table`: the text, number, truth, list or table that it is, if it is one
+
+-- `Items`: the values of a list; `no_items`: none; `item x xs`: one, and others behind it
+
+-- `Members`: the keys of a table with their values; `no_members`: none; `member k x ms`: one, and others behind it; `get_member k ms`: the value of a key, if there is one
+
 -- ---- what threads share
 
 -- `Gv`: a value of any type, as a seat tells of which table it is; `gnil`: the one that tells nothing

@@ -1,5 +1,5 @@
 -- Stretches of the code of a compiled table, from a slot to its end: what has to hold of one more instruction before.
-use Rattle.std.specs.Prelude.{◌==◌, ℤ, pos, IfOk, IfSome, IsOk, IsSome, IsTrue, Result, Ok, Err, slice_index, slice_index_or}
+use Rattle.std.specs.Prelude.{◌==◌, ℤ, pos, negsuc, Bool, IfOk, IfSome, IsOk, IsSome, IsTrue, Result, Ok, Err, slice_index, slice_index_or}
 use Rattle.std.proofs.Common.{◌≡◌, ◌<◌, ◌+◌, ℕ, suc, false, List, [], ◌∷◌, Option, Some, None, refl, sym, ap, ◌∙◌, subst, arith}
 use Rattle.std.proofs.lemmas.Bool.{eqb-false}
 use Rattle.bpf.specs.declared.version.Version.TheVariants.{One}
@@ -7,6 +7,7 @@ use Rattle.bpf_parts.specs.declared.callee.Callee.TheVariants as callees
 use Rattle.machine.specs.declared.helpers.Helper.TheVariants.{Ticket}
 use Rattle.machine.specs.Helpers.{helper_number}
 use Rattle.bpf_parts.specs.declared.memory.LoadSize.{LoadSize}
+use Rattle.bpf_parts.specs.declared.memory.LoadSize.TheVariants.{LoadByte}
 use Rattle.bpf_parts.specs.declared.operation.AluOp.{AluOp}
 use Rattle.bpf_parts.specs.declared.operation.Condition.{Condition}
 use Rattle.bpf_parts.specs.declared.operation.Operand.{Operand}
@@ -28,7 +29,7 @@ use Rattle.absdom.specs.State.{IsBelow, IsWhole, StateValue, kind_at, with_kind}
 use Rattle.bver_form.specs.Jumps.{jump_distance}
 use Rattle.bver_form.specs.Support.{IsSupported, LeavesFrame}
 use Rattle.bver.specs.Justified.{AreEdgesCovered, IsCovered, IsCoveredIfAny, IsPermitted, IsResultCovered}
-use Rattle.policy.specs.Code.{loaded, skips_if, swapped}
+use Rattle.policy.specs.Code.{loaded, port_kept, port_loaded, skips_if, swapped}
 use Rattle.policy.proofs.Justified.Known.{below_in_rules, between, comparing, drawing, mapped}
 use Rattle.policy.proofs.Justified.Served.{AreServed, IsEndedBy, IsServedAt, Knowledge, LandsIn, before, ended_before, serve_before}
 
@@ -40,10 +41,6 @@ pub record IsJustifiedFrom (sizes : Maps) (first : StateValue) (behind : ℕ) (t
   pub here : table 0 ≡ Some first
   pub further : table behind ≡ there
 
--- up to the next rule, which begins so many slots further on
-abbrev pub IsJustifiedTo : (sizes : Maps) (first : StateValue) (behind : ℕ) (slots : List (Option Insn)) → Type 0
-IsJustifiedTo sizes first behind slots = IsJustifiedFrom sizes first behind (Some between) slots
-
 pub counted : (sizes : Maps) (first : StateValue) (behind other : ℕ) (there : Option StateValue) (slots : List (Option Insn)) → behind ≡ other
     → IsJustifiedFrom sizes first behind there slots → IsJustifiedFrom sizes first other there slots
 counted sizes first behind other there slots same h = record {
@@ -54,20 +51,10 @@ counted sizes first behind other there slots same h = record {
   further = subst (λ (k : ℕ). h.table k ≡ there) same h.further;
 }
 
--- a rule begins here
-pub begun : (sizes : Maps) (behind : ℕ) (there : Option StateValue) (slots : List (Option Insn)) → IsJustifiedFrom sizes between behind there slots → IsJustifiedTo sizes between 0 slots
-begun sizes behind there slots h = record {
-  table = h.table;
-  served = h.served;
-  ended = h.ended;
-  here = h.here;
-  further = h.here;
-}
-
 -- ---- one instruction more
 
 module _ (sizes : Maps) (a next : StateValue) (behind : ℕ) (there : Option StateValue) (slots : List (Option Insn)) (whole : IsWhole a) where
-  one_before : (insn : Insn) → ((table : Knowledge) → table 1 ≡ Some next → IsPermitted Forgets sizes table 0 a insn)
+  pub one_before : (insn : Insn) → ((table : Knowledge) → table 1 ≡ Some next → IsPermitted Forgets sizes table 0 a insn)
       → IsSupported One insn → LeavesFrame insn → jump_distance insn ≡ None
       → IsJustifiedFrom sizes next behind there slots → IsJustifiedFrom sizes a (suc behind) there (Some insn ∷ slots)
   one_before insn permits supported leaves_frame straight rest =
@@ -108,92 +95,21 @@ module _ (sizes : Maps) (a next : StateValue) (behind : ℕ) (there : Option Sta
       (λ table is. subst (λ (o : Option StateValue). IsResultCovered (after_insn Forgets a (swapped dst)) o) (sym is) covered)
       tt (eqb-false dst 10 other) refl rest
 
--- ---- comparisons
+  -- the port is put on the stack
+  pub store_before : IsResultCovered (after_insn Forgets a port_kept) (Some next)
+      → IsJustifiedFrom sizes next behind there slots → IsJustifiedFrom sizes a (suc behind) there (Some port_kept ∷ slots)
+  store_before covered rest =
+      one_before port_kept
+      (λ table is. subst (λ (o : Option StateValue). IsResultCovered (after_insn Forgets a port_kept) o) (sym is) covered)
+      tt tt refl rest
 
--- what is known on an edge of a comparison is covered by what is known at a comparison, or less
-edge_covered : BelowIsTransitive → (next : StateValue) → IsBelow comparing next → (edge : Option StateValue) → IfSome edge (λ a. IsBelow a comparing) → IsCoveredIfAny edge (Some next)
-edge_covered transitive next less None h = tt
-edge_covered transitive next less (Some a) h = transitive a comparing next h less
-
-edges_covered : BelowIsTransitive → (next : StateValue) → IsBelow comparing next → (r : Result Edges Cause) → IsOk r → IfOk r (λ edges. AreEdgesBelow edges comparing) → AreEdgesCovered r (Some between) (Some next)
-edges_covered transitive next less (Ok edges) ok h =
-    (edge_covered transitive between (below_in_rules tt tt tt) edges.taken h.taken, edge_covered transitive next less edges.not_taken h.not_taken)
-edges_covered transitive next less (Err cause) ok h = cc
-
--- where a rule begins, an instruction does
-begins : (sizes : Maps) (table : Knowledge) (slots : List (Option Insn)) (slot : ℕ) (a : Option StateValue) (insn : Option Insn)
-    → a ≡ Some between → IsServedAt sizes table slots slot a insn → IsSome insn
-begins sizes table slots slot None insn is h = cc
-begins sizes table slots slot (Some a) None is h = absurd h
-begins sizes table slots slot (Some a) (Some insn) is h = refl
-
-one_more : (n : ℕ) → 1 + n ≡ suc n
-one_more n = omega arith
-
--- a comparison that leads to the next rule
-pub test_before : BelowIsTransitive → RefineShrinks → (sizes : Maps) (next : StateValue) → IsBelow comparing next → (behind : ℕ) (slots : List (Option Insn)) (condition : Condition) (dst : ℕ) (src : Operand)
-    → IsWhole comparing → IsOk (refined_edges comparing condition Bits64 dst src)
-    → IsJustifiedTo sizes next behind slots → IsJustifiedTo sizes comparing (suc behind) (Some (skips_if condition dst src behind) ∷ slots)
-test_before transitive shrinks sizes next less behind slots condition dst src whole ok rest =
-    let insn : Insn = skips_if condition dst src behind in
-    let table : Knowledge = before (Some comparing) rest.table in
-    let edges : Result Edges Cause = refined_edges comparing condition Bits64 dst src in
-    let taken : table (1 + behind) ≡ Some between = ap (λ (k : ℕ). table k) (one_more behind) ∙ rest.further in
-    let both : AreEdgesCovered edges (Some between) (Some next) = edges_covered transitive next less edges ok (shrinks comparing condition Bits64 dst src) in
-    let at_target : AreEdgesCovered edges (table (1 + behind)) (Some next) = subst (λ (o : Option StateValue). AreEdgesCovered edges o (Some next)) (sym taken) both in
-    let there : IsSome (slice_index_or (Some insn ∷ slots) (1 + behind) None) =
-    subst (λ (k : ℕ). IsSome (slice_index_or (Some insn ∷ slots) k None)) (sym (one_more behind))
-    (begins sizes rest.table slots behind (rest.table behind) (slice_index_or slots behind None) rest.further (rest.served behind)) in
-    let here : IsServedAt sizes table (Some insn ∷ slots) 0 (Some comparing) (Some insn) = record {
-      whole = whole;
-      permitted = subst (λ (o : Option StateValue). AreEdgesCovered edges (table (1 + behind)) o) (sym rest.here) at_target;
-      supported = tt;
-      leaves_frame = tt;
-      lands = there;
-    } in
-    record {
-      table = table;
-      served = serve_before sizes rest.table slots (Some comparing) (Some insn) here rest.served;
-      ended = ended_before slots (Some insn) Exit rest.ended;
-      here = refl;
-      further = rest.further;
-    }
-
--- ---- a ticket
-
-pub call_before : BelowIsReflexive → (sizes : Maps) (map cell behind : ℕ) (slots : List (Option Insn)) → IsWhole (drawing map cell) → cell < slice_index sizes.cells map → kind_of_map sizes map ≡ Counter
-    → IsJustifiedTo sizes comparing behind slots → IsJustifiedTo sizes (drawing map cell) (suc behind) (Some (Call callees.Helper (pos (helper_number Ticket))) ∷ slots)
-call_before reflexive sizes map cell behind slots whole inside counter rest =
-    one_before sizes (drawing map cell) comparing behind (Some between) slots whole (Call callees.Helper (pos (helper_number Ticket)))
-    (λ table is. (record { cell = inside; given = λ takes. absurd cc; kind = rw counter refl }, subst (λ (o : Option StateValue). IsCovered comparing o) (sym is) (reflexive comparing)))
-    refl tt refl rest
-
--- the load of a map has two slots
-pub map_before : BelowIsReflexive → (sizes : Maps) (map behind : ℕ) (slots : List (Option Insn)) → IsWhole between → IsTrue (is_map sizes (pos map)) → map_kind (pos map) ≡ Map map
-    → IsJustifiedTo sizes (mapped map) behind slots → IsJustifiedTo sizes between (suc (suc behind)) (Some (LoadMap 1 (pos map)) ∷ None ∷ slots)
-map_before reflexive sizes map behind slots whole exists small rest =
-    let insn : Insn = LoadMap 1 (pos map) in
-    let later : Knowledge = before None rest.table in
-    let table : Knowledge = before (Some between) later in
-    let loaded_map : IsBelow (with_kind between 1 (map_kind (pos map))) (mapped map) =
-    subst (λ (kind : AbsKind). IsBelow (with_kind between 1 kind) (mapped map)) (sym small) (reflexive (mapped map)) in
-    let second : AreServed sizes later (None ∷ slots) = serve_before sizes rest.table slots None None tt rest.served in
-    let here : IsServedAt sizes table (Some insn ∷ None ∷ slots) 0 (Some between) (Some insn) = record {
-      whole = whole;
-      permitted = (exists, subst (λ (o : Option StateValue). IsCovered (with_kind between 1 (map_kind (pos map))) o) (sym rest.here) loaded_map);
-      supported = tt;
-      leaves_frame = eqb-false 1 10 refl;
-      lands = tt;
-    } in
-    record {
-      table = table;
-      served = serve_before sizes later (None ∷ slots) (Some between) (Some insn) here second;
-      ended = ended_before (None ∷ slots) (Some insn) Exit (ended_before slots None Exit rest.ended);
-      here = refl;
-      further = rest.further;
-    }
-
--- ---- the end of a run
+  -- it comes from there
+  pub port_before : IsResultCovered (with_result a 0 (load_kind Forgets a LoadByte (kind_at a 10) (negsuc 0))) (Some next)
+      → IsJustifiedFrom sizes next behind there slots → IsJustifiedFrom sizes a (suc behind) there (Some port_loaded ∷ slots)
+  port_before covered rest =
+      one_before port_loaded
+      (λ table is. subst (λ (o : Option StateValue). IsResultCovered (after_insn Forgets a port_loaded) o) (sym is) covered)
+      tt (eqb-false 0 10 refl) refl rest
 
 -- nothing is known, and no slot is left
 none_known : Knowledge
@@ -203,27 +119,130 @@ none_served : (sizes : Maps) → AreServed sizes none_known []
 unfolding none_known
 none_served sizes slot = tt
 
-ends_here : (sizes : Maps) (table : Knowledge) (slots : List (Option Insn)) → IsWhole comparing → AreServed sizes table slots → AreServed sizes (before (Some comparing) table) (Some Exit ∷ slots)
-ends_here sizes table slots whole rest =
-    serve_before sizes table slots (Some comparing) (Some Exit)
-    (record { whole = whole; permitted = tt; supported = tt; leaves_frame = tt; lands = tt }) rest
+-- where the port is kept on the stack, or not
+module _ (held : Bool) where
+  -- up to the next rule, which begins so many slots further on
+  abbrev pub IsJustifiedTo : (sizes : Maps) (first : StateValue) (behind : ℕ) (slots : List (Option Insn)) → Type 0
+  IsJustifiedTo sizes first behind slots = IsJustifiedFrom sizes first behind (Some (between held)) slots
 
-pub exit_before : (sizes : Maps) (behind : ℕ) (slots : List (Option Insn)) → IsWhole comparing → IsJustifiedTo sizes between behind slots → IsJustifiedTo sizes comparing (suc behind) (Some Exit ∷ slots)
-exit_before sizes behind slots whole rest = record {
-  table = before (Some comparing) rest.table;
-  served = ends_here sizes rest.table slots whole rest.served;
-  ended = ended_before slots (Some Exit) Exit rest.ended;
-  here = refl;
-  further = rest.further;
-}
+  -- a rule begins here
+  pub begun : (sizes : Maps) (behind : ℕ) (there : Option StateValue) (slots : List (Option Insn)) → IsJustifiedFrom sizes (between held) behind there slots → IsJustifiedTo sizes (between held) 0 slots
+  begun sizes behind there slots h = record {
+    table = h.table;
+    served = h.served;
+    ended = h.ended;
+    here = h.here;
+    further = h.here;
+  }
 
--- the last instruction of a table
-pub last_exit : (sizes : Maps) → IsWhole comparing → IsJustifiedFrom sizes comparing 1 None (Some Exit ∷ [])
-unfolding none_known
-last_exit sizes whole = record {
-  table = before (Some comparing) none_known;
-  served = ends_here sizes none_known [] whole (none_served sizes);
-  ended = record { last = 0; long = refl; at = refl };
-  here = refl;
-  further = refl;
-}
+  -- ---- comparisons
+
+  -- what is known on an edge of a comparison is covered by what is known at a comparison, or less
+  edge_covered : BelowIsTransitive → (next : StateValue) → IsBelow (comparing held) next → (edge : Option StateValue) → IfSome edge (λ a. IsBelow a (comparing held)) → IsCoveredIfAny edge (Some next)
+  edge_covered transitive next less None h = tt
+  edge_covered transitive next less (Some a) h = transitive a (comparing held) next h less
+
+  edges_covered : BelowIsTransitive → (next : StateValue) → IsBelow (comparing held) next → (r : Result Edges Cause) → IsOk r → IfOk r (λ edges. AreEdgesBelow edges (comparing held)) → AreEdgesCovered r (Some (between held)) (Some next)
+  edges_covered transitive next less (Ok edges) ok h =
+      (edge_covered transitive (between held) (below_in_rules held tt tt tt) edges.taken h.taken, edge_covered transitive next less edges.not_taken h.not_taken)
+  edges_covered transitive next less (Err cause) ok h = cc
+
+  -- where a rule begins, an instruction does
+  begins : (sizes : Maps) (table : Knowledge) (slots : List (Option Insn)) (slot : ℕ) (a : Option StateValue) (insn : Option Insn)
+      → a ≡ Some (between held) → IsServedAt sizes table slots slot a insn → IsSome insn
+  begins sizes table slots slot None insn is h = cc
+  begins sizes table slots slot (Some a) None is h = absurd h
+  begins sizes table slots slot (Some a) (Some insn) is h = refl
+
+  one_more : (n : ℕ) → 1 + n ≡ suc n
+  one_more n = omega arith
+
+  -- a comparison that leads to the next rule
+  pub test_before : BelowIsTransitive → RefineShrinks → (sizes : Maps) (next : StateValue) → IsBelow (comparing held) next → (behind : ℕ) (slots : List (Option Insn)) (condition : Condition) (dst : ℕ) (src : Operand)
+      → IsWhole (comparing held) → IsOk (refined_edges (comparing held) condition Bits64 dst src)
+      → IsJustifiedTo sizes next behind slots → IsJustifiedTo sizes (comparing held) (suc behind) (Some (skips_if condition dst src behind) ∷ slots)
+  test_before transitive shrinks sizes next less behind slots condition dst src whole ok rest =
+      let insn : Insn = skips_if condition dst src behind in
+      let table : Knowledge = before (Some (comparing held)) rest.table in
+      let edges : Result Edges Cause = refined_edges (comparing held) condition Bits64 dst src in
+      let taken : table (1 + behind) ≡ Some (between held) = ap (λ (k : ℕ). table k) (one_more behind) ∙ rest.further in
+      let both : AreEdgesCovered edges (Some (between held)) (Some next) = edges_covered transitive next less edges ok (shrinks (comparing held) condition Bits64 dst src) in
+      let at_target : AreEdgesCovered edges (table (1 + behind)) (Some next) = subst (λ (o : Option StateValue). AreEdgesCovered edges o (Some next)) (sym taken) both in
+      let there : IsSome (slice_index_or (Some insn ∷ slots) (1 + behind) None) =
+      subst (λ (k : ℕ). IsSome (slice_index_or (Some insn ∷ slots) k None)) (sym (one_more behind))
+      (begins sizes rest.table slots behind (rest.table behind) (slice_index_or slots behind None) rest.further (rest.served behind)) in
+      let here : IsServedAt sizes table (Some insn ∷ slots) 0 (Some (comparing held)) (Some insn) = record {
+        whole = whole;
+        permitted = subst (λ (o : Option StateValue). AreEdgesCovered edges (table (1 + behind)) o) (sym rest.here) at_target;
+        supported = tt;
+        leaves_frame = tt;
+        lands = there;
+      } in
+      record {
+        table = table;
+        served = serve_before sizes rest.table slots (Some (comparing held)) (Some insn) here rest.served;
+        ended = ended_before slots (Some insn) Exit rest.ended;
+        here = refl;
+        further = rest.further;
+      }
+
+  -- ---- a ticket
+
+  pub call_before : BelowIsReflexive → (sizes : Maps) (map cell behind : ℕ) (slots : List (Option Insn)) → IsWhole (drawing held map cell) → cell < slice_index sizes.cells map → kind_of_map sizes map ≡ Counter
+      → IsJustifiedTo sizes (comparing held) behind slots → IsJustifiedTo sizes (drawing held map cell) (suc behind) (Some (Call callees.Helper (pos (helper_number Ticket))) ∷ slots)
+  call_before reflexive sizes map cell behind slots whole inside counter rest =
+      one_before sizes (drawing held map cell) (comparing held) behind (Some (between held)) slots whole (Call callees.Helper (pos (helper_number Ticket)))
+      (λ table is. (record { cell = inside; given = λ takes. absurd cc; kind = rw counter refl }, subst (λ (o : Option StateValue). IsCovered (comparing held) o) (sym is) (reflexive (comparing held))))
+      refl tt refl rest
+
+  -- the load of a map has two slots
+  pub map_before : BelowIsReflexive → (sizes : Maps) (map behind : ℕ) (slots : List (Option Insn)) → IsWhole (between held) → IsTrue (is_map sizes (pos map)) → map_kind (pos map) ≡ Map map
+      → IsJustifiedTo sizes (mapped held map) behind slots → IsJustifiedTo sizes (between held) (suc (suc behind)) (Some (LoadMap 1 (pos map)) ∷ None ∷ slots)
+  map_before reflexive sizes map behind slots whole exists small rest =
+      let insn : Insn = LoadMap 1 (pos map) in
+      let later : Knowledge = before None rest.table in
+      let table : Knowledge = before (Some (between held)) later in
+      let loaded_map : IsBelow (with_kind (between held) 1 (map_kind (pos map))) (mapped held map) =
+      subst (λ (kind : AbsKind). IsBelow (with_kind (between held) 1 kind) (mapped held map)) (sym small) (reflexive (mapped held map)) in
+      let second : AreServed sizes later (None ∷ slots) = serve_before sizes rest.table slots None None tt rest.served in
+      let here : IsServedAt sizes table (Some insn ∷ None ∷ slots) 0 (Some (between held)) (Some insn) = record {
+        whole = whole;
+        permitted = (exists, subst (λ (o : Option StateValue). IsCovered (with_kind (between held) 1 (map_kind (pos map))) o) (sym rest.here) loaded_map);
+        supported = tt;
+        leaves_frame = eqb-false 1 10 refl;
+        lands = tt;
+      } in
+      record {
+        table = table;
+        served = serve_before sizes later (None ∷ slots) (Some (between held)) (Some insn) here second;
+        ended = ended_before (None ∷ slots) (Some insn) Exit (ended_before slots None Exit rest.ended);
+        here = refl;
+        further = rest.further;
+      }
+
+  -- ---- the end of a run
+
+  ends_here : (sizes : Maps) (table : Knowledge) (slots : List (Option Insn)) → IsWhole (comparing held) → AreServed sizes table slots → AreServed sizes (before (Some (comparing held)) table) (Some Exit ∷ slots)
+  ends_here sizes table slots whole rest =
+      serve_before sizes table slots (Some (comparing held)) (Some Exit)
+      (record { whole = whole; permitted = tt; supported = tt; leaves_frame = tt; lands = tt }) rest
+
+  pub exit_before : (sizes : Maps) (behind : ℕ) (slots : List (Option Insn)) → IsWhole (comparing held) → IsJustifiedTo sizes (between held) behind slots → IsJustifiedTo sizes (comparing held) (suc behind) (Some Exit ∷ slots)
+  exit_before sizes behind slots whole rest = record {
+    table = before (Some (comparing held)) rest.table;
+    served = ends_here sizes rest.table slots whole rest.served;
+    ended = ended_before slots (Some Exit) Exit rest.ended;
+    here = refl;
+    further = rest.further;
+  }
+
+  -- the last instruction of a table
+  pub last_exit : (sizes : Maps) → IsWhole (comparing held) → IsJustifiedFrom sizes (comparing held) 1 None (Some Exit ∷ [])
+  unfolding none_known
+  last_exit sizes whole = record {
+    table = before (Some (comparing held)) none_known;
+    served = ends_here sizes none_known [] whole (none_served sizes);
+    ended = record { last = 0; long = refl; at = refl };
+    here = refl;
+    further = refl;
+  }

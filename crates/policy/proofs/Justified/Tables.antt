@@ -1,6 +1,6 @@
 -- Compiled tables are justified: test by test from the end of a rule, the rules from the last, and what comes before
 -- them.
-use Rattle.std.specs.Prelude.{◌++◌, nat_lt, pos, negsuc, ℤ, IsOk, IfSome, Result, Ok, if◌then◌else◌, slice_index_or, All}
+use Rattle.std.specs.Prelude.{◌++◌, nat_lt, is_some, pos, negsuc, ℤ, IsOk, IfSome, Result, Ok, if◌then◌else◌, slice_index_or, All}
 use Rattle.std.specs.Int.{w32, cast_signed}
 use Rattle.std.specs.List.{flat_map}
 use Rattle.std.proofs.Common.{◌≡◌, ◌<◌, ◌≤◌, ◌+◌, ◌-◌, ◌^◌, ℕ, suc, Bool, true, false, List, [], ◌∷◌, length, Option, Some, None, refl, sym, ap, ◌∙◌, subst, arith, inl, append_assoc}
@@ -38,20 +38,22 @@ use Rattle.bver_form.specs.Support.{IsSupported}
 use Rattle.bver_form.specs.Jumps.{IsJump, jump_distance}
 use Rattle.bver_form.specs.Loops.{IsLoopFormed}
 use Rattle.bver.specs.Justified.{IsCovered, IsHead, IsJustified, IsPermittedAt, IsResultCovered}
-use Rattle.policy.specs.Code.{address_code, behind_extended, behind_initiator, behind_key, behind_kind, behind_range, field_slots, field_test, kind_slots, kind_test, last_address_code, masked_test, quota_slots, quota_test, range_test, rule_code, rules_code, set_to_bits, skips_if, verdict_code}
+use Rattle.policy.specs.Code.{address_code, asks_ports, behind_extended, behind_initiator, behind_key, behind_kind, behind_range, field_slots, field_test, keep_code, kind_slots, kind_test, last_address_code, masked_test, port_test, quota_slots, quota_test, range_test, rule_code, rule_slots, rules_code, set_to_bits, skips_if, verdict_code}
 use Rattle.rmap.specs.Verdict.{verdict_number}
-use Rattle.policy_table.specs.FirstFault.{compile_fault, quota_fault, rules_fault}
+use Rattle.policy_table.specs.FirstFault.{quota_fault}
 use Rattle.policy_table.specs.Limits.{FitsFields, IsLimited}
-use Rattle.policy.specs.Meant.{table_program}
+use Rattle.policy.specs.Meant.{HaveCells, table_program}
+use Rattle.policy_table.specs.Ports.{FitsPort}
+use Rattle.policy_table.specs.declared.port_rules.PortRule.{PortRule}
 use Rattle.policy_table.specs.declared.rules.Quota.{Quota}
 use Rattle.policy_table.specs.declared.rules.Rule.{Rule}
 use Rattle.policy_table.specs.declared.rules.RuleKind.{RuleKind}
 use Rattle.policy_table.specs.declared.rules.RuleKind.TheVariants.{Read, Write, Rmw, Any}
-use Rattle.policy.proofs.Compiling.{in_turn}
-use Rattle.policy.proofs.Refused.{no_faults, no_rules_fault, quota_inside}
-use Rattle.policy.proofs.Justified.Known.{below, below_in_rules, between, comparing, drawing, entry, entry_below, front, is_entry, known, mapped, moved_number, moved_same, number, proper_front, proper_number, proper_tail, same_front, same_number, same_tail, tail, whole, whole_in_rules}
+use Rattle.policy.proofs.Compiling.{first_asks, in_turn, later_asks}
+use Rattle.policy.proofs.Refused.{quota_inside}
+use Rattle.policy.proofs.Justified.Known.{below, below_in_rules, between, comparing, drawing, entered, entry, entry_below, frame, front, is_entry, kept_below, known, mapped, moved_number, moved_same, number, port_readable, proper_front, proper_number, proper_tail, same_front, same_number, same_tail, tail, whole, whole_entered, whole_in_rules}
 use Rattle.policy.proofs.Justified.Served.{IsEndedBy, IsServedAt, Knowledge, LandsIn}
-use Rattle.policy.proofs.Justified.Stretches.{IsJustifiedFrom, IsJustifiedTo, alu_before, begun, call_before, counted, exit_before, last_exit, load_before, map_before, swap_before, test_before}
+use Rattle.policy.proofs.Justified.Stretches.{IsJustifiedFrom, IsJustifiedTo, alu_before, begun, call_before, counted, exit_before, last_exit, load_before, map_before, port_before, store_before, swap_before, test_before}
 
 -- the laws of states that are needed
 pub record Laws : Type 0 where
@@ -62,54 +64,6 @@ pub record Laws : Type 0 where
 -- the slots of instructions
 abbrev slots_for : List Insn → List (Option Insn)
 slots_for insns = flat_map placed_slots insns
-
--- a stretch of instructions to the next rule, and to the end of the code
-abbrev IsStretch : (sizes : Maps) (first : StateValue) (behind : ℕ) (insns : List Insn) → Type 0
-IsStretch sizes first behind insns = IsJustifiedTo sizes first behind (slots_for insns)
-
-again : (sizes : Maps) (first : StateValue) (behind other : ℕ) (insns : List Insn) → behind ≡ other → IsStretch sizes first behind insns → IsStretch sizes first other insns
-again sizes first behind other insns same h = counted sizes first behind other (Some between) (slots_for insns) same h
-
--- ---- states
-
-whole_between : IsWhole between
-whole_between = whole_in_rules tt tt tt
-
-whole_comparing : IsWhole comparing
-whole_comparing = whole_in_rules proper_number tt tt
-
-whole_mapped : (map : ℕ) → IsWhole (mapped map)
-whole_mapped map = whole_in_rules tt tt tt
-
--- before the rules: what is given at entry, the first pointer kept, both, and the first address
-abbrev given : StateValue
-given = known Unset front tail Unset Unset Unset Unset
-
-abbrev halfway : StateValue
-halfway = known Unset Unset tail front Unset Unset Unset
-
-abbrev pointed : StateValue
-pointed = known Unset Unset Unset front tail Unset Unset
-
-abbrev addressed : StateValue
-addressed = known Unset Unset Unset front tail number Unset
-
-whole_given : IsWhole given
-whole_given = whole tt proper_front proper_tail tt tt tt tt
-
-whole_halfway : IsWhole halfway
-whole_halfway = whole tt tt proper_tail proper_front tt tt tt
-
-whole_pointed : IsWhole pointed
-whole_pointed = whole tt tt tt proper_front proper_tail tt tt
-
-whole_addressed : IsWhole addressed
-whole_addressed = whole tt tt tt proper_front proper_tail proper_number tt
-
-whole_drawing : (map cell : ℕ) → cell < 65536 → IsWhole (drawing map cell)
-whole_drawing map cell small =
-    let proper : IsProper (Num (single_range cell)) = record { in_order = omega arith; words = omega (arith, small) } in
-    whole_in_rules tt tt proper
 
 -- ---- tests
 
@@ -150,117 +104,183 @@ in_front rule rest =
     ap (λ (code : List Insn). code ++ rest) (in_turn rule)
     ∙ behind_all (kind_test rule.kind (behind_kind rule)) (field_test rule.key 6 3 (behind_key rule)) (field_test rule.initiator 7 0 (behind_initiator rule)) (field_test rule.extended 7 3 (behind_extended rule)) (range_test rule.low rule.high (behind_range rule)) (quota_test rule.quota 2) (verdict_code (verdict_number rule.verdict)) rest
 
-module _ (laws : Laws) (sizes : Maps) where
-  test : (behind : ℕ) (slots : List (Option Insn)) (condition : Condition) (dst : ℕ) (src : Operand) → IsOk (refined_edges comparing condition Bits64 dst src)
-      → IsJustifiedTo sizes between behind slots → IsJustifiedTo sizes comparing (suc behind) (Some (skips_if condition dst src behind) ∷ slots)
-  test behind slots condition dst src ok rest =
-      test_before laws.transitive laws.shrinks sizes between (below_in_rules tt tt tt) behind slots condition dst src whole_comparing ok rest
+-- where the port is kept on the stack, or not
+module _ (held : Bool) where
+  -- a stretch of instructions to the next rule, and to the end of the code
+  abbrev IsStretch : (sizes : Maps) (first : StateValue) (behind : ℕ) (insns : List Insn) → Type 0
+  IsStretch sizes first behind insns = IsJustifiedTo held sizes first behind (slots_for insns)
 
-  masked : (mask wanted behind : ℕ) (insns : List Insn) → IsStretch sizes between behind insns → IsStretch sizes between (behind + 3) (masked_test mask wanted behind ++ insns)
-  masked mask wanted behind insns rest =
-      let compared = test behind _ NotEqual 0 (Immediate (pos wanted)) refl rest in
-      let anded = alu_before sizes comparing comparing (suc behind) (Some between) _ whole_comparing And Bits64 0 (Immediate (pos mask)) refl (below_in_rules (masked_number mask) tt tt) compared in
-      let read = load_before sizes between comparing (suc (suc behind)) (Some between) _ whole_between LoadByte 0 6 2 refl (below_in_rules byte_number tt tt) anded in
-      again sizes between (suc (suc (suc behind))) (behind + 3) (masked_test mask wanted behind ++ insns) (omega arith) read
+  again : (sizes : Maps) (first : StateValue) (behind other : ℕ) (insns : List Insn) → behind ≡ other → IsStretch sizes first behind insns → IsStretch sizes first other insns
+  again sizes first behind other insns same h = counted sizes first behind other (Some (between held)) (slots_for insns) same h
 
-  kind_stretch : (kind : RuleKind) (behind : ℕ) (insns : List Insn) → IsStretch sizes between behind insns → IsStretch sizes between (behind + kind_slots kind) (kind_test kind behind ++ insns)
-  kind_stretch Any behind insns rest = again sizes between behind (behind + 0) insns (omega arith) rest
-  kind_stretch Read behind insns rest = masked 248 72 behind insns rest
-  kind_stretch Write behind insns rest = masked 224 96 behind insns rest
-  kind_stretch Rmw behind insns rest = masked 252 92 behind insns rest
+  -- ---- states
 
-  -- through a register from which a byte at the offset can be read
-  field_stretch : (field : Option ℕ) (base offset behind : ℕ) (insns : List Insn) → load_kind Forgets between LoadByte (kind_at between base) (pos offset) ≡ Ok (Num (0, 2 ^ 8 - 1))
-      → IsStretch sizes between behind insns → IsStretch sizes between (behind + field_slots field) (field_test field base offset behind ++ insns)
-  field_stretch None base offset behind insns readable rest = again sizes between behind (behind + 0) insns (omega arith) rest
-  field_stretch (Some wanted) base offset behind insns readable rest =
-      let compared = test behind _ NotEqual 0 (Immediate (pos wanted)) refl rest in
-      let covered : IsResultCovered (with_result between 0 (load_kind Forgets between LoadByte (kind_at between base) (pos offset))) (Some comparing) =
-      subst (λ (r : Result AbsKind Cause). IsResultCovered (with_result between 0 r) (Some comparing)) (sym readable) (below_in_rules byte_number tt tt) in
-      let read = load_before sizes between comparing (suc behind) (Some between) _ whole_between LoadByte 0 base offset refl covered compared in
-      again sizes between (suc (suc behind)) (behind + 2) (field_test (Some wanted) base offset behind ++ insns) (omega arith) read
+  whole_between : IsWhole (between held)
+  whole_between = whole_in_rules held tt tt tt
 
-  -- r0 is set to a number
-  set_stretch : (width : Width) (value : ℤ) (behind : ℕ) (there : Option StateValue) (slots : List (Option Insn)) → word value < 2 ^ 64
-      → IsJustifiedFrom sizes comparing behind there slots → IsJustifiedFrom sizes between (suc behind) there (Some (Alu Mov width 0 (Immediate value)) ∷ slots)
-  set_stretch width value behind there slots small rest =
-      alu_before sizes between comparing behind there slots whole_between Mov width 0 (Immediate value) refl (below_in_rules (moved_number width (word value) small) tt tt) rest
+  whole_comparing : IsWhole (comparing held)
+  whole_comparing = whole_in_rules held proper_number tt tt
 
-  -- a comparison of an address with it
-  limit_stretch : (limit behind skipped : ℕ) (insns : List Insn) (condition : Condition) (dst : ℕ) → limit < 2 ^ 32 → skipped ≡ behind
-      → IsOk (refined_edges comparing condition Bits64 dst (FromRegister 0))
-      → IsStretch sizes between behind insns → IsStretch sizes between (behind + 2) (set_to_bits 0 limit ∷ skips_if condition dst (FromRegister 0) skipped ∷ insns)
-  limit_stretch limit behind skipped insns condition dst small same ok rest =
-      let compared = test skipped _ condition dst (FromRegister 0) ok (again sizes between behind skipped insns (sym same) rest) in
-      let set = set_stretch Bits32 (cast_signed w32 limit) (suc skipped) (Some between) _ (small_bits (cast_signed w32 limit)) compared in
-      again sizes between (suc (suc skipped)) (behind + 2) (set_to_bits 0 limit ∷ skips_if condition dst (FromRegister 0) skipped ∷ insns) (omega (arith, same)) set
+  whole_mapped : (map : ℕ) → IsWhole (mapped held map)
+  whole_mapped map = whole_in_rules held tt tt tt
 
-  range_stretch : (low high behind : ℕ) (insns : List Insn) → low < 2 ^ 32 → high < 2 ^ 32
-      → IsStretch sizes between behind insns → IsStretch sizes between (behind + 4) (range_test low high behind ++ insns)
-  range_stretch low high behind insns small_low small_high rest =
-      let above = limit_stretch high behind behind insns Greater 9 small_high refl refl rest in
-      let both = limit_stretch low (behind + 2) (behind + 2) (set_to_bits 0 high ∷ skips_if Greater 9 (FromRegister 0) behind ∷ insns) Less 8 small_low refl refl above in
-      again sizes between (behind + 2 + 2) (behind + 4) (range_test low high behind ++ insns) (omega arith) both
+  -- before the rules: what is given at entry, the first pointer kept, both, and the first address
+  abbrev given : StateValue
+  given = known held Unset front tail Unset Unset Unset Unset
 
-  -- a ticket of a cell that there is
-  quota_stretch : (quota : Option Quota) (insns : List Insn) → IsLimited quota → quota_fault sizes quota ≡ None
-      → IsStretch sizes between 2 insns → IsStretch sizes between (2 + quota_slots quota) (quota_test quota 2 ++ insns)
-  quota_stretch None insns limited none rest = rest
-  quota_stretch (Some quota) insns limited none rest =
-      let both = quota_inside sizes quota none in
-      let inside : IsInside sizes quota.map quota.cell = both.0 in
-      let same : word (pos quota.cell) ≡ quota.cell = omega (arith, limited.1) in
-      let small : map_kind (pos quota.map) ≡ Map quota.map = map_small quota.map (nat_lt quota.map 256) (lt-ltb quota.map 256 limited.0) in
-      let compared = test 2 _ GreaterEqual 0 (Immediate (pos quota.limit)) refl rest in
-      let drawn = call_before laws.reflexive sizes quota.map quota.cell 3 _ (whole_drawing quota.map quota.cell limited.1) inside.key_exists both.1 compared in
-      let set = alu_before sizes (mapped quota.map) (drawing quota.map quota.cell) 4 (Some between) _ (whole_mapped quota.map) Mov Bits64 2 (Immediate (pos quota.cell)) refl
-      (below_in_rules tt refl (moved_same (word (pos quota.cell)) quota.cell same)) drawn in
-      map_before laws.reflexive sizes quota.map 5 _ whole_between (lt-ltb quota.map (length sizes.cells) inside.map_exists) small set
+  abbrev halfway : StateValue
+  halfway = known held Unset Unset tail front Unset Unset Unset
 
-  verdict_stretch : (code : ℕ) (insns : List Insn) → IsStretch sizes between 0 insns → IsStretch sizes between 2 (verdict_code code ++ insns)
-  verdict_stretch code insns rest =
-      set_stretch Bits64 (pos code) 1 (Some between) _ (small_bits (pos code)) (exit_before sizes 0 (slots_for insns) whole_comparing rest)
+  abbrev pointed : StateValue
+  pointed = known held Unset Unset Unset front tail Unset Unset
 
-  -- ---- rules
+  abbrev addressed : StateValue
+  addressed = known held Unset Unset Unset front tail number Unset
 
-  rule_stretch : (rule : Rule) (insns : List Insn) → FitsFields rule → quota_fault sizes rule.quota ≡ None
-      → IsStretch sizes between 0 insns → IsStretch sizes between 0 (rule_code rule ++ insns)
-  rule_stretch rule insns fits none rest =
-      let verdict = verdict_stretch (verdict_number rule.verdict) insns rest in
-      let quota = quota_stretch rule.quota _ fits.quota none verdict in
-      let range = range_stretch rule.low rule.high (behind_range rule) _ fits.low fits.high quota in
-      let extended = field_stretch rule.extended 7 3 (behind_extended rule) _ refl range in
-      let initiator = field_stretch rule.initiator 7 0 (behind_initiator rule) _ refl extended in
-      let key = field_stretch rule.key 6 3 (behind_key rule) _ refl initiator in
-      let kind = kind_stretch rule.kind (behind_kind rule) _ key in
-      let first = begun sizes (behind_kind rule + kind_slots rule.kind) (Some between) _ kind in
-      subst (λ (code : List Insn). IsStretch sizes between 0 code) (sym (in_front rule insns)) first
+  whole_given : IsWhole given
+  whole_given = whole held tt proper_front proper_tail tt tt tt tt
 
-  rules_stretch : (rules : List Rule) → All FitsFields rules → rules_fault sizes rules ≡ None → IsStretch sizes between 0 (rules_code rules)
-  rules_stretch [] fits none = begun sizes 2 None _ (set_stretch Bits64 (pos 10) 1 None _ (small_bits (pos 10)) (last_exit sizes whole_comparing))
-  rules_stretch (rule ∷ rules) fits none =
-      let parts = no_faults sizes rule rules none in
-      rule_stretch rule (rules_code rules) (All-head FitsFields rule rules fits) parts.0
-      (rules_stretch rules (All-tail FitsFields rule rules fits) parts.1)
+  whole_halfway : IsWhole halfway
+  whole_halfway = whole held tt tt proper_tail proper_front tt tt tt
 
-  -- ---- before the rules
+  whole_pointed : IsWhole pointed
+  whole_pointed = whole held tt tt tt proper_front proper_tail tt tt
 
-  table_stretch : (insns : List Insn) → IsStretch sizes between 0 insns → IsStretch sizes given 14 (address_code ++ last_address_code ++ insns)
-  table_stretch insns rest =
-      let less_one = alu_before sizes between between 0 (Some between) _ whole_between Sub Bits64 9 (Immediate (pos 1)) refl (below_in_rules tt tt tt) rest in
-      let sum = alu_before sizes comparing between 1 (Some between) _ whole_comparing Add Bits64 9 (FromRegister 0) refl (below_in_rules tt tt tt) less_one in
-      let has_length = test_before laws.transitive laws.shrinks sizes comparing (laws.reflexive comparing) 2 _ Equal 0 (Immediate (pos 0)) whole_comparing refl sum in
-      let shifted = alu_before sizes comparing comparing 3 (Some between) _ whole_comparing Rsh Bits64 0 (Immediate (pos 8)) refl (below_in_rules shifted_number tt tt) has_length in
-      let turned = swap_before sizes comparing comparing 4 (Some between) _ whole_comparing 0 refl (below_in_rules word_number tt tt) shifted in
-      let length_read = load_before sizes between comparing 5 (Some between) _ whole_between LoadWord 0 7 8 refl (below_in_rules word_number tt tt) turned in
-      let increments = test 6 _ Equal 0 (Immediate (pos 0)) refl length_read in
-      let anded = alu_before sizes comparing comparing 7 (Some between) _ whole_comparing And Bits64 0 (Immediate (pos 4)) refl (below_in_rules (masked_number 4) tt tt) increments in
-      let instruction = load_before sizes between comparing 8 (Some between) _ whole_between LoadByte 0 6 2 refl (below_in_rules byte_number tt tt) anded in
-      let last_address = alu_before sizes addressed between 9 (Some between) _ whole_addressed Mov Bits64 9 (FromRegister 8) refl (below tt tt tt same_front same_tail same_number same_number) instruction in
-      let address_turned = swap_before sizes addressed addressed 10 (Some between) _ whole_addressed 8 refl (below tt tt tt same_front same_tail word_number tt) last_address in
-      let address = load_before sizes pointed addressed 11 (Some between) _ whole_pointed LoadWord 8 7 4 refl (below tt tt tt same_front same_tail word_number tt) address_turned in
-      let to_tail = alu_before sizes halfway pointed 12 (Some between) _ whole_halfway Mov Bits64 7 (FromRegister 2) refl (below tt tt tt same_front same_tail tt tt) address in
-      alu_before sizes given halfway 13 (Some between) _ whole_given Mov Bits64 6 (FromRegister 1) refl (below tt tt same_tail same_front tt tt tt) to_tail
+  whole_addressed : IsWhole addressed
+  whole_addressed = whole held tt tt tt proper_front proper_tail proper_number tt
+
+  whole_drawing : (map cell : ℕ) → cell < 65536 → IsWhole (drawing held map cell)
+  whole_drawing map cell small =
+      let proper : IsProper (Num (single_range cell)) = record { in_order = omega arith; words = omega (arith, small) } in
+      whole_in_rules held tt tt proper
+
+  module _ (laws : Laws) (sizes : Maps) where
+    test : (behind : ℕ) (slots : List (Option Insn)) (condition : Condition) (dst : ℕ) (src : Operand) → IsOk (refined_edges (comparing held) condition Bits64 dst src)
+        → IsJustifiedTo held sizes (between held) behind slots → IsJustifiedTo held sizes (comparing held) (suc behind) (Some (skips_if condition dst src behind) ∷ slots)
+    test behind slots condition dst src ok rest =
+        test_before held laws.transitive laws.shrinks sizes (between held) (below_in_rules held tt tt tt) behind slots condition dst src whole_comparing ok rest
+
+    masked : (mask wanted behind : ℕ) (insns : List Insn) → IsStretch sizes (between held) behind insns → IsStretch sizes (between held) (behind + 3) (masked_test mask wanted behind ++ insns)
+    masked mask wanted behind insns rest =
+        let compared = test behind _ NotEqual 0 (Immediate (pos wanted)) refl rest in
+        let anded = alu_before sizes (comparing held) (comparing held) (suc behind) (Some (between held)) _ whole_comparing And Bits64 0 (Immediate (pos mask)) refl (below_in_rules held (masked_number mask) tt tt) compared in
+        let read = load_before sizes (between held) (comparing held) (suc (suc behind)) (Some (between held)) _ whole_between LoadByte 0 6 2 refl (below_in_rules held byte_number tt tt) anded in
+        again sizes (between held) (suc (suc (suc behind))) (behind + 3) (masked_test mask wanted behind ++ insns) (omega arith) read
+
+    kind_stretch : (kind : RuleKind) (behind : ℕ) (insns : List Insn) → IsStretch sizes (between held) behind insns → IsStretch sizes (between held) (behind + kind_slots kind) (kind_test kind behind ++ insns)
+    kind_stretch Any behind insns rest = again sizes (between held) behind (behind + 0) insns (omega arith) rest
+    kind_stretch Read behind insns rest = masked 248 72 behind insns rest
+    kind_stretch Write behind insns rest = masked 224 96 behind insns rest
+    kind_stretch Rmw behind insns rest = masked 252 92 behind insns rest
+
+    -- through a register from which a byte at the offset can be read
+    field_stretch : (field : Option ℕ) (base offset behind : ℕ) (insns : List Insn) → load_kind Forgets (between held) LoadByte (kind_at (between held) base) (pos offset) ≡ Ok (Num (0, 2 ^ 8 - 1))
+        → IsStretch sizes (between held) behind insns → IsStretch sizes (between held) (behind + field_slots field) (field_test field base offset behind ++ insns)
+    field_stretch None base offset behind insns readable rest = again sizes (between held) behind (behind + 0) insns (omega arith) rest
+    field_stretch (Some wanted) base offset behind insns readable rest =
+        let compared = test behind _ NotEqual 0 (Immediate (pos wanted)) refl rest in
+        let covered : IsResultCovered (with_result (between held) 0 (load_kind Forgets (between held) LoadByte (kind_at (between held) base) (pos offset))) (Some (comparing held)) =
+        subst (λ (r : Result AbsKind Cause). IsResultCovered (with_result (between held) 0 r) (Some (comparing held))) (sym readable) (below_in_rules held byte_number tt tt) in
+        let read = load_before sizes (between held) (comparing held) (suc behind) (Some (between held)) _ whole_between LoadByte 0 base offset refl covered compared in
+        again sizes (between held) (suc (suc behind)) (behind + 2) (field_test (Some wanted) base offset behind ++ insns) (omega arith) read
+
+    -- r0 is set to a number
+    set_stretch : (width : Width) (value : ℤ) (behind : ℕ) (there : Option StateValue) (slots : List (Option Insn)) → word value < 2 ^ 64
+        → IsJustifiedFrom sizes (comparing held) behind there slots → IsJustifiedFrom sizes (between held) (suc behind) there (Some (Alu Mov width 0 (Immediate value)) ∷ slots)
+    set_stretch width value behind there slots small rest =
+        alu_before sizes (between held) (comparing held) behind there slots whole_between Mov width 0 (Immediate value) refl (below_in_rules held (moved_number width (word value) small) tt tt) rest
+
+    -- a comparison of an address with it
+    limit_stretch : (limit behind skipped : ℕ) (insns : List Insn) (condition : Condition) (dst : ℕ) → limit < 2 ^ 32 → skipped ≡ behind
+        → IsOk (refined_edges (comparing held) condition Bits64 dst (FromRegister 0))
+        → IsStretch sizes (between held) behind insns → IsStretch sizes (between held) (behind + 2) (set_to_bits 0 limit ∷ skips_if condition dst (FromRegister 0) skipped ∷ insns)
+    limit_stretch limit behind skipped insns condition dst small same ok rest =
+        let compared = test skipped _ condition dst (FromRegister 0) ok (again sizes (between held) behind skipped insns (sym same) rest) in
+        let set = set_stretch Bits32 (cast_signed w32 limit) (suc skipped) (Some (between held)) _ (small_bits (cast_signed w32 limit)) compared in
+        again sizes (between held) (suc (suc skipped)) (behind + 2) (set_to_bits 0 limit ∷ skips_if condition dst (FromRegister 0) skipped ∷ insns) (omega (arith, same)) set
+
+    range_stretch : (low high behind : ℕ) (insns : List Insn) → low < 2 ^ 32 → high < 2 ^ 32
+        → IsStretch sizes (between held) behind insns → IsStretch sizes (between held) (behind + 4) (range_test low high behind ++ insns)
+    range_stretch low high behind insns small_low small_high rest =
+        let above = limit_stretch high behind behind insns Greater 9 small_high refl refl rest in
+        let both = limit_stretch low (behind + 2) (behind + 2) (set_to_bits 0 high ∷ skips_if Greater 9 (FromRegister 0) behind ∷ insns) Less 8 small_low refl refl above in
+        again sizes (between held) (behind + 2 + 2) (behind + 4) (range_test low high behind ++ insns) (omega arith) both
+
+    -- a ticket of a cell that there is
+    quota_stretch : (quota : Option Quota) (insns : List Insn) → IsLimited quota → quota_fault sizes quota ≡ None
+        → IsStretch sizes (between held) 2 insns → IsStretch sizes (between held) (2 + quota_slots quota) (quota_test quota 2 ++ insns)
+    quota_stretch None insns limited none rest = rest
+    quota_stretch (Some quota) insns limited none rest =
+        let both = quota_inside sizes quota none in
+        let inside : IsInside sizes quota.map quota.cell = both.0 in
+        let same : word (pos quota.cell) ≡ quota.cell = omega (arith, limited.1) in
+        let small : map_kind (pos quota.map) ≡ Map quota.map = map_small quota.map (nat_lt quota.map 256) (lt-ltb quota.map 256 limited.0) in
+        let compared = test 2 _ GreaterEqual 0 (Immediate (pos quota.limit)) refl rest in
+        let drawn = call_before held laws.reflexive sizes quota.map quota.cell 3 _ (whole_drawing quota.map quota.cell limited.1) inside.key_exists both.1 compared in
+        let set = alu_before sizes (mapped held quota.map) (drawing held quota.map quota.cell) 4 (Some (between held)) _ (whole_mapped quota.map) Mov Bits64 2 (Immediate (pos quota.cell)) refl
+        (below_in_rules held tt refl (moved_same (word (pos quota.cell)) quota.cell same)) drawn in
+        map_before held laws.reflexive sizes quota.map 5 _ whole_between (lt-ltb quota.map (length sizes.cells) inside.map_exists) small set
+
+    verdict_stretch : (code : ℕ) (insns : List Insn) → IsStretch sizes (between held) 0 insns → IsStretch sizes (between held) 2 (verdict_code code ++ insns)
+    verdict_stretch code insns rest =
+        set_stretch Bits64 (pos code) 1 (Some (between held)) _ (small_bits (pos code)) (exit_before held sizes 0 (slots_for insns) whole_comparing rest)
+
+    -- ---- rules
+
+    -- to the next rule
+    rule_reach : (rule : Rule) (insns : List Insn) → FitsFields rule → quota_fault sizes rule.quota ≡ None
+        → IsStretch sizes (between held) 0 insns → IsStretch sizes (between held) (rule_slots rule) (rule_code rule ++ insns)
+    rule_reach rule insns fits none rest =
+        let verdict = verdict_stretch (verdict_number rule.verdict) insns rest in
+        let quota = quota_stretch rule.quota _ fits.quota none verdict in
+        let range = range_stretch rule.low rule.high (behind_range rule) _ fits.low fits.high quota in
+        let extended = field_stretch rule.extended 7 3 (behind_extended rule) _ refl range in
+        let initiator = field_stretch rule.initiator 7 0 (behind_initiator rule) _ refl extended in
+        let key = field_stretch rule.key 6 3 (behind_key rule) _ refl initiator in
+        let kind = kind_stretch rule.kind (behind_kind rule) _ key in
+        again sizes (between held) (behind_kind rule + kind_slots rule.kind) (rule_slots rule) (rule_code rule ++ insns) (omega arith)
+        (subst (λ (code : List Insn). IsStretch sizes (between held) (behind_kind rule + kind_slots rule.kind) code) (sym (in_front rule insns)) kind)
+
+    -- the port of a rule, which is kept where there is one
+    port_stretch : (field : Option ℕ) (behind : ℕ) (insns : List Insn) → (is_some field ≡ true → held ≡ true)
+        → IsStretch sizes (between held) behind insns → IsStretch sizes (between held) (behind + field_slots field) (port_test field behind ++ insns)
+    port_stretch None behind insns asked rest = again sizes (between held) behind (behind + 0) insns (omega arith) rest
+    port_stretch (Some wanted) behind insns asked rest =
+        let compared = test behind _ NotEqual 0 (Immediate (pos wanted)) refl rest in
+        let covered : IsResultCovered (with_result (between held) 0 (load_kind Forgets (between held) LoadByte frame (negsuc 0))) (Some (comparing held)) =
+        subst (λ (r : Result AbsKind Cause). IsResultCovered (with_result (between held) 0 r) (Some (comparing held))) (sym (port_readable held (asked refl))) (below_in_rules held byte_number tt tt) in
+        let read = port_before sizes (between held) (comparing held) (suc behind) (Some (between held)) _ whole_between covered compared in
+        again sizes (between held) (suc (suc behind)) (behind + 2) (port_test (Some wanted) behind ++ insns) (omega arith) read
+
+    rules_stretch : (rules : List PortRule) → (asks_ports rules ≡ true → held ≡ true) → All FitsPort rules → HaveCells sizes rules → IsStretch sizes (between held) 0 (rules_code rules)
+    rules_stretch [] asked fits cells = begun held sizes 2 None _ (set_stretch Bits64 (pos 10) 1 None _ (small_bits (pos 10)) (last_exit held sizes whole_comparing))
+    rules_stretch (own ∷ rules) asked fits cells =
+        let own_fits : FitsPort own = All-head FitsPort own rules fits in
+        let own_cell : quota_fault sizes own.rule.quota ≡ None = All-head (λ (r : PortRule). quota_fault sizes r.rule.quota ≡ None) own rules cells in
+        let later = rules_stretch rules (λ has. asked (later_asks (is_some own.port) (asks_ports rules) has)) (All-tail FitsPort own rules fits) (All-tail (λ (r : PortRule). quota_fault sizes r.rule.quota ≡ None) own rules cells) in
+        let rule = rule_reach own.rule (rules_code rules) own_fits.rule own_cell later in
+        let port = port_stretch own.port (rule_slots own.rule) (rule_code own.rule ++ rules_code rules) (λ has. asked (first_asks (is_some own.port) (asks_ports rules) has)) rule in
+        let first = begun held sizes (rule_slots own.rule + field_slots own.port) (Some (between held)) _ port in
+        subst (λ (code : List Insn). IsStretch sizes (between held) 0 code) (sym (append_assoc (port_test own.port (rule_slots own.rule)) (rule_code own.rule) (rules_code rules))) first
+
+    -- ---- before the rules
+
+    table_stretch : (insns : List Insn) → IsStretch sizes (between held) 0 insns → IsStretch sizes given 14 (address_code ++ last_address_code ++ insns)
+    table_stretch insns rest =
+        let less_one = alu_before sizes (between held) (between held) 0 (Some (between held)) _ whole_between Sub Bits64 9 (Immediate (pos 1)) refl (below_in_rules held tt tt tt) rest in
+        let sum = alu_before sizes (comparing held) (between held) 1 (Some (between held)) _ whole_comparing Add Bits64 9 (FromRegister 0) refl (below_in_rules held tt tt tt) less_one in
+        let has_length = test_before held laws.transitive laws.shrinks sizes (comparing held) (laws.reflexive (comparing held)) 2 _ Equal 0 (Immediate (pos 0)) whole_comparing refl sum in
+        let shifted = alu_before sizes (comparing held) (comparing held) 3 (Some (between held)) _ whole_comparing Rsh Bits64 0 (Immediate (pos 8)) refl (below_in_rules held shifted_number tt tt) has_length in
+        let turned = swap_before sizes (comparing held) (comparing held) 4 (Some (between held)) _ whole_comparing 0 refl (below_in_rules held word_number tt tt) shifted in
+        let length_read = load_before sizes (between held) (comparing held) 5 (Some (between held)) _ whole_between LoadWord 0 7 8 refl (below_in_rules held word_number tt tt) turned in
+        let increments = test 6 _ Equal 0 (Immediate (pos 0)) refl length_read in
+        let anded = alu_before sizes (comparing held) (comparing held) 7 (Some (between held)) _ whole_comparing And Bits64 0 (Immediate (pos 4)) refl (below_in_rules held (masked_number 4) tt tt) increments in
+        let instruction = load_before sizes (between held) (comparing held) 8 (Some (between held)) _ whole_between LoadByte 0 6 2 refl (below_in_rules held byte_number tt tt) anded in
+        let last_address = alu_before sizes addressed (between held) 9 (Some (between held)) _ whole_addressed Mov Bits64 9 (FromRegister 8) refl (below held tt tt tt same_front same_tail same_number same_number) instruction in
+        let address_turned = swap_before sizes addressed addressed 10 (Some (between held)) _ whole_addressed 8 refl (below held tt tt tt same_front same_tail word_number tt) last_address in
+        let address = load_before sizes pointed addressed 11 (Some (between held)) _ whole_pointed LoadWord 8 7 4 refl (below held tt tt tt same_front same_tail word_number tt) address_turned in
+        let to_tail = alu_before sizes halfway pointed 12 (Some (between held)) _ whole_halfway Mov Bits64 7 (FromRegister 2) refl (below held tt tt tt same_front same_tail tt tt) address in
+        alu_before sizes given halfway 13 (Some (between held)) _ whole_given Mov Bits64 6 (FromRegister 1) refl (below held tt tt same_tail same_front tt tt tt) to_tail
 
 -- ---- the whole
 
@@ -299,12 +319,24 @@ ended_at slots insn h =
     let same : length slots - 1 ≡ h.last = omega (arith, h.long) in
     ap (λ (k : ℕ). slice_index_or slots k None) same ∙ h.at
 
--- the program of a table without a fault, in the limits of the format and of its budget
-pub table_justified : Laws → (sizes : Maps) (rules : List Rule) (budget : ℕ) → All FitsFields rules → compile_fault sizes rules ≡ None
+-- the port is put on the stack first, where a rule asks it
+keep_stretch : (held : Bool) (laws : Laws) (sizes : Maps) (insns : List Insn) → IsStretch held sizes (given held) 14 insns
+    → (behind : ℕ) × IsJustifiedTo held sizes (entered held) behind (slots_for (keep_code held ++ insns))
+keep_stretch false laws sizes insns rest = (14, rest)
+keep_stretch true laws sizes insns rest =
+    (15, store_before sizes (entered true) (given true) 14 (Some (between true)) (slots_for insns) whole_entered kept_below rest)
+
+behind_keep : (a b c d : List Insn) → a ++ b ++ c ++ d ≡ a ++ (b ++ c ++ d)
+behind_keep a b c d = simp append_assoc
+
+-- the program of a table whose cells are there, in the limits of the format and of its budget
+pub table_justified : Laws → (sizes : Maps) (rules : List PortRule) (budget : ℕ) → All FitsPort rules → HaveCells sizes rules
     → IsProgram (table_program budget rules) → weight_of (table_program budget rules) ≤ budget → IsJustified (table_program budget rules) sizes
-table_justified laws sizes rules budget fits none limits light =
+table_justified laws sizes rules budget fits cells limits light =
     let p : Program = table_program budget rules in
-    let stretch : IsJustifiedTo sizes given 14 p.slots = table_stretch laws sizes (rules_code rules) (rules_stretch laws sizes rules fits (no_rules_fault sizes rules none)) in
+    let held : Bool = asks_ports rules in
+    let own = keep_stretch held laws sizes (address_code ++ last_address_code ++ rules_code rules) (table_stretch held laws sizes (rules_code rules) (rules_stretch held laws sizes rules (λ asked. asked) fits cells)) in
+    let stretch : IsJustifiedTo held sizes (entered held) own.0 p.slots = subst (λ (insns : List Insn). IsJustifiedTo held sizes (entered held) own.0 (slots_for insns)) (sym (behind_keep (keep_code held) address_code last_address_code (rules_code rules))) own.1 in
     record {
       limits = limits;
       formed = record {
@@ -314,7 +346,7 @@ table_justified laws sizes rules budget fits none limits light =
         within_budget = light;
       };
       table = stretch.table;
-      entered = record { known = entry; entry = is_entry; covered = subst (λ (o : Option StateValue). IsCovered entry o) (sym stretch.here) entry_below };
+      entered = record { known = entry; entry = is_entry; covered = subst (λ (o : Option StateValue). IsCovered entry o) (sym stretch.here) (entry_below held) };
       whole = λ slot. whole_at sizes stretch.table p.slots slot (stretch.table slot) (insn_at p slot) (stretch.served slot);
       permitted = λ slot. permitted_at sizes stretch.table p.slots slot (stretch.table slot) (insn_at p slot) (stretch.served slot);
       heads = All-nil (λ l. IfSome (stretch.table l.head) (IsHead p l));

@@ -14,8 +14,8 @@ use std::test::Fail;
 use test_kit_jobs::{folder_of, printed};
 
 /// The letters of codes, in the order in which they are listed.
-const KINDS: [&str; 10] = [
-    "V", "asm", "image", "insn", "line", "frame", "discard", "status", "load", "policy",
+const KINDS: [&str; 11] = [
+    "V", "asm", "image", "insn", "line", "frame", "discard", "status", "load", "policy", "node",
 ];
 
 /// The widest line that may be printed.
@@ -37,7 +37,8 @@ fn is_known(kind: &str, number: u8) -> bool {
                 || ImageFault::from_code(number.saturating_sub(32)).is_some()
                 || matches!(number, 65 | 66 | 67 | 71)
         }
-        _ => PolicyFault::from_code(number).is_some(),
+        "policy" => PolicyFault::from_code(number).is_some(),
+        _ => matches!(number, 1..=9),
     }
 }
 

@@ -41,7 +41,7 @@ fn held<'a>(
     let node = node_named(alloc, &["live", "--frames"])?;
     let mut folder = folder_of(alloc, &[]).ok()?;
     let mut wire = Wire::new(alloc, input, MOST, failing);
-    let done = live_frames(alloc, &node, &mut folder, &mut wire);
+    let done = live_frames(alloc, &node, &mut folder, &mut wire, &mut None);
     Some((wire, done))
 }
 
@@ -93,7 +93,7 @@ fn a_link_over_a_slice_and_a_vector(rt: HostRuntime) -> Result<(), Fail> {
     let node = node_named(alloc, &["live", "--frames"]).ok_or("no link")?;
     let mut folder = folder_of(alloc, &[]).map_err(|_| "no folder")?;
     let mut link = HostLink::new(&Deaf, input.as_slice(), Vec::new(alloc));
-    let done = live_frames(alloc, &node, &mut folder, &mut link);
+    let done = live_frames(alloc, &node, &mut folder, &mut link, &mut None);
     same(&rt, "the status", done, Ok(Status::Done));
     // A frame for a bridge, a packet that is none, and the journal.
     same(&rt, "what was not told", link.untold(), 3);

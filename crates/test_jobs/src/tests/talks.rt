@@ -109,7 +109,7 @@ fn held<'a>(
     let node = node_named(alloc, &["live", "--maps", "2"])?;
     let mut folder = folder_of(alloc, &[]).ok()?;
     let mut talk = Script::new(alloc, lines, failing);
-    let done = live(alloc, &node, &mut folder, &mut talk);
+    let done = live(alloc, &node, &mut folder, &mut talk, &mut None);
     Some((talk, done))
 }
 
@@ -170,7 +170,7 @@ fn each_answer_is_flushed(rt: HostRuntime) -> Result<(), Fail> {
     let node = node_named(alloc, &["live", "--maps", "2"]).ok_or("no talk")?;
     let mut folder = folder_of(alloc, &[]).map_err(|_| "no folder")?;
     let mut talk = HostTalk::new(lines.as_bytes(), output);
-    let done = live(alloc, &node, &mut folder, &mut talk);
+    let done = live(alloc, &node, &mut folder, &mut talk, &mut None);
     same(&rt, "the status", done, Ok(Status::Failed));
     let (output, _) = talk.into_output();
     same(&rt, "flushes", output.held.len(), LINES.len() + 1);

@@ -8,11 +8,16 @@ use std::alloc::Global;
 use std::test::Fail;
 use test_kit::{PlainNode, bank, program};
 
-/// Reads of the first bytes of the banks 0, 1 and 2, as packet lines.
-const READS: [&str; 3] = [
+/// Reads of the first bytes of the banks 0 to 7, as packet lines.
+const READS: [&str; 8] = [
     "0 FE014C0067000100A0000000000010C9 EOP",
     "0 FE014C0067000101A000000000001034 EOP",
     "0 FE014C0067000102A0000000000010F2 EOP",
+    "0 FE014C0067000103A00000000000100F EOP",
+    "0 FE014C0067000104A0000000000010BF EOP",
+    "0 FE014C0067000105A000000000001042 EOP",
+    "0 FE014C0067000106A000000000001084 EOP",
+    "0 FE014C0067000107A000000000001079 EOP",
 ];
 
 /// The ports of a bank's entries and their numbers, oldest first.
@@ -71,6 +76,29 @@ fn numbers_of_three_ports_at_three_banks(rt: HostRuntime) -> Result<(), Fail> {
             (k, entries(alloc, node.bank(k)?)?.as_slice()),
             (k, wanted),
         );
+    }
+    Ok(())
+}
+
+/// As many banks as a node may have: each leaves the entry of its own command, and no other.
+#[test]
+fn a_command_at_each_of_eight_banks(rt: HostRuntime) -> Result<(), Fail> {
+    let alloc = rt.alloc();
+    let eight = [bank(16); 8];
+    let mut node = PlainNode::new(alloc, 2, &eight, program(alloc, 0)?)?;
+    for last in 0..8u8 {
+        let line = READS[usize::from(last)];
+        let what = node.serve_line(1, line)?;
+        let first = Applied {
+            status: Status::Success,
+            number: Some(0),
+        };
+        same(&rt, line, what, Served::Done(first));
+        for k in 0..8u8 {
+            let found = entries(alloc, node.bank(k)?)?;
+            let wanted: &[(u8, u64)] = if k <= last { &[(1, 0)] } else { &[] };
+            same(&rt, "a bank", (k, found.as_slice()), (k, wanted));
+        }
     }
     Ok(())
 }

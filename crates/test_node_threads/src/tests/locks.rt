@@ -189,3 +189,78 @@ fn generated_commands<J: Family, R: Wait + Abort>(
     }
     Ok(())
 }
+
+/// Reads of the first bytes of the banks 0 to 7, as packet lines.
+const READS: [&str; 8] = [
+    "0 FE014C0067000100A0000000000010C9 EOP",
+    "0 FE014C0067000101A000000000001034 EOP",
+    "0 FE014C0067000102A0000000000010F2 EOP",
+    "0 FE014C0067000103A00000000000100F EOP",
+    "0 FE014C0067000104A0000000000010BF EOP",
+    "0 FE014C0067000105A000000000001042 EOP",
+    "0 FE014C0067000106A000000000001084 EOP",
+    "0 FE014C0067000107A000000000001079 EOP",
+];
+
+/// As many banks as a node may have: each leaves the entry of its own command, and no other.
+#[test]
+fn a_command_at_each_of_eight_banks(rt: HostRuntime) -> Result<(), Fail> {
+    eight_banks::<Brand, _>(&rt, rt.alloc(), Opened::new())
+}
+
+fn eight_banks<J: Family, R: Wait + Abort>(
+    rt: &R,
+    alloc: Global,
+    opened: Opened,
+) -> Result<(), Fail>
+    requires { opened ≡ J.book }
+{
+    let eight = [bank(16); 8];
+    let mut shared = LockedNode::<J, _>::new(rt, alloc, opened, 2, &eight, program(alloc, 0)?)?;
+    for last in 0..8u8 {
+        let line = READS[usize::from(last)];
+        let served = shared.serve_line(rt, 1, line)?;
+        let first = Applied {
+            status: Status::Success,
+            number: Some(0),
+        };
+        same(rt, line, served, Served::Done(first));
+        for k in 0..8u8 {
+            let found = shared.bank(k)?.lock(rt).entries().len();
+            same(rt, "a bank", (k, found), (k, usize::from(k <= last)));
+        }
+    }
+    Ok(())
+}
+
+/// Each of a hundred loads has the next generation, and the last program judges.
+#[test]
+fn a_hundred_loads_of_one_port(rt: HostRuntime) -> Result<(), Fail> {
+    hundred_loads::<Brand, _>(&rt, rt.alloc(), Opened::new())
+}
+
+fn hundred_loads<J: Family, R: Wait + Abort>(
+    rt: &R,
+    alloc: Global,
+    opened: Opened,
+) -> Result<(), Fail>
+    requires { opened ≡ J.book }
+{
+    let mut shared = two_banks::<J, _>(rt, alloc, opened)?;
+    let staged = shared.serve_line(rt, 0, STAGE)?;
+    same(rt, STAGE, staged, Served::Window(Status::Success));
+    for generation in 1..=100u8 {
+        let served = shared.serve_line(rt, 0, LOAD)?;
+        same(rt, LOAD, served, Served::Window(Status::Success));
+        let told = shared.staging(0)?.load_result();
+        same(
+            rt,
+            "the load result",
+            told,
+            [0, 0, 0, 0, 0, 0, 0, generation],
+        );
+    }
+    let found = shared.judged_by(1, PLAIN_WRITE)?;
+    same(rt, PLAIN_WRITE, found, (100, 0));
+    Ok(())
+}

@@ -209,7 +209,7 @@ fn served_by_two<J: Family + Send + Sync, R: Threads + Wait + Abort + Sync>(
     mut opened: Opened,
 ) -> Result<(), Fail>
     requires family { opened.0 ≡ J.book }
-    requires chains { opened.1 ≡ 41 }
+    requires chains { opened.1 ≡ 42 }
 {
     let knows_nothing = opened.front::<J>();
     let (first, a, b) = fresh(alloc)?;
@@ -218,7 +218,7 @@ fn served_by_two<J: Family + Send + Sync, R: Threads + Wait + Abort + Sync>(
         first: Mutex::new(Kept::new(0, first, &mut opened).ok_or("a chain")?),
         second: Mutex::new(Kept::new(1, second, &mut opened).ok_or("another chain")?),
     };
-    opened.skip(7);
+    opened.skip(8);
     let line = Line::new(0, &mut opened).ok_or("a line")?;
     let one = set_up(alloc, 0, knows_nothing.again(), line, a, c)?;
     let line = Line::new(1, &mut opened).ok_or("another line")?;

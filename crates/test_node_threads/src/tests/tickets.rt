@@ -65,7 +65,7 @@ fn status_of_read<J: Family, R: Wait + Drop>(
     pass: &mut Pass<J>,
     spare: &mut SpareBank,
 ) -> Option<u8>
-    ensures { maps_of pass.new.seat ≡ maps_of pass.old.seat }
+    ensures { maps_of pass.new.pass.seat ≡ maps_of pass.old.pass.seat }
 {
     let mut reply = ReplyBuf::new();
     let (_, sent) = read_line(alloc, PLAIN_READ).ok()?;
@@ -125,7 +125,7 @@ impl<J: Family> CountedPort<J> {
 
     /// Sends a read, and counts its reply.
     fn read<R: Wait + Drop>(&mut self, rt: &impl Wait, alloc: Global, node: &Node<J, R>)
-        ensures { maps_of self.new.pass.seat ≡ maps_of self.old.pass.seat }
+        ensures { maps_of self.new.pass.pass.seat ≡ maps_of self.old.pass.pass.seat }
     {
         let status = status_of_read(rt, alloc, node, &mut self.pass, &mut self.spare);
         self.replies.count(status);
@@ -133,7 +133,7 @@ impl<J: Family> CountedPort<J> {
 
     /// Takes the port apart.
     fn end(self) -> Left
-        ensures { maps_of (seat_of result.seat) ≡ maps_of self.pass.seat }
+        ensures { maps_of (seat_of result.seat) ≡ maps_of self.pass.pass.seat }
     {
         let CountedPort {
             pass,
@@ -154,7 +154,7 @@ fn read_all<J: Family, R: Wait + Drop>(
     node: &Node<J, R>,
     mut port: CountedPort<J>,
 ) -> Left
-    ensures { maps_of (seat_of result.seat) ≡ maps_of port.pass.seat }
+    ensures { maps_of (seat_of result.seat) ≡ maps_of port.pass.pass.seat }
 {
     for _read in 0..READS {
         port.read(rt, alloc, node);
@@ -170,7 +170,7 @@ fn read_in_turn<J: Family, R: Wait + Drop>(
     _cells: &Cells,
     mut ports: Vec<CountedPort<J>>,
 ) -> Result<Vec<Left>, Fail>
-    requires { All (λ port. IsAt _cells.now port.pass.seat) ports.items }
+    requires { All (λ port. IsAt _cells.now port.pass.pass.seat) ports.items }
     ensures { IfOk result (λ all. All (λ left. IsAt _cells.now (seat_of left.seat)) all.items) }
 {
     let mut second = ports.pop().ok_or("two ports")?;
@@ -245,7 +245,7 @@ fn made<J: Family, R: Wait + Drop>(
 ) -> Result<(Node<J, R>, Cells, Vec<CountedPort<J>>), Fail>
     requires { opened ≡ J.book }
     ensures cells { IfOk result (λ made. made.1.sizes ≡ factory.sizes) }
-    ensures ports { IfOk result (λ made. All (λ port. IsAt made.1 port.pass.seat) made.2.items) }
+    ensures ports { IfOk result (λ made. All (λ port. IsAt made.1 port.pass.pass.seat) made.2.items) }
 {
     let config = NodeConfig {
         address: 0xFE,
@@ -253,7 +253,7 @@ fn made<J: Family, R: Wait + Drop>(
         banks: &[bank(1024)],
         sizes: factory.sizes(),
     };
-    let (node, cells, passes) = Node::with_cells(alloc, rt, opened, &config, factory)?;
+    let (node, cells, passes, _line) = Node::with_cells(alloc, rt, opened, &config, factory)?;
     Ok((node, cells, counted_ports(alloc, passes)?))
 }
 

@@ -132,7 +132,7 @@ fn programs_are_made<J: Family, R: Wait + Abort>(
     begin(alloc)?;
     let made = Programs::new::<J, _>(alloc, rt, opened, factory, 2);
     end(alloc)?;
-    let Ok((_publisher, mut readers)) = made else {
+    let Ok((_publisher, mut readers, _line)) = made else {
         return Ok(false);
     };
     let mut reader = readers.pop().ok_or("two readers")?;

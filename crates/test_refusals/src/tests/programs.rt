@@ -144,14 +144,16 @@ fn installed<J: Family, R: Wait + Abort + Print>(
     requires { opened ≡ J.book }
 {
     let factory = accepted(alloc, "mov r0, 0; exit", 2, "")?;
-    let (mut publisher, mut readers) = Programs::new::<J, _>(alloc, rt, opened, factory, 1)?;
+    let (mut publisher, mut readers, mut line) = Programs::new::<J, _>(
+        alloc, rt, opened, factory, 1,
+    )?;
     let mut reader = readers.pop().ok_or("a reader")?;
     let mut generation = 0u32;
     for budget in 3..8u32 {
         let before = shown(alloc, &mut reader)?;
         let program = of_budget(alloc, &publisher.sizes(), budget)?;
         begin(alloc)?;
-        let published = publisher.install(1, program);
+        let published = publisher.install(&mut line, 1, program);
         end(alloc)?;
         match published {
             Ok(told) => {

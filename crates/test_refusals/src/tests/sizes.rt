@@ -18,7 +18,7 @@ use target::Pass;
 
 /// The parts, each with its bytes.
 const SIZES: &str = "\
-an entry of a journal: 72
+an entry of a journal: 80
 a packet without its bytes: 32
 an item of a queue: 40
 a bank: 128

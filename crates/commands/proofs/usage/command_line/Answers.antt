@@ -39,7 +39,9 @@ returns c =
     ∙ ap₂ with_subcommand with_live (ap (λ (a : App). a.top) c.in_ok-explain.ensures.shape) in
     let with_why = c.in_ok-subcommand-5.ensures.shape c.in_ok-why.ensures.local
     ∙ ap₂ with_subcommand with_explain (ap (λ (a : App). a.top) c.in_ok-why.ensures.shape) in
-    let with_weigh = c.in_ok-all.ensures.shape c.in_ok-weigh.ensures.local
+    let with_weigh = c.in_ok-subcommand-6.ensures.shape c.in_ok-weigh.ensures.local
     ∙ ap₂ with_subcommand with_why (ap (λ (a : App). a.top) c.in_ok-weigh.ensures.shape) in
-    let with_told = c.in_ok-told.ensures ∙ ap with_packet_jobs with_weigh in
+    let with_node = c.in_ok-all.ensures.shape c.in_ok-node.ensures.local
+    ∙ ap₂ with_subcommand with_weigh (ap (λ (a : App). a.top) c.in_ok-node.ensures.shape) in
+    let with_told = c.in_ok-told.ensures ∙ ap with_packet_jobs with_node in
     IfOk-weaker c.with_chart_jobs.result _ _ (λ m h. h ∙ ap with_chart_jobs with_told) c.with_chart_jobs.ensures

@@ -1,4 +1,4 @@
-use Rattle.std.proofs.Common.{◌<◌, ℕ, length, arith, rules}
+use Rattle.std.proofs.Common.{◌<◌, length, arith, rules}
 use Rattle.job_live.proofs.PutText.{more_put, none_put}
 use Rattle.job_live.proofs.putting.put_hex.Goals as goal
 

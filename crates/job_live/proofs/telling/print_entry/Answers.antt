@@ -1,19 +1,20 @@
-use Rattle.std.proofs.Common.{subst}
-use Rattle.std.proofs.KnownBytes.{Appends-trans}
+use Rattle.std.proofs.Common.{◌≡◌, ◌∙◌, List, ℕ, false, subst, sym, true}
 use Rattle.std.proofs.lemmas.Result.{on_ok_weaker}
 use Rattle.std.specs.Io.KnownBytes.{Appends}
-use Rattle.spw.specs.Cargo.{Cargo}
-use Rattle.job_live.specs.Telling.{packet_line}
-use Rattle.job_live.proofs.EntryLines.{own_words}
+use Rattle.bank.specs.Records.{is_whole}
+use Rattle.job_live.proofs.EntryLines.{line_by}
 use Rattle.job_live.proofs.telling.print_entry.Goals as goal
+
+pub returns-then-is_whole : goal.returns-then-is_whole
+returns-then-is_whole g c =
+    let old = g.W.Write.contents c.args.out.now in
+    let new = g.W.Write.contents c.print_whole.new.out in
+    let whole : is_whole c.args.entry.now ≡ true = sym c.is_whole.ensures ∙ c.if-is_whole.true in
+    on_ok_weaker c.print_whole.result (λ told. subst (λ (text : List ℕ). Appends old new text) (sym (line_by c.args.entry.now true whole)) told) c.print_whole.ensures
 
 pub returns : goal.returns
 returns g c =
     let old = g.W.Write.contents c.args.out.now in
-    let mid = g.W.Write.contents c.print_words.new.out in
-    let new = g.W.Write.contents c.print_packet.new.out in
-    let words = own_words old mid c.args.entry.now c.port.result c.number.result c.generation.result c.verdict.result c.code-status.result c.status.result
-    c.port.ensures c.number.ensures c.generation.ensures c.verdict.ensures c.code-status.ensures.value c.status.ensures c.in_ok-print_words.ensures in
-    on_ok_weaker c.print_packet.result
-    (λ told. Appends-trans old mid new _ _ words (subst (λ (p : Cargo). Appends mid new (packet_line p)) c.packet.ensures.value told))
-    c.print_packet.ensures
+    let new = g.W.Write.contents c.print_damaged.new.out in
+    let damaged : is_whole c.args.entry.now ≡ false = sym c.is_whole.ensures ∙ c.if-is_whole.false in
+    on_ok_weaker c.print_damaged.result (λ told. subst (λ (text : List ℕ). Appends old new text) (sym (line_by c.args.entry.now false damaged)) told) c.print_damaged.ensures

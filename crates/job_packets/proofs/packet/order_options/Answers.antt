@@ -9,11 +9,13 @@ returns-clause-shape c =
     let step0 = c.in_ok-arg.ensures.shape c.option-slot.ensures.local ∙ ap (with_rule (app_of c.args.command)) c.option-slot.ensures.rule in
     let step1 = c.in_ok-arg-2.ensures.shape c.flag-verify.ensures.local ∙ ap₂ with_rule step0 c.flag-verify.ensures.rule in
     let step2 = c.in_ok-arg-3.ensures.shape c.flag-no_reply.ensures.local ∙ ap₂ with_rule step1 c.flag-no_reply.ensures.rule in
-    IfOk-weaker c.arg-4.result _ _ (λ m h. h.shape c.flag-no_increment.ensures.local ∙ ap₂ with_rule step2 c.flag-no_increment.ensures.rule) c.arg-4.ensures
+    let step3 = c.in_ok-arg-4.ensures.shape c.flag-no_increment.ensures.local ∙ ap₂ with_rule step2 c.flag-no_increment.ensures.rule in
+    IfOk-weaker c.arg-5.result _ _ (λ m h. h.shape c.flag-last.ensures.local ∙ ap₂ with_rule step3 c.flag-last.ensures.rule) c.arg-5.ensures
 
 pub returns-clause-local : goal.returns-clause-local
 returns-clause-local c =
     let step0 = c.in_ok-arg.ensures.globals ∙ or_from _ _ c.requires c.option-slot.ensures.local in
     let step1 = c.in_ok-arg-2.ensures.globals ∙ or_from _ _ step0 c.flag-verify.ensures.local in
     let step2 = c.in_ok-arg-3.ensures.globals ∙ or_from _ _ step1 c.flag-no_reply.ensures.local in
-    IfOk-weaker c.arg-4.result _ _ (λ m h. h.globals ∙ or_from _ _ step2 c.flag-no_increment.ensures.local) c.arg-4.ensures
+    let step3 = c.in_ok-arg-4.ensures.globals ∙ or_from _ _ step2 c.flag-no_increment.ensures.local in
+    IfOk-weaker c.arg-5.result _ _ (λ m h. h.globals ∙ or_from _ _ step3 c.flag-last.ensures.local) c.arg-5.ensures

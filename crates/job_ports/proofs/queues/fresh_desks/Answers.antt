@@ -2,6 +2,7 @@ use Rattle.std.proofs.Common.{◌≡◌, ◌∙◌, ℕ, List, ap, length, map, 
 use Rattle.std.specs.Prelude.{vec_items, vec_len, zip}
 use Rattle.node_parts.specs.declared.config.BankConfig.{BankConfig}
 use Rattle.ports.specs.Serves.{AreServed}
+use Rattle.target.specs.Passes.{unasked}
 use Rattle.job_ports.specs.Queues.{IsDesk, new_worker}
 use Rattle.job_ports.proofs.Desking.{desk_count, desk_served, own_passes}
 use Rattle.job_ports.proofs.queues.fresh_desks.Goals as goal
@@ -16,7 +17,7 @@ returns-clause-fresh g c =
       one = c.in-Ok.ensures.banks ∙ ap (λ (banks : List BankConfig). length banks) own.banks;
       count = c.requires.count;
       filled = c.in_ok-ports.ensures;
-      workers_are = c.in_ok-workers.ensures ∙ ap (λ ps. map new_worker (zip ps (vec_items c.in_ok-ports.serve_passes))) (c.in-Ok.ensures.passes.1 ∙ own_passes _ _ _ c.args.program home own);
+      workers_are = c.in_ok-workers.ensures ∙ ap (λ ps. map new_worker (zip ps (vec_items c.in_ok-ports.serve_passes))) (c.in-Ok.ensures.passes.1 ∙ ap unasked (own_passes _ _ _ c.args.program home own));
     }
 
 pub returns-clause-served : goal.returns-clause-served

@@ -13,3 +13,6 @@ returns-in_err-generation-clause-refused g c =
 pub returns-clause-published : goal.returns-clause-published
 returns-clause-published g c =
     published_of _ _ _ _ _ _ _ _ _ _ c.sizes.ensures c.in_ok-slot.ensures.prepared c.in_ok-generation.ensures.fewer c.in_ok-generation.ensures.published c.in_ok-generation.ensures.generation c.requires c.in_ok-generation.ensures.learnt
+
+pub returns-clause-noted : goal.returns-clause-noted
+returns-clause-noted g c = record { publish = _; longer = c.in_ok-generation.ensures.published; noted = c.in_ok-generation.ensures.noted }

@@ -3,5 +3,5 @@ use Rattle.policy.specs.Code.{rules_code, table_code}
 use Rattle.policy.proofs.code.table_insns.Given as goal
 
 -- behind the instructions stand those of the rules that are left
-abbrev pub invariant-loop-rule : goal.invariant-loop-rule
-invariant-loop-rule l = l.insns.items ++ rules_code (drop l.rule-index l.rules) ≡ table_code l.rules
+abbrev pub invariant-loop-own : goal.invariant-loop-own
+invariant-loop-own l = l.insns.items ++ rules_code (drop l.own-index l.rules) ≡ table_code l.rules

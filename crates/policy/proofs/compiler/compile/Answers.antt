@@ -1,47 +1,36 @@
-use Rattle.std.specs.Prelude.{option_map}
-use Rattle.std.proofs.Common.{◌≡◌, ◌≤◌, List, length, Option, Some, None, refl, sym, ap, ◌∙◌, subst, arith, le_of_eq}
+use Rattle.std.specs.Prelude.{option_map, All}
+use Rattle.std.proofs.Common.{◌≡◌, ◌≤◌, ℕ, List, length, Option, Some, None, refl, sym, ap, ◌∙◌, subst, le_of_eq}
 use Rattle.bpf.specs.Program.{IsProgram, Program}
 use Rattle.bpf.specs.Weight.{weight_of}
-use Rattle.bpf_insn.specs.declared.insn.Insn.{Insn}
 use Rattle.machine.specs.Sizes.{Maps}
 use Rattle.bver.specs.Justified.{IsJustified}
 use Rattle.policy.specs.Code.{table_code}
-use Rattle.policy.specs.Compiled.{HasMeaning, IsCompiled}
+use Rattle.policy.specs.Compiled.{HasCells, HasMeaning, HasPortMeaning, IsCompiled}
 use Rattle.policy_table.specs.FirstFault.{compile_fault}
-use Rattle.policy.specs.Meant.{IsMadeOf, straight_program, table_program}
+use Rattle.policy_table.specs.Limits.{FitsFields}
+use Rattle.policy_table.specs.Meaning.{decision}
+use Rattle.policy_table.specs.Ports.{FitsPort, on_lines}
+use Rattle.policy.specs.Meant.{IsMadeOf, table_program}
+use Rattle.policy_table.specs.Slots.{table_slots}
 use Rattle.policy_table.specs.TableFaults.{policy_fault_of}
 use Rattle.policy_table.specs.declared.faults.PolicyFault.{PolicyFault}
-use Rattle.policy_table.specs.declared.table_faults.TableFault.{TableFault}
+use Rattle.policy_table.specs.declared.port_rules.PortRule.{PortRule}
 use Rattle.policy_table.specs.declared.rules.Rule.{Rule}
-use Rattle.policy.proofs.Refused.{cells, few, is_told}
-use Rattle.policy.proofs.Weighing.{table_few, weighs}
+use Rattle.policy_table.specs.declared.table_faults.TableFault.{TableFault}
+use Rattle.policy.proofs.Made.{made, made_justified, own_program, plain_cells, plain_meaning}
+use Rattle.policy.proofs.Refused.{is_told, port_cells, table_cells, table_fits}
+use Rattle.policy.proofs.Weighing.{weighs}
 use Rattle.policy.proofs.compiler.compile.Goals as goal
 
-abbrev own_program : List Rule → Program
-own_program rules = table_program (length (table_code rules)) rules
-
-compiled : (sizes : Maps) (rules : List Rule) → compile_fault sizes rules ≡ None → HasMeaning rules (own_program rules) → IsCompiled sizes rules (own_program rules)
+compiled : (sizes : Maps) (rules : List Rule) → compile_fault sizes rules ≡ None → HasPortMeaning (on_lines 1 rules) (own_program (on_lines 1 rules)) → IsCompiled sizes rules (own_program (on_lines 1 rules))
 compiled sizes rules none meaning = record {
   faultless = none;
-  meaning = meaning;
+  meaning = plain_meaning rules (own_program (on_lines 1 rules)) meaning;
   version = refl;
   no_loop = refl;
-  budget = sym (weighs (table_code rules) (length (table_code rules)));
-  cells = cells sizes rules none;
+  budget = sym (weighs (table_code (on_lines 1 rules)) (length (table_code (on_lines 1 rules))));
+  cells = plain_cells sizes rules (port_cells sizes (on_lines 1 rules) (table_cells sizes rules none));
 }
-
-made : (sizes : Maps) (rules : List Rule) (insns : List Insn) (image : Program) → IsMadeOf insns image → insns ≡ table_code rules
-    → IsCompiled sizes rules (own_program rules) → IsCompiled sizes rules image
-made sizes rules insns image is same all =
-    let whole : image ≡ own_program rules = is.whole ∙ ap (λ (xs : List Insn). straight_program (length xs) xs) same in
-    subst (λ (p : Program). IsCompiled sizes rules p) (sym whole) all
-
--- and justified, within the limits of the format
-made_justified : (sizes : Maps) (rules : List Rule) (insns : List Insn) (image : Program) → IsMadeOf insns image → IsProgram image → insns ≡ table_code rules
-    → (IsProgram (own_program rules) → IsJustified (own_program rules) sizes) → IsJustified image sizes
-made_justified sizes rules insns image is limits same all =
-    let whole : image ≡ own_program rules = is.whole ∙ ap (λ (xs : List Insn). straight_program (length xs) xs) same in
-    subst (λ (p : Program). IsJustified p sizes) (sym whole) (all (subst (λ (p : Program). IsProgram p) whole limits))
 
 -- the fault is the first without its place, and there is none where that is none
 told_fault : (found : Option TableFault) (placed : TableFault) (fault : PolicyFault) (first : Option PolicyFault) → option_map policy_fault_of found ≡ first → found ≡ Some placed → fault ≡ policy_fault_of placed
@@ -55,31 +44,38 @@ pub returns-in-Some-clause-fault : goal.returns-in-Some-clause-fault
 returns-in-Some-clause-fault c =
     is_told c.args.sizes.now c.args.table.now _ (told_fault _ _ _ _ c.fault_for.ensures.fault c.in-Some.is c.fault.ensures)
 
-pub table_insns-requires-clause-few : goal.table_insns-requires-clause-few
-table_insns-requires-clause-few c =
+pub image_of_rules-requires-clause-room : goal.image_of_rules-requires-clause-room
+image_of_rules-requires-clause-room c =
     let none : compile_fault c.args.sizes.now c.args.table.now ≡ None = no_fault _ _ c.fault_for.ensures.fault c.in_default.is in
-    few c.args.sizes.now _ (ap (λ (rs : List Rule). compile_fault c.args.sizes.now rs) c.rules-rules.ensures.rules ∙ none)
+    let same : c.as_slice.result.now ≡ on_lines 1 c.args.table.now = cc (c.as_slice.ensures.value, c.in_ok-rules.ensures.lines, c.rules.ensures.rules) in
+    subst (λ (rules : List PortRule). table_slots rules ≤ 512) (sym same) (table_fits c.args.sizes.now c.args.table.now none)
 
-pub image_of-requires-clause-few : goal.image_of-requires-clause-few
-image_of-requires-clause-few c =
-    let rules : List Rule = c.rules-rules.result.now in
-    let none : compile_fault c.args.sizes.now c.args.table.now ≡ None = no_fault _ _ c.fault_for.ensures.fault c.in_default.is in
-    let short : length rules ≤ 12 = few c.args.sizes.now rules (ap (λ (rs : List Rule). compile_fault c.args.sizes.now rs) c.rules-rules.ensures.rules ∙ none) in
-    let same : c.as_slice-insns.result.now ≡ table_code rules = cc (c.as_slice-insns.ensures.value, c.in_ok-insns.ensures) in
-    let len : length c.as_slice-insns.result.now ≡ length (table_code rules) = ap (λ (insns : List Insn). length insns) same in
-    omega (arith, len, short, table_few rules)
+pub image_of_rules-requires-clause-fit : goal.image_of_rules-requires-clause-fit
+image_of_rules-requires-clause-fit c =
+    let fields : All FitsFields c.rules.result.now = subst (λ (rules : List Rule). All FitsFields rules) (sym c.rules.ensures.rules) c.rules.ensures.fit in
+    subst (λ (rules : List PortRule). All FitsPort rules) (sym c.as_slice.ensures.value) (c.in_ok-rules.ensures.fit fields)
 
 pub returns-clause-compiled : goal.returns-clause-compiled
 returns-clause-compiled c =
     let rules : List Rule = c.args.table.now in
+    let all : List PortRule = on_lines 1 rules in
     let none : compile_fault c.args.sizes.now rules ≡ None = no_fault _ _ c.fault_for.ensures.fault c.in_default.is in
-    let meaning = c.code_has_meaning.ensures rules (length (table_code rules)) c.rules-rules.ensures.fit in
-    made c.args.sizes.now rules _ c.in_ok-image.image c.in_ok-image.ensures.image (cc c.in_ok-insns.ensures) (compiled c.args.sizes.now rules none meaning)
+    let same : c.as_slice.result.now ≡ all = cc (c.as_slice.ensures.value, c.in_ok-rules.ensures.lines, c.rules.ensures.rules) in
+    let fields : All FitsFields c.rules.result.now = subst (λ (rs : List Rule). All FitsFields rs) (sym c.rules.ensures.rules) c.rules.ensures.fit in
+    let items : c.in_ok-rules.rules.items ≡ all = cc (c.in_ok-rules.ensures.lines, c.rules.ensures.rules) in
+    let fits : All FitsPort all = subst (λ (rs : List PortRule). All FitsPort rs) items (c.in_ok-rules.ensures.fit fields) in
+    let meaning = c.code_has_meaning.ensures all (length (table_code all)) fits in
+    made (IsCompiled c.args.sizes.now rules) _ all c.in_ok-image.image c.in_ok-image.ensures.image same (compiled c.args.sizes.now rules none meaning)
 
 pub returns-clause-justified : goal.returns-clause-justified
 returns-clause-justified c =
     let rules : List Rule = c.args.table.now in
+    let all : List PortRule = on_lines 1 rules in
     let none : compile_fault c.args.sizes.now rules ≡ None = no_fault _ _ c.fault_for.ensures.fault c.in_default.is in
-    let light : weight_of (own_program rules) ≤ length (table_code rules) = le_of_eq (weighs (table_code rules) (length (table_code rules))) in
-    made_justified c.args.sizes.now rules _ c.in_ok-image.image c.in_ok-image.ensures.image c.in_ok-image.ensures.limits (cc c.in_ok-insns.ensures)
-    (λ limits. c.code_is_justified.ensures c.args.sizes.now rules (length (table_code rules)) c.rules-rules.ensures.fit none limits light)
+    let same : c.as_slice.result.now ≡ all = cc (c.as_slice.ensures.value, c.in_ok-rules.ensures.lines, c.rules.ensures.rules) in
+    let fields : All FitsFields c.rules.result.now = subst (λ (rs : List Rule). All FitsFields rs) (sym c.rules.ensures.rules) c.rules.ensures.fit in
+    let items : c.in_ok-rules.rules.items ≡ all = cc (c.in_ok-rules.ensures.lines, c.rules.ensures.rules) in
+    let fits : All FitsPort all = subst (λ (rs : List PortRule). All FitsPort rs) items (c.in_ok-rules.ensures.fit fields) in
+    let light : weight_of (own_program all) ≤ length (table_code all) = le_of_eq (weighs (table_code all) (length (table_code all))) in
+    made_justified c.args.sizes.now _ all c.in_ok-image.image c.in_ok-image.ensures.image c.in_ok-image.ensures.limits same
+    (λ limits. c.code_is_justified.ensures c.args.sizes.now all (length (table_code all)) fits (table_cells c.args.sizes.now rules none) limits light)

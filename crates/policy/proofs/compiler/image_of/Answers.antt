@@ -1,9 +1,9 @@
-use Rattle.std.proofs.Common.{◌≡◌, Result, Ok, refl}
+use Rattle.std.proofs.Common.{◌≡◌, Result, Ok, refl, arith}
 use Rattle.bpf.specs.Program.{Program}
 use Rattle.bpf.specs.Reading.{Fails}
 use Rattle.bpf.specs.declared.fault.ImageFault.{ImageFault}
 use Rattle.bpf.specs.declared.fault.ImageFault.TheVariants as faults
-use Rattle.policy.proofs.Weighing.{are_parts}
+use Rattle.policy.proofs.Weighing.{are_parts, slots_many}
 use Rattle.policy.proofs.compiler.image_of.Goals as goal
 
 -- what is read has no fault but that of memory
@@ -25,3 +25,6 @@ returns-in-Ok-clause-image c =
 pub unreachable-requires : goal.unreachable-requires
 unreachable-requires c =
     no_other c.in-Err.fault _ _ c.in-Err.ensures.exact (are_parts c.args.insns.now c.requires.some c.requires.few) c.in_default.not-Memory
+
+pub overflow_cast-insns : goal.overflow_cast-insns
+overflow_cast-insns c = omega (arith, slots_many c.args.insns.now, c.requires.few)

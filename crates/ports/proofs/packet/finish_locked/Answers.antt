@@ -9,4 +9,5 @@ returns-clause-ended g c = record {
   result = c.finish.result;
   bank = search rules;
   finished = search rules;
+  asks_for = search rules;
 }

@@ -1,10 +1,17 @@
-use Rattle.std.proofs.Common.{ap, subst}
+use Rattle.std.proofs.Common.{arith, subst}
 use mathlib.Core.List.{IsPrefix}
+use Rattle.ports.proofs.Keeping.{prefix_trans}
 use Rattle.ports.proofs.Served.{known_more}
+use Rattle.ports.specs.Serves.{IsTold}
 use Rattle.ports.proofs.serves.all_known.Goals as goal
 
 pub loop-one-preserved : goal.loop-one-preserved
 loop-one-preserved g c =
-    let new = c.learn.new.self in
-    known_more c.loop-one.one-index c.args.ended.now c.loop-one.known new c.one-item.result c.loop-one-test.true c.learn.ensures.this
-    (subst (λ e. IsPrefix e.worker.front new) c.one-item.is c.learn.ensures.that) c.loop-one.invariant
+    let old = c.loop-one.known in
+    let new = c.tell.new.known in
+    let longer : IsPrefix old new = prefix_trans old c.learn.new.self new c.learn.ensures.this c.tell.ensures.known in
+    known_more c.acts_grow.ensures c.loop-one.one-index c.args.ended.now old new c.one-item.result c.loop-one-test.true longer
+    (subst (λ e. IsTold new e.worker) c.one-item.is (prefix_trans _ c.learn.new.self new c.learn.ensures.that c.tell.ensures.known, c.tell.ensures.told)) c.loop-one.invariant
+
+pub returns : goal.returns
+returns g c = λ k d within. c.loop-one.invariant k d (omega (arith, within, c.loop-one-test.false))

@@ -2,7 +2,8 @@ use Rattle.std.specs.Prelude.{◌≡◌, ◌+◌, ◌≤◌, IfNone, IfSome, map
 use Rattle.std.specs.Vec.Iter.{into_iter_items, into_iter_len}
 use Rattle.std.specs.List.{All}
 use mathlib.Core.List.{IsPrefix}
-use Rattle.ports.specs.Serves.{IsOneMissing, IsTotalOf}
+use Rattle.annals.specs.Chains.{done_for}
+use Rattle.ports.specs.Serves.{IsOneMissing, IsTold, IsTotalOf}
 use Rattle.target.specs.Lines.{CountsAllOf}
 use Rattle.ports.proofs.serves.gather.Given as goal
 
@@ -14,5 +15,6 @@ invariant-loop-one g l =
     × (vec_len l.workers + into_iter_len l.one-iterator ≤ vec_capacity l.workers)
     × (vec_capacity l.initial.workers ≤ vec_capacity l.workers)
     × All (λ w. IsPrefix w.front l.whole) l.workers.items
-    × All (λ w. CountsAllOf w.pass l.whole) l.workers.items
-    × All (λ e. IsPrefix e.worker.front l.whole) (into_iter_items l.one-iterator)
+    × All (λ w. CountsAllOf w.pass.pass l.whole) l.workers.items
+    × All (λ w. done_for w.pass.pass.port l.whole ≡ w.pass.asked) l.workers.items
+    × All (λ e. IsTold l.whole e.worker) (into_iter_items l.one-iterator)

@@ -24,7 +24,7 @@ returns-in-Some-clause-served g c =
     let long : length ended ≡ length old
     = sym c.join_each.result.ok.0 ∙ c.join_each.ensures.len ∙ started.ensures.len sum.0 ∙ c.args.workers.ok.0 in
     subst (λ new. HaveServed sent failed banks ports old new c.in-Some.report) (sym c.gather-workers.ensures.workers)
-    (have_served sent failed banks ports old ended started.result.rest.items served back long c.in-Some.report told (subst ShareOneHistory c.gather-workers.ensures.workers c.gather-workers.ensures.history))
+    (have_served sent failed banks ports old ended started.result.rest.items served back long c.in-Some.report told c.loads_are_apart.ensures.entries c.loads_are_apart.ensures.listed (subst ShareOneHistory c.gather-workers.ensures.workers c.gather-workers.ensures.history))
 
 pub returns-in-Some-clause-back : goal.returns-in-Some-clause-back
 returns-in-Some-clause-back g c = λ _. (returns-in-Some-clause-served g c).served

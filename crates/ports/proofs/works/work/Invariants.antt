@@ -5,4 +5,4 @@ use Rattle.ports.proofs.works.work.Given as goal
 
 abbrev pub invariant-loop : goal.invariant-loop
 invariant-loop g l = IsServePassOf l.port l.worker.serve_pass × IsServePassAfter l.initial.worker.serve_pass l.worker.serve_pass
-    × (length l.worker.pass.shares ≡ l.node) × IsUnderWay g.S.Sink.sent g.S.Sink.failed l.initial.worker l.worker l.report
+    × (length l.worker.pass.pass.shares ≡ l.node) × IsUnderWay g.S.Sink.sent g.S.Sink.failed l.initial.worker l.worker l.report

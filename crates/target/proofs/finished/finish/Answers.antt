@@ -3,12 +3,14 @@ use Rattle.std.proofs.lemmas.List.{length-set}
 use mathlib.Core.List.{IsPrefix}
 use Rattle.rmap.specs.declared.places.Place.{Place}
 use Rattle.rmap.specs.declared.places.Place.TheVariants.{Bank}
-use Rattle.node_parts.specs.Passes.{PassValue, pass_of}
+use Rattle.node_parts.specs.Passes.{pass_of}
 use Rattle.node_parts.specs.Steps.{IsBankBelow}
 use Rattle.node_parts.specs.Applied.{share_of}
 use Rattle.annals.specs.declared.deed.Link.{Link}
-use Rattle.target.specs.Finished.{IsFinishedAt}
-use Rattle.target.proofs.Finishing.{done_behind, ends_plainly, finished_at, taken_fits}
+use Rattle.annals.specs.Chains.{Due, LineValue}
+use Rattle.target.specs.Finished.{AsksForEntry, IsFinishedAt}
+use Rattle.target.specs.Passes.{PortPass}
+use Rattle.target.proofs.Finishing.{asked_at, done_behind, ends_plainly, finished_at, taken_fits}
 use Rattle.target.proofs.Lining.{at_its_bank, line_after, same_port}
 use Rattle.target.proofs.finished.finish.Goals as goal
 
@@ -25,9 +27,9 @@ lent_below place k from n at same below =
 
 pub finish-applied-requires : goal.finish-applied-requires
 finish-applied-requires g c =
-    let below = subst (λ (x : PassValue). IsBankBelow c.args.judged.place (length x.shares)) (sym c.pass.view_is) c.requires in
+    let below = subst (λ (x : PortPass). IsBankBelow c.args.judged.place (length x.pass.shares)) (sym c.pass.view_is) c.requires in
     let within = lent_below c.args.judged.place c.in-Bank.k c.from.result (length c.pass.inside.shares.items) (sym c.place.ensures.value ∙ c.in-Bank.is) c.from.ensures below in
-    same_port c.pass.inside.context.port c.from.result c.pass.inside.shares.items c.pass.inside.line c.index_mut.result.now c.pass.invariant.1 within c.index_mut.ensures.value
+    same_port c.pass.inside.context.port c.from.result c.pass.inside.shares.items c.pass.inside.loader.line c.index_mut.result.now c.pass.invariant.1 within c.index_mut.ensures.value
 
 pub invariant_of-pass : goal.invariant_of-pass
 invariant_of-pass g c =
@@ -35,26 +37,36 @@ invariant_of-pass g c =
     let is = c.pass.invariant in
     let done = c.finish-applied.ensures in
     let at = sym c.place.ensures.value ∙ c.in-Bank.is in
-    let below = subst (λ (x : PassValue). IsBankBelow c.args.judged.place (length x.shares)) (sym c.pass.view_is) c.requires in
+    let below = subst (λ (x : PortPass). IsBankBelow c.args.judged.place (length x.pass.shares)) (sym c.pass.view_is) c.requires in
     let within = lent_below c.args.judged.place c.in-Bank.k c.from.result (length inside.shares.items) at c.from.ensures below in
-    let there = at_its_bank c.args.kept.now c.finish-applied.new.self c.index_mut.result.now c.finish-applied.new.share c.args.judged c.finish-applied.result c.finish-applied.new.reply inside.line c.finish-applied.new.line c.from.result (at ∙ ap Bank (sym c.from.ensures)) done.refused done.unasked in (
+    let there = at_its_bank c.args.kept.now c.finish-applied.new.self c.index_mut.result.now c.finish-applied.new.share c.args.judged c.finish-applied.result c.finish-applied.new.reply inside.loader.line c.finish-applied.new.line c.from.result (at ∙ ap Bank (sym c.from.ensures)) done.refused done.unasked in (
       record { port = is.0.port; sizes = is.0.sizes; shares = length-set inside.shares.items c.from.result c.finish-applied.new.share ∙ is.0.shares },
-      line_after inside.context.port c.from.result c.args.kept.now.chain.number inside.shares.items c.index_mut.result.now c.finish-applied.new.share inside.line c.finish-applied.new.line is.1 within c.index_mut.ensures.value done.counted there,
+      line_after inside.context.port c.from.result c.args.kept.now.chain.number inside.shares.items c.index_mut.result.now c.finish-applied.new.share inside.loader.line c.finish-applied.new.line is.1 within c.index_mut.ensures.value done.counted there,
     )
 
 pub returns-clause-finished : goal.returns-clause-finished
 returns-clause-finished g c =
     let inside = c.pass.inside in
-    let h = pass_of inside.context inside.reader.programs inside.shares.items inside.staging in
+    let h = pass_of inside.context inside.loader.reader.programs inside.shares.items inside.staging in
     let done = c.finish-applied.ensures in
-    let below = subst (λ (x : PassValue). IsBankBelow c.args.judged.place (length x.shares)) (sym c.pass.view_is) c.requires in
+    let below = subst (λ (x : PortPass). IsBankBelow c.args.judged.place (length x.pass.shares)) (sym c.pass.view_is) c.requires in
     let told = subst (λ (l : List Link). IsPrefix l c.tell.new.known) c.again-known.ensures c.tell.ensures.old in
     let behind = done_behind _ _ _ _ _ _ _ _ _ _ _ c.publishes_grow.ensures told c.tell.ensures.told c.advance.ensures.some done.done in
-    let after = pass_of inside.context inside.reader.programs (set inside.shares.items c.from.result c.finish-applied.new.share) inside.staging in
+    let after = pass_of inside.context inside.loader.reader.programs (set inside.shares.items c.from.result c.finish-applied.new.share) inside.staging in
     let end : IsFinishedAt c.args.kept.now c.finish-applied.new.self c.args.front.now c.advance.new.front h after c.args.judged c.finish-applied.result c.finish-applied.new.reply
     = finished_at _ _ _ _ h c.in-Bank.k c.from.result c.index_mut.result.now c.finish-applied.new.share _ _ _ (sym c.place.ensures.value ∙ c.in-Bank.is) c.from.ensures below c.index_mut.ensures.value done.applied done.refused behind c.advance.ensures.none in
-    subst (λ (x : PassValue). IsFinishedAt c.args.kept.now c.finish-applied.new.self c.args.front.now c.advance.new.front x after c.args.judged c.finish-applied.result c.finish-applied.new.reply) c.pass.view_is end
+    subst (λ (x : PortPass). IsFinishedAt c.args.kept.now c.finish-applied.new.self c.args.front.now c.advance.new.front x.pass after c.args.judged c.finish-applied.result c.finish-applied.new.reply) c.pass.view_is end
+
+pub returns-clause-asked : goal.returns-clause-asked
+returns-clause-asked g c =
+    let inside = c.pass.inside in
+    let h = pass_of inside.context inside.loader.reader.programs inside.shares.items inside.staging in
+    let done = c.finish-applied.ensures in
+    let below = subst (λ (x : PortPass). IsBankBelow c.args.judged.place (length x.pass.shares)) (sym c.pass.view_is) c.requires in
+    let is : AsksForEntry c.args.kept.now.chain.number h c.args.judged c.finish-applied.result inside.loader.line.asked c.finish-applied.new.line.asked
+    = asked_at c.args.kept.now.chain.number h c.in-Bank.k c.from.result c.index_mut.result.now c.args.judged c.finish-applied.result inside.loader.line c.finish-applied.new.line (sym c.place.ensures.value ∙ c.in-Bank.is) c.from.ensures below c.index_mut.ensures.value done.asked done.unasked in
+    subst (λ (x : PortPass). AsksForEntry c.args.kept.now.chain.number x.pass c.args.judged c.finish-applied.result x.asked c.finish-applied.new.line.asked) c.pass.view_is is
 
 pub returns-clause-agrees : goal.returns-clause-agrees
 returns-clause-agrees g c = λ took.
-    c.shares_agree.ensures _ _ _ _ _ _ _ c.requires (ends_plainly _ _ _ _ _ _ _ _ _ (returns-clause-finished g c) took) (taken_fits c.args.kept.now (share_of c.args.pass.now c.args.judged.place) c.args.judged took)
+    c.shares_agree.ensures _ _ _ _ _ _ _ c.requires (ends_plainly _ _ _ _ _ _ _ _ _ (returns-clause-finished g c) took) (taken_fits c.args.kept.now (share_of c.args.pass.now.pass c.args.judged.place) c.args.judged took)

@@ -13,7 +13,7 @@ invariant-loop-bank g l = record {
   count : length l.locks.items ≡ l.number;
   numbers : AreNumbered l.locks.items;
   family : l.history.0 ≡ g.J.Family.book;
-  chains : l.number + l.history.1 ≡ 41;
+  chains : l.number + l.history.1 ≡ 42;
   book : l.history.0 ≡ l.initial.history.0;
   fresh : All IsFresh (into_iter_items l.bank-iterator);
 }

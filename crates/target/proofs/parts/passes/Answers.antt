@@ -1,7 +1,8 @@
 use Rattle.std.proofs.Common.{◌≡◌, ◌≢◌, ℕ, ◌+◌, ◌-◌, ◌<◌, ◌≤◌, ◌∷◌, ◌++◌, ap, [], List, get_or, length, set, subst, sym, ◌∙◌, arith, rules}
 use Rattle.std.proofs.lemmas.List.FromFn.{map-range_with_len_more}
-use Rattle.std.specs.Prelude.{replicate}
-use Rattle.std.proofs.lemmas.List.{length-replicate, length-map, get_or_read, get_or-set_other, replicate_more}
+use Rattle.std.specs.Prelude.{map, replicate}
+use Rattle.std.specs.List.{range_with_len}
+use Rattle.std.proofs.lemmas.List.{length-replicate, length-map, map_push, get_or_read, get_or-set_other, replicate_more}
 use Rattle.cells.specs.Seats.{CellSeatValue}
 use Rattle.node_programs.specs.Published.{sizes_of}
 use Rattle.publish.specs.Reached.{Known}
@@ -10,7 +11,8 @@ use Rattle.target.specs.Lines.{IsLineOf}
 use Rattle.target.proofs.Askings.{same_before, same_last}
 use Rattle.target.proofs.Lining.{new_line}
 use Rattle.bank.specs.Records.{ShareValue, first_share}
-use Rattle.node_parts.specs.Passes.{RunContextValue}
+use Rattle.node_parts.specs.Passes.{PassValue, RunContextValue}
+use Rattle.target.specs.Passes.{port_pass, unasked}
 use Rattle.node_parts.specs.Nodes.{range_of, first_pass}
 use Rattle.target.proofs.parts.passes.Goals as goal
 
@@ -78,7 +80,9 @@ loop-port-preserved g c =
           let seat = last_of ports port _ c.in-Some-Some.seat c.loop-port.seats.items _ c.loop-port-test.true (first factory home begins).seats_are c.in-Some-Some.ensures.items in
           let reader = last_of ports port _ c.in-Some-Some.reader c.loop-port.readers.items _ c.loop-port-test.true (first factory home begins).readers_are c.in-Some-Some.ensures'.items in
           let more = map-range_with_len_more (first_pass c.args.config.now.address banks factory home) 0 port port (omega arith) in
-          c.in_ok-push.ensures.items ∙ rw (c.loop-port.invariant.passes factory home begins, c.new-in-loop-port.ensures, seat.1, c.windows.ensures, reader.1, shares, c.in_ok-new.ensures) (sym more);
+          let asked = ap (λ (l : LineValue). l.asked) c.in-Some.ensures.line in
+          let all = ap unasked more ∙ map_push (λ (h : PassValue). port_pass h []) (map (first_pass c.args.config.now.address banks factory home) (range_with_len 0 port)) (first_pass c.args.config.now.address banks factory home port) in
+          c.in_ok-push.ensures.items ∙ rw (c.loop-port.invariant.passes factory home begins, c.new-in-loop-port.ensures, seat.1, c.windows.ensures, reader.1, shares, c.in_ok-new.ensures, asked) (sym all);
       rest = later c.loop-port.by_port.items (length banks) ports port c.from.result _ c.from.ensures c.loop-port.invariant.rest;
       family = search rules;
       chains = search rules;

@@ -4,6 +4,7 @@ use Rattle.std.specs.List.{range_with_len}
 use Rattle.bver.specs.Justified.{AcceptedValue}
 use Rattle.node_parts.specs.Nodes.{first_pass}
 use Rattle.target.specs.Nodes.{AreFirst}
+use Rattle.target.specs.Passes.{unasked}
 use base.Stored.{Gv}
 use Rattle.bank.specs.Records.{first_share}
 use Rattle.target.proofs.parts.passes.Given as goal
@@ -12,7 +13,7 @@ abbrev pub invariant-loop-port : goal.invariant-loop-port
 invariant-loop-port g l = record {
   count : length l.by_port.items ≡ l.config.ports;
   parts : (factory : AcceptedValue) (home : Gv) → AreFirst factory home l.config.ports l.initial.seats.items l.initial.readers.items → AreFirst factory home (l.config.ports - l.port) l.seats.items l.readers.items;
-  passes : (factory : AcceptedValue) (home : Gv) → AreFirst factory home l.config.ports l.initial.seats.items l.initial.readers.items → l.passes.items ≡ map (first_pass l.config.address l.config.banks.now factory home) (range_with_len 0 l.port);
+  passes : (factory : AcceptedValue) (home : Gv) → AreFirst factory home l.config.ports l.initial.seats.items l.initial.readers.items → l.passes.items ≡ unasked (map (first_pass l.config.address l.config.banks.now factory home) (range_with_len 0 l.port));
   rest : (k : ℕ) → l.port ≤ k → k < l.config.ports → get_or l.by_port.items k [] ≡ replicate (length l.config.banks.now) (first_share k);
   family : l.history.0 ≡ g.J.Family.book;
   chains : l.port + l.history.1 ≡ 32;

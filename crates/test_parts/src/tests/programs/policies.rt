@@ -40,7 +40,7 @@ fn tickets_of_a_table(rt: HostRuntime) -> Result<(), Fail> {
 #[test]
 fn faults_of_tables(rt: HostRuntime) -> Result<(), Fail> {
     let faults = [
-        (PolicyFault::TooLong, 1, "more than 12 rules"),
+        (PolicyFault::TooLong, 1, "too many rules"),
         (PolicyFault::BadRange, 2, "a range ends before it begins"),
         (PolicyFault::from(AllocError), 3, "no memory"),
         (PolicyFault::NoCell, 4, "no such cell"),

@@ -6,7 +6,7 @@ ghost use mathlib.Core.List.{IsPrefix};
 use crate::tests::checks::same;
 use crate::tests::publishing::program;
 use bver::MapSizes;
-use publish::{Family, Opened, Programs, Publisher, Reader, Told};
+use publish::{Family, Line, Opened, Programs, Publisher, Reader, Told};
 use std::alloc::Global;
 use std::marker::Brand;
 use std::process::Abort;
@@ -36,19 +36,27 @@ fn four_threads_load(rt: HostRuntime) -> Result<(), Fail> {
     four_load::<Brand, _>(&rt, rt.alloc(), Opened::new())
 }
 
+/// What publishes programs, and the line that asks for them, as they lie behind a lock.
+#[derive(Drop)]
+struct Desk<J: Family, R: Wait + Drop> {
+    publisher: Publisher<J, R>,
+    line: Line<J>,
+}
+
 /// Publishes a program of that budget under the lock, and lets the reader learn of it.
 fn load<J: Family, R: Wait + Drop>(
     rt: &impl Wait,
     alloc: Global,
-    publisher: &Mutex<Publisher<J, R>>,
+    desk: &Mutex<Desk<J, R>>,
     reader: &mut Reader<J>,
     budget: u8,
 ) -> Option<Told<J>>
     ensures { IfSome result (λ told. IsPrefix told reader.new.programs) }
 {
-    let mut publisher = publisher.lock(rt);
-    let program = program(alloc, &publisher.sizes(), budget)?;
-    let told = publisher.install(1, program).ok()?;
+    let mut guard = desk.lock(rt);
+    let desk = &mut *guard;
+    let program = program(alloc, &desk.publisher.sizes(), budget)?;
+    let told = desk.publisher.install(&mut desk.line, 1, program).ok()?;
     reader.learn(&told);
     Some(told)
 }
@@ -57,7 +65,7 @@ fn load<J: Family, R: Wait + Drop>(
 fn loads<J: Family, R: Wait + Drop>(
     rt: &impl Wait,
     alloc: Global,
-    publisher: &Mutex<Publisher<J, R>>,
+    desk: &Mutex<Desk<J, R>>,
     mut reader: Reader<J>,
     budget: u8,
 ) -> Met {
@@ -67,7 +75,7 @@ fn loads<J: Family, R: Wait + Drop>(
         unread: 0,
     };
     for _ in 0..LOADS {
-        let Some(told) = load(rt, alloc, publisher, &mut reader, budget) else {
+        let Some(told) = load(rt, alloc, desk, &mut reader, budget) else {
             return met;
         };
         if met.generations.push(told.generation()).is_err() {
@@ -116,14 +124,14 @@ fn two_load<J: Family + Send + Sync, R: Threads + Wait + Abort + Sync>(
     requires { opened ≡ J.book }
 {
     let factory = program(alloc, &MapSizes::new(&[])?, 2).ok_or("the factory program")?;
-    let (publisher, mut readers) = Programs::new::<J, _>(alloc, rt, opened, factory, 2)?;
-    let publisher = Mutex::new(publisher);
+    let (publisher, mut readers, line) = Programs::new::<J, _>(alloc, rt, opened, factory, 2)?;
+    let desk = Mutex::new(Desk { publisher, line });
     let first = readers.pop().ok_or("two readers")?;
     let second = readers.pop().ok_or("two readers")?;
     let (a, b) = join(
         rt,
-        || loads(rt, alloc, &publisher, first, 3),
-        || loads(rt, alloc, &publisher, second, 4),
+        || loads(rt, alloc, &desk, first, 3),
+        || loads(rt, alloc, &desk, second, 4),
     );
     check(rt, 2 * LOADS, &[a, b])
 }
@@ -136,8 +144,8 @@ fn four_load<J: Family + Send + Sync, R: Threads + Wait + Abort + Sync>(
     requires { opened ≡ J.book }
 {
     let factory = program(alloc, &MapSizes::new(&[])?, 2).ok_or("the factory program")?;
-    let (publisher, mut readers) = Programs::new::<J, _>(alloc, rt, opened, factory, 4)?;
-    let publisher = Mutex::new(publisher);
+    let (publisher, mut readers, line) = Programs::new::<J, _>(alloc, rt, opened, factory, 4)?;
+    let desk = Mutex::new(Desk { publisher, line });
     let first = readers.pop().ok_or("four readers")?;
     let second = readers.pop().ok_or("four readers")?;
     let third = readers.pop().ok_or("four readers")?;
@@ -147,15 +155,15 @@ fn four_load<J: Family + Send + Sync, R: Threads + Wait + Abort + Sync>(
         || {
             join(
                 rt,
-                || loads(rt, alloc, &publisher, first, 3),
-                || loads(rt, alloc, &publisher, second, 4),
+                || loads(rt, alloc, &desk, first, 3),
+                || loads(rt, alloc, &desk, second, 4),
             )
         },
         || {
             join(
                 rt,
-                || loads(rt, alloc, &publisher, third, 5),
-                || loads(rt, alloc, &publisher, fourth, 6),
+                || loads(rt, alloc, &desk, third, 5),
+                || loads(rt, alloc, &desk, fourth, 6),
             )
         },
     );

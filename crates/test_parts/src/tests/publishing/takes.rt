@@ -53,7 +53,9 @@ fn a_program_is_shown<J: Family, R: Wait + Abort>(
 {
     let sizes = MapSizes::new(&[])?;
     let factory = program(alloc, &sizes, 2).ok_or("the factory program")?;
-    let (mut publisher, mut readers) = Programs::new::<J, _>(alloc, rt, opened, factory, 1)?;
+    let (mut publisher, mut readers, mut line) = Programs::new::<J, _>(
+        alloc, rt, opened, factory, 1,
+    )?;
     let mut reader = readers.pop().ok_or("a reader")?;
     for slot in 0..4u8 {
         same(
@@ -65,7 +67,7 @@ fn a_program_is_shown<J: Family, R: Wait + Abort>(
     }
     same(rt, "how many maps", reader.sizes().maps(), 0);
     let program = program(alloc, &publisher.sizes(), 3).ok_or("a program")?;
-    let told = publisher.install(1, program)?;
+    let told = publisher.install(&mut line, 1, program)?;
     same(rt, "the first generation", told.generation(), 1);
     reader.learn(&told);
     same(
@@ -92,14 +94,16 @@ fn another_publish_is_shown<J: Family, R: Wait + Abort>(
 {
     let sizes = MapSizes::new(&[])?;
     let factory = program(alloc, &sizes, 2).ok_or("the factory program")?;
-    let (mut publisher, mut readers) = Programs::new::<J, _>(alloc, rt, opened, factory, 2)?;
+    let (mut publisher, mut readers, mut line) = Programs::new::<J, _>(
+        alloc, rt, opened, factory, 2,
+    )?;
     let mut untold = readers.pop().ok_or("two readers")?;
     let first = program(alloc, &publisher.sizes(), 3).ok_or("a program")?;
-    publisher.install(3, first)?;
+    publisher.install(&mut line, 3, first)?;
     let second = program(alloc, &publisher.sizes(), 4).ok_or("a program")?;
-    publisher.install(3, second)?;
+    publisher.install(&mut line, 3, second)?;
     let third = program(alloc, &publisher.sizes(), 5).ok_or("a program")?;
-    let refused = publisher.install(4, third);
+    let refused = publisher.install(&mut line, 4, third);
     same(rt, "slot 4", refused.err(), Some(PublishFault::Slot));
     same(
         rt,
@@ -125,7 +129,7 @@ fn nothing_more_is_shown<J: Family, R: Wait + Abort>(
 {
     let sizes = MapSizes::new(&[])?;
     let factory = program(alloc, &sizes, 2).ok_or("the factory program")?;
-    let (publisher, mut readers) = Programs::new::<J, _>(alloc, rt, opened, factory, 1)?;
+    let (publisher, mut readers, _line) = Programs::new::<J, _>(alloc, rt, opened, factory, 1)?;
     let mut reader = readers.pop().ok_or("a reader")?;
     mem::forget(reader.take(0));
     same(

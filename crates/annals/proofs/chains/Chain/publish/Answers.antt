@@ -10,9 +10,9 @@ pub returns-clause-published : goal.returns-clause-published
 returns-clause-published g c =
     let p = entry c.args.publish.now.0 (arc_value c.args.publish.now.1) in
     let old = c.args.self.now.log in
-    let log = c.add.new.self.log in
-    let last = c.add.ensures.added.last in
-    let whole = c.add.ensures.added.whole in
-    let more = c.add.ensures.log ∙ last.log in
+    let log = c.leave.new.chain.log in
+    let last = c.leave.ensures.added.last in
+    let whole = c.leave.ensures.added.whole in
+    let more = c.leave.ensures.log ∙ last.log in
     subst (λ (n : ℕ). publishes_in (chain_of n log) ≡ publishes_in (chain_of n old) ++ p ∷ []) c.requires
-    (publishes_more c.args.self.now.number old last.before log _ last.next p whole more)
+    (publishes_more c.args.self.now.number old last.before log _ last.next c.port-by.result p whole more)

@@ -17,7 +17,7 @@ compare_exchange-found-requires g c =
     let none = c.no_pen-none.ensures in
     let of_pen : c.tracked-head.result.book ≡ c.self.inside.pens.book = ap (λ w. w.book) word ∙ take.0 in
     let key : c.tracked-head.result.key ≡ c.self.inside.pens.next = ap (λ w. w.key) word ∙ ap (λ n. n.key) take.1 in
-    let few : c.tracked-head.result.key < 41 = omega (arith, key, c.self.invariant.1, c.requires.left, ap (λ v. v.1) c.self.view_is) in
+    let few : c.tracked-head.result.key < 42 = omega (arith, key, c.self.invariant.1, c.requires.left, ap (λ v. v.1) c.self.view_is) in
     let book = seen ∙ (sym c.self.invariant.0 ∙ sym of_pen) in (
       ap (λ w. w.tracked) word,
       book,
@@ -32,7 +32,7 @@ invariant_of-result g c =
     let take = c.take-pen.ensures.pen in
     let seen = ap (λ s. s.book) c.again-seen.ensures in
     let key : c.tracked-head.result.key ≡ c.self.inside.pens.next = ap (λ w. w.key) word ∙ ap (λ n. n.key) take.1 in
-    let few : c.tracked-head.result.key < 41 = omega (arith, key, c.self.invariant.1, c.requires.left, ap (λ v. v.1) c.self.view_is) in
+    let few : c.tracked-head.result.key < 42 = omega (arith, key, c.self.invariant.1, c.requires.left, ap (λ v. v.1) c.self.view_is) in
     let home : c.self.inside.seen.book ≡ g.J.Family.book = ap (λ v. v.0) c.self.view_is ∙ c.requires.family in
     let of_pen : c.tracked-head.result.book ≡ g.J.Family.book = ap (λ w. w.book) word ∙ (take.0 ∙ (c.self.invariant.0 ∙ home)) in
     let step = c.compare_exchange-found.ensures in

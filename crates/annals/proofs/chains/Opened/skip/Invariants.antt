@@ -6,7 +6,7 @@ abbrev pub invariant-loop-left : goal.invariant-loop-left
 invariant-loop-left l = record {
   some : l.left ≤ l.self-inside.pens.left;
   left : l.self-inside.pens.left + l.count ≡ l.initial.self-inside.pens.left + l.left;
-  row : l.self-inside.pens.next + l.self-inside.pens.left ≡ 41;
+  row : l.self-inside.pens.next + l.self-inside.pens.left ≡ 42;
   book : l.self-inside.pens.book ≡ l.self-inside.seen.book;
   same : l.self-inside.seen ≡ l.initial.self-inside.seen;
 }

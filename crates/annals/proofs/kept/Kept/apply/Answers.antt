@@ -3,6 +3,7 @@ use Rattle.std.specs.List.{range_with_len}
 use Rattle.std.proofs.Common.{Option, ◌≡◌, ℕ, refl, true, Some, List, [], ◌∷◌, ◌++◌, length, sym, ◌∙◌, ap, subst}
 use Rattle.bank.specs.Records.{EntryValue, BankValue, memory_of, answer_of, has_room, entry_of, fits, is_place_of, numbers_of}
 use Rattle.bank.specs.Answer.{Answer}
+use Rattle.annals.specs.declared.deed.Act.TheVariants.{Leaves}
 use Rattle.annals.specs.declared.deed.Deed.TheVariants.{Does}
 use Rattle.annals.specs.declared.deed.Link.{Link}
 use Rattle.annals.specs.Chains.{IsLast, chain_of, line_with, link}
@@ -66,7 +67,7 @@ returns-in-Some-clause-done g c =
       last = record {
         before = before;
         next = last.next;
-        log = last.log ∙ ap (λ (e : EntryValue). before ++ link k (length (chain_of k before)) (Does e) last.next ∷ []) told;
+        log = last.log ∙ ap (λ (e : EntryValue). before ++ link k (length (chain_of k before)) (Does (Leaves e)) last.next ∷ []) told;
         seen = last.seen;
       };
       status = applied.status ∙ ap (λ (a : Answer). a.status) answer_is;
@@ -75,8 +76,8 @@ returns-in-Some-clause-done g c =
     } in
     rw (← c.self.view_is) (subst (λ (o : Option ℕ). IfSome o (λ n. IsDone k c.args.front.now c.leave.new.front s j result c.apply-applied.new.reply)) (sym (applied.number ∙ number_is b s j room)) done)
 
-pub leave-requires-clause-port : goal.leave-requires-clause-port
-leave-requires-clause-port g c =
+pub leave-requires-clause-own : goal.leave-requires-clause-own
+leave-requires-clause-own g c =
     let b = c.self.inside.bank in
     let s = c.args.share.now in
     let j = c.args.judged in
@@ -101,9 +102,9 @@ returns-in-Some-clause-asked g c =
     let entries = c.entries.ensures ∙ (ap (λ (v : BankValue). v.journal.entries) applied.bank ∙ entries_after b s j room) in
     let is : entry ≡ entry_of s j (answer_of b j).status = last_is b.journal.entries c.entries.result.now (entry_of s j (answer_of b j).status) entry entries c.in-Some.ensures.value in
     let told : entry ≡ entry_of s j result.status = is ∙ ap (λ t. entry_of s j t) (sym applied.status) in
-    let asked : c.leave.new.self ≡ line_with c.args.line.now k (entry_of s j result.status) =
-    c.leave.ensures.asked ∙ (ap (λ (n : ℕ). line_with c.args.line.now n entry) c.self.invariant.0 ∙ ap (line_with c.args.line.now k) told) in
-    rw (← c.self.view_is) (subst (λ (o : Option ℕ). IfSome o (λ n. c.leave.new.self ≡ line_with c.args.line.now k (entry_of s j result.status))) (sym (applied.number ∙ number_is b s j room)) asked)
+    let asked : c.leave.new.self ≡ line_with c.args.line.now k (Leaves (entry_of s j result.status)) =
+    c.leave.ensures.asked ∙ (ap (λ (n : ℕ). line_with c.args.line.now n (Leaves entry)) c.self.invariant.0 ∙ ap (λ (e : EntryValue). line_with c.args.line.now k (Leaves e)) told) in
+    rw (← c.self.view_is) (subst (λ (o : Option ℕ). IfSome o (λ n. c.leave.new.self ≡ line_with c.args.line.now k (Leaves (entry_of s j result.status)))) (sym (applied.number ∙ number_is b s j room)) asked)
 
 pub returns-in-Some-clause-unasked : goal.returns-in-Some-clause-unasked
 returns-in-Some-clause-unasked g c =
@@ -127,7 +128,7 @@ returns-in-Some-clause-counted g c =
     let room : has_room b j.port ≡ true = room_of b s j result.number applied.number (sym c.is_some.ensures ∙ c.if-is_some.true) in
     let entries = c.entries.ensures ∙ (ap (λ (v : BankValue). v.journal.entries) applied.bank ∙ entries_after b s j room) in
     let is : entry ≡ entry_of s j (answer_of b j).status = last_is b.journal.entries c.entries.result.now (entry_of s j (answer_of b j).status) entry entries c.in-Some.ensures.value in
-    let asked : c.leave.new.self ≡ line_with c.args.line.now k entry = c.leave.ensures.asked ∙ ap (λ (n : ℕ). line_with c.args.line.now n entry) c.self.invariant.0 in
+    let asked : c.leave.new.self ≡ line_with c.args.line.now k (Leaves entry) = c.leave.ensures.asked ∙ ap (λ (n : ℕ). line_with c.args.line.now n (Leaves entry)) c.self.invariant.0 in
     let on : CountsOn k s c.apply-applied.new.share c.args.line.now c.leave.new.self =
     counts_on k s c.apply-applied.new.share c.args.line.now c.leave.new.self entry (applied.share ∙ next_share_is b s j room) (ap (λ (e : EntryValue). e.number) is) asked in
     subst (λ (v : KeptValue). CountsOn v.chain.number s c.apply-applied.new.share c.args.line.now c.leave.new.self) c.self.view_is on

@@ -1,10 +1,10 @@
 use Rattle.std.proofs.Common.{◌≡◌, ℕ, List, [], ◌∷◌, ◌++◌, length, refl, ap, sym, ◌∙◌, subst}
 use mathlib.Core.List.{IsPrefix}
-use Rattle.bank.specs.Records.{EntryValue}
+use Rattle.annals.specs.declared.deed.Act.{Act}
 use Rattle.annals.specs.declared.deed.Deed.{Deed}
 use Rattle.annals.specs.declared.deed.Deed.TheVariants.{Does, Asks}
 use Rattle.annals.specs.declared.deed.Link.{Link}
-use Rattle.annals.specs.Chains.{ChainValue, Due, IsDue, IsLastOf, IsLine, LineValue, asked_by, asked_in, chain_of, done_for, line_of, line_with, link}
+use Rattle.annals.specs.Chains.{ChainValue, Due, IsDue, IsLastOf, IsLine, LineValue, asked_by, asked_in, chain_of, done_for, line_of, line_with, link, owner_of}
 use Rattle.annals.proofs.Fronts.{prefix_trans}
 use Rattle.annals.proofs.Dues.{all_left, asked_more, asks_next, between_same}
 use Rattle.annals.proofs.line.Line.leave.Goals as goal
@@ -16,7 +16,7 @@ begins_last chain seen known reached deed pre is =
     prefix_trans seen known reached pre (prefix_trans known before reached is.last.seen (_, sym is.last.log))
 
 -- what a line asks for is due then
-due_then : (port bank : ℕ) (e : EntryValue) (own : ChainValue) (left known reached : List Link) → IsLine port own left → IsPrefix left known → IsLastOf own known reached (Asks (bank, e))
+due_then : (port bank : ℕ) (e : Act) (own : ChainValue) (left known reached : List Link) → IsLine port own left → IsPrefix left known → IsLastOf own known reached (Asks (bank, e))
     → asked_by port reached ≡ done_for port reached ++ (bank, e) ∷ []
 due_then port bank e own left known reached is pre asked =
     let before = asked.last.before in
@@ -27,7 +27,7 @@ due_then port bank e own left known reached is pre asked =
     asks_next port place asked.last.next own.log before left reached (bank, e) asked.asked same is.left (prefix_trans left known before pre asked.last.seen) more
 
 -- and the line asked for it behind what it asked for before
-asked_then : (port bank : ℕ) (e : EntryValue) (own : ChainValue) (left known reached : List Link) → IsLine port own left → IsLastOf own known reached (Asks (bank, e))
+asked_then : (port bank : ℕ) (e : Act) (own : ChainValue) (left known reached : List Link) → IsLine port own left → IsLastOf own known reached (Asks (bank, e))
     → asked_by port reached ≡ asked_by port own.log ++ (bank, e) ∷ []
 asked_then port bank e own left known reached is asked =
     let before = asked.last.before in
@@ -38,7 +38,7 @@ asked_then port bank e own left known reached is asked =
     ap (asked_by port) more ∙ (asked_more port place asked.last.next before (bank, e) ∙ ap (λ (ls : List Link). asked_in ls ++ (bank, e) ∷ []) same)
 
 -- once the bank has it, all that the line asked for was left
-left_then : (port bank : ℕ) (e : EntryValue) (chain : ChainValue) (known reached : List Link) → e.port ≡ port → chain.number ≡ bank → IsPrefix chain.log known
+left_then : (port bank : ℕ) (e : Act) (chain : ChainValue) (known reached : List Link) → owner_of e ≡ port → chain.number ≡ bank → IsPrefix chain.log known
     → asked_by port known ≡ done_for port known ++ (bank, e) ∷ [] → IsLastOf chain known reached (Does e) → IsPrefix (asked_by port known) (done_for port reached)
 left_then port bank e chain known reached own is pre due added =
     let before = added.last.before in
@@ -49,30 +49,30 @@ left_then port bank e chain known reached own is pre due added =
 
 pub push-requires-clause-begins : goal.push-requires-clause-begins
 push-requires-clause-begins g c =
-    begins_last c.self.inside.chain c.args.chain.now.log c.learn.new.self c.add.new.front (Asks (c.args.bank, c.args.entry.now))
+    begins_last c.self.inside.chain c.args.chain.now.log c.learn.new.self c.add.new.front (Asks (c.args.number, (g.A.TellsAct.act c.args.act.now)))
     (prefix_trans c.args.chain.now.log c.tell.new.front c.learn.new.self c.tell.ensures.chain c.learn.ensures.this) c.add.ensures.added
 
 pub push-requires-clause-due : goal.push-requires-clause-due
 push-requires-clause-due g c =
     let port = c.self.inside.port in
-    let e = c.args.entry.now in
+    let e = (g.A.TellsAct.act c.args.act.now) in
     let front = c.add.new.front in
-    let due = due_then port c.args.bank e c.self.inside.chain c.self.inside.left c.learn.new.self front c.self.invariant c.learn.ensures.that c.add.ensures.added in
-    let own : e.port ≡ port = c.requires.port ∙ sym (ap (λ (l : LineValue). l.port) c.self.view_is) in
-    subst (λ (n : ℕ). IsDue n (Does e) front) (sym c.requires.bank)
-    (subst (λ (p : ℕ). asked_by p front ≡ done_for p front ++ (c.args.bank, e) ∷ []) (sym own) due)
+    let due = due_then port c.args.number e c.self.inside.chain c.self.inside.left c.learn.new.self front c.self.invariant c.learn.ensures.that c.add.ensures.added in
+    let own : owner_of e ≡ port = c.requires.own ∙ sym (ap (λ (l : LineValue). l.port) c.self.view_is) in
+    subst (λ (n : ℕ). IsDue n (Does e) front) (sym c.requires.chain)
+    (subst (λ (p : ℕ). asked_by p front ≡ done_for p front ++ (c.args.number, e) ∷ []) (sym own) due)
 
 pub invariant_of-self : goal.invariant_of-self
 invariant_of-self g c =
     let port = c.self.inside.port in
-    let e = c.args.entry.now in
+    let e = (g.A.TellsAct.act c.args.act.now) in
     let chain = c.args.chain.now in
     let front = c.add.new.front in
-    let due = due_then port c.args.bank e c.self.inside.chain c.self.inside.left c.learn.new.self front c.self.invariant c.learn.ensures.that c.add.ensures.added in
-    let own : e.port ≡ port = c.requires.port ∙ sym (ap (λ (l : LineValue). l.port) c.self.view_is) in
-    let begins = begins_last c.self.inside.chain chain.log c.learn.new.self front (Asks (c.args.bank, e))
+    let due = due_then port c.args.number e c.self.inside.chain c.self.inside.left c.learn.new.self front c.self.invariant c.learn.ensures.that c.add.ensures.added in
+    let own : owner_of e ≡ port = c.requires.own ∙ sym (ap (λ (l : LineValue). l.port) c.self.view_is) in
+    let begins = begins_last c.self.inside.chain chain.log c.learn.new.self front (Asks (c.args.number, e))
     (prefix_trans chain.log c.tell.new.front c.learn.new.self c.tell.ensures.chain c.learn.ensures.this) c.add.ensures.added in
-    let all : IsPrefix (asked_by port front) (done_for port c.push.new.front) = left_then port c.args.bank e chain front c.push.new.front own c.requires.bank begins due c.push.ensures.added in
+    let all : IsPrefix (asked_by port front) (done_for port c.push.new.front) = left_then port c.args.number e chain front c.push.new.front own c.requires.chain begins due c.push.ensures.added in
     record {
       number = c.add.ensures.number ∙ c.self.invariant.number;
       left = subst (λ (l : List Link). IsPrefix (asked_by port l) (done_for port c.again.result)) (sym c.add.ensures.log)
@@ -82,7 +82,7 @@ invariant_of-self g c =
 pub returns-clause-added : goal.returns-clause-added
 returns-clause-added g c =
     let added = c.push.ensures.added in
-    let known : IsPrefix c.args.front.now c.add.new.front = begins_last c.self.inside.chain c.args.front.now c.learn.new.self c.add.new.front (Asks (c.args.bank, c.args.entry.now))
+    let known : IsPrefix c.args.front.now c.add.new.front = begins_last c.self.inside.chain c.args.front.now c.learn.new.self c.add.new.front (Asks (c.args.number, (g.A.TellsAct.act c.args.act.now)))
     (prefix_trans c.args.front.now c.tell.new.front c.learn.new.self c.tell.ensures.front c.learn.ensures.this) c.add.ensures.added in
     record {
       last = record {
@@ -98,7 +98,7 @@ returns-clause-added g c =
 pub returns-clause-asked : goal.returns-clause-asked
 returns-clause-asked g c =
     let port = c.self.inside.port in
-    let e = c.args.entry.now in
-    let asked = asked_then port c.args.bank e c.self.inside.chain c.self.inside.left c.learn.new.self c.add.new.front c.self.invariant c.add.ensures.added in
+    let e = (g.A.TellsAct.act c.args.act.now) in
+    let asked = asked_then port c.args.number e c.self.inside.chain c.self.inside.left c.learn.new.self c.add.new.front c.self.invariant c.add.ensures.added in
     ap (λ (ds : List Due). record { port = port; asked = ds }) (ap (asked_by port) c.add.ensures.log ∙ asked)
-    ∙ ap (λ (l : LineValue). line_with l c.args.bank e) c.self.view_is
+    ∙ ap (λ (l : LineValue). line_with l c.args.number e) c.self.view_is

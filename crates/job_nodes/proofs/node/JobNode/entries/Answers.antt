@@ -6,4 +6,4 @@ use Rattle.job_nodes.proofs.node.JobNode.entries.Goals as goal
 pub returns : goal.returns
 returns c =
     c.entries.ensures ∙ ap (λ b. (journal_of b).entries) (sym c.bank.ensures)
-    ∙ ap (λ (x : JobNodeValue). (journal_of (slice_get x.banks 0)).entries) c.self.view_is
+    ∙ ap (λ (x : JobNodeValue). (journal_of (slice_get x.banks c.args.bank)).entries) c.self.view_is

@@ -8,4 +8,4 @@ returns c =
     let b = c.self.inside.context in
     let shares = c.self.inside.shares.items in
     let after = pass_of b c.load.new.reader shares c.load.new.staging in
-    subst (λ (h : PassValue). IsLoadEnd h after c.args.programs.now c.load.new.store c.args.judged c.load.result c.load.new.reply) c.self.view_is (c.load.ensures b shares)
+    subst (λ (h : PassValue). IsLoadEnd h after c.args.programs.now c.load.new.store c.args.judged c.load.result c.load.new.reply) c.self.view_is (c.load.ensures.ended b shares)

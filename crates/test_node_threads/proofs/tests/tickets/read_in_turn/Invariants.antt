@@ -4,6 +4,6 @@ use Rattle.test_node_threads.proofs.tests.tickets.read_in_turn.Given as goal
 
 abbrev pub invariant-loop-read : goal.invariant-loop-read
 invariant-loop-read g l = record {
-  first : maps_of l.first.pass.seat ≡ maps_of l.initial.first.pass.seat;
-  second : maps_of l.second.pass.seat ≡ maps_of l.initial.second.pass.seat;
+  first : maps_of l.first.pass.pass.seat ≡ maps_of l.initial.first.pass.pass.seat;
+  second : maps_of l.second.pass.pass.seat ≡ maps_of l.initial.second.pass.pass.seat;
 }

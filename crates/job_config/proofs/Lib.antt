@@ -1,0 +1,5 @@
+pub mod Chains
+pub mod Contents
+pub mod Each
+pub mod MapLimits
+pub mod Texts

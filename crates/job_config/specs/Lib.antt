@@ -1,0 +1,9 @@
+pub mod Configured
+pub mod Faults
+pub mod Names
+pub mod NodeLines
+pub mod Numbers
+pub mod OwnNodes
+pub mod Places
+pub mod Reads
+pub mod Sources

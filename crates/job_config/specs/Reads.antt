@@ -1,0 +1,208 @@
+-- The node of a node's file, with what stands in the files beside it.
+use Rattle.std.specs.Prelude.{◌≡◌, ◌≤◌, ◌+◌, ◌⊎◌, ℕ, List, [], ◌∷◌, length, Option, None, Some, Ok}
+use Rattle.std.specs.Str.{IsUtf8}
+use Rattle.bver.specs.Justified.{AcceptedValue, IsJustified}
+use Rattle.machine.specs.Runs.{IsSafe}
+use Rattle.node_parts.specs.declared.config.BankConfig.{BankConfig}
+use Rattle.rmap.specs.declared.boot.TheConstants.{STAGING_SIZE}
+use Rattle.toml.specs.Data.{Data, Items, no_items, item, Members}
+use Rattle.toml.specs.Parse.{parse_document}
+use Rattle.job_parts.specs.Files.{Reads}
+use Rattle.job_parts.specs.Given.{HoldsProgram}
+use Rattle.job_parts.specs.Reading.{TextUnread}
+use Rattle.job_parts.specs.declared.faults.Fault.{Fault}
+use Rattle.job_parts.specs.declared.faults.Fault.TheVariants.{
+  CannotRead,
+  CannotWrite,
+  NoMemory,
+  BadText,
+  BadTable,
+  BadImage,
+  Refused,
+  BadNode,
+  BadLine,
+}
+use Rattle.job_parts.specs.declared.node_codes.NodeCode.{NodeCode}
+use Rattle.job_parts.specs.declared.node_codes.NodeCode.TheVariants.{Text}
+use Rattle.job_config.specs.Configured.{
+  ConfigurationValue,
+  IsBadConfiguration,
+  configuration_at,
+  items_in,
+  list_at,
+  own_place,
+  table_in,
+}
+use Rattle.job_config.specs.Faults.{code_of}
+use Rattle.job_config.specs.Names.{IsBeside, IsPathOf, name_at}
+use Rattle.job_config.specs.Numbers.{number_at}
+use Rattle.job_config.specs.OwnNodes.{LoadValue, OwnNodeValue}
+use Rattle.job_config.specs.Places.{place}
+use Rattle.job_config.specs.declared.faults.ConfigFault.{ConfigFault}
+use Rattle.job_config.specs.declared.faults.ConfigFault.TheVariants.{Memory}
+use Rattle.job_config.specs.declared.places.Kind.TheVariants.{Bank, Load}
+use Rattle.job_config.specs.declared.places.NameKey.TheVariants.{Contents, Program, Image}
+use Rattle.job_config.specs.declared.places.NumberKey.TheVariants.{Slot}
+use Rattle.job_config.specs.declared.places.Place.{Place}
+
+-- the numbers of a node
+abbrev pub numbers_of : OwnNodeValue → ConfigurationValue
+numbers_of own = record { address = own.address; ports = own.ports; banks = own.banks; sizes = own.sizes }
+
+-- why a text is no table: memory was refused, or it is no TOML
+abbrev pub IsNoTable : (text : List ℕ) → ConfigFault → Type 0
+IsNoTable text fault = (fault ≡ Memory) ⊎ ((parse_document text ≡ None) × (code_of fault ≡ Some Text))
+
+-- why a text is no configuration: memory was refused, or it is no TOML, or its table is none
+abbrev pub IsBadText : (text : List ℕ) → ConfigFault → Type 0
+IsBadText text fault =
+    IsNoTable text fault ⊎ ((table : Members) × (parse_document text ≡ Some table) × IsBadConfiguration table fault)
+
+-- what ends a job for that fault: its code is printed, but where memory was refused
+abbrev pub Ends : Option NodeCode → Fault → Type 0
+Ends None end = end ≡ NoMemory
+Ends (Some code) NoMemory = Unit {0}
+Ends (Some code) (BadNode told place) = told ≡ code
+Ends (Some code) (CannotRead name) = ⊥
+Ends (Some code) (CannotWrite name) = ⊥
+Ends (Some code) (BadText fault) = ⊥
+Ends (Some code) (BadTable fault) = ⊥
+Ends (Some code) (BadImage fault) = ⊥
+Ends (Some code) (Refused refused) = ⊥
+Ends (Some code) (BadLine number fault) = ⊥
+
+module _ {S : Type 0} (reads : Reads S) where
+  -- these files were read in this order, and gave these bytes or none
+  abbrev pub AreRead : List (List ℕ × Option (List ℕ)) → (before after : S) → Type 0
+  AreRead [] before after = after ≡ before
+  AreRead (r ∷ rs) before after = (middle : S) × reads before r.0 r.1 middle × AreRead rs middle after
+
+  -- some files were read, and nothing else was done to files
+  abbrev pub SomeRead : (before after : S) → Type 0
+  SomeRead before after = (files : List (List ℕ × Option (List ℕ))) × AreRead files before after
+
+  -- the text of the node's file is a configuration, and a file beside it does not serve
+  pub record IsBadBeside (text : List ℕ) (before : S) (fault : ConfigFault) (after : S) : Type 0 where
+    pub table : Members
+    pub numbers : ConfigurationValue
+    pub is_table : parse_document text ≡ Some table
+    pub configured : configuration_at table ≡ Ok numbers
+    pub read : SomeRead before after
+
+  -- why there is no node of a text: it is no configuration, or a file beside it does not serve
+  abbrev pub IsBadNode : (text : List ℕ) → (before : S) → ConfigFault → (after : S) → Type 0
+  IsBadNode text before fault after = (IsBadText text fault × (after ≡ before)) ⊎ IsBadBeside text before fault after
+
+module _ {S : Type 0} (reads : Reads S) (file : List ℕ) where
+  -- the file of that name beside the node's was read, and gave these bytes, at most so many
+  pub record HoldsBeside (name : List ℕ) (most : ℕ) (before : S) (bytes : List ℕ) (after : S) : Type 0 where
+    pub path : List ℕ
+    pub beside : IsBeside file name path
+    pub read : reads before path (Some bytes) after
+    pub short : length bytes ≤ most
+
+  -- the bytes are those of the file of that name; no bytes where there is no name
+  abbrev pub HoldsNamed : Option (List ℕ) → (most : ℕ) → (before : S) → (bytes : List ℕ) → (after : S) → Type 0
+  HoldsNamed None most before bytes after = (bytes ≡ []) × (after ≡ before)
+  HoldsNamed (Some name) most before bytes after = HoldsBeside name most before bytes after
+
+  -- the bank of that size begins with these bytes, by its table
+  pub record BeginsWith (at : Place) (value : Data) (size : ℕ) (before : S) (bytes : List ℕ) (after : S) : Type 0 where
+    pub table : Members
+    pub name : Option (List ℕ)
+    pub is_table : table_in value at ≡ Ok table
+    pub named : name_at table at Contents ≡ Ok name
+    pub held : HoldsNamed name size before bytes after
+
+  -- each of the banks begins with these bytes, by its table, in this order; so many banks stand before them
+  abbrev pub BeginWith : (number : ℕ) → Items → List BankConfig → (before : S) → List (List ℕ) → (after : S) → Type 0
+  BeginWith number items [] before contents after = (contents ≡ []) × (after ≡ before)
+  BeginWith number no_items (bank ∷ banks) before contents after = ⊥
+  BeginWith number (item value items) (bank ∷ banks) before [] after = ⊥
+  BeginWith number (item value items) (bank ∷ banks) before (bytes ∷ contents) after =
+      (middle : S) × BeginsWith (place Bank (number + 1)) value bank.size before bytes middle
+      × BeginWith (number + 1) items banks middle contents after
+
+  -- each of the banks begins with these bytes; the one bank of a file without banks with none
+  abbrev pub HoldsContents : Option Items → List BankConfig → (before : S) → List (List ℕ) → (after : S) → Type 0
+  HoldsContents None banks before contents after = (contents ≡ [] ∷ []) × (after ≡ before)
+  HoldsContents (Some items) banks before contents after = BeginWith 0 items banks before contents after
+
+  -- each of the banks of a table begins with these bytes
+  pub record HoldsBanks (table : Members) (banks : List BankConfig) (before : S) (contents : List (List ℕ)) (after : S) :
+      Type 0 where
+    pub list : Option Items
+    pub listed : list_at table Bank ≡ Ok list
+    pub held : HoldsContents list banks before contents after
+
+  -- the load of a table: its slot, and the bytes of its image, which the staging has room for
+  pub record HoldsLoad (at : Place) (value : Data) (before : S) (load : LoadValue) (after : S) : Type 0 where
+    pub table : Members
+    pub name : List ℕ
+    pub is_table : table_in value at ≡ Ok table
+    pub slot : number_at table at Slot 0 3 ≡ Ok load.slot
+    pub named : name_at table at Image ≡ Ok (Some name)
+    pub held : HoldsBeside name STAGING_SIZE before load.image after
+
+  -- the loads of a list of tables, in this order; so many loads stand before them
+  abbrev pub HoldLoads : (number : ℕ) → Items → (before : S) → List LoadValue → (after : S) → Type 0
+  HoldLoads number no_items before [] after = after ≡ before
+  HoldLoads number no_items before (load ∷ loads) after = ⊥
+  HoldLoads number (item value items) before [] after = ⊥
+  HoldLoads number (item value items) before (load ∷ loads) after =
+      (middle : S) × HoldsLoad (place Load (number + 1)) value before load middle
+      × HoldLoads (number + 1) items middle loads after
+
+  -- the loads of a table
+  pub record HoldsLoads (table : Members) (before : S) (loads : List LoadValue) (after : S) : Type 0 where
+    pub list : Option Items
+    pub listed : list_at table Load ≡ Ok list
+    pub held : HoldLoads 0 (items_in list) before loads after
+
+  -- the program that judges in all slots at first is that of the file that the table names, or the factory program
+  pub record HoldsFirst (table : Members) (before : S) (program : AcceptedValue) (after : S) : Type 0 where
+    pub name : Option (List ℕ)
+    pub path : Option (List ℕ)
+    pub named : name_at table own_place Program ≡ Ok name
+    pub path_of : IsPathOf file name path
+    pub held : HoldsProgram reads before path program.program after
+    pub justified : IsJustified program.program program.sizes
+    pub safe : IsSafe program.program program.sizes
+
+  -- the node of a table and of the files that it names, and the program that judges in all slots at first
+  pub record HoldsParts (table : Members) (before : S) (own : OwnNodeValue) (program : AcceptedValue) (after : S) :
+      Type 0 where
+    pub filled : S
+    pub judged : S
+    pub configured : configuration_at table ≡ Ok (numbers_of own)
+    pub banks : HoldsBanks table own.banks before own.contents filled
+    pub first : HoldsFirst table filled program judged
+    pub sizes : program.sizes ≡ own.sizes
+    pub loads : HoldsLoads table judged own.loads after
+
+  -- the node of the node's file, and the program that judges in all slots at first; and files were read, and nothing else was done
+  -- to them
+  pub record ReadsNode (before : S) (own : OwnNodeValue) (program : AcceptedValue) (after : S) : Type 0 where
+    pub text : List ℕ
+    pub table : Members
+    pub begun : S
+    pub read : reads before file (Some text) begun
+    pub utf8 : IsUtf8 text
+    pub is_table : parse_document text ≡ Some table
+    pub parts : HoldsParts table begun own program after
+    pub only_reads : SomeRead reads before after
+
+  -- the node's file was read, and there is no node of it; and nothing else was done to files
+  pub record ReadsBadNode (before : S) (end : Fault) (after : S) : Type 0 where
+    pub text : List ℕ
+    pub begun : S
+    pub fault : ConfigFault
+    pub read : reads before file (Some text) begun
+    pub utf8 : IsUtf8 text
+    pub bad : IsBadNode reads text begun fault after
+    pub ends : Ends (code_of fault) end
+    pub only_reads : SomeRead reads before after
+
+  -- there is no node of the node's file: it cannot be read, or it is bad
+  abbrev pub ReadsNoNode : (before : S) → Fault → (after : S) → Type 0
+  ReadsNoNode before end after = TextUnread reads before file after end ⊎ ReadsBadNode before end after

@@ -1,0 +1,309 @@
+//! What is wrong with a node's file, and where.
+
+ghost use Rattle.std.specs.Prelude.{◌≡◌, IfOk};
+ghost use Rattle.job_config.specs.Faults.{code_of, kind_code, name_code, number_code};
+ghost use Rattle.job_config.specs.declared.faults.ConfigFault.TheVariants.{Memory};
+
+use crate::places::{Kind, NameKey, NumberKey, Place};
+use bpf::ImageFault;
+use bver::{Refusal, Refused};
+use job_parts::node_codes::NodeCode;
+use std::alloc::{AllocError, AllocFailed, Global};
+use std::fmt;
+use std::marker::Model;
+
+/// What stands where a number is wanted.
+#[derive(Clone, Copy, Debug, PartialEq, Eq)]
+pub enum Found {
+    /// Nothing.
+    Missing,
+    /// This number.
+    Number(i64),
+    /// Something else.
+    Other,
+}
+
+/// A word of a node's file. Contracts see its bytes.
+#[derive(Debug, Drop)]
+pub struct Word {
+    text: String,
+}
+
+impl Model for Word {
+    ghost use Rattle.std.specs.Prelude.{ℕ, List, string_bytes};
+
+    ghost Value = { List ℕ };
+
+    ghost view = { λ w. string_bytes w.text };
+}
+
+impl Word {
+    /// A copy of this text.
+    pub fn new(alloc: Global, text: &str) -> Result<Word, AllocError>
+        ensures { IfOk result (λ word. word ≡ text.now) }
+    {
+        Ok(Word {
+            text: String::from_str(alloc, text)?,
+        })
+    }
+}
+
+/// Why a file beside a node's file does not serve.
+#[derive(Clone, Copy, Debug, PartialEq, Eq)]
+pub enum Trouble {
+    /// It cannot be read.
+    Unread,
+    /// It has so many bytes, of which that many would be the most.
+    TooLong {
+        /// How many bytes it has.
+        bytes: usize,
+        /// How many are wanted at most.
+        most: usize,
+    },
+    /// It is no image.
+    NoImage(ImageFault),
+    /// Its program may not judge on the node's maps.
+    Refused(Refused),
+}
+
+impl Trouble {
+    /// Whether it is want of memory.
+    pub(crate) fn is_memory(self) -> bool {
+        match self {
+            Trouble::NoImage(fault) => fault == ImageFault::Memory,
+            Trouble::Refused(refused) => refused.code == Refusal::Memory,
+            Trouble::Unread | Trouble::TooLong { .. } => false,
+        }
+    }
+}
+
+/// What is wrong with a node's file.
+#[derive(Debug, Drop)]
+pub enum ConfigFault {
+    /// Memory was refused.
+    Memory,
+    /// The text is no TOML.
+    NoToml {
+        /// The line, from 1.
+        line: usize,
+        /// What the reader says.
+        message: Word,
+    },
+    /// A table has a key that it may not have.
+    UnknownKey {
+        /// The table.
+        place: Place,
+        /// The key.
+        key: Word,
+    },
+    /// What a key holds is no number within limits.
+    BadNumber {
+        /// The table.
+        place: Place,
+        /// The key.
+        key: NumberKey,
+        /// What it holds.
+        found: Found,
+        /// The least number that is wanted.
+        least: u32,
+        /// The greatest.
+        most: u32,
+    },
+    /// The key `peak` of a map holds neither true nor false.
+    BadPeak(Place),
+    /// What stands there is no table; with the number 0 it is no list of tables.
+    NoTable(Place),
+    /// So many tables of a kind are too many, or too few.
+    BadCount {
+        /// The kind.
+        kind: Kind,
+        /// How many there are.
+        count: usize,
+    },
+    /// What a key holds is no name of a file.
+    NoName {
+        /// The table.
+        place: Place,
+        /// The key.
+        key: NameKey,
+    },
+    /// The file that a key names does not serve.
+    BadFile {
+        /// The table.
+        place: Place,
+        /// The key.
+        key: NameKey,
+        /// The name.
+        name: Word,
+        /// Why.
+        trouble: Trouble,
+    },
+    /// A load was not carried out.
+    NotLoaded {
+        /// Its number, from 1.
+        number: usize,
+        /// The first status of its packets that is not 0; 0 where there is none.
+        status: u8,
+        /// The first byte of the load result.
+        load: u8,
+    },
+}
+
+/// What faults of the tables of a kind are.
+fn code_of_kind(kind: Kind) -> NodeCode
+    ensures { result ≡ kind_code kind }
+{
+    match kind {
+        Kind::Node => NodeCode::Text,
+        Kind::Bank => NodeCode::Bank,
+        Kind::Map => NodeCode::Map,
+        Kind::Load => NodeCode::Load,
+    }
+}
+
+/// What faults of the numbers of a key are.
+fn code_of_number(key: NumberKey) -> NodeCode
+    ensures { result ≡ number_code key }
+{
+    match key {
+        NumberKey::Address => NodeCode::Address,
+        NumberKey::Ports => NodeCode::Ports,
+        NumberKey::Base | NumberKey::Size | NumberKey::Journal => NodeCode::Bank,
+        NumberKey::Cells => NodeCode::Map,
+        NumberKey::Slot => NodeCode::Load,
+    }
+}
+
+/// What faults of the files of a key are.
+fn code_of_name(key: NameKey) -> NodeCode
+    ensures { result ≡ name_code key }
+{
+    match key {
+        NameKey::Contents => NodeCode::Contents,
+        NameKey::Program => NodeCode::Program,
+        NameKey::Image => NodeCode::Load,
+    }
+}
+
+impl ConfigFault {
+    /// The code that is printed of it; `None` where memory was refused.
+    pub fn code(&self) -> Option<NodeCode>
+        ensures { result ≡ code_of self.now }
+    {
+        match self {
+            ConfigFault::Memory => None,
+            ConfigFault::NoToml { .. } => Some(NodeCode::Text),
+            ConfigFault::UnknownKey { .. } => Some(NodeCode::Key),
+            ConfigFault::BadNumber { key, .. } => Some(code_of_number(*key)),
+            ConfigFault::BadPeak(_) => Some(NodeCode::Map),
+            ConfigFault::NoTable(place) => Some(code_of_kind(place.kind)),
+            ConfigFault::BadCount { kind, .. } => Some(code_of_kind(*kind)),
+            ConfigFault::NoName { key, .. } | ConfigFault::BadFile { key, .. } => {
+                Some(code_of_name(*key))
+            }
+            ConfigFault::NotLoaded { .. } => Some(NodeCode::Load),
+        }
+    }
+}
+
+impl From<AllocError> for ConfigFault {
+    ghost from_gives = { λ _ fault. fault ≡ Memory };
+
+    fn from(_refused: AllocError) -> ConfigFault {
+        ConfigFault::Memory
+    }
+}
+
+impl<T: Drop> From<AllocFailed<T>> for ConfigFault {
+    ghost from_gives = { λ _ fault. fault ≡ Memory };
+
+    fn from(_refused: AllocFailed<T>) -> ConfigFault {
+        ConfigFault::Memory
+    }
+}
+
+impl fmt::Display for Trouble {
+    fn fmt<W: fmt::Write>(&self, f: &mut fmt::Formatter<W>) -> fmt::Result {
+        match self {
+            Trouble::Unread => write!(f, ": cannot be read"),
+            Trouble::TooLong { bytes, most } => write!(f, " {bytes} bytes: wanted at most {most}"),
+            Trouble::NoImage(fault) => {
+                let (code, slot) = (fault.code(), fault.slot());
+                write!(f, ": image fault {code} slot {slot}")
+            }
+            Trouble::Refused(refused) => {
+                let (code, slot) = (refused.number(), refused.slot);
+                write!(f, ": refused V{code} slot {slot}")
+            }
+        }
+    }
+}
+
+/// How many tables of a kind a node's file may have, for the user.
+fn wanted(kind: Kind) -> &'static str {
+    match kind {
+        Kind::Bank => "1 to 8",
+        Kind::Node | Kind::Map | Kind::Load => "at most 8",
+    }
+}
+
+impl fmt::Display for ConfigFault {
+    fn fmt<W: fmt::Write>(&self, f: &mut fmt::Formatter<W>) -> fmt::Result {
+        match self {
+            ConfigFault::Memory => write!(f, "no memory"),
+            ConfigFault::NoToml { line, message } => {
+                let message = message.text.as_str();
+                write!(f, "line {line}: {message}")
+            }
+            ConfigFault::UnknownKey { place, key } => {
+                let (key, keys) = (key.text.escape_debug(), place.kind.keys());
+                write!(f, "{place}key {key}: wanted {keys}")
+            }
+            ConfigFault::BadNumber {
+                place,
+                key,
+                found,
+                least,
+                most,
+            } => {
+                let key = key.word();
+                match found {
+                    Found::Missing => write!(f, "{place}{key} is missing")?,
+                    Found::Number(number) => write!(f, "{place}{key} {number}")?,
+                    Found::Other => write!(f, "{place}{key} is no number")?,
+                }
+                write!(f, ": wanted {least} to {most}")
+            }
+            ConfigFault::BadPeak(place) => write!(f, "{place}peak: wanted true or false"),
+            ConfigFault::NoTable(place) => {
+                let (word, number) = (place.kind.word(), place.number);
+                match number {
+                    0 => write!(f, "{word} is no list of tables: wanted [[{word}]]"),
+                    _ => write!(f, "{word} {number} is no table: wanted [[{word}]]"),
+                }
+            }
+            ConfigFault::BadCount { kind, count } => {
+                let (word, wanted) = (kind.word(), wanted(*kind));
+                write!(f, "{count} {word}s: wanted {wanted}")
+            }
+            ConfigFault::NoName { place, key } => {
+                let key = key.word();
+                write!(f, "{place}{key}: wanted the name of a file")
+            }
+            ConfigFault::BadFile {
+                place,
+                key,
+                name,
+                trouble,
+            } => {
+                let (key, name) = (key.word(), name.text.escape_debug());
+                write!(f, "{place}{key} {name}{trouble}")
+            }
+            ConfigFault::NotLoaded {
+                number,
+                status,
+                load,
+            } => write!(f, "load {number}: status {status}, load fault {load}"),
+        }
+    }
+}

@@ -1,0 +1,20 @@
+//! The node that a job runs: what the text of a node's file says of it, and what the node takes.
+//!
+//! The text is `configuration`: the numbers that a TOML table has, and the names of the files beside it, each fault with its place.
+//! What the node takes is `own_node`: address, ports, banks with the bytes at their beginning, maps, and the images that are
+//! loaded before the first packet. Where a job has its node from, its own words or such a file, is `sources`.
+#![tactic(auto)]
+
+mod banks;
+pub mod configuration;
+pub mod faults;
+mod keys;
+mod maps;
+mod names;
+pub mod node_lines;
+mod numbers;
+pub mod own_node;
+pub mod places;
+pub mod reading;
+pub mod sources;
+mod tables;

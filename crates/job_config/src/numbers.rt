@@ -1,0 +1,79 @@
+//! Numbers of a node's file.
+
+ghost use Rattle.std.specs.Prelude.{◌≡◌, ◌≤◌, IfOk, IfSome};
+ghost use Rattle.job_config.specs.Numbers.{found_at, number_at, number_or, within};
+ghost use Rattle.toml.specs.View.{table_view};
+
+use crate::faults::{ConfigFault, Found};
+use crate::places::{NumberKey, Place};
+use crate::tables::held;
+use toml::Table;
+
+/// What a key of a table holds, where a number is wanted.
+fn found_at(table: &Table, key: NumberKey) -> Found
+    ensures { result ≡ found_at (table_view table.now) key }
+{
+    match held(table, key.word()) {
+        Some(value) => match value.as_integer() {
+            Some(number) => Found::Number(number),
+            None => Found::Other,
+        },
+        None => Found::Missing,
+    }
+}
+
+/// The number that was found, if it is one from `least` to `most`.
+fn within(found: Found, least: u32, most: u32) -> Option<u32>
+    ensures value { result ≡ within least most found }
+    ensures range { IfSome result (λ number. (least ≤ number) × (number ≤ most)) }
+{
+    match found {
+        Found::Number(number) if i64::from(least) <= number && number <= i64::from(most) => {
+            Some(number as u32)
+        }
+        Found::Number(_) | Found::Missing | Found::Other => None,
+    }
+}
+
+/// The number from `least` to `most` that a key of a table holds.
+pub fn number_at(
+    table: &Table,
+    place: Place,
+    key: NumberKey,
+    least: u32,
+    most: u32,
+) -> Result<u32, ConfigFault>
+    ensures value { result ≡ number_at (table_view table.now) place key least most }
+    ensures range { IfOk result (λ number. (least ≤ number) × (number ≤ most)) }
+{
+    let found = found_at(table, key);
+    match within(found, least, most) {
+        Some(number) => Ok(number),
+        None => Err(ConfigFault::BadNumber {
+            place,
+            key,
+            found,
+            least,
+            most,
+        }),
+    }
+}
+
+/// The same, or `other` where the table has not the key.
+pub fn number_or(
+    table: &Table,
+    place: Place,
+    key: NumberKey,
+    least: u32,
+    most: u32,
+    other: u32,
+) -> Result<u32, ConfigFault>
+    requires { (least ≤ other) × (other ≤ most) }
+    ensures value { result ≡ number_or (table_view table.now) place key least most other }
+    ensures range { IfOk result (λ number. (least ≤ number) × (number ≤ most)) }
+{
+    if let Found::Missing = found_at(table, key) {
+        return Ok(other);
+    }
+    number_at(table, place, key, least, most)
+}

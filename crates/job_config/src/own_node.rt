@@ -1,0 +1,229 @@
+//! What a node takes of its configuration.
+
+ghost use Rattle.std.specs.Prelude.{◌≡◌, ◌<◌, ◌≤◌, [], ◌∷◌, IfOk, length, slice_index_or, true};
+ghost use Rattle.job_config.specs.OwnNodes.{IsConfigOf, fit, load, own_bank, own_node, plain_node};
+ghost use Rattle.machine.specs.Sizes.{listed_maps};
+ghost use Rattle.node_parts.specs.Nodes.{are_within};
+ghost use Rattle.rmap.specs.declared.boot.TheConstants.{STAGING_SIZE};
+
+use bver::MapSizes;
+use node_parts::{BankConfig, NodeConfig};
+use std::alloc::{AllocError, Global};
+use std::marker::Model;
+
+/// The logical address of a node of which nothing else is said.
+pub const NODE_ADDRESS: u8 = 0xFE;
+
+/// The first address of the bank of such a node.
+pub const BANK_BASE: u32 = 0xA000_0000;
+
+/// How many bytes that bank has.
+pub const BANK_SIZE: u32 = 0x1_0000;
+
+/// How many entries the journal of that bank has room for.
+pub const BANK_ROOM: u32 = 1024;
+
+/// The bank of a node of which no bank is said.
+pub const OWN_BANK: BankConfig = BankConfig {
+    base: BANK_BASE,
+    size: BANK_SIZE,
+    room: BANK_ROOM,
+};
+
+/// The bytes at the beginning of a bank; the rest of it is zeros. Contracts see the bytes.
+#[derive(Debug, Drop)]
+pub struct Contents {
+    bytes: Vec<u8>,
+}
+
+impl Model for Contents {
+    ghost use Rattle.std.specs.Prelude.{ℕ, List};
+
+    ghost Value = { List ℕ };
+
+    ghost view = { λ c. c.bytes.items };
+}
+
+impl Contents {
+    /// These bytes.
+    pub fn new(bytes: Vec<u8>) -> Contents
+        ensures { result ≡ bytes.items }
+    {
+        Contents { bytes }
+    }
+
+    /// The bytes.
+    pub fn bytes(&self) -> &[u8]
+        ensures { result.now ≡ self.now }
+    {
+        self.bytes.as_slice()
+    }
+}
+
+/// An image that is loaded before the first packet, as by the packets of a load. Contracts see the slot and the bytes.
+#[derive(Debug, Drop)]
+pub struct OwnLoad {
+    slot: u8,
+    image: Vec<u8>,
+}
+
+impl Model for OwnLoad {
+    ghost use Rattle.std.specs.Prelude.{◌≤◌, length};
+    ghost use Rattle.job_config.specs.OwnNodes.{LoadValue, load};
+    ghost use Rattle.rmap.specs.declared.boot.TheConstants.{STAGING_SIZE};
+
+    ghost Value = { LoadValue };
+
+    ghost view = { λ l. load l.slot l.image.items };
+
+    ghost invariant = { λ l. length l.image.items ≤ STAGING_SIZE };
+}
+
+impl OwnLoad {
+    /// The load of these bytes into that slot. The condition is no more bytes than the staging has.
+    pub fn new(slot: u8, image: Vec<u8>) -> OwnLoad
+        requires { length image.items ≤ STAGING_SIZE }
+        ensures { result ≡ load slot image.items }
+    {
+        OwnLoad { slot, image }
+    }
+
+    /// The slot, 0 to 3.
+    pub fn slot(&self) -> u8
+        ensures { result ≡ self.now.slot }
+    {
+        self.slot
+    }
+
+    /// The bytes of the image, no more than the staging has.
+    pub fn image(&self) -> &[u8]
+        ensures image { result.now ≡ self.now.image }
+        ensures short { length result.now ≤ STAGING_SIZE }
+    {
+        self.image.as_slice()
+    }
+}
+
+/// What a node takes of its configuration, beside the program that judges in all slots at first: its logical address; its ports,
+/// which [`single_node`] and `target` want to be 1 to 32; 1 to 8 banks within their limits, the extended address of each being
+/// its place; for each bank the bytes at its beginning, no more than it has; its maps; and what is loaded before the first
+/// packet, in this order. Contracts see a record of these.
+#[derive(Debug, Drop)]
+pub struct OwnNode {
+    address: u8,
+    ports: u8,
+    banks: Vec<BankConfig>,
+    contents: Vec<Contents>,
+    sizes: MapSizes,
+    loads: Vec<OwnLoad>,
+}
+
+impl Model for OwnNode {
+    ghost use Rattle.job_config.specs.OwnNodes.{OwnNodeValue, IsOwnNode, own_node};
+
+    ghost Value = { OwnNodeValue };
+
+    ghost view = { λ n. own_node n.address n.ports n.banks.items n.contents.items n.sizes n.loads.items };
+
+    ghost invariant = { λ n. IsOwnNode (own_node n.address n.ports n.banks.items n.contents.items n.sizes n.loads.items) };
+}
+
+impl OwnNode {
+    /// The node of which no file says anything: address FE, one bank of 65,536 zero bytes at A0000000 whose journal has room
+    /// for 1,024 entries, so many ports and these maps. Nothing is loaded into it.
+    pub fn plain(alloc: Global, ports: u8, sizes: MapSizes) -> Result<OwnNode, AllocError>
+        ensures { IfOk result (λ node. node ≡ plain_node ports sizes) }
+    {
+        let mut banks = Vec::new(alloc);
+        banks.push(OWN_BANK)?;
+        let mut contents = Vec::new(alloc);
+        contents.push(Contents::new(Vec::new(alloc)))?;
+        Ok(OwnNode {
+            address: NODE_ADDRESS,
+            ports,
+            banks,
+            contents,
+            sizes,
+            loads: Vec::new(alloc),
+        })
+    }
+
+    /// The node of these: banks within their limits, and for each the bytes at its beginning, no more than it has.
+    pub fn of_parts(
+        address: u8,
+        ports: u8,
+        banks: Vec<BankConfig>,
+        contents: Vec<Contents>,
+        sizes: MapSizes,
+        loads: Vec<OwnLoad>,
+    ) -> OwnNode
+        requires within { are_within banks.items ≡ true }
+        requires fits { fit banks.items contents.items ≡ true }
+        ensures { result ≡ own_node address ports banks.items contents.items sizes loads.items }
+    {
+        OwnNode {
+            address,
+            ports,
+            banks,
+            contents,
+            sizes,
+            loads,
+        }
+    }
+
+    /// The configuration of the node for [`single_node`] and `target`.
+    pub fn config(&self) -> NodeConfig<'_>
+        ensures { IsConfigOf self.now result }
+    {
+        NodeConfig {
+            address: self.address,
+            ports: self.ports,
+            banks: self.banks.as_slice(),
+            sizes: self.sizes,
+        }
+    }
+
+    /// The logical address.
+    pub fn address(&self) -> u8
+        ensures { result ≡ self.now.address }
+    {
+        self.address
+    }
+
+    /// How many ports there are.
+    pub fn ports(&self) -> u8
+        ensures { result ≡ self.now.ports }
+    {
+        self.ports
+    }
+
+    /// The banks, by their extended address.
+    pub fn banks(&self) -> &[BankConfig]
+        ensures banks { result.now ≡ self.now.banks }
+        ensures within { are_within self.now.banks ≡ true }
+    {
+        self.banks.as_slice()
+    }
+
+    /// The bytes at the beginning of each bank, by its extended address: as many as there are banks, each no longer than its bank.
+    pub fn contents(&self) -> &[Contents]
+        ensures contents { result.now ≡ self.now.contents }
+        ensures fit { fit self.now.banks self.now.contents ≡ true }
+    {
+        self.contents.as_slice()
+    }
+
+    /// How many cells each map has, and of which kind it is.
+    pub fn sizes(&self) -> MapSizes
+        ensures { result ≡ self.now.sizes }
+    {
+        self.sizes
+    }
+
+    /// What is loaded before the first packet, in this order.
+    pub fn loads(&self) -> &[OwnLoad]
+        ensures { result.now ≡ self.now.loads }
+    {
+        self.loads.as_slice()
+    }
+}

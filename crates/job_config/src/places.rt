@@ -1,0 +1,146 @@
+//! Where something stands in a node's file.
+
+ghost use Rattle.std.specs.Prelude.{◌≡◌};
+ghost use Rattle.job_config.specs.Places.{kind_word, knows, name_word, number_word};
+ghost use Rattle.job_config.specs.declared.places.Kind.TheVariants.{Node};
+
+use std::fmt;
+
+/// The tables of a node's file.
+#[derive(Clone, Copy, Debug, PartialEq, Eq)]
+pub enum Kind {
+    /// The node's own, which is the whole file.
+    Node,
+    /// That of a bank.
+    Bank,
+    /// That of a map.
+    Map,
+    /// That of a load.
+    Load,
+}
+
+impl Kind {
+    /// The key under which the file has such tables; of the node's own there is none.
+    pub fn word(self) -> &'static str
+        ensures { result.now ≡ kind_word self }
+    {
+        match self {
+            Kind::Node => "",
+            Kind::Bank => "bank",
+            Kind::Map => "map",
+            Kind::Load => "load",
+        }
+    }
+
+    /// Whether such a table may have the key.
+    pub fn knows(self, key: &str) -> bool
+        ensures { result ≡ knows self key.now }
+    {
+        match self {
+            Kind::Node => is_node_key(key),
+            Kind::Bank => key == "base" || key == "contents" || key == "journal" || key == "size",
+            Kind::Map => key == "cells" || key == "peak",
+            Kind::Load => key == "image" || key == "slot",
+        }
+    }
+
+    /// The keys that such a table may have, for the user.
+    pub(crate) fn keys(self) -> &'static str {
+        match self {
+            Kind::Node => "address, bank, load, map, ports or program",
+            Kind::Bank => "base, contents, journal or size",
+            Kind::Map => "cells or peak",
+            Kind::Load => "image or slot",
+        }
+    }
+}
+
+/// Whether the node's own table may have the key.
+fn is_node_key(key: &str) -> bool
+    ensures { result ≡ knows Node key.now }
+{
+    if key == "address" || key == "bank" || key == "load" {
+        return true;
+    }
+    key == "map" || key == "ports" || key == "program"
+}
+
+/// A table of a node's file: its kind, and its number, from 1, among those of its kind; that of the node's own is 0.
+#[derive(Clone, Copy, Debug, PartialEq, Eq)]
+pub struct Place {
+    /// Which kind of table it is.
+    pub kind: Kind,
+    /// Its number.
+    pub number: usize,
+}
+
+impl fmt::Display for Place {
+    fn fmt<W: fmt::Write>(&self, f: &mut fmt::Formatter<W>) -> fmt::Result {
+        let word = self.kind.word();
+        let number = self.number;
+        match self.kind {
+            Kind::Node => Ok(()),
+            Kind::Bank | Kind::Map | Kind::Load => write!(f, "{word} {number} "),
+        }
+    }
+}
+
+/// A key that holds a number.
+#[derive(Clone, Copy, Debug, PartialEq, Eq)]
+pub enum NumberKey {
+    /// The logical address of the node.
+    Address,
+    /// How many ports the node has.
+    Ports,
+    /// The first address of a bank.
+    Base,
+    /// How many bytes a bank has.
+    Size,
+    /// How many entries the journal of a bank has room for.
+    Journal,
+    /// How many cells a map has.
+    Cells,
+    /// The slot of a load.
+    Slot,
+}
+
+impl NumberKey {
+    /// The key.
+    pub fn word(self) -> &'static str
+        ensures { result.now ≡ number_word self }
+    {
+        match self {
+            NumberKey::Address => "address",
+            NumberKey::Ports => "ports",
+            NumberKey::Base => "base",
+            NumberKey::Size => "size",
+            NumberKey::Journal => "journal",
+            NumberKey::Cells => "cells",
+            NumberKey::Slot => "slot",
+        }
+    }
+}
+
+/// A key that holds the name of a file.
+#[derive(Clone, Copy, Debug, PartialEq, Eq)]
+pub enum NameKey {
+    /// The bytes that a bank begins with.
+    Contents,
+    /// The image that judges in all slots at first.
+    Program,
+    /// The image of a load.
+    Image,
+}
+
+impl NameKey {
+    /// The key.
+    pub fn word(self) -> &'static str
+        ensures { result.now ≡ name_word self }
+    {
+        match self {
+            NameKey::Contents => "contents",
+            NameKey::Program => "program",
+            NameKey::Image => "image",
+        }
+    }
+}

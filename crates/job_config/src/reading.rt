@@ -1,0 +1,462 @@
+//! A node by its file and the files beside it.
+
+ghost use Rattle.std.specs.Prelude.{◌≡◌, ◌≤◌, ◌⊎◌, ◌∷◌, [], IfErr, IfOk, IfSome, None, Ok, Some, length, option_map, string_bytes, true};
+ghost use Rattle.job_config.specs.Configured.{IsConfiguration, banks_at};
+ghost use Rattle.job_config.specs.Faults.{code_of};
+ghost use Rattle.job_config.specs.Names.{IsPathOf};
+ghost use Rattle.job_config.specs.Reads.{BeginWith, BeginsWith, Ends, HoldLoads, HoldsBanks, HoldsBeside, HoldsFirst, HoldsLoad, HoldsLoads, HoldsParts, IsBadNode, IsNoTable, ReadsNoNode, ReadsNode, SomeRead};
+ghost use Rattle.job_config.specs.OwnNodes.{fit};
+ghost use Rattle.job_config.specs.declared.faults.ConfigFault.TheVariants.{Memory};
+ghost use Rattle.bver.specs.Justified.{IsJustified};
+ghost use Rattle.job_parts.specs.Arguments.{name_in};
+ghost use Rattle.job_parts.specs.Given.{HoldsProgram};
+ghost use Rattle.job_parts.specs.Reading.{TextUnread};
+ghost use Rattle.std.specs.Str.{IsUtf8};
+ghost use Rattle.machine.specs.Runs.{IsSafe};
+ghost use Rattle.job_parts.specs.declared.node_codes.NodeCode.TheVariants.{Text};
+ghost use Rattle.node_parts.specs.Nodes.{are_within};
+ghost use Rattle.toml.specs.Data.{Members};
+ghost use Rattle.toml.specs.Errors.{IsMemory};
+ghost use Rattle.toml.specs.Parse.{parse_document};
+ghost use Rattle.toml.specs.View.{items_view, table_view, view};
+
+use crate::configuration::{Configuration, configuration_of};
+use crate::faults::{ConfigFault, Trouble, Word};
+use crate::names::{beside, name_at, name_in};
+use crate::numbers::number_at;
+use crate::own_node::{Contents, OwnLoad, OwnNode};
+use crate::places::{Kind, NameKey, NumberKey, Place};
+use crate::tables::{OWN, list_at, table_in};
+use bpf::Image;
+use bver::{Accepted, MapSizes, verify};
+use job_parts::factory::judging_program;
+use job_parts::faults::Fault;
+use job_parts::programs::{bytes_in, text_in};
+use job_parts::storage::Files;
+use node_parts::BankConfig;
+use rmap::{LAST_SLOT, STAGING_SIZE};
+use std::alloc::{AllocError, Global};
+use toml::{Table, Value};
+
+/// What a node's file gives: the node, and the program that judges in all slots at first.
+#[derive(Debug, Drop)]
+pub struct ReadNode {
+    /// The node.
+    pub node: OwnNode,
+    /// The program.
+    pub program: Accepted,
+}
+
+/// The fault of a file that a key names.
+fn bad_file(
+    alloc: Global,
+    place: Place,
+    key: NameKey,
+    name: &str,
+    trouble: Trouble,
+) -> Result<ConfigFault, AllocError> {
+    if trouble.is_memory() {
+        return Ok(ConfigFault::Memory);
+    }
+    let name = Word::new(alloc, name)?;
+    Ok(ConfigFault::BadFile {
+        place,
+        key,
+        name,
+        trouble,
+    })
+}
+
+/// The bytes of the file of this name, if it can be read.
+fn read_bytes<F: Files>(alloc: Global, files: &mut F, path: &str) -> Option<Vec<u8>>
+    ensures gave { IfSome result (λ bytes. F.reads files.old path.now (Some bytes.items) files.new) }
+    ensures read { SomeRead F.reads files.old files.new }
+{
+    match bytes_in(alloc, files, path) {
+        Ok(bytes) => Some(bytes),
+        Err(_) => None,
+    }
+}
+
+/// The bytes of the file that a key names, at most so many.
+fn bytes_beside<F: Files>(
+    alloc: Global,
+    file: &str,
+    files: &mut F,
+    place: Place,
+    key: NameKey,
+    name: &str,
+    most: usize,
+) -> Result<Vec<u8>, ConfigFault>
+    ensures held { IfOk result (λ bytes.
+        HoldsBeside F.reads file.now name.now most files.old bytes.items files.new) }
+    ensures read { SomeRead F.reads files.old files.new }
+{
+    let path = beside(alloc, file, name)?;
+    let Some(bytes) = read_bytes(alloc, files, path.as_str()) else {
+        return Err(bad_file(alloc, place, key, name, Trouble::Unread)?);
+    };
+    let count = bytes.len();
+    if count > most {
+        let trouble = Trouble::TooLong { bytes: count, most };
+        return Err(bad_file(alloc, place, key, name, trouble)?);
+    }
+    Ok(bytes)
+}
+
+/// The bytes that a bank of a table begins with.
+fn contents_in<F: Files>(
+    alloc: Global,
+    file: &str,
+    files: &mut F,
+    item: &Value,
+    place: Place,
+    size: u32,
+) -> Result<Contents, ConfigFault>
+    ensures held { IfOk result (λ own.
+        BeginsWith F.reads file.now place (view item.now) size files.old own files.new) }
+    ensures short { IfOk result (λ own. length own ≤ size) }
+    ensures read { SomeRead F.reads files.old files.new }
+{
+    let table = table_in(item, place)?;
+    let Some(name) = name_at(table, place, NameKey::Contents)? else {
+        return Ok(Contents::new(Vec::new(alloc)));
+    };
+    let key = NameKey::Contents;
+    let bytes = bytes_beside(alloc, file, files, place, key, name, size as usize)?;
+    Ok(Contents::new(bytes))
+}
+
+/// The bytes that each of these banks begins with, by the list of their tables.
+fn contents_of<F: Files>(
+    alloc: Global,
+    file: &str,
+    files: &mut F,
+    list: &[Value],
+    banks: &[BankConfig],
+) -> Result<Vec<Contents>, ConfigFault>
+    requires { length list.now ≡ length banks.now }
+    ensures held { IfOk result (λ contents. BeginWith F.reads file.now 0 (items_view list.now)
+        banks.now files.old contents.items files.new) }
+    ensures fit { IfOk result (λ contents. fit banks.now contents.items ≡ true) }
+    ensures read { SomeRead F.reads files.old files.new }
+{
+    let mut contents = Vec::new(alloc);
+    for index in 0..banks.len() {
+        let place = Place {
+            kind: Kind::Bank,
+            number: index + 1,
+        };
+        let size = banks[index].size;
+        let own = contents_in(alloc, file, files, &list[index], place, size)?;
+        contents.push(own)?;
+    }
+    Ok(contents)
+}
+
+/// No bytes for the one bank of a file without banks.
+fn no_contents(alloc: Global) -> Result<Vec<Contents>, AllocError>
+    ensures { IfOk result (λ contents. contents.items ≡ [] ∷ []) }
+{
+    let mut contents = Vec::new(alloc);
+    contents.push(Contents::new(Vec::new(alloc)))?;
+    Ok(contents)
+}
+
+/// The bytes that each of these banks begins with, which are those of the table.
+#[tactic(auto, using(crate::proofs::Each::banks_count, crate::proofs::Each::banks_none, crate::proofs::Each::count_view))]
+fn all_contents<F: Files>(
+    alloc: Global,
+    file: &str,
+    files: &mut F,
+    table: &Table,
+    banks: &[BankConfig],
+) -> Result<Vec<Contents>, ConfigFault>
+    requires { banks_at (table_view table.now) ≡ Ok banks.now }
+    ensures held { IfOk result (λ contents. HoldsBanks F.reads file.now (table_view table.now)
+        banks.now files.old contents.items files.new) }
+    ensures fit { IfOk result (λ contents. fit banks.now contents.items ≡ true) }
+    ensures read { SomeRead F.reads files.old files.new }
+{
+    match list_at(table, Kind::Bank)? {
+        Some(list) => contents_of(alloc, file, files, list, banks),
+        None => Ok(no_contents(alloc)?),
+    }
+}
+
+/// The path of the file that a name is of, if there is a name.
+fn path_of(alloc: Global, file: &str, name: Option<&str>) -> Result<Option<String>, AllocError>
+    ensures { IfOk result (λ path. IsPathOf file.now (option_map (λ n. n.now) name.entry)
+        (option_map string_bytes path)) }
+{
+    match name {
+        Some(name) => Ok(Some(beside(alloc, file, name)?)),
+        None => Ok(None),
+    }
+}
+
+/// Why a program does not judge; `None` where memory was refused.
+fn trouble_of(fault: &Fault<'_>) -> Option<Trouble> {
+    match fault {
+        Fault::CannotRead(_) => Some(Trouble::Unread),
+        Fault::BadImage(fault) => Some(Trouble::NoImage(*fault)),
+        Fault::Refused(refused) => Some(Trouble::Refused(*refused)),
+        _ => None,
+    }
+}
+
+/// What is wrong with a node's file of which a program has that fault.
+fn bad_program(
+    alloc: Global,
+    name: Option<&str>,
+    fault: &Fault<'_>,
+) -> Result<ConfigFault, AllocError> {
+    match (name, trouble_of(fault)) {
+        (Some(name), Some(trouble)) => bad_file(alloc, OWN, NameKey::Program, name, trouble),
+        // Memory alone can be refused to the factory program.
+        _ => Ok(ConfigFault::Memory),
+    }
+}
+
+/// The program of the image file of this name, or the factory program where there is no name.
+fn read_program<'a, F: Files>(
+    alloc: Global,
+    files: &mut F,
+    path: Option<&'a str>,
+    sizes: MapSizes,
+) -> Result<Accepted, Fault<'a>>
+    ensures held { IfOk result (λ program.
+        HoldsProgram F.reads files.old (name_in path.entry) program.program files.new) }
+    ensures sizes { IfOk result (λ program. program.sizes ≡ sizes) }
+    ensures justified { IfOk result (λ program. IsJustified program.program sizes) }
+    ensures safe { IfOk result (λ program. IsSafe program.program sizes) }
+    ensures read { SomeRead F.reads files.old files.new }
+{
+    judging_program(alloc, files, path, sizes)
+}
+
+/// The program that judges in all slots at first.
+fn first_program<F: Files>(
+    alloc: Global,
+    file: &str,
+    files: &mut F,
+    table: &Table,
+    sizes: MapSizes,
+) -> Result<Accepted, ConfigFault>
+    ensures held { IfOk result (λ program. HoldsFirst F.reads file.now (table_view table.now)
+        files.old program files.new) }
+    ensures sizes { IfOk result (λ program. program.sizes ≡ sizes) }
+    ensures read { SomeRead F.reads files.old files.new }
+{
+    let name = name_at(table, OWN, NameKey::Program)?;
+    let path = path_of(alloc, file, name)?;
+    match read_program(alloc, files, path.as_deref(), sizes) {
+        Ok(program) => Ok(program),
+        Err(fault) => Err(bad_program(alloc, name, &fault)?),
+    }
+}
+
+/// Why bytes are no image that may judge on a node with these maps, if they are none.
+fn trouble_in(alloc: Global, bytes: &[u8], sizes: MapSizes) -> Option<Trouble> {
+    let image = match Image::read(alloc, bytes) {
+        Ok(image) => image,
+        Err(fault) => return Some(Trouble::NoImage(fault)),
+    };
+    match verify(alloc, image, &sizes) {
+        Ok(_) => None,
+        Err(refused) => Some(Trouble::Refused(refused)),
+    }
+}
+
+/// The load of a table.
+fn load_in<F: Files>(
+    alloc: Global,
+    file: &str,
+    files: &mut F,
+    item: &Value,
+    place: Place,
+    sizes: MapSizes,
+) -> Result<OwnLoad, ConfigFault>
+    ensures held { IfOk result (λ load.
+        HoldsLoad F.reads file.now place (view item.now) files.old load files.new) }
+    ensures read { SomeRead F.reads files.old files.new }
+{
+    let table = table_in(item, place)?;
+    let slot = number_at(table, place, NumberKey::Slot, 0, u32::from(LAST_SLOT))?;
+    let name = name_in(table, place, NameKey::Image)?;
+    let most = STAGING_SIZE as usize;
+    let key = NameKey::Image;
+    let image = bytes_beside(alloc, file, files, place, key, name, most)?;
+    match trouble_in(alloc, image.as_slice(), sizes) {
+        Some(trouble) => Err(bad_file(alloc, place, key, name, trouble)?),
+        None => Ok(OwnLoad::new(slot as u8, image)),
+    }
+}
+
+/// The loads of a list of tables.
+fn loads_in<F: Files>(
+    alloc: Global,
+    file: &str,
+    files: &mut F,
+    list: &[Value],
+    sizes: MapSizes,
+) -> Result<Vec<OwnLoad>, ConfigFault>
+    ensures held { IfOk result (λ loads.
+        HoldLoads F.reads file.now 0 (items_view list.now) files.old loads.items files.new) }
+    ensures read { SomeRead F.reads files.old files.new }
+{
+    let mut loads = Vec::new(alloc);
+    for index in 0..list.len() {
+        let place = Place {
+            kind: Kind::Load,
+            number: index + 1,
+        };
+        let load = load_in(alloc, file, files, &list[index], place, sizes)?;
+        loads.push(load)?;
+    }
+    Ok(loads)
+}
+
+/// What is loaded before the first packet.
+fn loads_of<F: Files>(
+    alloc: Global,
+    file: &str,
+    files: &mut F,
+    table: &Table,
+    sizes: MapSizes,
+) -> Result<Vec<OwnLoad>, ConfigFault>
+    ensures held { IfOk result (λ loads. HoldsLoads F.reads file.now (table_view table.now)
+        files.old loads.items files.new) }
+    ensures read { SomeRead F.reads files.old files.new }
+{
+    match list_at(table, Kind::Load)? {
+        Some(list) => loads_in(alloc, file, files, list, sizes),
+        None => Ok(Vec::new(alloc)),
+    }
+}
+
+/// The node of this configuration, which is that of the table, with what stands in the files that the table names.
+fn node_with<F: Files>(
+    alloc: Global,
+    file: &str,
+    files: &mut F,
+    table: &Table,
+    configuration: Configuration,
+) -> Result<ReadNode, ConfigFault>
+    requires configured { IsConfiguration (table_view table.now) configuration }
+    requires banks { banks_at (table_view table.now) ≡ Ok configuration.banks.items }
+    requires within { are_within configuration.banks.items ≡ true }
+    ensures held { IfOk result (λ made. HoldsParts F.reads file.now (table_view table.now)
+        files.old made.node made.program files.new) }
+    ensures read { SomeRead F.reads files.old files.new }
+{
+    let Configuration {
+        address,
+        ports,
+        banks,
+        sizes,
+    } = configuration;
+    let contents = all_contents(alloc, file, files, table, banks.as_slice())?;
+    let program = first_program(alloc, file, files, table, sizes)?;
+    let loads = loads_of(alloc, file, files, table, sizes)?;
+    let node = OwnNode::of_parts(address, ports, banks, contents, sizes, loads);
+    Ok(ReadNode { node, program })
+}
+
+/// The number of the line, from 1, in which a byte of a text stands.
+fn line_at(text: &str, place: usize) -> usize {
+    let mut line: usize = 1;
+    let (before, _) = text.as_bytes().split_at(place.min(text.len()));
+    for byte in before {
+        if *byte == b'\n' {
+            line = line.saturating_add(1);
+        }
+    }
+    line
+}
+
+/// Why a text is no TOML.
+fn no_toml(alloc: Global, text: &str, fault: &toml::de::Error) -> Result<ConfigFault, AllocError>
+    ensures { IfOk result (λ bad. (bad ≡ Memory) ⊎ (¬ IsMemory fault.now × (code_of bad ≡ Some Text))) }
+{
+    match fault.span() {
+        Some(span) => Ok(ConfigFault::NoToml {
+            line: line_at(text, span.start),
+            message: Word::new(alloc, fault.message())?,
+        }),
+        None => Ok(ConfigFault::Memory),
+    }
+}
+
+/// The table that a text is.
+#[tactic(auto, using(crate::proofs::Texts::no_table))]
+fn table_of(alloc: Global, text: &str) -> Result<Table, ConfigFault>
+    ensures table { IfOk result (λ table. parse_document text.now ≡ Some (table_view table)) }
+    ensures none { IfErr result (IsNoTable text.now) }
+{
+    match toml::table_from_str(alloc, text) {
+        Ok(table) => Ok(table),
+        Err(fault) => Err(no_toml(alloc, text, &fault)?),
+    }
+}
+
+/// The node that a text says, whose file has this name, with what stands in the files that it names.
+fn node_of_text<F: Files>(
+    alloc: Global,
+    file: &str,
+    text: &str,
+    files: &mut F,
+) -> Result<ReadNode, ConfigFault>
+    ensures held { IfOk result (λ made. (table : Members) × (parse_document text.now ≡ Some table)
+        × HoldsParts F.reads file.now table files.old made.node made.program files.new) }
+    ensures bad { IfErr result (λ fault. IsBadNode F.reads text.now files.old fault files.new) }
+    ensures read { SomeRead F.reads files.old files.new }
+{
+    let table = table_of(alloc, text)?;
+    let configuration = configuration_of(alloc, &table)?;
+    node_with(alloc, file, files, &table, configuration)
+}
+
+/// What ends a job whose node's file, which has this name, has that fault.
+pub fn fault_of<'a>(alloc: Global, name: &str, fault: &ConfigFault) -> Fault<'a>
+    ensures { Ends (code_of fault.now) result }
+{
+    let Some(code) = fault.code() else {
+        return Fault::NoMemory;
+    };
+    match format!(in alloc; "{name} {fault}") {
+        Ok(place) => Fault::BadNode { code, place },
+        Err(_) => Fault::NoMemory,
+    }
+}
+
+/// The text of the file of this name.
+fn read_text<'a, F: Files>(alloc: Global, files: &mut F, name: &'a str) -> Result<String, Fault<'a>>
+    ensures gave { IfOk result (λ text. F.reads files.old name.now (Some (string_bytes text)) files.new) }
+    ensures utf8 { IfOk result (λ text. IsUtf8 (string_bytes text)) }
+    ensures none { IfErr result (TextUnread F.reads files.old name.now files.new) }
+    ensures read { SomeRead F.reads files.old files.new }
+{
+    text_in(alloc, files, name)
+}
+
+/// The node of the node's file of this name, with what stands in the files beside it that it names, and the program that judges
+/// in all slots at first.
+///
+/// Faults are found in this order: the file (`CannotRead`, also where it is not UTF-8), that it is no TOML, a key that is
+/// unknown, the address, the ports, the banks, the maps, the contents of banks, the program, and the loads (`BadNode`).
+pub fn node_in<'a, F: Files>(
+    alloc: Global,
+    files: &mut F,
+    name: &'a str,
+) -> Result<ReadNode, Fault<'a>>
+    ensures node { IfOk result (λ made.
+        ReadsNode F.reads name.now files.old made.node made.program files.new) }
+    ensures none { IfErr result (λ fault. ReadsNoNode F.reads name.now files.old fault files.new) }
+{
+    let text = read_text(alloc, files, name)?;
+    match node_of_text(alloc, name, text.as_str(), files) {
+        Ok(node) => Ok(node),
+        Err(fault) => Err(fault_of(alloc, name, &fault)),
+    }
+}

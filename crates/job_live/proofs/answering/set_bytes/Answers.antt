@@ -1,0 +1,7 @@
+use Rattle.job_live.specs.Answering.{is_inside}
+use Rattle.job_live.proofs.HandingOut.{covered_bank}
+use Rattle.job_live.proofs.answering.set_bytes.Goals as goal
+
+pub print_bank-requires : goal.print_bank-requires
+unfolding is_inside
+print_bank-requires g c = covered_bank c.args.node.now.banks c.args.setting.now.extended _ _ c.requires

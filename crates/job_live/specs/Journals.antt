@@ -1,0 +1,58 @@
+-- The journals of a node's banks, in the order of the banks: what is printed of them, and that they were handed out.
+use Rattle.std.specs.Prelude.{◌≡◌, ◌||◌, nat_lt, ℕ, zero, suc, Bool, true, false, if◌then◌else◌, List, [], ◌∷◌, ◌++◌, length, codes, Option, slice_get}
+use Rattle.std.specs.Int.{to_be_bytes, w32}
+use Rattle.std.specs.Io.KnownBytes.{Appends}
+use Rattle.std.specs.List.{flat_map, range_with_len}
+use Rattle.hex.specs.Hex.{encode_upper}
+use Rattle.bank.specs.Records.{BankValue}
+use Rattle.job_nodes.specs.JobNode.{HandsOut, JobNodeValue, first_of, is_full, journal_of}
+use Rattle.job_live.specs.Telling.{journal_text}
+
+-- the line before the entries of a bank: `bank HH BASE`, its extended address and that of its first byte
+abbrev pub bank_line : (number first : ℕ) → List ℕ
+bank_line number first =
+    codes "bank " ++ encode_upper (number ∷ []) ++ codes " " ++ encode_upper (to_be_bytes w32 first) ++ 10 ∷ []
+
+-- a node has more than one bank
+abbrev pub has_several : List BankValue → Bool
+has_several banks = nat_lt 1 (length banks)
+
+-- what stands before the entries of a bank: that line where there are several, and else nothing
+abbrev pub heading : (several : Bool) → (number first : ℕ) → List ℕ
+heading true number first = bank_line number first
+heading false number first = []
+
+-- the lines of the journal of the bank of that number
+abbrev pub bank_text : List BankValue → (number : ℕ) → List ℕ
+bank_text banks number =
+    heading (has_several banks) number (first_of (slice_get banks number))
+    ++ journal_text (journal_of (slice_get banks number)).entries
+
+-- the journal of the bank of that number is handed out: each is, or those that are full
+abbrev pub is_due : (each : Bool) → List BankValue → (number : ℕ) → Bool
+is_due each banks number = each || is_full (slice_get banks number)
+
+-- the lines of the journal of the bank of that number, if it is handed out
+abbrev pub due_text : (each : Bool) → List BankValue → (number : ℕ) → List ℕ
+due_text each banks number = if is_due each banks number then bank_text banks number else []
+
+-- the lines of the journals that are handed out
+abbrev pub journals_text : (each : Bool) → List BankValue → List ℕ
+journals_text each banks = flat_map (due_text each banks) (range_with_len 0 (length banks))
+
+-- the journal of the bank of that number was handed out, or not
+abbrev pub TurnsOne : (is_due : Bool) → (number : ℕ) → (before after : JobNodeValue) → Type 0
+TurnsOne true number before after = HandsOut number before after (journal_of (slice_get before.banks number))
+TurnsOne false number before after = after ≡ before
+
+-- the journals of so many banks, from the first on, were handed out in turn: each, or those that are full
+abbrev pub Turns : (each : Bool) → (count : ℕ) → (before after : JobNodeValue) → Type 0
+Turns each zero before after = after ≡ before
+Turns each (suc count) before after =
+    (between : JobNodeValue) × Turns each count before between
+    × TurnsOne (is_due each between.banks count) count between after
+
+-- the journals of all banks were handed out, each or those that are full, and their lines were printed
+pub record TellsJournals (each : Bool) (before after : JobNodeValue) (old new : Option (List ℕ)) : Type 0 where
+  pub turned : Turns each (length before.banks) before after
+  pub printed : Appends old new (journals_text each before.banks)

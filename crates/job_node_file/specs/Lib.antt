@@ -1,0 +1,2 @@
+pub mod NodeFileJob
+pub mod Printed

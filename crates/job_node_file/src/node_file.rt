@@ -1,0 +1,93 @@
+//! The job `node`.
+
+ghost use Rattle.std.specs.Prelude.{◌≡◌, IfErr, IfOk, codes, false, string_bytes};
+ghost use Rattle.clap.specs.Matches.{found_of};
+ghost use Rattle.clap.specs.Simple.{app_of};
+ghost use Rattle.clap.specs.Walk.{rows_of};
+ghost use Rattle.clap.specs.declared.builder.command.Command.TheViews.{out-Command as fields_of};
+ghost use Rattle.job_node_file.specs.NodeFileJob.{NamesNodeFile, node_file_app};
+ghost use Rattle.job_node_file.specs.Printed.{IsNotTold, PrintsNodeFile};
+ghost use Rattle.job_parts.specs.Arguments.{Lacks};
+ghost use Rattle.job_parts.specs.Statuses.{IsDoneWith};
+ghost use Rattle.job_parts.specs.Stops.{StopsBy};
+
+use crate::c_header::header_text;
+use crate::node_lines::node_text;
+use clap::{ArgMatches, Command};
+use job_config::reading::{ReadNode, node_in};
+use job_parts::arguments::{file, flag, is_set, name_of};
+use job_parts::inputs::{Content, InputFile, Inputs};
+use job_parts::printing::print_text;
+use job_parts::status::Status;
+use job_parts::stops::Halt;
+use job_parts::storage::Files;
+use job_parts::usage::UsageFault;
+use std::alloc::{AllocError, Global};
+use std::io::Write;
+
+/// The words of the job `node`.
+#[derive(Debug, Drop)]
+pub struct NodeFileWords {
+    /// The name of the node's file.
+    pub node: String,
+    /// Whether a header of C is printed in place of lines.
+    pub header: bool,
+}
+
+impl NodeFileWords {
+    /// What the job reads: the node's file; those beside it are named there.
+    pub fn inputs(&self) -> Inputs<'_> {
+        Inputs::one(InputFile::new(self.node.as_str(), Content::Node))
+    }
+}
+
+/// `node FILE [--c]`.
+pub fn node_file_command<'a>(alloc: Global) -> Result<Command<'a>, AllocError>
+    ensures shape { IfOk result (λ c. app_of c ≡ node_file_app) }
+    ensures local { IfOk result (λ c. (fields_of c).has_globals ≡ false) }
+{
+    let about = "Prints the node of a node's file, to be checked, or as a header of C";
+    let help = "The node's file, or - for standard input";
+    let node = file(alloc, "node", "FILE", help);
+    let help = "Prints a header of C, with the banks, the maps and all bytes";
+    let header = flag(alloc, "c", help);
+    Command::new(alloc, "node")
+        .about(about)
+        .arg(node)?
+        .arg(header)
+}
+
+/// The words of `node` with these matches.
+pub fn node_file_job(alloc: Global, found: &ArgMatches) -> Result<NodeFileWords, UsageFault>
+    ensures ok { IfOk result (NamesNodeFile (rows_of (found_of found.now))) }
+    ensures err { IfErr result (Lacks (codes "node") (rows_of (found_of found.now))) }
+{
+    let node = name_of(alloc, found, "node")?;
+    let header = is_set(found, "c");
+    Ok(NodeFileWords { node, header })
+}
+
+/// Prints the node of a node's file: its lines, or a header of C. Nothing is printed of a file with a fault.
+///
+/// Faults are those of [`node_in`].
+pub fn print_node_file<'a, F: Files, W: Write>(
+    alloc: Global,
+    words: &'a NodeFileWords,
+    files: &mut F,
+    out: &mut W,
+) -> Result<Status, Halt<'a>>
+    ensures done { IfOk result (IsDoneWith (PrintsNodeFile F.reads words.now files.old files.new
+        (W.contents out.old) (W.contents out.new))) }
+    ensures stops { IfErr result (StopsBy (λ fault.
+        IsNotTold F.reads words.now files.old files.new fault)) }
+    ensures quiet { IfErr result (StopsBy (λ _. W.contents out.new ≡ W.contents out.old)) }
+{
+    let ReadNode { node, program } = node_in(alloc, files, words.node.as_str())?;
+    let text = if words.header {
+        header_text(alloc, &node, &program)?
+    } else {
+        node_text(alloc, &node, &program)?
+    };
+    print_text(out, text.as_str())?;
+    Ok(Status::Done)
+}

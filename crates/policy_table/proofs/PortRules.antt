@@ -1,0 +1,93 @@
+-- Rules with ports and ranges with names, one by one.
+use Rattle.std.specs.Prelude.{◌-◌, ◌^◌, min, bytes_eq, if◌then◌else◌}
+use Rattle.std.specs.Option.{option_or}
+use Rattle.std.proofs.Common.{◌≡◌, ◌<◌, ◌+◌, ℕ, suc, Bool, true, false, List, [], ◌∷◌, ◌++◌, length, get_or, drop, Option, Some, None, refl, sym, ap, ◌∙◌, subst, arith, add-one, append_assoc}
+use Rattle.std.proofs.Math.Seq.{drop-cons}
+use Rattle.machine.specs.Sizes.{Maps}
+use Rattle.policy_table.specs.Policies.{is_before, reversed_told, rule_told, rules_told}
+use Rattle.policy_table.specs.Ports.{at_every_port, on_lines}
+use Rattle.policy_table.specs.Ranges.{RangeText, range_named, range_text, range_texts}
+use Rattle.policy_table.specs.Slots.{port_rule_slots, rules_slots}
+use Rattle.policy_table.specs.declared.port_rules.PortRule.{PortRule}
+use Rattle.policy_table.specs.declared.ranges.NamedRange.{NamedRange}
+use Rattle.policy_table.specs.declared.rules.Rule.{Rule}
+use Rattle.policy_table.specs.declared.text_faults.TextFault.{TextFault}
+use Rattle.policy_table.specs.declared.versions.TableVersion.{TableVersion}
+
+-- ---- names
+
+-- a range that has another name is passed
+pub named_behind : (ranges : List NamedRange) (i : ℕ) (d : NamedRange) (name : List ℕ) (total : Option RangeText) → i < length ranges
+    → bytes_eq (get_or ranges i d).name.now name ≡ false → range_named (range_texts (drop i ranges)) name ≡ total
+    → range_named (range_texts (drop (i + 1) ranges)) name ≡ total
+named_behind ranges i d name total within other whole =
+    let next : range_named (range_texts (drop i ranges)) name ≡ range_named (range_text (get_or ranges i d) ∷ range_texts (drop (suc i) ranges)) name =
+    ap (λ (rs : List NamedRange). range_named (range_texts rs) name) (drop-cons ranges i d within) in
+    let gone : range_named (range_text (get_or ranges i d) ∷ range_texts (drop (suc i) ranges)) name ≡ range_named (range_texts (drop (suc i) ranges)) name =
+    ap (λ (t : Bool). if t then Some (range_text (get_or ranges i d)) else range_named (range_texts (drop (suc i) ranges)) name) other in
+    ap (λ (k : ℕ). range_named (range_texts (drop k ranges)) name) (add-one i) ∙ sym (next ∙ gone) ∙ whole
+
+-- the first that has it is found
+pub named_here : (ranges : List NamedRange) (i : ℕ) (d : NamedRange) (name : List ℕ) (total : Option RangeText) → i < length ranges
+    → bytes_eq (get_or ranges i d).name.now name ≡ true → range_named (range_texts (drop i ranges)) name ≡ total
+    → Some (range_text (get_or ranges i d)) ≡ total
+named_here ranges i d name total within own whole =
+    let next : range_named (range_texts (drop i ranges)) name ≡ range_named (range_text (get_or ranges i d) ∷ range_texts (drop (suc i) ranges)) name =
+    ap (λ (rs : List NamedRange). range_named (range_texts rs) name) (drop-cons ranges i d within) in
+    let here : range_named (range_text (get_or ranges i d) ∷ range_texts (drop (suc i) ranges)) name ≡ Some (range_text (get_or ranges i d)) =
+    ap (λ (t : Bool). if t then Some (range_text (get_or ranges i d)) else range_named (range_texts (drop (suc i) ranges)) name) own in
+    sym (next ∙ here) ∙ whole
+
+-- ---- lines
+
+-- one rule more on a line of its own
+pub line_behind : (rules : List Rule) (i : ℕ) (d : Rule) (before after total : List PortRule) → i < length rules
+    → after ≡ before ++ at_every_port (i + 1) (get_or rules i d) ∷ [] → before ++ on_lines (i + 1) (drop i rules) ≡ total
+    → after ++ on_lines (i + 1 + 1) (drop (i + 1) rules) ≡ total
+line_behind rules i d before after total within pushed whole =
+    let own : PortRule = at_every_port (i + 1) (get_or rules i d) in
+    let rest : List PortRule = on_lines (suc (i + 1)) (drop (suc i) rules) in
+    let next : on_lines (i + 1) (drop i rules) ≡ own ∷ rest = ap (λ (rs : List Rule). on_lines (i + 1) rs) (drop-cons rules i d within) in
+    ap (λ (k : ℕ). after ++ on_lines (i + 1 + 1) (drop k rules)) (add-one i)
+    ∙ ap (λ (k : ℕ). after ++ on_lines k (drop (suc i) rules)) (add-one (i + 1))
+    ∙ ap (λ (own_rules : List PortRule). own_rules ++ rest) pushed
+    ∙ append_assoc before (own ∷ []) rest
+    ∙ sym (ap (λ (own_rules : List PortRule). before ++ own_rules) next)
+    ∙ whole
+
+-- ---- faults
+
+module _ (version : TableVersion) (sizes : Maps) (reversed : Option ℕ) (rules : List PortRule) (i : ℕ) (d : PortRule) (total : Option TextFault) (within : i < length rules) (whole : rules_told version sizes reversed (drop i rules) ≡ total) where
+  next : rules_told version sizes reversed (drop i rules) ≡ (if is_before reversed (get_or rules i d).line then reversed_told reversed else option_or (rule_told version sizes (get_or rules i d)) (rules_told version sizes reversed (drop (suc i) rules)))
+  next = ap (λ (rs : List PortRule). rules_told version sizes reversed rs) (drop-cons rules i d within)
+
+  -- the range stands before this rule
+  pub told_before : is_before reversed (get_or rules i d).line ≡ true → reversed_told reversed ≡ total
+  told_before before =
+      sym (next ∙ ap (λ (t : Bool). if t then reversed_told reversed else option_or (rule_told version sizes (get_or rules i d)) (rules_told version sizes reversed (drop (suc i) rules))) before) ∙ whole
+
+  later : is_before reversed (get_or rules i d).line ≡ false → rules_told version sizes reversed (drop i rules) ≡ option_or (rule_told version sizes (get_or rules i d)) (rules_told version sizes reversed (drop (suc i) rules))
+  later behind =
+      next ∙ ap (λ (t : Bool). if t then reversed_told reversed else option_or (rule_told version sizes (get_or rules i d)) (rules_told version sizes reversed (drop (suc i) rules))) behind
+
+  -- this rule has the first fault
+  pub told_here : (fault : TextFault) → is_before reversed (get_or rules i d).line ≡ false → rule_told version sizes (get_or rules i d) ≡ Some fault → Some fault ≡ total
+  told_here fault behind some =
+      sym (later behind ∙ ap (λ (f : Option TextFault). option_or f (rules_told version sizes reversed (drop (suc i) rules))) some) ∙ whole
+
+  -- this rule has none
+  pub told_behind : is_before reversed (get_or rules i d).line ≡ false → rule_told version sizes (get_or rules i d) ≡ None → rules_told version sizes reversed (drop (i + 1) rules) ≡ total
+  told_behind behind none =
+      ap (λ (k : ℕ). rules_told version sizes reversed (drop k rules)) (add-one i)
+      ∙ sym (later behind ∙ ap (λ (f : Option TextFault). option_or f (rules_told version sizes reversed (drop (suc i) rules))) none) ∙ whole
+
+-- ---- slots
+
+-- one rule more is counted, up to the greatest number
+pub slots_behind : (rules : List PortRule) (i : ℕ) (d : PortRule) (before after total : ℕ) → i < length rules
+    → after ≡ min (before + port_rule_slots (get_or rules i d)) (2 ^ 64 - 1) → min (before + rules_slots (drop i rules)) (2 ^ 64 - 1) ≡ total
+    → min (after + rules_slots (drop (i + 1) rules)) (2 ^ 64 - 1) ≡ total
+slots_behind rules i d before after total within added whole =
+    let next : rules_slots (drop i rules) ≡ port_rule_slots (get_or rules i d) + rules_slots (drop (suc i) rules) = ap (λ (rs : List PortRule). rules_slots rs) (drop-cons rules i d within) in
+    let same : rules_slots (drop (i + 1) rules) ≡ rules_slots (drop (suc i) rules) = ap (λ (k : ℕ). rules_slots (drop k rules)) (add-one i) in
+    omega (arith, next, same, added, whole)

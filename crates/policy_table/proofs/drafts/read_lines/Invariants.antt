@@ -1,0 +1,10 @@
+use Rattle.std.proofs.Common.{◌≡◌, ◌+◌, suc, length}
+use Rattle.policy_table.specs.Drafts.{DraftValue, HasBadLine, LinesWrite, empty_draft}
+use Rattle.policy_table.specs.declared.text_faults.TextFault.{TextFault}
+use Rattle.policy_table.proofs.drafts.read_lines.Given as goal
+
+-- whatever the lines that are left come to, all lines come to it
+abbrev pub invariant-loop-text : goal.invariant-loop-text
+invariant-loop-text l = (l.line + length l.text-iterator ≡ 1 + length l.fn.lines)
+    × ((end : DraftValue) → LinesWrite (suc l.line) l.text-iterator l.draft end → LinesWrite 2 l.fn.lines empty_draft end)
+    × ((fault : TextFault) → HasBadLine (suc l.line) l.text-iterator l.draft fault → HasBadLine 2 l.fn.lines empty_draft fault)

@@ -1,0 +1,209 @@
+//! The lines of a table of version 2: comments, ranges that have names, and rules with ports.
+
+ghost use Rattle.std.specs.Prelude.{◌≡◌, Some, None, option_map, MatchOption, MatchResult, IfOk, IfErr, codes, bytes_eq, length, [], ◌∷◌};
+ghost use Rattle.std.specs.List.{before_first};
+ghost use Rattle.spw.specs.Line.{words_of};
+ghost use Rattle.policy_table.specs.Ranges.{range_named, range_text, range_texts};
+ghost use Rattle.policy_table.specs.Statements.{IsNoPort, IsNoRange, IsNoRuleLine, IsPort, IsRange, IsRuleLine, begins_two, is_semicolon, next_word, parts_text, range_words, rule_parts, span_text, three_words};
+
+use crate::fields::address_of;
+use crate::lines::{Words, rule_of, words_in};
+use crate::ranges::{NamedRange, is_name, range_named};
+use crate::rules::Rule;
+use crate::statement_faults::StatementFault;
+use spw::{first_word, read_port};
+
+/// What a line says before its comment.
+pub fn before_comment(line: &str) -> &str
+    ensures { result.now ≡ before_first is_semicolon line.now }
+{
+    match line.split_once(';') {
+        Some((code, _)) => code,
+        None => line,
+    }
+}
+
+/// The first word of a text, and what stands after it.
+fn next_word(text: &str) -> Option<(&str, &str)>
+    ensures { option_map (λ r. (r.0.now, words_of r.1.now)) result ≡ next_word (words_of text.now) }
+{
+    first_word(text)
+}
+
+/// Whether a line is `.version 2`.
+#[tactic(auto, unfolding(crate::specs::Statements::begins_two))]
+pub fn begins_two(line: &str) -> bool
+    ensures { result ≡ begins_two line.now }
+{
+    let Some((first, rest)) = next_word(before_comment(line)) else {
+        return false;
+    };
+    let Some((second, rest)) = next_word(rest) else {
+        return false;
+    };
+    first == ".version" && second == "2" && next_word(rest).is_none()
+}
+
+/// The two words of a range, whether it stands there by its name, and what stands after it.
+#[derive(Drop)]
+struct Span<'a> {
+    low: &'a str,
+    high: &'a str,
+    named: bool,
+    rest: &'a str,
+}
+
+/// The range that begins with this word, before a rest. A name that no range has stands for itself, twice.
+#[tactic(auto, unfolding(crate::specs::Statements::range_words))]
+fn range_words<'a>(ranges: &[NamedRange<'a>], word: &'a str, rest: &'a str) -> Option<Span<'a>>
+    ensures { option_map span_text result
+        ≡ range_words (range_texts ranges.now) word.now (words_of rest.now) }
+{
+    if !is_name(word) {
+        let (high, rest) = next_word(rest)?;
+        return Some(Span {
+            low: word,
+            high,
+            named: false,
+            rest,
+        });
+    }
+    let (low, high) = match range_named(ranges, word) {
+        Some(range) => (range.low, range.high),
+        None => (word, word),
+    };
+    Some(Span {
+        low,
+        high,
+        named: true,
+        rest,
+    })
+}
+
+/// The words of a rule, with the two of its range, and what stands after its verdict.
+#[derive(Drop)]
+struct RuleParts<'a> {
+    words: Words<'a>,
+    named: bool,
+    rest: &'a str,
+}
+
+/// The words of a rule, where there are so many.
+#[tactic(auto, unfolding(crate::specs::Statements::rule_parts))]
+fn rule_parts<'a>(ranges: &[NamedRange<'a>], text: &'a str) -> Option<RuleParts<'a>>
+    ensures { option_map parts_text result
+        ≡ rule_parts (range_texts ranges.now) (words_of text.now) }
+{
+    let (kind, rest) = next_word(text)?;
+    let (key, rest) = next_word(rest)?;
+    let (initiator, rest) = next_word(rest)?;
+    let (extended, rest) = next_word(rest)?;
+    let (range, rest) = next_word(rest)?;
+    let span = range_words(ranges, range, rest)?;
+    let (quota, rest) = next_word(span.rest)?;
+    let (verdict, rest) = next_word(rest)?;
+    Some(RuleParts {
+        words: Words {
+            kind,
+            key,
+            initiator,
+            extended,
+            low: span.low,
+            high: span.high,
+            quota,
+            verdict,
+        },
+        named: span.named,
+        rest,
+    })
+}
+
+/// The port that stands after a verdict: `port P`, or nothing.
+fn port_in(text: &str) -> Option<Option<u8>>
+    ensures { MatchOption result (IsNoPort (words_of text.now)) (IsPort (words_of text.now)) }
+{
+    let Some((word, rest)) = first_word(text) else {
+        return Some(None);
+    };
+    let (number, rest) = first_word(rest)?;
+    if word != "port" || first_word(rest).is_some() {
+        return None;
+    }
+    match read_port(number) {
+        Ok(port) => Some(Some(port)),
+        Err(_) => None,
+    }
+}
+
+/// A rule, its port, and whether its line has a name for the range.
+#[derive(Drop)]
+pub struct RuleLine {
+    /// The rule.
+    pub rule: Rule,
+    /// The port, if it has one.
+    pub port: Option<u8>,
+    /// Whether the line has a name for the range.
+    pub named: bool,
+}
+
+/// The rule that a text writes, where these ranges have names.
+pub fn read_rule_line(ranges: &[NamedRange<'_>], text: &str) -> Result<RuleLine, StatementFault>
+    ensures { MatchResult result
+        (λ r. IsRuleLine (range_texts ranges.now) (words_of text.now) r.rule r.port r.named)
+        (IsNoRuleLine (range_texts ranges.now) (words_of text.now)) }
+{
+    let Some(parts) = rule_parts(ranges, text) else {
+        return Err(StatementFault::RuleCount(words_in(text)));
+    };
+    let named = parts.named;
+    let rule = match rule_of(&parts.words) {
+        Ok(rule) => rule,
+        Err(word) => return Err(StatementFault::Word { word, named }),
+    };
+    match port_in(parts.rest) {
+        Some(port) => Ok(RuleLine { rule, port, named }),
+        None => Err(StatementFault::Port { named }),
+    }
+}
+
+/// The three words of a text, where it has so many.
+#[tactic(auto, unfolding(crate::specs::Statements::three_words))]
+fn three_words(text: &str) -> Option<NamedRange<'_>>
+    ensures { option_map range_text result ≡ three_words (words_of text.now) }
+{
+    let (name, rest) = next_word(text)?;
+    let (low, rest) = next_word(rest)?;
+    let (high, rest) = next_word(rest)?;
+    match next_word(rest) {
+        None => Some(NamedRange { name, low, high }),
+        Some(_) => None,
+    }
+}
+
+/// The range that the text after `.range` defines, where these ranges have names already, and whether its last address
+/// lies before its first.
+pub fn read_range<'a>(
+    ranges: &[NamedRange<'a>],
+    text: &'a str,
+) -> Result<(NamedRange<'a>, bool), StatementFault>
+    ensures { MatchResult result
+        (λ r. IsRange (range_texts ranges.now) (words_of text.now) (range_text r.0) r.1)
+        (IsNoRange (range_texts ranges.now) (words_of text.now)) }
+{
+    let Some(range) = three_words(text) else {
+        return Err(StatementFault::RangeCount(words_in(text)));
+    };
+    if !is_name(range.name) {
+        return Err(StatementFault::RangeName);
+    }
+    if range_named(ranges, range.name).is_some() {
+        return Err(StatementFault::RangeTwice);
+    }
+    let Some(low) = address_of(range.low) else {
+        return Err(StatementFault::RangeLow);
+    };
+    let Some(high) = address_of(range.high) else {
+        return Err(StatementFault::RangeHigh);
+    };
+    Ok((range, high < low))
+}
