@@ -118,7 +118,7 @@ fn entrances<J: Family>(
     for _port in 0..readers {
         let entrance = writer.factory().reader()?;
         entrances.push(Reader::new(
-            entrance, shown_count.clone(), front.again(), sizes,
+            entrance, shown_count.clone()?, front.again(), sizes,
         ))?;
     }
     Ok(entrances)
