@@ -64,7 +64,8 @@ pub shown_begins : (known seen : List Link) (j : Judging) → IsByShown known se
 shown_begins known seen j is = prefix_trans known is.at seen is.after is.before
 
 -- so it stands in the history behind the program that judged it
-pub entered : (port : ℕ) (known : List Link) (j : Judging) (h after : Standing) → IsJudgedBehind port j h.pass → IsByShown known h.front j → IsBanked j h after → j.entered ≡ true → HasEntered port known after.front j
+unfoldable pub entered : (port : ℕ) (known : List Link) (j : Judging) (h after : Standing) → IsJudgedBehind port j h.pass → IsByShown known h.front j → IsBanked j h after → j.entered ≡ true → HasEntered port known after.front j
+unfolding done_since done_behind
 entered port known j h after by moment is left = let behind = done_behind j h after is left in record {
   bank = is.ended.before.chain.number;
   share = share_of h.pass j.judged.place;
@@ -99,6 +100,7 @@ step port known j h after by moment (inr windowed) =
 
 -- the history that a port knows may have begun earlier
 entered_since : (port : ℕ) (known first reached : List Link) (j : Judging) → IsPrefix known first → HasEntered port first reached j → HasEntered port known reached j
+unfolding done_since
 entered_since port known first reached j begins is = record {
   bank = is.bank;
   share = is.share;

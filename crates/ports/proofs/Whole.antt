@@ -57,6 +57,7 @@ with_joined (deeds.Does (acts.Sets x)) xs ys = refl
 with_joined (deeds.Does (acts.Rotates x)) xs ys = refl
 with_joined (deeds.Does (acts.Publishes x)) xs ys = refl
 with_joined (deeds.Asks x) xs ys = refl
+with_joined deeds.Shows xs ys = refl
 
 entries_append : (ls ms : List Link) → entries_in (ls ++ ms) ≡ entries_in ls ++ entries_in ms
 entries_append [] ms = refl
