@@ -69,6 +69,14 @@ impl Opened {
         Ok((chain, line, chains.into_shown_count()))
     }
 
+    /// What a port knows at first of the history: nothing.
+    pub fn front<J: Family>(&self) -> annals::Front<J>
+        requires { self.now ≡ J.book }
+        ensures { result ≡ [] }
+    {
+        self.chains.front()
+    }
+
     /// The history, as its chains are taken.
     pub fn into_chains(self) -> annals::Opened
         ensures book { result.0 ≡ self }
