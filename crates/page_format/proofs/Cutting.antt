@@ -62,7 +62,7 @@ words_cut (word ∷ words) (other ∷ others) rest more are is long same =
       piece_cut word other (words_bytes words ++ rest) (words_bytes others ++ more) are.0.short is.0.short
         (sym (append_assoc (piece_bytes word) (words_bytes words) rest) ∙ same ∙ append_assoc (piece_bytes other) (words_bytes others) more) in
     let later : (words ≡ others) × (rest ≡ more) = words_cut words others rest more are.1 is.1 (omega (arith, long)) first.1 in
-    (ap₂ (λ (a : List ℕ) (as : List (List ℕ)). a ∷ as) first.0 later.0, later.1)
+    (ap₂ (λ (w : List ℕ) (ws : List (List ℕ)). w ∷ ws) first.0 later.0, later.1)
 
 -- a file at the beginning, and what comes after it
 pub file_cut : (name other content bytes rest more : List ℕ) → IsShort name → IsShort other → IsShort content → IsShort bytes
@@ -82,7 +82,7 @@ files_cut (file ∷ files) (other ∷ others) are is same =
     let first : (file.0 ≡ other.0) × (file.1 ≡ other.1) × (files_bytes files ≡ files_bytes others) =
       file_cut file.0 other.0 file.1 other.1 (files_bytes files) (files_bytes others) are.0 is.0 are.1 is.1 same in
     let own : file ≡ other = ap₂ (λ (name content : List ℕ). (name, content)) first.0 first.1 in
-    ap₂ (λ (a : List ℕ × List ℕ) (as : FolderValue). a ∷ as) own (files_cut files others are.2 is.2 first.2)
+    ap₂ (λ (f : List ℕ × List ℕ) (fs : FolderValue). f ∷ fs) own (files_cut files others are.2 is.2 first.2)
 
 -- files of a folder are short
 pub files_short : (files : FolderValue) → AreFiles files → AreShort files

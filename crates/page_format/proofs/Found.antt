@@ -5,7 +5,7 @@ use Rattle.std.specs.Borrow.{Bor}
 use Rattle.std.specs.Int.{w32, from_le_bytes, to_le_bytes}
 use Rattle.std.specs.Str.{IsUtf8}
 use Rattle.std.proofs.lemmas.Nat.{le_bytes_4}
-use Rattle.std.proofs.lemmas.List.{append_assoc, append-nil, length_push, map-append}
+use Rattle.std.proofs.lemmas.List.{append_assoc, append-nil, length_push, map-append, reverse-append}
 use Rattle.folders.specs.Folders.{FolderValue}
 use Rattle.page_format.specs.Given.{IsGiven}
 use Rattle.page_format.specs.Reading.{BeginsFile, BeginsNumber, BeginsPiece, BeginsWord, BeginsWords, IsFolder}
@@ -113,13 +113,16 @@ pub one_read : (bytes rest name content after : List ℕ) (old new : FolderValue
     → new ≡ (name, content) ∷ old
     → AreRead bytes new after
 one_read bytes rest name content after old new read begins put =
-    let files = reverse old in
-    subst (λ (all : FolderValue). AreRead bytes all after) (sym put) (record {
-      files_are = are_files_snoc files name content read.files_are begins.name_is begins.short;
+    let files : FolderValue = reverse old in
+    let file : FolderValue = (name, content) ∷ [] in
+    let turned : reverse new ≡ files ++ file = ap (λ (all : FolderValue). reverse all) put ∙ reverse-append file old in
+    record {
+      files_are = subst (λ (all : FolderValue). AreFiles all) (sym turned) (are_files_snoc files name content read.files_are begins.name_is begins.short);
       is = read.is ∙ ap (λ (r : List ℕ). files_bytes files ++ r) (begins.is ∙ sym (append_assoc (piece_bytes name) (piece_bytes content) after))
         ∙ sym (append_assoc (files_bytes files) (piece_bytes name ++ piece_bytes content) after)
-        ∙ ap (λ (r : List ℕ). r ++ after) (sym (files_snoc files name content));
-    })
+        ∙ ap (λ (r : List ℕ). r ++ after) (sym (files_snoc files name content))
+        ∙ ap (λ (all : FolderValue). files_bytes all ++ after) (sym turned);
+    }
 
 pub all_read : (bytes rest : List ℕ) (folder : FolderValue) → AreRead bytes folder rest → rest ≡ [] → IsFolder folder bytes
 all_read bytes rest folder read empty = record {
