@@ -46,8 +46,8 @@ begins_later k n (rule ∷ rules) p rest lt e =
   where
     step : (t : Bool) (a : List ℕ) → (a ≡ n ∷ rest → ⊥) → (if t then k ∷ goes_on rule.quota a else a) ≡ n ∷ rest → ⊥
     step true a later same =
-      let first : k ≡ n = ap (λ (ns : List ℕ). get_or ns 0 0) same in
-      omega (arith, lt, first)
+        let first : k ≡ n = ap (λ (ns : List ℕ). get_or ns 0 0) same in
+        omega (arith, lt, first)
     step false a later same = later same
 
 -- where a rule holds at one of two points alone, the courses from it on differ

@@ -29,7 +29,7 @@ answered given bytes words folder left count files is_given does counted are tol
   is_given = is_given;
   does = does;
   is_told = subst (λ (all : FolderValue). IsTold left.done.status left.done.out.items (string_bytes left.done.told) all bytes)
-    (are ∙ ap (λ (n : ℕ). files_since n left.folder) counted) told;
+      (are ∙ ap (λ (n : ℕ). files_since n left.folder) counted) told;
 }
 
 -- an answer has the four bytes of its status

@@ -15,8 +15,8 @@ pub number_cut : (number other : ℕ) (rest more : List ℕ) → number < 2 ^ 32
     → (number ≡ other) × (rest ≡ more)
 number_cut number other rest more fits small same = (
   sym (from_le_bytes-to_le_bytes_4 number fits)
-  ∙ ap (λ (bytes : List ℕ). from_le_bytes w32 bytes) (sym (take_at (number_bytes number) rest 4 refl) ∙ ap (λ (bytes : List ℕ). take 4 bytes) same ∙ take_at (number_bytes other) more 4 refl)
-  ∙ from_le_bytes-to_le_bytes_4 other small,
+      ∙ ap (λ (bytes : List ℕ). from_le_bytes w32 bytes) (sym (take_at (number_bytes number) rest 4 refl) ∙ ap (λ (bytes : List ℕ). take 4 bytes) same ∙ take_at (number_bytes other) more 4 refl)
+      ∙ from_le_bytes-to_le_bytes_4 other small,
   sym (drop_at (number_bytes number) rest 4 refl) ∙ ap (λ (bytes : List ℕ). drop 4 bytes) same ∙ drop_at (number_bytes other) more 4 refl,
 )
 
@@ -32,8 +32,8 @@ pub piece_cut : (piece other rest more : List ℕ) → IsShort piece → IsShort
     → (piece ≡ other) × (rest ≡ more)
 piece_cut piece other rest more short small same =
     let cut : (length piece ≡ length other) × (piece ++ rest ≡ other ++ more) =
-      number_cut (length piece) (length other) (piece ++ rest) (other ++ more) short small
-        (sym (append_assoc (number_bytes (length piece)) piece rest) ∙ same ∙ append_assoc (number_bytes (length other)) other more) in
+    number_cut (length piece) (length other) (piece ++ rest) (other ++ more) short small
+    (sym (append_assoc (number_bytes (length piece)) piece rest) ∙ same ∙ append_assoc (number_bytes (length other)) other more) in
     bytes_cut piece other rest more cut.0 cut.1
 
 -- a piece takes four bytes at least
@@ -59,8 +59,8 @@ words_cut [] (other ∷ others) rest more are is long same = absurd (omega (arit
 words_cut (word ∷ words) [] rest more are is long same = absurd (omega (arith, long))
 words_cut (word ∷ words) (other ∷ others) rest more are is long same =
     let first : (word ≡ other) × (words_bytes words ++ rest ≡ words_bytes others ++ more) =
-      piece_cut word other (words_bytes words ++ rest) (words_bytes others ++ more) are.0.short is.0.short
-        (sym (append_assoc (piece_bytes word) (words_bytes words) rest) ∙ same ∙ append_assoc (piece_bytes other) (words_bytes others) more) in
+    piece_cut word other (words_bytes words ++ rest) (words_bytes others ++ more) are.0.short is.0.short
+    (sym (append_assoc (piece_bytes word) (words_bytes words) rest) ∙ same ∙ append_assoc (piece_bytes other) (words_bytes others) more) in
     let later : (words ≡ others) × (rest ≡ more) = words_cut words others rest more are.1 is.1 (omega (arith, long)) first.1 in
     (ap₂ (λ (w : List ℕ) (ws : List (List ℕ)). w ∷ ws) first.0 later.0, later.1)
 
@@ -80,7 +80,7 @@ files_cut [] (other ∷ others) are is same = absurd (piece_is_some other.0 (pie
 files_cut (file ∷ files) [] are is same = absurd (piece_is_some file.0 (piece_bytes file.1 ++ files_bytes files) (sym same))
 files_cut (file ∷ files) (other ∷ others) are is same =
     let first : (file.0 ≡ other.0) × (file.1 ≡ other.1) × (files_bytes files ≡ files_bytes others) =
-      file_cut file.0 other.0 file.1 other.1 (files_bytes files) (files_bytes others) are.0 is.0 are.1 is.1 same in
+    file_cut file.0 other.0 file.1 other.1 (files_bytes files) (files_bytes others) are.0 is.0 are.1 is.1 same in
     let own : file ≡ other = ap₂ (λ (name content : List ℕ). (name, content)) first.0 first.1 in
     ap₂ (λ (f : List ℕ × List ℕ) (fs : FolderValue). f ∷ fs) own (files_cut files others are.2 is.2 first.2)
 
@@ -94,10 +94,10 @@ pub given_once : (bytes : List ℕ) (words others : List (List ℕ)) (folder ano
     → (words ≡ others) × (folder ≡ another)
 given_once bytes words others folder another one two =
     let counts = number_cut (length words) (length others) (words_bytes words ++ files_bytes (reverse folder)) (words_bytes others ++ files_bytes (reverse another))
-      one.counted two.counted (sym one.is ∙ two.is) in
+    one.counted two.counted (sym one.is ∙ two.is) in
     let cut = words_cut words others (files_bytes (reverse folder)) (files_bytes (reverse another)) one.words_are two.words_are counts.0 counts.1 in
     let files : reverse folder ≡ reverse another =
-      files_cut (reverse folder) (reverse another) (files_short _ one.files_are) (files_short _ two.files_are) cut.1 in
+    files_cut (reverse folder) (reverse another) (files_short _ one.files_are) (files_short _ two.files_are) cut.1 in
     (cut.0, sym (reverse-reverse folder) ∙ ap (λ (all : FolderValue). reverse all) files ∙ reverse-reverse another)
 
 pub told_once : (bytes : List ℕ) (status other : ℕ) (out another told text : List ℕ) (files more : FolderValue)
@@ -106,6 +106,6 @@ pub told_once : (bytes : List ℕ) (status other : ℕ) (out another told text :
     → (status ≡ other) × (out ≡ another) × (told ≡ text) × (files ≡ more)
 told_once bytes status other out another told text files more one two =
     let first = number_cut status other (piece_bytes out ++ (piece_bytes told ++ files_bytes files)) (piece_bytes another ++ (piece_bytes text ++ files_bytes more))
-      one.status_fits two.status_fits (sym one.is ∙ two.is) in
+    one.status_fits two.status_fits (sym one.is ∙ two.is) in
     let cut = file_cut out another told text (files_bytes files) (files_bytes more) one.out_short two.out_short one.told_short two.told_short first.1 in
     (first.0, cut.0, cut.1, files_cut files more one.files_short two.files_short cut.2)

@@ -38,8 +38,8 @@ pub piece_found : (bytes rest piece after : List ℕ) (n : ℕ) → BeginsNumber
 piece_found bytes rest piece after n begins cut long = record {
   short = subst (λ (k : ℕ). k < 2 ^ 32) (sym long) begins.fits;
   is = begins.is ∙ ap (λ (r : List ℕ). number_bytes n ++ r) cut
-    ∙ ap (λ (k : ℕ). number_bytes k ++ (piece ++ after)) (sym long)
-    ∙ sym (append_assoc (number_bytes (length piece)) piece after);
+      ∙ ap (λ (k : ℕ). number_bytes k ++ (piece ++ after)) (sym long)
+      ∙ sym (append_assoc (number_bytes (length piece)) piece after);
 }
 
 -- a piece is a word if it is UTF-8
@@ -68,8 +68,8 @@ one_word_found bytes rest word after words count begins named = record {
   counted = length_push words word ∙ ap (λ (n : ℕ). n + 1) begins.counted;
   words_are = are_words_snoc words word begins.words_are named.word_is;
   is = begins.is ∙ ap (λ (r : List ℕ). words_bytes words ++ r) named.is
-    ∙ sym (append_assoc (words_bytes words) (piece_bytes word) after)
-    ∙ ap (λ (r : List ℕ). r ++ after) (sym (words_snoc words word));
+      ∙ sym (append_assoc (words_bytes words) (piece_bytes word) after)
+      ∙ ap (λ (r : List ℕ). r ++ after) (sym (words_snoc words word));
 }
 
 pub word_pushed : (bytes rest after : List ℕ) (word : Bor (List ℕ)) (words more : List (Bor (List ℕ))) (count : ℕ)
@@ -78,7 +78,7 @@ pub word_pushed : (bytes rest after : List ℕ) (word : Bor (List ℕ)) (words m
     → BeginsWords (count + 1) (words_value more) after bytes
 word_pushed bytes rest after word words more count begins named push =
     subst (λ (all : List (List ℕ)). BeginsWords (count + 1) all after bytes) (sym (ap (λ (all : List (Bor (List ℕ))). words_value all) push ∙ map-append (λ (w : Bor (List ℕ)). w.now) words (word ∷ [])))
-      (one_word_found bytes rest word.now after (words_value words) count begins named)
+    (one_word_found bytes rest word.now after (words_value words) count begins named)
 
 -- a file is a word and a piece
 pub file_found : (bytes middle rest name content : List ℕ) → BeginsWord name middle bytes → BeginsPiece content rest middle → BeginsFile name content rest bytes
@@ -119,9 +119,9 @@ one_read bytes rest name content after old new read begins put =
     record {
       files_are = subst (λ (all : FolderValue). AreFiles all) (sym turned) (are_files_snoc files name content read.files_are begins.name_is begins.short);
       is = read.is ∙ ap (λ (r : List ℕ). files_bytes files ++ r) (begins.is ∙ sym (append_assoc (piece_bytes name) (piece_bytes content) after))
-        ∙ sym (append_assoc (files_bytes files) (piece_bytes name ++ piece_bytes content) after)
-        ∙ ap (λ (r : List ℕ). r ++ after) (sym (files_snoc files name content))
-        ∙ ap (λ (all : FolderValue). files_bytes all ++ after) (sym turned);
+          ∙ sym (append_assoc (files_bytes files) (piece_bytes name ++ piece_bytes content) after)
+          ∙ ap (λ (r : List ℕ). r ++ after) (sym (files_snoc files name content))
+          ∙ ap (λ (all : FolderValue). files_bytes all ++ after) (sym turned);
     }
 
 pub all_read : (bytes rest : List ℕ) (folder : FolderValue) → AreRead bytes folder rest → rest ≡ [] → IsFolder folder bytes
@@ -139,5 +139,5 @@ given_found bytes rest after count words folder number begins end = record {
   words_are = begins.words_are;
   files_are = end.files_are;
   is = number.is ∙ ap (λ (n : ℕ). number_bytes n ++ rest) (sym begins.counted)
-    ∙ ap (λ (r : List ℕ). number_bytes (length words) ++ r) (begins.is ∙ ap (λ (r : List ℕ). words_bytes words ++ r) end.is);
+      ∙ ap (λ (r : List ℕ). number_bytes (length words) ++ r) (begins.is ∙ ap (λ (r : List ℕ). words_bytes words ++ r) end.is);
 }

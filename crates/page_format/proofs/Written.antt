@@ -28,9 +28,9 @@ pub one_written : (old now named own name content : List ℕ) (files left : Fold
 one_written old now named own name content files left written called short first second = record {
   short = λ are. written.short (called, short, are);
   is = ap (λ (r : List ℕ). r ++ files_bytes left) (second ∙ ap (λ (r : List ℕ). r ++ piece_bytes content) first)
-    ∙ append_assoc (now ++ piece_bytes name) (piece_bytes content) (files_bytes left)
-    ∙ append_assoc now (piece_bytes name) (piece_bytes content ++ files_bytes left)
-    ∙ written.is;
+      ∙ append_assoc (now ++ piece_bytes name) (piece_bytes content) (files_bytes left)
+      ∙ append_assoc now (piece_bytes name) (piece_bytes content ++ files_bytes left)
+      ∙ written.is;
 }
 
 pub all_short : (old now : List ℕ) (files left : FolderValue) → AreWritten old files now left → left ≡ [] → AreShort files
@@ -53,6 +53,6 @@ told_written status first second third bytes out told files fits one short two s
   told_short = small;
   files_short = are;
   is = four ∙ ap (λ (r : List ℕ). r ++ files_bytes files) (three ∙ ap (λ (r : List ℕ). r ++ piece_bytes told) (two ∙ ap (λ (r : List ℕ). r ++ piece_bytes out) one))
-    ∙ append_assoc (number_bytes status ++ piece_bytes out) (piece_bytes told) (files_bytes files)
-    ∙ append_assoc (number_bytes status) (piece_bytes out) (piece_bytes told ++ files_bytes files);
+      ∙ append_assoc (number_bytes status ++ piece_bytes out) (piece_bytes told) (files_bytes files)
+      ∙ append_assoc (number_bytes status) (piece_bytes out) (piece_bytes told ++ files_bytes files);
 }
