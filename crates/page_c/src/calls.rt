@@ -16,6 +16,7 @@ const NO_MEMORY: u64 = 0;
 const NO_WORDS: u64 = 1;
 
 /// The bytes of what the words and files come to that the given bytes are. `None` where they are none.
+#[tactic(auto, using(crate::proofs::Answering::answered, crate::proofs::Answering::sheets_counted))]
 fn answer(alloc: Global, given: &[u8]) -> Result<Option<Vec<u8>>, AllocError>
     ensures { IfOk result (λ found. MatchOption found (IsNotGiven given.now)
         (λ bytes. Answers given.now bytes.items)) }
@@ -39,6 +40,7 @@ fn answer(alloc: Global, given: &[u8]) -> Result<Option<Vec<u8>>, AllocError>
 }
 
 /// Puts bytes at the beginning of room, if they fit, and answers how many there are.
+#[tactic(auto, using(crate::proofs::Answering::bytes_put))]
 fn put(room: &mut [u8], bytes: &[u8]) -> u64
     ensures counted { result ≡ length bytes.now }
     ensures put { room.new ≡ with_bytes room.old bytes.now }

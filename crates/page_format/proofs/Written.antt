@@ -1,8 +1,10 @@
 -- What is written.
 use Rattle.std.proofs.Common.{◌≡◌, ◌++◌, ◌-◌, ◌<◌, ◌^◌, ◌∙◌, ℕ, List, [], ◌∷◌, length, take, map, refl, sym, ap, subst, Result, Ok, Err, OnOk}
 use Rattle.std.specs.Prelude.{is_ok, if◌then◌else◌}
-use Rattle.std.proofs.lemmas.List.{append_assoc, append-nil}
-use Rattle.folders.specs.Folders.{FolderValue}
+use Rattle.std.proofs.lemmas.List.{append_assoc, append-nil, take-map}
+use Rattle.folders.specs.Folders.{FolderValue, sheets_value}
+use Rattle.folders.specs.Sheets.{pair_of}
+use Rattle.folders.specs.declared.folder.Sheet.{Sheet}
 use Rattle.page_format.specs.Pieces.{AreShort, IsShort, files_bytes, number_bytes, piece_bytes}
 use Rattle.page_format.specs.Told.{IsTold}
 
@@ -56,3 +58,7 @@ told_written status first second third bytes out told files fits one short two s
       ∙ append_assoc (number_bytes status ++ piece_bytes out) (piece_bytes told) (files_bytes files)
       ∙ append_assoc (number_bytes status) (piece_bytes out) (piece_bytes told ++ files_bytes files);
 }
+
+-- the first sheets are the first files
+pub sheets_taken : (count : ℕ) (sheets : List Sheet) (folder : FolderValue) → sheets_value sheets ≡ folder → sheets_value (take count sheets) ≡ take count folder
+sheets_taken count sheets folder are = sym (take-map pair_of count sheets) ∙ ap (λ (files : FolderValue). take count files) are

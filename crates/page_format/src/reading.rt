@@ -12,6 +12,7 @@ use std::alloc::{AllocError, Global};
 const WIDTH: usize = 4;
 
 /// The number at the beginning of bytes, and what comes after it.
+#[tactic(auto, using(crate::proofs::Found::number_found))]
 fn number_of(bytes: &[u8]) -> Option<(usize, &[u8])>
     ensures { MatchOption result (length bytes.now < WIDTH)
         (λ found. BeginsNumber found.0 found.1.now bytes.now) }
@@ -21,6 +22,7 @@ fn number_of(bytes: &[u8]) -> Option<(usize, &[u8])>
 }
 
 /// The piece at the beginning of bytes, and what comes after it.
+#[tactic(auto, using(crate::proofs::Found::piece_found, crate::proofs::Refused::few_no_piece, crate::proofs::Refused::short_no_piece))]
 fn piece_of(bytes: &[u8]) -> Option<(&[u8], &[u8])>
     ensures { MatchOption result (BeginsNoPiece bytes.now)
         (λ found. BeginsPiece found.0.now found.1.now bytes.now) }
@@ -33,6 +35,7 @@ fn piece_of(bytes: &[u8]) -> Option<(&[u8], &[u8])>
 }
 
 /// The word at the beginning of bytes, and what comes after it.
+#[tactic(auto, using(crate::proofs::Found::word_found, crate::proofs::Refused::no_piece_no_word, crate::proofs::Refused::no_text_no_word))]
 fn word_of(bytes: &[u8]) -> Option<(&str, &[u8])>
     ensures { MatchOption result (BeginsNoWord bytes.now)
         (λ found. BeginsWord found.0.now found.1.now bytes.now) }
@@ -45,6 +48,7 @@ fn word_of(bytes: &[u8]) -> Option<(&str, &[u8])>
 }
 
 /// So many words at the beginning of bytes, and what comes after them.
+#[tactic(auto, using(crate::proofs::Found::no_words_found, crate::proofs::Found::word_pushed, crate::proofs::Refused::too_few_words))]
 fn words_of(
     alloc: Global,
     count: usize,
@@ -66,6 +70,7 @@ fn words_of(
 }
 
 /// Name and bytes of the file at the beginning of bytes, and what comes after it.
+#[tactic(auto, using(crate::proofs::Found::file_found, crate::proofs::Refused::no_word_no_file, crate::proofs::Refused::no_piece_no_file))]
 fn file_of(bytes: &[u8]) -> Option<(&str, &[u8], &[u8])>
     ensures { MatchOption result (BeginsNoFile bytes.now)
         (λ found. BeginsFile found.0.now found.1.now found.2.now bytes.now) }
@@ -76,6 +81,7 @@ fn file_of(bytes: &[u8]) -> Option<(&str, &[u8], &[u8])>
 }
 
 /// The folder whose files the bytes are, in which the file `held` cannot be written.
+#[tactic(auto, using(crate::proofs::Found::none_read, crate::proofs::Found::one_read, crate::proofs::Found::all_read, crate::proofs::Refused::no_file_no_folder))]
 fn folder_of(
     alloc: Global,
     held: &'static str,
@@ -110,6 +116,7 @@ pub struct Given<'a> {
 /// # Errors
 ///
 /// If memory is refused.
+#[tactic(auto, using(crate::proofs::Found::given_found, crate::proofs::Refused::few_not_given, crate::proofs::Refused::no_words_not_given, crate::proofs::Refused::no_folder_not_given))]
 pub fn given_of<'a>(
     alloc: Global,
     held: &'static str,

@@ -16,6 +16,7 @@ fn add_number(bytes: &mut Vec<u8>, number: u32) -> Result<(), AllocError>
 }
 
 /// Adds a piece, if it is short.
+#[tactic(auto, using(crate::proofs::Written::piece_written))]
 fn add_piece(bytes: &mut Vec<u8>, piece: &[u8]) -> Result<(), AllocError>
     ensures short { OnOk result (IsShort piece.now) }
     ensures added { OnOk result (bytes.new.items ≡ bytes.old.items ++ piece_bytes piece.now) }
@@ -28,6 +29,7 @@ fn add_piece(bytes: &mut Vec<u8>, piece: &[u8]) -> Result<(), AllocError>
 }
 
 /// Adds name and bytes of each file.
+#[tactic(auto, using(crate::proofs::Written::none_written, crate::proofs::Written::one_written, crate::proofs::Written::all_short, crate::proofs::Written::all_written))]
 fn add_sheets(bytes: &mut Vec<u8>, sheets: &[Sheet]) -> Result<(), AllocError>
     ensures short { OnOk result (AreShort (sheets_value sheets.now)) }
     ensures added { OnOk result (bytes.new.items ≡ bytes.old.items ++ files_bytes (sheets_value sheets.now)) }
@@ -45,6 +47,7 @@ fn add_sheets(bytes: &mut Vec<u8>, sheets: &[Sheet]) -> Result<(), AllocError>
 /// # Errors
 ///
 /// If memory is refused, or a piece has 4 GiB or more.
+#[tactic(auto, using(crate::proofs::Written::told_written))]
 pub fn told_of(
     alloc: Global,
     status: u8,
@@ -63,6 +66,7 @@ pub fn told_of(
 }
 
 /// The files that a folder got since it had `count`: the newest come first.
+#[tactic(auto, using(crate::proofs::Written::sheets_taken))]
 pub fn files_since<'a>(folder: &'a Folder<'_>, count: usize) -> &'a [Sheet]
     ensures { sheets_value result.now ≡ files_since count folder.now }
 {
