@@ -1,6 +1,7 @@
 -- Two courses, a rule at a time.
-use Rattle.std.proofs.Common.{◌≡◌, ◌<◌, ◌+◌, ◌&&◌, ℕ, suc, Bool, true, false, List, [], ◌∷◌, length, get_or, drop, drop-cons, add-one, refl, ap, sym, subst, true≢false, arith, is_none, ◌∙◌}
+use Rattle.std.proofs.Common.{◌≡◌, ◌<◌, ◌+◌, ◌&&◌, ℕ, suc, Bool, true, false, List, [], ◌∷◌, length, get_or, not, drop, drop-cons, add-one, refl, ap, sym, subst, true≢false, arith, is_none, ◌∙◌}
 use Rattle.std.specs.Prelude.{Option, Some, None, if◌then◌else◌}
+use Rattle.std.specs.Bool.{beq}
 use Rattle.policy_table.specs.declared.rules.Quota.{Quota}
 use Rattle.policy_table.specs.declared.rules.Rule.{Rule}
 use Rattle.regions.specs.declared.points.Point.{Point}
@@ -113,3 +114,10 @@ pub alike_apart : (rules : List Rule) (i : ℕ) (d : Rule) (p q : Point) → i <
     → course rules p ≡ course rules q
     → ⊥
 alike_apart rules i d p q lt alike differ same = course_apart (suc i) i d rules p q lt differ (alike.back same)
+
+-- two answers that are not the same are of two tests that differ
+pub told_apart : (t u x y : Bool) → not (beq t u) ≡ true → t ≡ x → u ≡ y → x ≡ y → ⊥
+told_apart true true x y e f g h = true≢false (sym e)
+told_apart true false x y e f g h = true≢false (f ∙ h ∙ sym g)
+told_apart false true x y e f g h = true≢false (g ∙ sym h ∙ sym f)
+told_apart false false x y e f g h = true≢false (sym e)

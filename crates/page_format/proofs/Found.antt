@@ -1,5 +1,5 @@
 -- What is read at the beginning of bytes.
-use Rattle.std.proofs.Common.{◌≡◌, ◌++◌, ◌+◌, ◌<◌, ◌≤◌, ◌^◌, ◌∙◌, ℕ, zero, suc, List, [], ◌∷◌, length, take, drop, get_or, refl, sym, ap, subst, arith, lit<}
+use Rattle.std.proofs.Common.{◌≡◌, ◌++◌, ◌+◌, ◌*◌, ◌<◌, ◌≤◌, ◌^◌, ◌∙◌, ℕ, zero, suc, List, [], ◌∷◌, length, take, drop, get_or, refl, sym, ap, subst, arith, lit<}
 use Rattle.std.specs.Prelude.{reverse, map}
 use Rattle.std.specs.Borrow.{Bor}
 use Rattle.std.specs.Int.{w32, from_le_bytes, to_le_bytes}
@@ -18,19 +18,21 @@ each_below a b c d tail each (suc (suc zero)) = each 2
 each_below a b c d tail each (suc (suc (suc zero))) = each 3
 each_below a b c d tail each (suc (suc (suc (suc i)))) = lit< tt
 
--- four bytes are the number that is read of them
-number_read : (bytes rest : List ℕ) (n : ℕ) → 4 ≤ length bytes → ((i : ℕ) → get_or bytes i 0 < 256)
-    → n ≡ from_le_bytes w32 (take 4 bytes) → rest ≡ drop 4 bytes → bytes ≡ number_bytes n ++ rest
-number_read [] rest n long each is after = absurd (omega (arith, long))
-number_read (a ∷ []) rest n long each is after = absurd (omega (arith, long))
-number_read (a ∷ b ∷ []) rest n long each is after = absurd (omega (arith, long))
-number_read (a ∷ b ∷ c ∷ []) rest n long each is after = absurd (omega (arith, long))
-number_read (a ∷ b ∷ c ∷ d ∷ tail) rest n long each is after = subst (λ (r : List ℕ). (a ∷ b ∷ c ∷ d ∷ tail) ≡ to_le_bytes w32 n ++ r) (sym after)
-    (ap (λ (head : List ℕ). head ++ tail) (sym (le_bytes_4 (a ∷ b ∷ c ∷ d ∷ []) n refl (each_below a b c d tail each) is)))
+fits_4 : (a b c d n : ℕ) → a < 256 → b < 256 → c < 256 → d < 256 → n ≡ a + b * 256 + c * 65536 + d * 16777216 → n < 2 ^ 32
+fits_4 a b c d n a' b' c' d' is = omega arith
 
-pub number_found : (bytes rest : List ℕ) (n : ℕ) → 4 ≤ length bytes → ((i : ℕ) → get_or bytes i 0 < 256) → n < 2 ^ 32
-    → n ≡ from_le_bytes w32 (take 4 bytes) → rest ≡ drop 4 bytes → BeginsNumber n rest bytes
-number_found bytes rest n long each fits is after = record { fits = fits; is = number_read bytes rest n long each is after }
+-- four bytes are the number that is read of them
+pub number_found : (bytes rest : List ℕ) (n : ℕ) → 4 ≤ length bytes → ((i : ℕ) → get_or bytes i 0 < 256) → n ≡ from_le_bytes w32 (take 4 bytes) → rest ≡ drop 4 bytes
+    → BeginsNumber n rest bytes
+number_found [] rest n long each is after = absurd (omega (arith, long))
+number_found (a ∷ []) rest n long each is after = absurd (omega (arith, long))
+number_found (a ∷ b ∷ []) rest n long each is after = absurd (omega (arith, long))
+number_found (a ∷ b ∷ c ∷ []) rest n long each is after = absurd (omega (arith, long))
+number_found (a ∷ b ∷ c ∷ d ∷ tail) rest n long each is after = record {
+  fits = fits_4 a b c d n (each 0) (each 1) (each 2) (each 3) is;
+  is = subst (λ (r : List ℕ). (a ∷ b ∷ c ∷ d ∷ tail) ≡ to_le_bytes w32 n ++ r) (sym after)
+    (ap (λ (head : List ℕ). head ++ tail) (sym (le_bytes_4 (a ∷ b ∷ c ∷ d ∷ []) n refl (each_below a b c d tail each) is)));
+}
 
 -- a piece comes after its length
 pub piece_found : (bytes rest piece after : List ℕ) (n : ℕ) → BeginsNumber n rest bytes → rest ≡ piece ++ after → length piece ≡ n

@@ -1,6 +1,6 @@
 -- Why bytes are refused.
-use Rattle.std.proofs.Common.{◌≡◌, ◌++◌, ◌+◌, ◌<◌, ◌^◌, ◌∙◌, ℕ, zero, suc, List, [], ◌∷◌, length, refl, sym, ap, subst, arith}
-use Rattle.std.specs.Prelude.{reverse}
+use Rattle.std.proofs.Common.{◌≡◌, ◌++◌, ◌+◌, ◌<◌, ◌^◌, ◌∙◌, ℕ, zero, suc, Bool, true, false, true≢false, List, [], ◌∷◌, length, refl, sym, ap, subst, arith}
+use Rattle.std.specs.Prelude.{◌==◌, reverse}
 use Rattle.std.specs.Str.{IsUtf8}
 use Rattle.std.proofs.lemmas.List.{append_assoc, length-append}
 use Rattle.folders.specs.Folders.{FolderValue}
@@ -97,6 +97,11 @@ files_stop (file ∷ files) (other ∷ others) rest are is left no_file same =
     ∙ sym (append_assoc (piece_bytes file.0) (piece_bytes file.1 ++ files_bytes files) rest)
     ∙ same) in
     files_stop files others rest are.2 is.2 left no_file first.2
+
+-- what is not empty has bytes
+pub some_left : (bytes : List ℕ) (t : Bool) → t ≡ (length bytes == 0) → t ≡ false → 0 < length bytes
+some_left [] t is e = absurd (true≢false (sym is ∙ e))
+some_left (b ∷ bytes) t is e = omega arith
 
 pub no_file_no_folder : (bytes rest : List ℕ) (folder : FolderValue) → AreRead bytes folder rest → 0 < length rest → BeginsNoFile rest → IsNoFolder bytes
 no_file_no_folder bytes rest folder read left no_file = record {

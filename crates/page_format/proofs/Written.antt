@@ -1,12 +1,12 @@
 -- What is written.
 use Rattle.std.proofs.Common.{◌≡◌, ◌++◌, ◌-◌, ◌<◌, ◌^◌, ◌∙◌, ℕ, List, [], ◌∷◌, length, take, map, refl, sym, ap, subst, Result, Ok, Err, OnOk}
 use Rattle.std.specs.Prelude.{is_ok, if◌then◌else◌}
-use Rattle.std.proofs.lemmas.List.{append_assoc, append-nil, take-map}
+use Rattle.std.proofs.lemmas.List.{append_assoc, append-nil, length-map, take-map}
 use Rattle.folders.specs.Folders.{FolderValue, sheets_value}
 use Rattle.folders.specs.Sheets.{pair_of}
 use Rattle.folders.specs.declared.folder.Sheet.{Sheet}
 use Rattle.page_format.specs.Pieces.{AreShort, IsShort, files_bytes, number_bytes, piece_bytes}
-use Rattle.page_format.specs.Told.{IsTold}
+use Rattle.page_format.specs.Told.{IsTold, files_since}
 
 -- a piece is written after what was there: its length, and then its bytes
 pub piece_written : {T E : Type 0} (result : Result T E) (old mid new piece : List ℕ) → mid ≡ old ++ number_bytes (length piece)
@@ -62,3 +62,9 @@ told_written status first second third bytes out told files fits one short two s
 -- the first sheets are the first files
 pub sheets_taken : (count : ℕ) (sheets : List Sheet) (folder : FolderValue) → sheets_value sheets ≡ folder → sheets_value (take count sheets) ≡ take count folder
 sheets_taken count sheets folder are = sym (take-map pair_of count sheets) ∙ ap (λ (files : FolderValue). take count files) are
+
+pub sheets_since : (count n : ℕ) (sheets : List Sheet) (folder : FolderValue) → sheets_value sheets ≡ folder → n ≡ length sheets - count
+    → sheets_value (take n sheets) ≡ files_since count folder
+sheets_since count n sheets folder are is =
+    let long : length sheets ≡ length folder = sym (length-map sheets pair_of) ∙ ap (λ (files : FolderValue). length files) are in
+    sheets_taken n sheets folder are ∙ ap (λ (k : ℕ). take k folder) (is ∙ ap (λ (k : ℕ). k - count) long)
