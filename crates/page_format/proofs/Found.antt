@@ -61,8 +61,12 @@ are_words_snoc : (words : List (List ℕ)) (word : List ℕ) → AreWords words 
 are_words_snoc [] word are is = (is, tt)
 are_words_snoc (first ∷ words) word are is = (are.0, are_words_snoc words word are.1 is)
 
-pub no_words_found : (bytes : List ℕ) → BeginsWords 0 [] bytes bytes
-no_words_found bytes = record { counted = refl; words_are = tt; is = refl }
+pub no_words_found : (bytes : List ℕ) (words : List (Bor (List ℕ))) → words ≡ [] → BeginsWords 0 (words_value words) bytes bytes
+no_words_found bytes words none =
+    subst (λ (all : List (Bor (List ℕ))). BeginsWords 0 (words_value all) bytes bytes) (sym none) (record { counted = refl; words_are = tt; is = refl })
+
+pub words_found : (bytes rest : List ℕ) (words : List (List ℕ)) (done count : ℕ) → BeginsWords done words rest bytes → done ≡ count → BeginsWords count words rest bytes
+words_found bytes rest words done count begins same = subst (λ (n : ℕ). BeginsWords n words rest bytes) same begins
 
 one_word_found : (bytes rest word after : List ℕ) (words : List (List ℕ)) (count : ℕ) → BeginsWords count words rest bytes → BeginsWord word after rest
     → BeginsWords (count + 1) (words ++ (word ∷ [])) after bytes

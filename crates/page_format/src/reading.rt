@@ -12,7 +12,6 @@ use std::alloc::{AllocError, Global};
 const WIDTH: usize = 4;
 
 /// The number at the beginning of bytes, and what comes after it.
-#[tactic(auto, using(crate::proofs::Found::number_found))]
 fn number_of(bytes: &[u8]) -> Option<(usize, &[u8])>
     ensures { MatchOption result (length bytes.now < WIDTH)
         (λ found. BeginsNumber found.0 found.1.now bytes.now) }
@@ -48,7 +47,7 @@ fn word_of(bytes: &[u8]) -> Option<(&str, &[u8])>
 }
 
 /// So many words at the beginning of bytes, and what comes after them.
-#[tactic(auto, using(crate::proofs::Found::no_words_found, crate::proofs::Found::word_pushed, crate::proofs::Refused::too_few_words))]
+#[tactic(auto, using(crate::proofs::Found::no_words_found))]
 fn words_of(
     alloc: Global,
     count: usize,
@@ -81,7 +80,7 @@ fn file_of(bytes: &[u8]) -> Option<(&str, &[u8], &[u8])>
 }
 
 /// The folder whose files the bytes are, in which the file `held` cannot be written.
-#[tactic(auto, using(crate::proofs::Found::none_read, crate::proofs::Found::one_read, crate::proofs::Found::all_read, crate::proofs::Refused::no_file_no_folder))]
+#[tactic(auto, using(crate::proofs::Found::none_read, crate::proofs::Found::all_read))]
 fn folder_of(
     alloc: Global,
     held: &'static str,
@@ -116,7 +115,7 @@ pub struct Given<'a> {
 /// # Errors
 ///
 /// If memory is refused.
-#[tactic(auto, using(crate::proofs::Found::given_found, crate::proofs::Refused::few_not_given, crate::proofs::Refused::no_words_not_given, crate::proofs::Refused::no_folder_not_given))]
+#[tactic(auto, using(crate::proofs::Found::given_found, crate::proofs::Refused::few_not_given, crate::proofs::Refused::no_words_not_given))]
 pub fn given_of<'a>(
     alloc: Global,
     held: &'static str,

@@ -66,7 +66,6 @@ pub fn told_of(
 }
 
 /// The files that a folder got since it had `count`: the newest come first.
-#[tactic(auto, using(crate::proofs::Written::sheets_since))]
 pub fn files_since<'a>(folder: &'a Folder<'_>, count: usize) -> &'a [Sheet]
     ensures { sheets_value result.now ≡ files_since count folder.now }
 {
