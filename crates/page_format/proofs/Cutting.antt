@@ -1,13 +1,13 @@
 -- Bytes are cut in one way.
-use Rattle.std.proofs.Common.{◌≡◌, ◌++◌, ◌+◌, ◌<◌, ◌^◌, ◌∙◌, ℕ, zero, suc, List, [], ◌∷◌, length, take, drop, refl, sym, ap, ap₂, arith}
+use Rattle.std.proofs.Common.{◌≡◌, ◌++◌, ◌+◌, ◌<◌, ◌^◌, ◌∙◌, ℕ, List, [], ◌∷◌, length, take, drop, refl, sym, ap, ap₂, arith}
 use Rattle.std.specs.Prelude.{reverse}
-use Rattle.std.specs.Int.{w32, from_le_bytes, to_le_bytes}
+use Rattle.std.specs.Int.{w32, from_le_bytes}
 use Rattle.std.proofs.lemmas.Nat.{from_le_bytes-to_le_bytes_4}
 use Rattle.std.proofs.lemmas.List.{append_assoc, drop_at, length-append, reverse-reverse, take_at}
 use Rattle.folders.specs.Folders.{FolderValue}
 use Rattle.page_format.specs.Given.{IsGiven}
 use Rattle.page_format.specs.Told.{IsTold}
-use Rattle.page_format.specs.Pieces.{AreFiles, AreShort, AreWords, IsShort, IsWord, files_bytes, number_bytes, piece_bytes, words_bytes}
+use Rattle.page_format.specs.Pieces.{AreFiles, AreShort, AreWords, IsShort, files_bytes, number_bytes, piece_bytes, words_bytes}
 
 -- the number at the beginning, and what comes after it
 pub number_cut : (number other : ℕ) (rest more : List ℕ) → number < 2 ^ 32 → other < 2 ^ 32

@@ -1,6 +1,6 @@
 -- What is read at the beginning of bytes.
 use Rattle.std.proofs.Common.{◌≡◌, ◌++◌, ◌+◌, ◌*◌, ◌<◌, ◌≤◌, ◌^◌, ◌∙◌, ℕ, zero, suc, List, [], ◌∷◌, length, take, drop, get_or, refl, sym, ap, subst, arith, lit<}
-use Rattle.std.specs.Prelude.{reverse, map}
+use Rattle.std.specs.Prelude.{reverse}
 use Rattle.std.specs.Borrow.{Bor}
 use Rattle.std.specs.Int.{w32, from_le_bytes, to_le_bytes}
 use Rattle.std.specs.Str.{IsUtf8}
@@ -31,7 +31,7 @@ number_found (a ∷ b ∷ c ∷ []) rest n long each is after = absurd (omega (a
 number_found (a ∷ b ∷ c ∷ d ∷ tail) rest n long each is after = record {
   fits = fits_4 a b c d n (each 0) (each 1) (each 2) (each 3) is;
   is = subst (λ (r : List ℕ). (a ∷ b ∷ c ∷ d ∷ tail) ≡ to_le_bytes w32 n ++ r) (sym after)
-    (ap (λ (head : List ℕ). head ++ tail) (sym (le_bytes_4 (a ∷ b ∷ c ∷ d ∷ []) n refl (each_below a b c d tail each) is)));
+      (ap (λ (head : List ℕ). head ++ tail) (sym (le_bytes_4 (a ∷ b ∷ c ∷ d ∷ []) n refl (each_below a b c d tail each) is)));
 }
 
 -- a piece comes after its length

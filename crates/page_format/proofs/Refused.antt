@@ -1,12 +1,12 @@
 -- Why bytes are refused.
-use Rattle.std.proofs.Common.{◌≡◌, ◌++◌, ◌+◌, ◌<◌, ◌^◌, ◌∙◌, ℕ, zero, suc, Bool, true, false, true≢false, List, [], ◌∷◌, length, refl, sym, ap, subst, arith}
+use Rattle.std.proofs.Common.{◌≡◌, ◌++◌, ◌<◌, ◌∙◌, ℕ, Bool, false, true≢false, List, [], ◌∷◌, length, refl, sym, ap, subst, arith}
 use Rattle.std.specs.Prelude.{◌==◌, reverse}
 use Rattle.std.specs.Str.{IsUtf8}
 use Rattle.std.proofs.lemmas.List.{append_assoc, length-append}
 use Rattle.folders.specs.Folders.{FolderValue}
-use Rattle.page_format.specs.Given.{IsGiven, IsNotGiven}
-use Rattle.page_format.specs.Reading.{BeginsFile, BeginsNoFile, BeginsNoPiece, BeginsNoWord, BeginsNoWords, BeginsNumber, BeginsPiece, BeginsWord, BeginsWords, IsFolder, IsNoFolder}
-use Rattle.page_format.specs.Pieces.{AreFiles, AreShort, AreWords, IsShort, files_bytes, number_bytes, piece_bytes, words_bytes}
+use Rattle.page_format.specs.Given.{IsNotGiven}
+use Rattle.page_format.specs.Reading.{BeginsNoFile, BeginsNoPiece, BeginsNoWord, BeginsNoWords, BeginsNumber, BeginsPiece, BeginsWord, BeginsWords, IsNoFolder}
+use Rattle.page_format.specs.Pieces.{AreFiles, AreShort, AreWords, files_bytes, number_bytes, piece_bytes, words_bytes}
 use Rattle.page_format.proofs.Cutting.{file_cut, files_short, number_cut, piece_cut, piece_is_some, piece_long, words_cut}
 use Rattle.page_format.proofs.Found.{AreRead}
 

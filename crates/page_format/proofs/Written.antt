@@ -1,5 +1,5 @@
 -- What is written.
-use Rattle.std.proofs.Common.{◌≡◌, ◌++◌, ◌-◌, ◌<◌, ◌^◌, ◌∙◌, ℕ, List, [], ◌∷◌, length, take, map, refl, sym, ap, subst, Result, Ok, Err, OnOk}
+use Rattle.std.proofs.Common.{◌≡◌, ◌++◌, ◌-◌, ◌<◌, ◌^◌, ◌∙◌, ℕ, List, [], ◌∷◌, length, take, refl, sym, ap, subst, Result, Ok, Err, OnOk}
 use Rattle.std.specs.Prelude.{is_ok, if◌then◌else◌}
 use Rattle.std.proofs.lemmas.List.{append_assoc, append-nil, length-map, take-map}
 use Rattle.folders.specs.Folders.{FolderValue, sheets_value}
