@@ -16,7 +16,6 @@ const NO_MEMORY: u64 = 0;
 const NO_WORDS: u64 = 1;
 
 /// The bytes of what the words and files come to that the given bytes are. `None` where they are none.
-#[tactic(auto, using(crate::proofs::Answering::answered, crate::proofs::Answering::sheets_counted))]
 fn answer(alloc: Global, given: &[u8]) -> Result<Option<Vec<u8>>, AllocError>
     ensures { IfOk result (λ found. MatchOption found (IsNotGiven given.now)
         (λ bytes. Answers given.now bytes.items)) }

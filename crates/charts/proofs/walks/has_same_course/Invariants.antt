@@ -1,4 +1,3 @@
-use Rattle.std.proofs.Common.{drop}
 use Rattle.charts.proofs.Walking.{GoOnAlike}
 use Rattle.charts.proofs.walks.has_same_course.Given as goal
 
