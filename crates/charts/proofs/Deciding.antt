@@ -7,12 +7,12 @@ use Rattle.std.proofs.lemmas.List.Elements.{All-head, All-tail}
 use Rattle.machine.specs.declared.calls.Call.{Call}
 use Rattle.rmap.specs.Verdict.{verdict_number}
 use Rattle.policy_table.specs.Limits.{IsLimited}
-use Rattle.policy_table.specs.Meaning.{AreWords, draw, ruled}
+use Rattle.policy_table.specs.Meaning.{AreWords, ruled}
 use Rattle.policy_table.specs.declared.rules.Quota.{Quota}
 use Rattle.policy_table.specs.declared.rules.Rule.{Rule}
 use Rattle.regions.specs.Questions.{IsSettledBy}
 use Rattle.regions.specs.declared.points.Point.{Point}
-use Rattle.charts.specs.Alike.{AreLimited, HasLimit, held}
+use Rattle.charts.specs.Alike.{HasLimit, held}
 use Rattle.charts.specs.Deciders.{DecidesWithinLimits, NeverDecides, by_quota, decider_from, has_room, lets_pass, may_decide}
 use Rattle.charts.specs.Points.{decision_at, holds_at, tests_of}
 use Rattle.charts.specs.Tickets.{AreTickets, AreTicketsFrom, after, is_of, least_from, raised}

@@ -1,6 +1,6 @@
 -- The lines of a chart, as they are read.
 use Rattle.std.proofs.Common.{◌≡◌, ◌≤◌, ◌<◌, ◌+◌, ◌^◌, ◌&&◌, ◌||◌, ℕ, zero, suc, Bool, true, false, not, List, [], ◌∷◌, ◌++◌, Option, Some, None, length, get_or, take, drop, add-one, refl, ap, sym, subst, ◌∙◌, arith}
-use Rattle.std.specs.Prelude.{if◌then◌else◌, min, nat_le, nat_lt}
+use Rattle.std.specs.Prelude.{if◌then◌else◌, nat_le, nat_lt}
 use Rattle.std.proofs.lemmas.Bool.Decides.{nat_tests}
 use Rattle.std.proofs.lemmas.List.{append_assoc}
 use Rattle.policy_table.specs.declared.rules.Rule.{Rule}
@@ -11,7 +11,7 @@ use Rattle.regions.specs.declared.regions.Region.{Region}
 use Rattle.regions.specs.declared.sides.Side.TheVariants as side
 use Rattle.regions.specs.declared.stretches.Stretch.{Stretch}
 use Rattle.charts.specs.Lines.{IsChart, IsToldOnce, IsToldRightly, has_point, have_same_words, is_left, is_told, lines_of}
-use Rattle.charts.specs.Plain.{ChartsAreRead, HasAddress, IsPlain, LinesArePlain, first_with}
+use Rattle.charts.specs.Plain.{ChartsAreRead, HasAddress, LinesArePlain, first_with}
 use Rattle.charts.specs.declared.lines.Line.{Line}
 use Rattle.charts.proofs.Telling.{line_behind, line_here}
 

@@ -1,9 +1,9 @@
 -- The test whether two courses are the same is exact.
-use Rattle.std.proofs.Common.{◌≡◌, ◌≤◌, ◌<◌, ◌+◌, ◌^◌, ◌⊎◌, ◌==◌, inl, inr, ℕ, suc, zero, max, get_or, take, drop, drop-cons, add-one, Bool, true, false, ◌&&◌, ◌||◌, List, [], ◌∷◌, ◌++◌, length, Option, Some, None, refl, ap, sym, ◌∙◌, subst, arith}
+use Rattle.std.proofs.Common.{◌≡◌, ◌≤◌, ◌<◌, ◌+◌, ◌^◌, ◌⊎◌, ◌==◌, inl, inr, ℕ, suc, max, get_or, take, drop, drop-cons, add-one, Bool, true, false, ◌&&◌, ◌||◌, List, [], ◌∷◌, ◌++◌, length, Option, Some, None, refl, ap, sym, ◌∙◌, subst, arith}
 use Rattle.std.specs.Prelude.{All, MatchBool, if◌then◌else◌, nat_le, nat_lt}
 use Rattle.std.proofs.lemmas.Bool.{le-ltb, lt-ltb}
 use Rattle.std.proofs.lemmas.Bool.Decides.{nat_tests}
-use Rattle.std.proofs.lemmas.List.{append-nil, append_assoc, take_more}
+use Rattle.std.proofs.lemmas.List.{append-nil, take_more}
 use Rattle.std.proofs.lemmas.List.Elements.{All-cons, All-head, All-tail}
 use Rattle.machine.specs.declared.calls.Call.{Call}
 use Rattle.rmap.specs.Verdict.{verdict_number}
@@ -12,7 +12,7 @@ use Rattle.charts.specs.Alike.{AreLimited, AreSaidAlike, DifferSaid, DifferWithi
 use Rattle.charts.specs.Tickets.{AreTickets, AreTicketsFrom, AreTicketsOfOne, after, is_of, least_from, least_of}
 use Rattle.policy_table.specs.Limits.{IsLimited}
 use Rattle.policy_table.specs.Meaning.{AreWords, draw, ruled}
-use Rattle.charts.specs.Points.{AreAlike, Differ, decision_at, holds_at}
+use Rattle.charts.specs.Points.{AreAlike, decision_at, holds_at}
 use Rattle.regions.specs.declared.points.Point.{Point}
 use Rattle.policy_table.specs.declared.rules.Quota.{Quota}
 use Rattle.policy_table.specs.declared.rules.Rule.{Rule}

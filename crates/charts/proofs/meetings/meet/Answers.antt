@@ -1,4 +1,4 @@
-use Rattle.std.proofs.Common.{◌≡◌, Bool, false, subst, sym, true}
+use Rattle.std.proofs.Common.{◌≡◌, Bool, subst, sym, true}
 use Rattle.std.specs.Prelude.{MatchBool}
 use Rattle.regions.specs.Questions.{IsFound}
 use Rattle.charts.specs.Meetings.{Meet, NeverMeet, meet_at}
