@@ -11,3 +11,7 @@ returns-in-Serve-clause-stops g c =
 pub returns-in-Policy-clause-stops : goal.returns-in-Policy-clause-stops
 returns-in-Policy-clause-stops g c =
     subst (λ job. IfErr c.compile_file.result (StopsBy (IsEnded g.F.Files.reads g.F.Files.writes job c.args.files.now c.compile_file.new.files (g.W.Write.contents c.args.out.now) (g.W.Write.contents c.compile_file.new.out)))) (sym c.in-Policy.is) (stops_by_both c.compile_file.result _ _ c.compile_file.ensures.stops c.compile_file.ensures.quiet)
+
+pub returns-in-Verify-clause-stops : goal.returns-in-Verify-clause-stops
+returns-in-Verify-clause-stops g c =
+    subst (λ job. IfErr c.verify_file.result (StopsBy (IsEnded g.F.Files.reads g.F.Files.writes job c.args.files.now c.verify_file.new.files (g.W.Write.contents c.args.out.now) (g.W.Write.contents c.verify_file.new.out)))) (sym c.in-Verify.is) c.verify_file.ensures.stops
