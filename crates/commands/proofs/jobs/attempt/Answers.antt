@@ -14,4 +14,4 @@ returns-in-Policy-clause-stops g c =
 
 pub returns-in-Verify-clause-stops : goal.returns-in-Verify-clause-stops
 returns-in-Verify-clause-stops g c =
-    subst (λ job. IfErr c.verify_file.result (StopsBy (IsEnded g.F.Files.reads g.F.Files.writes job c.args.files.now c.verify_file.new.files (g.W.Write.contents c.args.out.now) (g.W.Write.contents c.verify_file.new.out)))) (sym c.in-Verify.is) (stops_by_both c.verify_file.result _ _ c.verify_file.ensures.stops c.verify_file.ensures.quiet)
+    subst (λ job. IfErr c.verify_file.result (StopsBy (IsEnded g.F.Files.reads g.F.Files.writes job c.args.files.now c.verify_file.new.files (g.W.Write.contents c.args.out.now) (g.W.Write.contents c.verify_file.new.out)))) (sym c.in-Verify.is) (rw (← c.as_str-in-Verify.ensures.value) (stops_by_both c.verify_file.result _ _ c.verify_file.ensures.stops c.verify_file.ensures.quiet))
