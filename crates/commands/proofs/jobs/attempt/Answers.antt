@@ -1,4 +1,6 @@
-use Rattle.std.proofs.Common.{IfErr, sym, subst}
+use Rattle.std.proofs.Common.{◌≡◌, ℕ, List, IfErr, sym, subst}
+use Rattle.std.specs.Prelude.{string_bytes}
+use Rattle.job_parts.specs.Reading.{IsNoProgram}
 use Rattle.job_parts.specs.Stops.{StopsBy}
 use Rattle.commands.specs.Performed.{IsEnded}
 use Rattle.commands.proofs.Stopping.{stops_by_both}
@@ -14,4 +16,7 @@ returns-in-Policy-clause-stops g c =
 
 pub returns-in-Verify-clause-stops : goal.returns-in-Verify-clause-stops
 returns-in-Verify-clause-stops g c =
-    subst (λ job. IfErr c.verify_file.result (StopsBy (IsEnded g.F.Files.reads g.F.Files.writes job c.args.files.now c.verify_file.new.files (g.W.Write.contents c.args.out.now) (g.W.Write.contents c.verify_file.new.out)))) (sym c.in-Verify.is) (rw (← c.as_str-in-Verify.ensures.value) (stops_by_both c.verify_file.result _ _ c.verify_file.ensures.stops c.verify_file.ensures.quiet))
+    let both = stops_by_both c.verify_file.result _ _ c.verify_file.ensures.stops c.verify_file.ensures.quiet in
+    let named : IfErr c.verify_file.result (StopsBy (λ fault. IsNoProgram g.F.Files.reads c.args.files.now (string_bytes c.in-Verify.args.image) c.in-Verify.args.sizes c.verify_file.new.files fault × (g.W.Write.contents c.verify_file.new.out ≡ g.W.Write.contents c.args.out.now))) =
+    subst (λ (name : List ℕ). IfErr c.verify_file.result (StopsBy (λ fault. IsNoProgram g.F.Files.reads c.args.files.now name c.in-Verify.args.sizes c.verify_file.new.files fault × (g.W.Write.contents c.verify_file.new.out ≡ g.W.Write.contents c.args.out.now)))) c.as_str-in-Verify.ensures.value both in
+    subst (λ job. IfErr c.verify_file.result (StopsBy (IsEnded g.F.Files.reads g.F.Files.writes job c.args.files.now c.verify_file.new.files (g.W.Write.contents c.args.out.now) (g.W.Write.contents c.verify_file.new.out)))) (sym c.in-Verify.is) named
