@@ -23,10 +23,10 @@ a packet without its bytes: 32
 an item of a queue: 40
 a bank: 128
 a share of a bank: 16
-a pass: 816
+a pass: 824
 its context: 640
 its seat at the counters: 40
-its reader of programs: 104
+its reader of programs: 112
 its staging: 32
 the bytes of a staging: 16384
 an accepted program: 136
