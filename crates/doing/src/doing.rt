@@ -67,12 +67,17 @@ fn told<'a>(
     Ok(Left { done, folder })
 }
 
-/// Does a job over the files of a folder.
-fn do_job<'a>(alloc: Global, job: &Job, folder: Folder<'a>) -> Result<Left<'a>, AllocError>
+/// Does a job over the files of a folder, where a node's file may say its maps.
+fn do_job<'a>(
+    alloc: Global,
+    job: &Job,
+    is_on_node: bool,
+    folder: Folder<'a>,
+) -> Result<Left<'a>, AllocError>
     requires { IsAlone job.now }
     ensures { IfOk result (DoesJob job.now folder.entry) }
 {
-    let mut desk = Desk::new(folder, Noted::of_job(job));
+    let mut desk = Desk::new(folder, Noted::of_job(job, is_on_node));
     let mut out = Vec::new(alloc);
     let Ok(end) = perform_alone(alloc, job, &mut desk, &mut out) else {
         return Err(AllocError);
@@ -151,8 +156,14 @@ fn show_input<'a>(
     Ok(Left { done, folder })
 }
 
-/// Does a job: `show -` as a talk, `serve` not at all, and each other over the files of the folder.
-fn do_once<'a>(alloc: Global, job: &Job, folder: Folder<'a>) -> Result<Left<'a>, AllocError>
+/// Does a job: `show -` as a talk, `serve` not at all, and each other over the files of the folder, where a node's file may say
+/// its maps.
+fn do_once<'a>(
+    alloc: Global,
+    job: &Job,
+    is_on_node: bool,
+    folder: Folder<'a>,
+) -> Result<Left<'a>, AllocError>
     ensures { IfOk result (DoesOnce job.now folder.entry) }
 {
     match job {
@@ -160,7 +171,7 @@ fn do_once<'a>(alloc: Global, job: &Job, folder: Folder<'a>) -> Result<Left<'a>,
         Job::Show(words) if words.lines.as_str() == STANDARD_INPUT => {
             show_input(alloc, words, folder)
         }
-        _ => do_job(alloc, job, folder),
+        _ => do_job(alloc, job, is_on_node, folder),
     }
 }
 
@@ -198,7 +209,7 @@ fn do_on_node<'a>(alloc: Global, own: NodeJob, folder: Folder<'a>) -> Result<Lef
     let NodeJob { job, node } = own;
     let mut desk = Desk::new(folder, Noted::new(node_inputs(node.as_str())));
     match configuration_in(alloc, &mut desk, node.as_str()) {
-        Ok(configuration) => do_once(alloc, &job.placed(&configuration), desk.into_folder()),
+        Ok(configuration) => do_once(alloc, &job.placed(&configuration), true, desk.into_folder()),
         Err(fault) => refuse_node(alloc, &job, fault, desk),
     }
 }
@@ -219,7 +230,7 @@ fn do_work<'a>(alloc: Global, work: Work, folder: Folder<'a>) -> Result<Left<'a>
     ensures { IfOk result (DoesWork work folder.entry) }
 {
     match work {
-        Work::Once(job) => do_once(alloc, &job, folder),
+        Work::Once(job) => do_once(alloc, &job, false, folder),
         Work::OnNode(own) => do_on_node(alloc, own, folder),
         Work::Live(words) => do_live(alloc, &words, folder),
     }
