@@ -186,7 +186,8 @@ fn work_named(alloc: Global, word: Word, rows: &ArgMatches) -> Result<Work, Usag
 {
     match plain_named(alloc, word, rows)? {
         Work::Once(job) => placed_by(alloc, job, rows),
-        other => Ok(other),
+        Work::OnNode(_) => unreachable!(),
+        Work::Live(words) => Ok(Work::Live(words)),
     }
 }
 
