@@ -3,16 +3,17 @@
 ghost use Rattle.std.specs.Prelude.{◌≡◌, IfOk};
 ghost use Rattle.clap.specs.Walk.{texts};
 ghost use Rattle.doing.specs.Alone.{IsAlone};
-ghost use Rattle.doing.specs.Doings.{DoesJob, DoesLive, DoesOnNode, DoesOnce, DoesWords, DoesWork, HoldsLines, IsQuiet, ShowsInput, TellsFault, words_given};
+ghost use Rattle.doing.specs.Doings.{DoesJob, DoesLive, DoesOnNode, DoesOnce, DoesWords, DoesWork, HoldsLines, IsQuiet, RefusesOutput, ShowsInput, TellsFault, words_given};
+ghost use Rattle.job_parts.specs.Printed.{fault_line};
 
 use crate::alone::perform_alone;
 use crate::desk::Desk;
 use crate::slate::Slate;
 use crate::talks::Speech;
 use commands::{
-    Asked, Fault, Job, JobEnd, LiveWords, NodeJob, Noted, ShowWords, Status, UsageFault,
-    WITHOUT_WORDS, Work, asked_of, configuration_in, live, node_inputs, show_talk, told_end,
-    told_node, told_option,
+    Asked, Fault, Job, JobEnd, LiveWords, NodeJob, Noted, OWN_SOURCE, ShowWords, Status,
+    UsageFault, WITHOUT_WORDS, Work, asked_of, configuration_in, live, node_inputs, show_talk,
+    told_end, told_node, told_option,
 };
 use folders::Folder;
 use std::alloc::{AllocError, Global};
@@ -175,6 +176,17 @@ fn do_once<'a>(
     }
 }
 
+/// The line of a fault.
+fn fault_line(alloc: Global, fault: &Fault<'_>) -> Result<Vec<u8>, AllocError>
+    ensures { IfOk result (λ line. line.items ≡ fault_line fault.now) }
+{
+    let mut line = Vec::new(alloc);
+    match writeln!(line, "{fault}") {
+        Ok(()) => Ok(line),
+        Err(_) => Err(AllocError),
+    }
+}
+
 /// Prints the fault of a job's node, where nothing was done.
 fn refuse_node<'a>(
     alloc: Global,
@@ -184,7 +196,7 @@ fn refuse_node<'a>(
 ) -> Result<Left<'a>, AllocError>
     ensures { IfOk result (TellsFault fault.entry desk.entry.folder) }
 {
-    let out = format!(in alloc; "{fault}\n")?.into_bytes();
+    let out = fault_line(alloc, &fault)?;
     let end = JobEnd {
         status: Status::Failed,
         fault: Some(fault),
@@ -202,13 +214,38 @@ fn refuse_node<'a>(
     })
 }
 
+/// Refuses a job that would write over the node's file of this name.
+fn refuse_output<'a>(alloc: Global, node: &str, folder: Folder<'a>) -> Result<Left<'a>, AllocError>
+    ensures { IfOk result (RefusesOutput node.now folder.entry) }
+{
+    let fault = Fault::CannotWrite(node);
+    let done = Done {
+        status: Status::Failed.code(),
+        out: fault_line(alloc, &fault)?,
+        told: String::from_str(alloc, OWN_SOURCE)?,
+    };
+    Ok(Left { done, folder })
+}
+
+/// Whether a job would write to the file of this name.
+fn is_output(job: &Job, name: &str) -> bool {
+    match job.inputs().output {
+        Some(output) => output == name,
+        None => false,
+    }
+}
+
 /// Does a job for the node of a file.
 fn do_on_node<'a>(alloc: Global, own: NodeJob, folder: Folder<'a>) -> Result<Left<'a>, AllocError>
     ensures { IfOk result (DoesOnNode own folder.entry) }
 {
     let NodeJob { job, node } = own;
-    let mut desk = Desk::new(folder, Noted::new(node_inputs(node.as_str())));
-    match configuration_in(alloc, &mut desk, node.as_str()) {
+    let name = node.as_str();
+    if is_output(&job, name) {
+        return refuse_output(alloc, name, folder);
+    }
+    let mut desk = Desk::new(folder, Noted::new(node_inputs(name)));
+    match configuration_in(alloc, &mut desk, name) {
         Ok(configuration) => do_once(alloc, &job.placed(&configuration), true, desk.into_folder()),
         Err(fault) => refuse_node(alloc, &job, fault, desk),
     }
