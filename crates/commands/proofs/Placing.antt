@@ -5,14 +5,16 @@ use Rattle.clap.specs.Walk.{Row, Text}
 use Rattle.commands.specs.CommandLine.{IsPlacedBy, Names, NamesPlain, Refuses, RefusesPlace, RefusesPlain, SpoilsPlace}
 use Rattle.commands.specs.OnNodes.{are_left, own_file, takes_file}
 use Rattle.commands.specs.declared.jobs.Job.{Job}
+use Rattle.commands.specs.declared.node_jobs.NodeJob.{NodeJob}
 use Rattle.commands.specs.declared.word.Word.{Word}
 use Rattle.commands.specs.declared.work.Work.{Work}
 use Rattle.commands.specs.declared.work.Work.TheVariants.{Once, OnNode, Live}
+use Rattle.job_live.specs.declared.words.LiveWords.{LiveWords}
 use Rattle.job_parts.specs.declared.usage.UsageFault.{UsageFault}
 use Rattle.job_parts.specs.declared.usage.UsageFault.TheVariants.{Parse, BadOption, Memory}
 
 -- the job of matches, for the node of the file that they name, if they name one, is the work that they name
-pub names_placed : (found : Text × List Row) (job : Job) (work : Work) → NamesPlain found (Once job)
+names_placed : (found : Text × List Row) (job : Job) (work : Work) → NamesPlain found (Once job)
     → IsPlacedBy job found.1 work → Names (Some found) work
 names_placed found job (Once own) names (same, none) = (
   subst (λ (j : Job). NamesPlain found (Once j)) (sym same) names,
@@ -23,6 +25,20 @@ names_placed found job (OnNode own) names (same, named, left) = (
   (refl, (subst (λ (j : Job). own_file j found.1 ≡ Some (string_bytes own.node)) (sym same) named, left)),
 )
 names_placed found job (Live words) names placed = absurd placed
+
+-- the same of what the subcommand names, which is that job
+pub places : (found : Text × List Row) (plain : Work) (job : Job) (work : Work) → plain ≡ Once job → NamesPlain found plain
+    → IsPlacedBy job found.1 work → Names (Some found) work
+places found plain job work is names placed = names_placed found job work (subst (NamesPlain found) is names) placed
+
+-- a talk is named as it is
+pub names_talk : (found : Text × List Row) (plain : Work) (words : LiveWords) → plain ≡ Live words → NamesPlain found plain
+    → Names (Some found) (Live words)
+names_talk found plain words is names = subst (NamesPlain found) is names
+
+-- no subcommand names a job for the node of a file before that file is looked for
+pub is_unplaced : (found : Text × List Row) (plain : Work) (own : NodeJob) → plain ≡ OnNode own → NamesPlain found plain → ⊥
+is_unplaced found plain own is names = subst (NamesPlain found) is names
 
 -- what is refused of the job alone is refused
 pub refuses_plain : (named : Word) (rows : List Row) (fault : UsageFault) → RefusesPlain named rows fault
