@@ -12,7 +12,6 @@ use Rattle.job_decide.specs.DecideJob.{decide_app, NamesDecide, SpoilsDecide}
 use Rattle.job_live.specs.Words.{live_app, NamesLive, SpoilsLive}
 use Rattle.job_node_file.specs.NodeFileJob.{NamesNodeFile, node_file_app}
 use Rattle.job_rehearse.specs.RehearseJob.{rehearse_app, NamesRehearse, SpoilsRehearse}
-use Rattle.job_parts.specs.Lines.{NamesLines, SpoilsLines}
 use Rattle.job_texts.specs.AsmJob.{asm_app, NamesAsm}
 use Rattle.job_texts.specs.DisJob.{dis_app, NamesDis}
 use Rattle.job_codes.specs.ExplainJob.{explain_app, NamesExplain, SpoilsExplain}
@@ -104,8 +103,8 @@ Names (Some found) (Once (Disassemble words)) = (found.0 ≡ codes "dis") × Nam
 Names (Some found) (Once (Verify args)) = (found.0 ≡ codes "verify") × NamesImage found.1 args
 Names (Some found) (Once (Judge args)) = (found.0 ≡ codes "judge") × NamesNodeLines found.1 args
 Names (Some found) (Once (Policy words)) = (found.0 ≡ codes "policy") × NamesPolicy found.1 words
-Names (Some found) (Once (Serve args)) = (found.0 ≡ codes "serve") × NamesLines found.1 args
-Names (Some found) (Once (Simulate args)) = (found.0 ≡ codes "sim") × NamesLines found.1 args
+Names (Some found) (Once (Serve args)) = (found.0 ≡ codes "serve") × NamesNodeLines found.1 args
+Names (Some found) (Once (Simulate args)) = (found.0 ≡ codes "sim") × NamesNodeLines found.1 args
 Names (Some found) (Live words) = (found.0 ≡ codes "live") × NamesLive found.1 words
 Names (Some found) (Once (Explain words)) = (found.0 ≡ codes "explain") × NamesExplain found.1 words
 Names (Some found) (Once (Why args)) = (found.0 ≡ codes "why") × NamesImage found.1 args
@@ -114,7 +113,7 @@ Names (Some found) (Once (Node words)) = (found.0 ≡ codes "node") × NamesNode
 Names (Some found) (Once (Packet words)) = (found.0 ≡ codes "packet") × NamesPacket found.1 words
 Names (Some found) (Once (Show words)) = (found.0 ≡ codes "show") × NamesShow found.1 words
 Names (Some found) (Once (Decide words)) = (found.0 ≡ codes "decide") × NamesDecide found.1 words
-Names (Some found) (Once (Trace args)) = (found.0 ≡ codes "trace") × NamesLines found.1 args
+Names (Some found) (Once (Trace args)) = (found.0 ≡ codes "trace") × NamesNodeLines found.1 args
 Names (Some found) (Once (Compare words)) = (found.0 ≡ codes "compare") × NamesCompare found.1 words
 Names (Some found) (Once (Map words)) = (found.0 ≡ codes "map") × NamesMap found.1 words
 Names (Some found) (Once (Rehearse words)) = (found.0 ≡ codes "rehearse") × NamesRehearse found.1 words
@@ -133,8 +132,8 @@ Spoils word.Dis rows = first_of (codes "image") rows ≡ None
 Spoils word.Verify rows = SpoilsImage rows
 Spoils word.Judge rows = SpoilsNodeLines rows
 Spoils word.Policy rows = SpoilsPolicy rows
-Spoils word.Serve rows = SpoilsLines rows
-Spoils word.Sim rows = SpoilsLines rows
+Spoils word.Serve rows = SpoilsNodeLines rows
+Spoils word.Sim rows = SpoilsNodeLines rows
 Spoils word.Live rows = SpoilsLive rows
 Spoils word.Explain rows = SpoilsExplain rows
 Spoils word.Why rows = SpoilsImage rows
@@ -143,7 +142,7 @@ Spoils word.Node rows = first_of (codes "node") rows ≡ None
 Spoils word.Packet rows = SpoilsPacket rows
 Spoils word.Show rows = first_of (codes "lines") rows ≡ None
 Spoils word.Decide rows = SpoilsDecide rows
-Spoils word.Trace rows = SpoilsLines rows
+Spoils word.Trace rows = SpoilsNodeLines rows
 Spoils word.Compare rows = SpoilsCompare rows
 Spoils word.Map rows = SpoilsMap rows
 Spoils word.Rehearse rows = SpoilsRehearse rows

@@ -43,6 +43,10 @@ pub const OWN_SOURCE: &str = "    this is the file that is read\n";
 /// What CODE may be.
 const CODE: &str = "one of the codes that explain lists without CODE, as V5 or load12";
 
+/// What is told of a node's file whose banks do not begin with zeros, of a job that steps through a schedule.
+const CONTENTS: &str =
+    "    contents is there in the node's file: the banks of a schedule begin with zeros\n";
+
 /// The line that tells what a word stands for, how it was written, and what is wanted.
 fn line_of(
     alloc: Global,
@@ -170,9 +174,10 @@ pub(crate) fn help(alloc: Global, words: &[&str]) -> Result<String, UsageFault> 
     }
 }
 
-/// The line behind `bad option` of a job that was begun: what of a packet is too long.
+/// The line behind `bad option` of a job that was begun: what of a packet is too long, or what the node's file may not say.
 pub(crate) fn told_misuse(job: &Job) -> &'static str {
     match job {
+        Job::Simulate(_) | Job::Trace(_) => CONTENTS,
         Job::Packet(words) => match &words.order {
             Order::Load { .. } => "    IMAGE is too long: the staging has 16,384 bytes\n",
             Order::Read { .. } | Order::Write { .. } | Order::Rmw { .. } => {

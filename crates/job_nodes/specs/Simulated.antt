@@ -87,10 +87,10 @@ module _ {S : Type 0} (reads : Reads S) (args : NodeLines) where
     pub all : SimulatesFrom node begun (lines_of text) left old new
 
   -- what `sim` reads and prints where no fault ends it, with its exit status: 2 where a bank begins with bytes
-  abbrev pub Simulates : (before after : S) → (old new : Option (List ℕ)) → Status → Type 0
-  Simulates before after old new Done = SimulatesFile before after old new
-  Simulates before after old new Failed = ⊥
-  Simulates before after old new Misused = RefusesContents reads args before after old new
+  abbrev pub DoesSim : (before after : S) → (old new : Option (List ℕ)) → Status → Type 0
+  DoesSim before after old new Done = SimulatesFile before after old new
+  DoesSim before after old new Failed = ⊥
+  DoesSim before after old new Misused = RefusesContents reads args before after old new
 
   -- the lines of the file before one were simulated on that node, and that one was not
   pub record StopsShort (before after : S) (old new : Option (List ℕ)) (fault : Fault) : Type 0 where

@@ -7,7 +7,7 @@ ghost use Rattle.job_parts.specs.Printed.{Prints};
 ghost use Rattle.job_parts.specs.Stops.{StopsBy};
 ghost use Rattle.job_nodes.specs.EventLines.{IsBadEvent, IsEventOf};
 ghost use Rattle.job_nodes.specs.SimJob.{outcome_line, sim_app, status_line};
-ghost use Rattle.job_nodes.specs.Simulated.{IsNotSimulated, IsStuck, Simulates, Steps};
+ghost use Rattle.job_nodes.specs.Simulated.{IsNotSimulated, IsStuck, DoesSim, Steps};
 
 use crate::events::read_event;
 use crate::sources::lines_and_world;
@@ -120,7 +120,7 @@ pub fn sim_file<'a, F: Files, W: Write>(
     files: &mut F,
     out: &mut W,
 ) -> Result<Status, Halt<'a>>
-    ensures done { IfOk result (Simulates F.reads args.now files.old files.new
+    ensures done { IfOk result (DoesSim F.reads args.now files.old files.new
         (W.contents out.old) (W.contents out.new)) }
     ensures stops { IfErr result (StopsBy (IsNotSimulated F.reads args.now files.old files.new
         (W.contents out.old) (W.contents out.new))) }

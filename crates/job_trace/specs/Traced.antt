@@ -87,10 +87,10 @@ module _ {S : Type 0} (reads : Reads S) (args : NodeLines) where
     pub all : TracesLines node (lines_of text) begun (replicate node.ports []) later left old new
 
   -- what `trace` reads and prints where no fault ends it, with its exit status: 2 where a bank begins with bytes
-  abbrev pub Traces : (before after : S) → (old new : Option (List ℕ)) → Status → Type 0
-  Traces before after old new Done = TracesFile before after old new
-  Traces before after old new Failed = ⊥
-  Traces before after old new Misused = RefusesContents reads args before after old new
+  abbrev pub DoesTrace : (before after : S) → (old new : Option (List ℕ)) → Status → Type 0
+  DoesTrace before after old new Done = TracesFile before after old new
+  DoesTrace before after old new Failed = ⊥
+  DoesTrace before after old new Misused = RefusesContents reads args before after old new
 
   -- the lines of the file before one were traced on that node, and that one was not
   pub record StopsShort (before after : S) (old new : Option (List ℕ)) (fault : Fault) : Type 0 where

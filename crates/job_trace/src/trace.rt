@@ -6,7 +6,7 @@ ghost use Rattle.clap.specs.declared.builder.command.Command.TheViews.{out-Comma
 ghost use Rattle.job_parts.specs.Stops.{StopsBy};
 ghost use Rattle.job_trace.specs.Judged.{TracesPacket};
 ghost use Rattle.job_trace.specs.TraceJob.{trace_app};
-ghost use Rattle.job_trace.specs.Traced.{IsNotTraced, IsStuck, Traces, TracesLineFrom};
+ghost use Rattle.job_trace.specs.Traced.{IsNotTraced, IsStuck, DoesTrace, TracesLineFrom};
 
 use crate::judged::trace_packet;
 use clap::Command;
@@ -94,7 +94,7 @@ pub fn trace_file<'a, F: Files, W: Write>(
     files: &mut F,
     out: &mut W,
 ) -> Result<Status, Halt<'a>>
-    ensures done { IfOk result (Traces F.reads args.now files.old files.new
+    ensures done { IfOk result (DoesTrace F.reads args.now files.old files.new
         (W.contents out.old) (W.contents out.new)) }
     ensures stops { IfErr result (StopsBy (IsNotTraced F.reads args.now files.old files.new
         (W.contents out.old) (W.contents out.new))) }
