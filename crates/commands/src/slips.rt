@@ -1,6 +1,7 @@
 //! What more is told of words that name no work, and of a job that failed, behind the line that tells so.
 
 use crate::jobs::Job;
+use crate::node_jobs::beside_file;
 use crate::usage::command_line;
 use clap::ArgMatches;
 use clap::error::ErrorKind;
@@ -39,6 +40,11 @@ const TIMES: &str =
 
 /// What is told of an OUT that is the file that is read.
 pub const OWN_SOURCE: &str = "    this is the file that is read\n";
+
+/// The words of the jobs that may be left to a node's file.
+const LEFT: [&str; 8] = [
+    "verify", "why", "weigh", "policy", "packet", "decide", "compare", "map",
+];
 
 /// What CODE may be.
 const CODE: &str = "one of the codes that explain lists without CODE, as V5 or load12";
@@ -106,11 +112,25 @@ fn beside_line(alloc: Global, name: &str) -> Result<String, AllocError> {
     format!(in alloc; "    --{name} is there beside --node: the node's file says it\n")
 }
 
+/// The option that says what the node's file says that the subcommand of this name has, if it has both.
+fn beside(name: &str, found: &ArgMatches) -> Option<&'static str> {
+    if !LEFT.iter().any(|word| *word == name) {
+        return beside_node(found);
+    }
+    text_of(found, "node")?;
+    beside_file(found)
+}
+
+/// The line of words that order no packet.
+fn packet_line(alloc: Global, found: &ArgMatches) -> Result<String, AllocError> {
+    match packet_words(alloc, found) {
+        Err(PacketFault::Words(slip)) => slip_line(alloc, found, slip),
+        Err(PacketFault::Memory) | Ok(_) => Ok(String::new(alloc)),
+    }
+}
+
 /// The line of an option that words of any other job have.
 fn option_line(alloc: Global, found: &ArgMatches) -> Result<String, AllocError> {
-    if let Some(name) = beside_node(found) {
-        return beside_line(alloc, name);
-    }
     if let Err(UsageFault::BadOption) = sizes_of(alloc, found) {
         return line_of(alloc, "--maps", text_of(found, "maps"), MAPS);
     }
@@ -142,15 +162,15 @@ pub fn told_option(alloc: Global, words: &[&str]) -> Result<String, AllocError> 
     let Ok(found) = command_line(alloc)?.try_get_matches_from(words) else {
         return Ok(String::new(alloc));
     };
-    if let Some(packet) = found.subcommand_matches("packet") {
-        return match packet_words(alloc, packet) {
-            Err(PacketFault::Words(slip)) => slip_line(alloc, packet, slip),
-            Err(PacketFault::Memory) | Ok(_) => Ok(String::new(alloc)),
-        };
+    let Some((name, found)) = found.subcommand() else {
+        return Ok(String::new(alloc));
+    };
+    if let Some(option) = beside(name, found) {
+        return beside_line(alloc, option);
     }
-    match found.subcommand() {
-        Some((_, found)) => option_line(alloc, found),
-        None => Ok(String::new(alloc)),
+    match name {
+        "packet" => packet_line(alloc, found),
+        _ => option_line(alloc, found),
     }
 }
 

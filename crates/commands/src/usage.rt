@@ -1,14 +1,16 @@
 //! The command line.
 
-ghost use Rattle.std.specs.Prelude.{◌≡◌, IfOk, IfErr, Some, option_map};
+ghost use Rattle.std.specs.Prelude.{◌≡◌, ◌≢◌, IfOk, IfErr, Some, option_map};
 ghost use Rattle.clap.specs.Simple.{app_of, subcommand_rows_of};
 ghost use Rattle.clap.specs.Values.{kind_of};
 ghost use Rattle.clap.specs.Walk.{rows_of, texts};
 ghost use Rattle.clap.specs.Matches.{found_of};
-ghost use Rattle.commands.specs.CommandLine.{rmapctl_app, with_chart_jobs, with_first_jobs, with_packet_jobs, Names, NamesWork, NamesNone, LacksWork, Refuses, TellsRefusal};
+ghost use Rattle.commands.specs.CommandLine.{rmapctl_app, with_chart_jobs, with_first_jobs, with_packet_jobs, Names, NamesJob, NamesWork, NamesNone, LacksWork, Refuses, RefusesJob, TellsRefusal};
 ghost use Rattle.commands.specs.Words.{name_of};
+ghost use Rattle.commands.specs.declared.word.Word.TheVariants.{Live};
 
 use crate::jobs::Job;
+use crate::node_jobs::{NodeJob, beside_file, own_file, with_node};
 use crate::word::Word;
 use crate::work::Work;
 use clap::error::ErrorKind;
@@ -46,9 +48,9 @@ fn with_first_jobs<'a>(alloc: Global, rmapctl: Command<'a>) -> Result<Command<'a
 {
     let asm = asm_command(alloc)?;
     let dis = dis_command(alloc)?;
-    let verify = verify_command(alloc)?;
+    let verify = with_node(alloc, verify_command(alloc)?)?;
     let judge = judge_command(alloc)?;
-    let policy = policy_command(alloc)?;
+    let policy = with_node(alloc, policy_command(alloc)?)?;
     rmapctl
         .subcommand(asm)?
         .subcommand(dis)?
@@ -61,9 +63,9 @@ fn with_first_jobs<'a>(alloc: Global, rmapctl: Command<'a>) -> Result<Command<'a
 fn with_packet_jobs<'a>(alloc: Global, rmapctl: Command<'a>) -> Result<Command<'a>, AllocError>
     ensures { IfOk result (λ c. app_of c ≡ with_packet_jobs (app_of rmapctl.entry)) }
 {
-    let packet = packet_command(alloc)?;
+    let packet = with_node(alloc, packet_command(alloc)?)?;
     let show = show_command(alloc)?;
-    let decide = decide_command(alloc)?;
+    let decide = with_node(alloc, decide_command(alloc)?)?;
     let trace = trace_command(alloc)?;
     rmapctl
         .subcommand(packet)?
@@ -76,8 +78,8 @@ fn with_packet_jobs<'a>(alloc: Global, rmapctl: Command<'a>) -> Result<Command<'
 fn with_chart_jobs<'a>(alloc: Global, rmapctl: Command<'a>) -> Result<Command<'a>, AllocError>
     ensures { IfOk result (λ c. app_of c ≡ with_chart_jobs (app_of rmapctl.entry)) }
 {
-    let compare = compare_command(alloc)?;
-    let map = map_command(alloc)?;
+    let compare = with_node(alloc, compare_command(alloc)?)?;
+    let map = with_node(alloc, map_command(alloc)?)?;
     let rehearse = rehearse_command(alloc)?;
     rmapctl
         .subcommand(compare)?
@@ -93,8 +95,8 @@ pub(crate) fn command_line<'a>(alloc: Global) -> Result<Command<'a>, AllocError>
     let sim = sim_command(alloc)?;
     let live = live_command(alloc)?;
     let explain = explain_command(alloc)?;
-    let why = why_command(alloc)?;
-    let weigh = weigh_command(alloc)?;
+    let why = with_node(alloc, why_command(alloc)?)?;
+    let weigh = with_node(alloc, weigh_command(alloc)?)?;
     let node = node_file_command(alloc)?;
     let rmapctl = Command::new(alloc, "rmapctl").bin_name("rmapctl")?;
     let about = "An RMAP target whose commands are judged by BPF programs";
@@ -129,13 +131,14 @@ fn told(alloc: Global, refusal: &Error) -> UsageFault
     }
 }
 
-/// What the subcommand of this word names, with its matches.
-fn work_named(alloc: Global, word: Word, rows: &ArgMatches) -> Result<Work, UsageFault>
-    ensures ok { IfOk result (Names (Some (name_of word, rows_of (found_of rows.now)))) }
-    ensures err { IfErr result (Refuses word (rows_of (found_of rows.now))) }
+/// The job that the subcommand of this word names, with its matches. The condition is a word that names a job.
+fn job_named(alloc: Global, word: Word, rows: &ArgMatches) -> Result<Job, UsageFault>
+    requires { word ≢ Live }
+    ensures ok { IfOk result (NamesJob (name_of word, rows_of (found_of rows.now))) }
+    ensures err { IfErr result (RefusesJob word (rows_of (found_of rows.now))) }
 {
-    let job = match word {
-        Word::Live => return Ok(Work::Live(live_job(alloc, rows)?)),
+    Ok(match word {
+        Word::Live => unreachable!(),
         Word::Asm => Job::Assemble(asm_job(alloc, rows)?),
         Word::Dis => Job::Disassemble(dis_job(alloc, rows)?),
         Word::Verify => Job::Verify(image_args(alloc, rows)?),
@@ -154,8 +157,27 @@ fn work_named(alloc: Global, word: Word, rows: &ArgMatches) -> Result<Work, Usag
         Word::Compare => Job::Compare(compare_job(alloc, rows)?),
         Word::Map => Job::Map(map_job(alloc, rows)?),
         Word::Rehearse => Job::Rehearse(rehearse_job(alloc, rows)?),
+    })
+}
+
+/// What the subcommand of this word names, with its matches: a talk; a job for the node of a file, if they name one, which then says
+/// alone what it says; or else a job.
+fn work_named(alloc: Global, word: Word, rows: &ArgMatches) -> Result<Work, UsageFault>
+    ensures ok { IfOk result (Names (Some (name_of word, rows_of (found_of rows.now)))) }
+    ensures err { IfErr result (Refuses word (rows_of (found_of rows.now))) }
+{
+    if let Word::Live = word {
+        return Ok(Work::Live(live_job(alloc, rows)?));
+    }
+    let job = job_named(alloc, word, rows)?;
+    let Some(name) = own_file(&job, rows) else {
+        return Ok(Work::Once(job));
     };
-    Ok(Work::Once(job))
+    if beside_file(rows).is_some() {
+        return Err(UsageFault::BadOption);
+    }
+    let node = String::from_str(alloc, name)?;
+    Ok(Work::OnNode(NodeJob { job, node }))
 }
 
 /// The name of the subcommand that was found, and its matches.

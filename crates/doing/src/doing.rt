@@ -3,15 +3,16 @@
 ghost use Rattle.std.specs.Prelude.{◌≡◌, IfOk};
 ghost use Rattle.clap.specs.Walk.{texts};
 ghost use Rattle.doing.specs.Alone.{IsAlone};
-ghost use Rattle.doing.specs.Doings.{DoesJob, DoesOnce, DoesWords, DoesWork, HoldsLines, IsQuiet, ShowsInput, words_given};
+ghost use Rattle.doing.specs.Doings.{DoesJob, DoesLive, DoesOnNode, DoesOnce, DoesWords, DoesWork, HoldsLines, IsQuiet, ShowsInput, TellsFault, words_given};
 
 use crate::alone::perform_alone;
 use crate::desk::Desk;
 use crate::slate::Slate;
 use crate::talks::Speech;
 use commands::{
-    Asked, Job, LiveWords, Noted, ShowWords, UsageFault, WITHOUT_WORDS, Work, asked_of, live,
-    show_talk, told_end, told_node, told_option,
+    Asked, Fault, Job, JobEnd, LiveWords, NodeJob, Noted, ShowWords, Status, UsageFault,
+    WITHOUT_WORDS, Work, asked_of, configuration_in, live, node_inputs, show_talk, told_end,
+    told_node, told_option,
 };
 use folders::Folder;
 use std::alloc::{AllocError, Global};
@@ -163,14 +164,64 @@ fn do_once<'a>(alloc: Global, job: &Job, folder: Folder<'a>) -> Result<Left<'a>,
     }
 }
 
+/// Prints the fault of a job's node, where nothing was done.
+fn refuse_node<'a>(
+    alloc: Global,
+    job: &Job,
+    fault: Fault<'_>,
+    desk: Desk<'a, '_>,
+) -> Result<Left<'a>, AllocError>
+    ensures { IfOk result (TellsFault fault.entry desk.entry.folder) }
+{
+    let out = format!(in alloc; "{fault}\n")?.into_bytes();
+    let end = JobEnd {
+        status: Status::Failed,
+        fault: Some(fault),
+        full: None,
+    };
+    let told = told_end(alloc, job, &end, desk.noted())?;
+    let done = Done {
+        status: Status::Failed.code(),
+        out,
+        told,
+    };
+    Ok(Left {
+        done,
+        folder: desk.into_folder(),
+    })
+}
+
+/// Does a job for the node of a file.
+fn do_on_node<'a>(alloc: Global, own: NodeJob, folder: Folder<'a>) -> Result<Left<'a>, AllocError>
+    ensures { IfOk result (DoesOnNode own folder.entry) }
+{
+    let NodeJob { job, node } = own;
+    let mut desk = Desk::new(folder, Noted::new(node_inputs(node.as_str())));
+    match configuration_in(alloc, &mut desk, node.as_str()) {
+        Ok(configuration) => do_once(alloc, &job.placed(&configuration), desk.into_folder()),
+        Err(fault) => refuse_node(alloc, &job, fault, desk),
+    }
+}
+
+/// Holds a talk, unless it is one in frames.
+fn do_live<'a>(alloc: Global, words: &LiveWords, folder: Folder<'a>) -> Result<Left<'a>, AllocError>
+    ensures { IfOk result (DoesLive words.now folder.entry) }
+{
+    if words.frames {
+        told(alloc, folder, LEFT_OUT, FRAMES_LEFT_OUT)
+    } else {
+        talk_lines(alloc, words, folder)
+    }
+}
+
 /// Does the work that words name.
-fn do_work<'a>(alloc: Global, work: &Work, folder: Folder<'a>) -> Result<Left<'a>, AllocError>
-    ensures { IfOk result (DoesWork work.now folder.entry) }
+fn do_work<'a>(alloc: Global, work: Work, folder: Folder<'a>) -> Result<Left<'a>, AllocError>
+    ensures { IfOk result (DoesWork work folder.entry) }
 {
     match work {
-        Work::Once(job) => do_once(alloc, job, folder),
-        Work::Live(words) if words.frames => told(alloc, folder, LEFT_OUT, FRAMES_LEFT_OUT),
-        Work::Live(words) => talk_lines(alloc, words, folder),
+        Work::Once(job) => do_once(alloc, &job, folder),
+        Work::OnNode(own) => do_on_node(alloc, own, folder),
+        Work::Live(words) => do_live(alloc, &words, folder),
     }
 }
 
@@ -200,7 +251,7 @@ fn do_given<'a>(alloc: Global, given: &[&str], folder: Folder<'a>) -> Result<Lef
     ensures { IfOk result (DoesWords (texts given.now) folder.entry) }
 {
     match asked_of(alloc, given) {
-        Ok(Asked::Named(work)) => do_work(alloc, &work, folder),
+        Ok(Asked::Named(work)) => do_work(alloc, work, folder),
         Ok(Asked::Told(text)) => {
             let done = Done {
                 status: 0,

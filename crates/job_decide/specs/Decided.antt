@@ -11,6 +11,7 @@ use Rattle.policy_table.specs.declared.mismatches.Passed.{Passed}
 use Rattle.policy_table.specs.declared.rules.Rule.{Rule}
 use Rattle.rmap.specs.Checks.{header_check, header_status}
 use Rattle.rmap.specs.Command.{CommandValue, command_of}
+use Rattle.rmap.specs.Windows.{WindowsValue}
 use Rattle.rmap.specs.declared.discard.Discard.{Discard}
 use Rattle.rmap.specs.declared.header_faults.HeaderFault.{HeaderFault}
 use Rattle.rmap.specs.declared.status.Status.{Status}
@@ -21,7 +22,7 @@ use Rattle.job_nodes.specs.JudgeJob.{discard_line}
 use Rattle.job_parts.specs.Printed.{PrintsMore}
 use Rattle.job_parts.specs.declared.stops.LineEnd.{LineEnd}
 use Rattle.job_parts.specs.declared.stops.LineEnd.TheVariants.{NoMemory}
-use Rattle.job_decide.specs.DecideJob.{match_line, own_windows, status_text}
+use Rattle.job_decide.specs.DecideJob.{match_line, status_text}
 
 -- why rules do not match of which that is told: those before the one that decides, where it refuses
 abbrev pub told_passed : Verdict → List Rule → Header → (draws : List Call) → List Passed
@@ -56,12 +57,12 @@ TellsCommand port rules c (Some fault) before after old new =
 TellsCommand port rules c None before after old new = TellsDecision port rules c before after old new
 
 -- of a packet that is no command the reason was told, and nothing drawn
-abbrev pub TellsPacket : (port : ℕ) → List Rule → Cargo → Option Discard → (before after : List ℕ)
+abbrev pub TellsPacket : WindowsValue → (port : ℕ) → List Rule → Cargo → Option Discard → (before after : List ℕ)
     → (old new : Option (List ℕ)) → Type 0
-TellsPacket port rules p (Some discard) before after old new =
+TellsPacket windows port rules p (Some discard) before after old new =
     (after ≡ before) × Appends old new (discard_line port discard)
-TellsPacket port rules p None before after old new =
-    TellsCommand port rules (command_of p) (header_check (command_of p) own_windows) before after old new
+TellsPacket windows port rules p None before after old new =
+    TellsCommand port rules (command_of p) (header_check (command_of p) windows) before after old new
 
 -- memory was refused, and nothing printed
 abbrev pub IsRefused : (old new : Option (List ℕ)) → LineEnd → Type 0

@@ -5,17 +5,16 @@ ghost use Rattle.machine.specs.Memory.{header};
 ghost use Rattle.job_parts.specs.Printed.{PrintsMore, Prints};
 ghost use Rattle.job_parts.specs.Stops.{StopsLineBy};
 ghost use Rattle.job_decide.specs.Decided.{IsRefused, TellsCommand, TellsDecision, TellsPacket, TellsStatus, told_passed};
-ghost use Rattle.job_decide.specs.DecideJob.{match_line, own_windows, rule_text, ticket_text};
+ghost use Rattle.job_decide.specs.DecideJob.{match_line, rule_text, ticket_text};
 ghost use Rattle.rmap.specs.Checks.{header_check};
 ghost use Rattle.rmap.specs.Command.{discard_of};
 
-use crate::node_windows::own_windows;
 use crate::reasons::{fault_text, reasons};
 use job_nodes::judge::print_discard;
 use job_parts::stops::LineHalt;
 use machine::Call;
 use policy::{Counts, Match, Passed, Table};
-use rmap::{Command, Status, Verdict, header_check};
+use rmap::{Command, Status, Verdict, Windows, header_check};
 use spw::Packet;
 use std::alloc::{AllocError, Global};
 use std::io::{self, Write};
@@ -112,6 +111,7 @@ fn decide_admitted<W: Write>(
 /// Prints the status of a command that a check of its header answers, or decides on it.
 fn decide_on<W: Write>(
     alloc: Global,
+    windows: &Windows,
     table: &Table,
     counts: &mut Counts,
     port: u8,
@@ -119,11 +119,11 @@ fn decide_on<W: Write>(
     out: &mut W,
 ) -> Result<(), LineHalt>
     ensures told { OnOk result (TellsCommand port table.now command.now
-        (header_check command.now own_windows) counts.old counts.new
+        (header_check command.now windows.now) counts.old counts.new
         (W.contents out.old) (W.contents out.new)) }
     ensures stops { IfErr result (StopsLineBy (IsRefused (W.contents out.old) (W.contents out.new))) }
 {
-    match header_check(command, &own_windows()) {
+    match header_check(command, windows) {
         Ok(_place) => decide_admitted(alloc, table, counts, port, command, out),
         Err(fault) => {
             let why = fault_text(alloc, fault)?;
@@ -132,21 +132,22 @@ fn decide_on<W: Write>(
     }
 }
 
-/// Decides on a packet, and prints what comes of it.
+/// Decides on a packet for a node with these windows, and prints what comes of it.
 pub fn decide_packet<W: Write>(
     alloc: Global,
+    windows: &Windows,
     table: &Table,
     counts: &mut Counts,
     port: u8,
     packet: &Packet,
     out: &mut W,
 ) -> Result<(), LineHalt>
-    ensures told { OnOk result (TellsPacket port table.now packet.now (discard_of packet.now.bytes)
+    ensures told { OnOk result (TellsPacket windows.now port table.now packet.now (discard_of packet.now.bytes)
         counts.old counts.new (W.contents out.old) (W.contents out.new)) }
     ensures stops { IfErr result (StopsLineBy (IsRefused (W.contents out.old) (W.contents out.new))) }
 {
     match Command::view(packet) {
-        Ok(command) => decide_on(alloc, table, counts, port, &command, out),
+        Ok(command) => decide_on(alloc, windows, table, counts, port, &command, out),
         Err(discard) => Ok(print_discard(out, port, discard)?),
     }
 }
