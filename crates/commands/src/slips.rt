@@ -53,6 +53,9 @@ const CODE: &str = "one of the codes that explain lists without CODE, as V5 or l
 const CONTENTS: &str =
     "    contents is there in the node's file: the banks of a schedule begin with zeros\n";
 
+/// What is told of a loader at a port that the node of a file does not have.
+const FEW_PORTS: &str = "    --port is there: the node of the file has fewer ports\n";
+
 /// The line that tells what a word stands for, how it was written, and what is wanted.
 fn line_of(
     alloc: Global,
@@ -198,6 +201,7 @@ pub(crate) fn help(alloc: Global, words: &[&str]) -> Result<String, UsageFault> 
 pub(crate) fn told_misuse(job: &Job) -> &'static str {
     match job {
         Job::Simulate(_) | Job::Trace(_) => CONTENTS,
+        Job::Rehearse(_) => FEW_PORTS,
         Job::Packet(words) => match &words.order {
             Order::Load { .. } => "    IMAGE is too long: the staging has 16,384 bytes\n",
             Order::Read { .. } | Order::Write { .. } | Order::Rmw { .. } => {
