@@ -31,6 +31,10 @@ const ONE_PORT: &str = "1 where frames come";
 /// What may not be there beside `--any`.
 const ANY_ALONE: &str = "    --any is there: without --port, --initiator, --key and --slot\n";
 
+/// What may not be there beside `--any` of the node.
+const ANY_AT_NODE: &str =
+    "    --any is there beside --node: without --node, loads are rehearsed at any node\n";
+
 /// What NEW may be where OLD is standard input.
 const ONE_INPUT: &str = "the name of a file where OLD is - too";
 
@@ -84,13 +88,16 @@ fn slip_line(alloc: Global, found: &ArgMatches, slip: Slip) -> Result<String, Al
 }
 
 /// The line of words of which each is one that it may be, but not beside the other: `--frames` and `--ports`, `--any` and options
-/// of loads that are done, or OLD and NEW.
+/// of loads that are done or the file of a node, or OLD and NEW.
 fn pair_line(alloc: Global, found: &ArgMatches) -> Result<String, AllocError> {
     if is_set(found, "frames") {
         return line_of(alloc, "--ports", text_of(found, "ports"), ONE_PORT);
     }
     if is_any_beside(found) {
         return String::from_str(alloc, ANY_ALONE);
+    }
+    if is_set(found, "any") && text_of(found, "node").is_some() {
+        return String::from_str(alloc, ANY_AT_NODE);
     }
     match text_of(found, "new") {
         Some(new) => line_of(alloc, "NEW", Some(new), ONE_INPUT),

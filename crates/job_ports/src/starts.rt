@@ -1,6 +1,6 @@
 //! What is done at a node of threads before its first packet: its banks begin with their contents, and images are loaded.
 
-ghost use Rattle.std.specs.Prelude.{◌≡◌, ◌≤◌, IfOk, List, OnOk, length};
+ghost use Rattle.std.specs.Prelude.{◌≡◌, ◌≤◌, [], IfOk, List, OnOk, length};
 ghost use Rattle.annals.specs.Chains.{instrument};
 ghost use Rattle.ports.specs.Queue.{IsPutPassOf, IsServePassOf};
 ghost use Rattle.ports.specs.Worked.{standing_of};
@@ -9,6 +9,7 @@ ghost use Rattle.job_ports.specs.Starts.{HasDone, HoldsPackets, IsLoadQueue, Kee
 
 use crate::arriving::read_lines;
 use crate::queues::fill;
+use annals::Kept;
 use bank::Journal;
 use job_config::own_node::{Contents, OwnLoad};
 use job_nodes::making::load_lines;
@@ -20,7 +21,30 @@ use std::mem::replace;
 use std::sync::{MutexGuard, Wait};
 use target::{BankLock, Family, Front, Line, Node, Pass};
 
-/// Puts bytes at the beginning of the bank behind a lock, as its instrument does. They lie in it.
+/// Puts bytes at the beginning of a bank, as its instrument does, if it is the bank of that number and has them.
+fn set_kept<J: Family>(
+    kept: &mut Kept<J>,
+    number: u8,
+    line: &mut Line<J>,
+    known: &mut Front<J>,
+    address: u32,
+    bytes: &[u8],
+    fresh: Journal,
+) -> Result<(), AllocError>
+    requires line { line.old.port ≡ instrument }
+    requires empty { fresh.entries ≡ [] }
+    ensures set { OnOk result (SetsBank number address bytes.now known.old known.new) }
+    ensures line { line.new.port ≡ instrument }
+{
+    // The lock of a bank has that bank, which has the bytes of its own contents.
+    if kept.number() != number || !kept.covers(address, bytes.len()) {
+        return Err(AllocError);
+    }
+    let _journal = kept.set(known, line, address, bytes, fresh);
+    Ok(())
+}
+
+/// Puts bytes at the beginning of the bank behind a lock, as its instrument does.
 fn set_bank<R: Wait, J: Family>(
     rt: &R,
     alloc: Global,
@@ -39,13 +63,9 @@ fn set_bank<R: Wait, J: Family>(
     };
     let mut guard = lock.lock(rt);
     let kept = &mut *guard;
-    // The lock has that bank, which has the bytes: nobody else had it.
-    let is_own = kept.number() == lock.number() && kept.covers(bank.base, bytes.len());
-    if is_own {
-        let _journal = kept.set(known, line, bank.base, bytes, fresh);
-    }
+    let done = set_kept(kept, lock.number(), line, known, bank.base, bytes, fresh);
     MutexGuard::unlock(guard);
-    if is_own { Ok(()) } else { Err(AllocError) }
+    done
 }
 
 /// The same, where there are bytes; no bytes change nothing.

@@ -11,7 +11,6 @@ use bver::Accepted;
 use clap::ArgMatches;
 use job_config::own_node::OwnNode;
 use job_config::reading::node_in;
-use job_config::sources::beside_node;
 use job_nodes::node::JobNode;
 use job_nodes::sources::unmade;
 use job_parts::arguments::{is_set, text_of};
@@ -38,11 +37,6 @@ pub enum Place {
     Plain(MapSizes),
     /// That of a file.
     Own(OwnNode),
-}
-
-/// Whether an option stands beside `--node` that says what the file says, or that has nothing to do with a node.
-pub fn is_node_beside(found: &ArgMatches) -> bool {
-    beside_node(found).is_some() || is_set(found, "any")
 }
 
 /// The node by the options. `BadOption` where `--node` stands beside `--maps` or `--any`, and where the maps are none.

@@ -26,11 +26,14 @@ returns-clause-done g c =
       refl,
       record {
         text = h.text;
+        own = h.own;
         program = h.program;
         packets = h.packets;
+        starts = h.starts;
         ends = h.ends;
         given = h.given;
         lines = h.lines;
+        are_starts = h.are_starts;
         served = h.served;
         printed = Appends-trans old mid new _ _ one two;
       },
