@@ -121,6 +121,8 @@ SERVED = [(REPLY, ""), (REPLY.replace("0", "1", 1), ""), ("discarded 0 lost 0\n"
 JOBS = [
     Job("judge lines", [(REPLY,)], {"lines": READ}),
     Job("judge lines --node own.toml", [(REPLY,)], {"lines": READ, "own.toml": OWN, "begin": b"\0\0", "yes.img": YES}),
+    Job("decide lines table --node own.toml", [("0 rule 1 verdict 0\n",)],
+        {"lines": READ, "own.toml": OWN, "table": "read * * * 00000000 FFFFFFFF - 0\n"}),
     Job("judge pieces", [(REPLY,)], {"pieces": READ.replace("EOP", "PART") + "0 EOP\n"}, ahead=2),
     Job("policy table out --maps 1", [("slots 30\n",)], {"table": "write * * * 00000000 FFFFFFFF 0:0:5 0\n"}, writes="out"),
     Job("dis draws", [(".budget 4\nldmap r1, 0\nmov r2, 0\ncall 2\nexit\n; maps 1\n",)], {"draws": DRAWS}),

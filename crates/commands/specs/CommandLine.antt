@@ -102,35 +102,42 @@ rmapctl_app =
 abbrev pub subcommand_in : List Text → Option (Text × List Row)
 subcommand_in words = subcommand_of rmapctl_app words
 
--- the job is that of the subcommand with its matches
-abbrev pub NamesJob : Text × List Row → Job → Type 0
-NamesJob found (Assemble words) = (found.0 ≡ codes "asm") × NamesAsm found.1 words
-NamesJob found (Disassemble words) = (found.0 ≡ codes "dis") × NamesDis found.1 words
-NamesJob found (Verify args) = (found.0 ≡ codes "verify") × NamesImage found.1 args
-NamesJob found (Judge args) = (found.0 ≡ codes "judge") × NamesNodeLines found.1 args
-NamesJob found (Policy words) = (found.0 ≡ codes "policy") × NamesPolicy found.1 words
-NamesJob found (Serve args) = (found.0 ≡ codes "serve") × NamesNodeLines found.1 args
-NamesJob found (Simulate args) = (found.0 ≡ codes "sim") × NamesNodeLines found.1 args
-NamesJob found (Explain words) = (found.0 ≡ codes "explain") × NamesExplain found.1 words
-NamesJob found (Why args) = (found.0 ≡ codes "why") × NamesImage found.1 args
-NamesJob found (Weigh words) = (found.0 ≡ codes "weigh") × NamesWeigh found.1 words
-NamesJob found (Node words) = (found.0 ≡ codes "node") × NamesNodeFile found.1 words
-NamesJob found (Packet words) = (found.0 ≡ codes "packet") × NamesPacket found.1 words
-NamesJob found (Show words) = (found.0 ≡ codes "show") × NamesShow found.1 words
-NamesJob found (Decide words) = (found.0 ≡ codes "decide") × NamesDecide found.1 words
-NamesJob found (Trace args) = (found.0 ≡ codes "trace") × NamesNodeLines found.1 args
-NamesJob found (Compare words) = (found.0 ≡ codes "compare") × NamesCompare found.1 words
-NamesJob found (Map words) = (found.0 ≡ codes "map") × NamesMap found.1 words
-NamesJob found (Rehearse words) = (found.0 ≡ codes "rehearse") × NamesRehearse found.1 words
+-- the job or the talk is that of the subcommand with its matches, whether they name a node's file or not
+abbrev pub NamesPlain : Text × List Row → Work → Type 0
+NamesPlain found (Once (Assemble words)) = (found.0 ≡ codes "asm") × NamesAsm found.1 words
+NamesPlain found (Once (Disassemble words)) = (found.0 ≡ codes "dis") × NamesDis found.1 words
+NamesPlain found (Once (Verify args)) = (found.0 ≡ codes "verify") × NamesImage found.1 args
+NamesPlain found (Once (Judge args)) = (found.0 ≡ codes "judge") × NamesNodeLines found.1 args
+NamesPlain found (Once (Policy words)) = (found.0 ≡ codes "policy") × NamesPolicy found.1 words
+NamesPlain found (Once (Serve args)) = (found.0 ≡ codes "serve") × NamesNodeLines found.1 args
+NamesPlain found (Once (Simulate args)) = (found.0 ≡ codes "sim") × NamesNodeLines found.1 args
+NamesPlain found (Once (Explain words)) = (found.0 ≡ codes "explain") × NamesExplain found.1 words
+NamesPlain found (Once (Why args)) = (found.0 ≡ codes "why") × NamesImage found.1 args
+NamesPlain found (Once (Weigh words)) = (found.0 ≡ codes "weigh") × NamesWeigh found.1 words
+NamesPlain found (Once (Node words)) = (found.0 ≡ codes "node") × NamesNodeFile found.1 words
+NamesPlain found (Once (Packet words)) = (found.0 ≡ codes "packet") × NamesPacket found.1 words
+NamesPlain found (Once (Show words)) = (found.0 ≡ codes "show") × NamesShow found.1 words
+NamesPlain found (Once (Decide words)) = (found.0 ≡ codes "decide") × NamesDecide found.1 words
+NamesPlain found (Once (Trace args)) = (found.0 ≡ codes "trace") × NamesNodeLines found.1 args
+NamesPlain found (Once (Compare words)) = (found.0 ≡ codes "compare") × NamesCompare found.1 words
+NamesPlain found (Once (Map words)) = (found.0 ≡ codes "map") × NamesMap found.1 words
+NamesPlain found (Once (Rehearse words)) = (found.0 ≡ codes "rehearse") × NamesRehearse found.1 words
+NamesPlain found (OnNode own) = ⊥
+NamesPlain found (Live words) = (found.0 ≡ codes "live") × NamesLive found.1 words
 
--- the work is that of the subcommand with its matches: a job, or one for the node of the file that they name, to which they leave
--- what it says; or a talk
+-- the work is the job, or the job for the node of the file that its matches name, to which they leave what it says
+abbrev pub IsPlacedBy : Job → List Row → Work → Type 0
+IsPlacedBy job rows (Once own) = (own ≡ job) × (own_file job rows ≡ None)
+IsPlacedBy job rows (OnNode own) =
+    (own.job ≡ job) × (own_file job rows ≡ Some (string_bytes own.node)) × (are_left rows ≡ true)
+IsPlacedBy job rows (Live words) = ⊥
+
+-- the work is that of the subcommand with its matches
 abbrev pub Names : Option (Text × List Row) → Work → Type 0
 Names None work = ⊥
-Names (Some found) (Once job) = NamesJob found job × (own_file job found.1 ≡ None)
-Names (Some found) (OnNode own) =
-    NamesJob found own.job × (own_file own.job found.1 ≡ Some (string_bytes own.node)) × (are_left found.1 ≡ true)
-Names (Some found) (Live words) = (found.0 ≡ codes "live") × NamesLive found.1 words
+Names (Some found) (Once job) = NamesPlain found (Once job) × IsPlacedBy job found.1 (Once job)
+Names (Some found) (OnNode own) = NamesPlain found (Once own.job) × IsPlacedBy own.job found.1 (OnNode own)
+Names (Some found) (Live words) = NamesPlain found (Live words)
 
 -- what the user is told of a refusal by clap of this kind
 abbrev pub TellsRefusal : ErrorKind → UsageFault → Type 0
@@ -140,30 +147,34 @@ TellsRefusal kind (Parse text) = kind ≢ OutOfMemory
 
 -- the subcommand of this word lacks a file that has to be given, has an option or a code with a value that it may not have,
 -- or has words of no packet
-abbrev pub SpoilsJob : Word → List Row → Type 0
-SpoilsJob word.Asm rows = (first_of (codes "text") rows ≡ None) ⊎ (first_of (codes "image") rows ≡ None)
-SpoilsJob word.Dis rows = first_of (codes "image") rows ≡ None
-SpoilsJob word.Verify rows = SpoilsImage rows
-SpoilsJob word.Judge rows = SpoilsNodeLines rows
-SpoilsJob word.Policy rows = SpoilsPolicy rows
-SpoilsJob word.Serve rows = SpoilsNodeLines rows
-SpoilsJob word.Sim rows = SpoilsNodeLines rows
-SpoilsJob word.Live rows = SpoilsLive rows
-SpoilsJob word.Explain rows = SpoilsExplain rows
-SpoilsJob word.Why rows = SpoilsImage rows
-SpoilsJob word.Weigh rows = SpoilsWeigh rows
-SpoilsJob word.Node rows = first_of (codes "node") rows ≡ None
-SpoilsJob word.Packet rows = SpoilsPacket rows
-SpoilsJob word.Show rows = first_of (codes "lines") rows ≡ None
-SpoilsJob word.Decide rows = SpoilsDecide rows
-SpoilsJob word.Trace rows = SpoilsNodeLines rows
-SpoilsJob word.Compare rows = SpoilsCompare rows
-SpoilsJob word.Map rows = SpoilsMap rows
-SpoilsJob word.Rehearse rows = SpoilsRehearse rows
+abbrev pub SpoilsPlain : Word → List Row → Type 0
+SpoilsPlain word.Asm rows = (first_of (codes "text") rows ≡ None) ⊎ (first_of (codes "image") rows ≡ None)
+SpoilsPlain word.Dis rows = first_of (codes "image") rows ≡ None
+SpoilsPlain word.Verify rows = SpoilsImage rows
+SpoilsPlain word.Judge rows = SpoilsNodeLines rows
+SpoilsPlain word.Policy rows = SpoilsPolicy rows
+SpoilsPlain word.Serve rows = SpoilsNodeLines rows
+SpoilsPlain word.Sim rows = SpoilsNodeLines rows
+SpoilsPlain word.Live rows = SpoilsLive rows
+SpoilsPlain word.Explain rows = SpoilsExplain rows
+SpoilsPlain word.Why rows = SpoilsImage rows
+SpoilsPlain word.Weigh rows = SpoilsWeigh rows
+SpoilsPlain word.Node rows = first_of (codes "node") rows ≡ None
+SpoilsPlain word.Packet rows = SpoilsPacket rows
+SpoilsPlain word.Show rows = first_of (codes "lines") rows ≡ None
+SpoilsPlain word.Decide rows = SpoilsDecide rows
+SpoilsPlain word.Trace rows = SpoilsNodeLines rows
+SpoilsPlain word.Compare rows = SpoilsCompare rows
+SpoilsPlain word.Map rows = SpoilsMap rows
+SpoilsPlain word.Rehearse rows = SpoilsRehearse rows
 
--- the same; or a node's file is named, beside an option that says what it says
+-- a node's file is named, beside an option that says what it says
+abbrev pub SpoilsPlace : List Row → Type 0
+SpoilsPlace rows = (lacks (codes "node") rows ≡ false) × (are_left rows ≡ false)
+
+-- the one or the other
 abbrev pub Spoils : Word → List Row → Type 0
-Spoils named rows = SpoilsJob named rows ⊎ ((lacks (codes "node") rows ≡ false) × (are_left rows ≡ false))
+Spoils named rows = SpoilsPlain named rows ⊎ SpoilsPlace rows
 
 -- so does the subcommand with its matches
 abbrev pub IsSpoiled : Text × List Row → Type 0
@@ -174,17 +185,23 @@ abbrev pub IsIncomplete : Option (Text × List Row) → Type 0
 IsIncomplete None = Unit {0}
 IsIncomplete (Some found) = IsSpoiled found
 
+-- the matches of the subcommand of this word name no job and no talk, or memory was refused
+abbrev pub RefusesPlain : Word → List Row → UsageFault → Type 0
+RefusesPlain named rows Memory = Unit {0}
+RefusesPlain named rows BadOption = SpoilsPlain named rows
+RefusesPlain named rows (Parse text) = ⊥
+
+-- the matches name no node's file alone, or memory was refused
+abbrev pub RefusesPlace : List Row → UsageFault → Type 0
+RefusesPlace rows Memory = Unit {0}
+RefusesPlace rows BadOption = SpoilsPlace rows
+RefusesPlace rows (Parse text) = ⊥
+
 -- the matches of the subcommand of this word name no work, or memory was refused
 abbrev pub Refuses : Word → List Row → UsageFault → Type 0
 Refuses named rows Memory = Unit {0}
 Refuses named rows BadOption = Spoils named rows
 Refuses named rows (Parse text) = ⊥
-
--- the same of its job alone
-abbrev pub RefusesJob : Word → List Row → UsageFault → Type 0
-RefusesJob named rows Memory = Unit {0}
-RefusesJob named rows BadOption = SpoilsJob named rows
-RefusesJob named rows (Parse text) = ⊥
 
 -- the matches name no work, or memory was refused
 abbrev pub LacksWork : Option (Text × List Row) → UsageFault → Type 0

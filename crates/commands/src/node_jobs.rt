@@ -14,7 +14,7 @@ use clap::{ArgMatches, Command};
 use job_charts::compare::CompareWords;
 use job_charts::map::MapWords;
 use job_config::configuration::Configuration;
-use job_config::sources::node_option;
+use job_config::sources::{lacks, node_option};
 use job_decide::decide::DecideWords;
 use job_packets::packet::PacketWords;
 use job_packets::packet_options::HeaderWords;
@@ -103,13 +103,13 @@ pub fn own_file<'a>(job: &Job, found: &ArgMatches<'a>) -> Option<&'a str>
 pub fn beside_file(found: &ArgMatches) -> Option<&'static str>
     ensures { is_none result ≡ are_left (rows_of (found_of found.now)) }
 {
-    if text_of(found, "maps").is_some() {
+    if !lacks(found, "maps") {
         return Some("maps");
     }
-    if text_of(found, "ports").is_some() {
+    if !lacks(found, "ports") {
         return Some("ports");
     }
-    if text_of(found, "target").is_some() {
+    if !lacks(found, "target") {
         return Some("target");
     }
     None

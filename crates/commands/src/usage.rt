@@ -1,13 +1,12 @@
 //! The command line.
 
-ghost use Rattle.std.specs.Prelude.{◌≡◌, ◌≢◌, IfOk, IfErr, Some, option_map};
+ghost use Rattle.std.specs.Prelude.{◌≡◌, IfOk, IfErr, Some, option_map};
 ghost use Rattle.clap.specs.Simple.{app_of, subcommand_rows_of};
 ghost use Rattle.clap.specs.Values.{kind_of};
 ghost use Rattle.clap.specs.Walk.{rows_of, texts};
 ghost use Rattle.clap.specs.Matches.{found_of};
-ghost use Rattle.commands.specs.CommandLine.{rmapctl_app, with_chart_jobs, with_first_jobs, with_packet_jobs, Names, NamesJob, NamesWork, NamesNone, LacksWork, Refuses, RefusesJob, TellsRefusal};
+ghost use Rattle.commands.specs.CommandLine.{rmapctl_app, with_chart_jobs, with_first_jobs, with_packet_jobs, IsPlacedBy, Names, NamesPlain, NamesWork, NamesNone, LacksWork, Refuses, RefusesPlace, RefusesPlain, TellsRefusal};
 ghost use Rattle.commands.specs.Words.{name_of};
-ghost use Rattle.commands.specs.declared.word.Word.TheVariants.{Live};
 
 use crate::jobs::Job;
 use crate::node_jobs::{NodeJob, beside_file, own_file, with_node};
@@ -131,14 +130,13 @@ fn told(alloc: Global, refusal: &Error) -> UsageFault
     }
 }
 
-/// The job that the subcommand of this word names, with its matches. The condition is a word that names a job.
-fn job_named(alloc: Global, word: Word, rows: &ArgMatches) -> Result<Job, UsageFault>
-    requires { word ≢ Live }
-    ensures ok { IfOk result (NamesJob (name_of word, rows_of (found_of rows.now))) }
-    ensures err { IfErr result (RefusesJob word (rows_of (found_of rows.now))) }
+/// What the subcommand of this word names with its matches, whether they name a node's file or not: a job, or a talk.
+fn plain_named(alloc: Global, word: Word, rows: &ArgMatches) -> Result<Work, UsageFault>
+    ensures ok { IfOk result (NamesPlain (name_of word, rows_of (found_of rows.now))) }
+    ensures err { IfErr result (RefusesPlain word (rows_of (found_of rows.now))) }
 {
-    Ok(match word {
-        Word::Live => unreachable!(),
+    let job = match word {
+        Word::Live => return Ok(Work::Live(live_job(alloc, rows)?)),
         Word::Asm => Job::Assemble(asm_job(alloc, rows)?),
         Word::Dis => Job::Disassemble(dis_job(alloc, rows)?),
         Word::Verify => Job::Verify(image_args(alloc, rows)?),
@@ -157,27 +155,39 @@ fn job_named(alloc: Global, word: Word, rows: &ArgMatches) -> Result<Job, UsageF
         Word::Compare => Job::Compare(compare_job(alloc, rows)?),
         Word::Map => Job::Map(map_job(alloc, rows)?),
         Word::Rehearse => Job::Rehearse(rehearse_job(alloc, rows)?),
-    })
+    };
+    Ok(Work::Once(job))
 }
 
-/// What the subcommand of this word names, with its matches: a talk; a job for the node of a file, if they name one, which then says
-/// alone what it says; or else a job.
+/// The job of these matches, or the job for the node of the file that they name.
+#[tactic(auto, using(crate::proofs::Placing::spoils_place))]
+fn placed_by(alloc: Global, job: Job, rows: &ArgMatches) -> Result<Work, UsageFault>
+    ensures ok { IfOk result (IsPlacedBy job (rows_of (found_of rows.now))) }
+    ensures err { IfErr result (RefusesPlace (rows_of (found_of rows.now))) }
+{
+    let Some(name) = own_file(&job, rows) else {
+        return Ok(Work::Once(job));
+    };
+    match beside_file(rows) {
+        Some(_) => Err(UsageFault::BadOption),
+        None => {
+            let node = String::from_str(alloc, name)?;
+            Ok(Work::OnNode(NodeJob { job, node }))
+        }
+    }
+}
+
+/// What the subcommand of this word names, with its matches.
+#[tactic(auto, using(crate::proofs::Placing::names_placed, crate::proofs::Placing::refuses_plain, crate::proofs::Placing::refuses_place))]
 fn work_named(alloc: Global, word: Word, rows: &ArgMatches) -> Result<Work, UsageFault>
     ensures ok { IfOk result (Names (Some (name_of word, rows_of (found_of rows.now)))) }
     ensures err { IfErr result (Refuses word (rows_of (found_of rows.now))) }
 {
-    if let Word::Live = word {
-        return Ok(Work::Live(live_job(alloc, rows)?));
+    match plain_named(alloc, word, rows)? {
+        Work::Once(job) => placed_by(alloc, job, rows),
+        Work::OnNode(_) => unreachable!(),
+        Work::Live(words) => Ok(Work::Live(words)),
     }
-    let job = job_named(alloc, word, rows)?;
-    let Some(name) = own_file(&job, rows) else {
-        return Ok(Work::Once(job));
-    };
-    if beside_file(rows).is_some() {
-        return Err(UsageFault::BadOption);
-    }
-    let node = String::from_str(alloc, name)?;
-    Ok(Work::OnNode(NodeJob { job, node }))
 }
 
 /// The name of the subcommand that was found, and its matches.

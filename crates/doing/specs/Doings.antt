@@ -1,5 +1,6 @@
 -- What the words of a command line come to over the files of a folder.
 use Rattle.std.specs.Prelude.{◌≡◌, ◌⊎◌, ℕ, List, [], ◌∷◌, Some, string_bytes, codes, true, false}
+use Rattle.std.specs.Borrow.{Bor}
 use Rattle.commands.specs.CommandLine.{NamesWork}
 use Rattle.commands.specs.Notes.{is_dump, reads_dump}
 use Rattle.commands.specs.OnNodes.{placed}
@@ -38,6 +39,7 @@ use Rattle.job_live.specs.declared.words.LiveWords.{LiveWords}
 use Rattle.job_parts.specs.Printed.{fault_line}
 use Rattle.job_parts.specs.Statuses.{status_code}
 use Rattle.job_parts.specs.declared.faults.Fault.{Fault}
+use Rattle.job_parts.specs.declared.faults.Fault.TheVariants.{CannotWrite}
 use Rattle.job_parts.specs.declared.status.Status.{Status}
 use Rattle.job_parts.specs.declared.status.Status.TheVariants.{Failed}
 use Rattle.clap.specs.Walk.{Text}
@@ -142,9 +144,14 @@ pub record TellsNode (own : NodeJob) (before : FolderValue) (left : Left) : Type
   pub read : ReadsNoConfiguration DeskReads (string_bytes own.node) start fault stop
   pub told : TellsFault fault stop.folder left
 
+-- a job would write to the node's file of this name, which was told, and nothing was done
+abbrev pub RefusesOutput : (node : List ℕ) → (before : FolderValue) → Left → Type 0
+RefusesOutput node before left = (file : Bor (List ℕ)) × (file.now ≡ node) × TellsFault (CannotWrite file) before left
+
 -- what a job for the node of a file comes to
 abbrev pub DoesOnNode : NodeJob → (before : FolderValue) → Left → Type 0
-DoesOnNode own before left = DoesPlaced own before left ⊎ TellsNode own before left
+DoesOnNode own before left =
+    DoesPlaced own before left ⊎ TellsNode own before left ⊎ RefusesOutput (string_bytes own.node) before left
 
 -- what a talk comes to: one in frames is left out, and one in lines is held
 abbrev pub DoesLive : LiveWords → (before : FolderValue) → Left → Type 0

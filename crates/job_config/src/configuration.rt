@@ -35,6 +35,7 @@ pub struct Configuration {
 
 impl Configuration {
     /// The windows of the node: its address, and where its banks lie. The condition is banks that a node may have.
+    #[tactic(auto, using(crate::proofs::BankLimits::at_most_eight))]
     pub fn windows(&self) -> Windows
         requires { are_within self.now.banks.items ≡ true }
         ensures { result ≡ windows_of self.now.address self.now.banks.items }

@@ -111,8 +111,15 @@ impl TakesLines for Deciding<'_> {
         let Some((port, packet)) = self.feeds.take_line(alloc, line)? else {
             return Ok(());
         };
-        let (table, counts) = (&self.table, &mut self.counts);
-        decide_packet(alloc, self.windows, table, counts, port, &packet, out)
+        decide_packet(
+            alloc,
+            self.windows,
+            &self.table,
+            &mut self.counts,
+            port,
+            &packet,
+            out,
+        )
     }
 }
 

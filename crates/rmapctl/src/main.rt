@@ -57,11 +57,12 @@ fn refuse_output<R: Print + Eprint>(rt: &R, name: &str) -> u8 {
     status
 }
 
-/// Does a job over this machine's files and standard output, and gives the exit status.
+/// Does a job over this machine's files and standard output, where a node's file may say its maps, and gives the exit status.
 fn do_job<R: rt::Files + Input + Print + Eprint + Threads + Wait + Sync>(
     rt: &R,
     alloc: Global,
     job: &Job,
+    is_on_node: bool,
 ) -> u8 {
     if let Some(name) = own_source(rt, &job.inputs()) {
         return refuse_output(rt, name);
@@ -70,7 +71,7 @@ fn do_job<R: rt::Files + Input + Print + Eprint + Threads + Wait + Sync>(
         Ok(out) => out,
         Err(refused) => return lose_output(rt, Err(refused)),
     };
-    let mut files = ToldFiles::of_job(rt, job);
+    let mut files = ToldFiles::of_job(rt, job, is_on_node);
     let done = perform_told(rt, alloc, job, &mut files, &mut out);
     // What was held back fails again where it failed before, with the reason.
     match (done, out.flush()) {
@@ -128,7 +129,7 @@ fn do_on_node<R: rt::Files + Input + Print + Eprint + Threads + Wait + Sync>(
     }
     let NodeJob { job, node } = own;
     match read_node(rt, alloc, &job, node.as_str()) {
-        Ok(configuration) => do_job(rt, alloc, &job.placed(&configuration)),
+        Ok(configuration) => do_job(rt, alloc, &job.placed(&configuration), true),
         Err(status) => status,
     }
 }
@@ -198,7 +199,7 @@ fn do_work<R: rt::Files + Input + Print + Eprint + Threads + Wait + Sync>(
     work: Work,
 ) -> u8 {
     match work.course() {
-        Course::Perform(job) => do_job(rt, alloc, &job),
+        Course::Perform(job) => do_job(rt, alloc, &job, false),
         Course::OnNode(own) => do_on_node(rt, alloc, own),
         Course::Show(words) => show_input(rt, alloc, &words),
         Course::Lines(node) => talk_lines(rt, alloc, &node),
