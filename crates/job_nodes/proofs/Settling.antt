@@ -1,5 +1,5 @@
 -- Steps of a port that follow the Take of a packet.
-use Rattle.std.proofs.Common.{◌≡◌, ◌<◌, ℕ, None, length, sym, subst, arith}
+use Rattle.std.proofs.Common.{◌≡◌, ◌<◌, ℕ, None, length, subst, arith}
 use Rattle.sched.specs.History.{History, Then, opened, port_of}
 use Rattle.sched.specs.Looking.{Node}
 use Rattle.sched.specs.Worlds.{GoesOn, IsLawfulWorld, IsWorldOf, WorldValue}

@@ -16,7 +16,7 @@ use Rattle.job_parts.specs.Turns.{AreTaken}
 use Rattle.job_nodes.specs.Beginning.{AreLoaded, AreSettled, IsLoaded, IsUnloadedWorld, LeavesWorld, LoadsWorld, LoadsWorlds, StopsWorlds, TriesWorld, generation, own_schedule}
 use Rattle.job_nodes.specs.JobNode.{reason_of}
 use Rattle.job_nodes.specs.Making.{AreLoadLines, told_refusal}
-use Rattle.job_nodes.specs.Settled.{SettlesLine, first_refusal}
+use Rattle.job_nodes.specs.Settled.{SettlesLine}
 use Rattle.job_nodes.specs.declared.making.Unmade.{Unmade}
 use Rattle.job_nodes.specs.declared.worlds.WorldLoading.{WorldLoading}
 use Rattle.job_nodes.proofs.Loaded.{around, count_before}

@@ -1,18 +1,15 @@
 -- Banks that are filled in turn, and packets of loads that are served in turn.
-use Rattle.std.proofs.Common.{◌≡◌, ◌<◌, ◌+◌, ◌∙◌, ℕ, zero, suc, List, [], ◌∷◌, ◌++◌, length, take, get_or, map, refl, sym, ap, subst, arith}
+use Rattle.std.proofs.Common.{◌≡◌, ◌<◌, ◌+◌, ◌∙◌, ℕ, zero, suc, List, [], ◌∷◌, ◌++◌, length, take, get_or, refl, sym, ap, subst, arith}
 use Rattle.std.specs.Prelude.{slice_index_or}
 use Rattle.std.proofs.lemmas.List.{take_more}
 use Rattle.annals.specs.declared.deed.Link.{Link}
 use Rattle.spw.specs.Cargo.{Cargo}
-use Rattle.spw.specs.Line.{lines_of}
 use Rattle.node_parts.specs.declared.config.BankConfig.{BankConfig}
 use Rattle.ports.specs.Due.{Standing}
 use Rattle.ports.specs.Queue.{put_of, taken_of}
 use Rattle.ports.specs.Sinks.{SentReply, SinkValue}
 use Rattle.ports.specs.Worked.{IsWorked, standing_of}
-use Rattle.ports.specs.declared.item.Item.{Item}
 use Rattle.ports.specs.declared.port.PutPass.{PutPass}
-use Rattle.ports.specs.declared.port.ServePass.{ServePass}
 use Rattle.ports.specs.declared.worker.Report.{Report}
 use Rattle.ports.specs.declared.worker.Worker.{Worker}
 use Rattle.job_config.specs.OwnNodes.{LoadValue}

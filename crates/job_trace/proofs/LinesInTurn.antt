@@ -1,5 +1,5 @@
 -- Lines that are traced in turn.
-use Rattle.std.proofs.Common.{◌≡◌, ℕ, List, [], ◌∷◌, Option, Some, None, refl, sym, ap, subst, ◌∙◌}
+use Rattle.std.proofs.Common.{◌≡◌, ℕ, List, [], ◌∷◌, Option, Some, None, refl, sym, ap, subst}
 use Rattle.spw.specs.Cargo.{Cargo}
 use Rattle.sched.specs.History.{History}
 use Rattle.sched.specs.Looking.{Node}
@@ -8,7 +8,7 @@ use Rattle.job_nodes.specs.Feeds.{IsFed}
 use Rattle.job_parts.specs.Turns.{AreTaken, StopsIn}
 use Rattle.job_parts.specs.declared.faults.Fault.{Fault}
 use Rattle.job_trace.specs.Judged.{Traces, TracesPacket}
-use Rattle.job_trace.specs.Traced.{IsCutShort, IsStuck, TracesLine, TracesLineFrom, TracesLines}
+use Rattle.job_trace.specs.Traced.{IsCutShort, IsStuck, TracesLineFrom, TracesLines}
 use Rattle.job_trace.specs.declared.trace.Tracing.{Tracing}
 use Rattle.std.specs.Io.KnownBytes.{Appends}
 

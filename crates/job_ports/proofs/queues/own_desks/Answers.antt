@@ -1,5 +1,5 @@
-use Rattle.std.proofs.Common.{◌≡◌, ◌∙◌, ap, length, subst, sym}
-use Rattle.std.specs.Prelude.{vec_items, vec_len}
+use Rattle.std.proofs.Common.{◌∙◌, subst, sym}
+use Rattle.std.specs.Prelude.{vec_items}
 use Rattle.ports.specs.Serves.{AreServed}
 use Rattle.job_ports.specs.Queues.{IsOwnDesk}
 use Rattle.job_ports.proofs.Desking.{desk_fresh, fresh_shares, own_desk}

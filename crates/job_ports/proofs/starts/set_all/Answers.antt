@@ -1,4 +1,4 @@
-use Rattle.std.proofs.Common.{◌<◌, length, arith, rules}
+use Rattle.std.proofs.Common.{◌<◌, length, rules}
 use Rattle.job_ports.proofs.Starting.{sets_more}
 use Rattle.job_ports.proofs.starts.set_all.Goals as goal
 

@@ -1,6 +1,6 @@
-use Rattle.std.proofs.Common.{◌∙◌, ap, inl, inr, refl, rules}
+use Rattle.std.proofs.Common.{◌∙◌, inl, inr, rules}
 use Rattle.std.proofs.lemmas.Result.{err_from_is_err_and}
-use Rattle.job_rehearse.proofs.Returning.{loaded_untold, loads_new, stays_old, stops_back, stops_there, tries_back}
+use Rattle.job_rehearse.proofs.Returning.{loaded_untold, loads_new, stops_back, stops_there, tries_back}
 use Rattle.job_rehearse.proofs.Stopping.{stops_more}
 use Rattle.job_rehearse.proofs.rehearse.rehearse.Goals as goal
 

@@ -1,5 +1,5 @@
 use Rattle.std.proofs.Common.{inl, inr}
-use Rattle.std.proofs.lemmas.Result.{IfErr-weaker, IfOk-weaker, err_from_is_err_and}
+use Rattle.std.proofs.lemmas.Result.{IfErr-weaker, IfOk-weaker}
 use Rattle.job_rehearse.proofs.Stopping.{stops_more}
 use Rattle.job_rehearse.proofs.rehearse.rehearse_one.Goals as goal
 
