@@ -1,5 +1,5 @@
 -- At which ports a program lets loads pass.
-use Rattle.std.specs.Prelude.{◌≡◌, ◌+◌, ◌&&◌, not, ℕ, zero, suc, Bool, false, List, [], ◌∷◌, ◌++◌, codes, decimal, length, slice_index_or}
+use Rattle.std.specs.Prelude.{◌≡◌, ◌+◌, ◌&&◌, not, ℕ, zero, suc, Bool, false, if◌then◌else◌, List, [], ◌∷◌, ◌++◌, codes, decimal, length, slice_index_or}
 use Rattle.bver.specs.Justified.{AcceptedValue}
 use Rattle.job_config.specs.declared.own_node.TheConstants.{NODE_ADDRESS}
 use Rattle.job_rehearse.specs.Askers.{asker_text}
