@@ -79,7 +79,6 @@ impl TakesLines for WorldLoading {
 }
 
 /// Lets the world of that logical address take the packets of a load. The condition is that none was refused yet.
-#[tactic(auto, using(crate::proofs::Worlds::tries_world))]
 fn try_load(
     alloc: Global,
     loading: &mut WorldLoading,
