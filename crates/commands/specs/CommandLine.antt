@@ -13,7 +13,6 @@ use Rattle.job_decide.specs.DecideJob.{decide_app, NamesDecide, SpoilsDecide}
 use Rattle.job_live.specs.Words.{live_app, NamesLive, SpoilsLive}
 use Rattle.job_node_file.specs.NodeFileJob.{NamesNodeFile, node_file_app}
 use Rattle.job_rehearse.specs.RehearseJob.{rehearse_app, NamesRehearse, SpoilsRehearse}
-use Rattle.job_parts.specs.Lines.{NamesLines, SpoilsLines}
 use Rattle.job_texts.specs.AsmJob.{asm_app, NamesAsm}
 use Rattle.job_texts.specs.DisJob.{dis_app, NamesDis}
 use Rattle.job_codes.specs.ExplainJob.{explain_app, NamesExplain, SpoilsExplain}
@@ -110,8 +109,8 @@ NamesPlain found (Once (Disassemble words)) = (found.0 ≡ codes "dis") × Names
 NamesPlain found (Once (Verify args)) = (found.0 ≡ codes "verify") × NamesImage found.1 args
 NamesPlain found (Once (Judge args)) = (found.0 ≡ codes "judge") × NamesNodeLines found.1 args
 NamesPlain found (Once (Policy words)) = (found.0 ≡ codes "policy") × NamesPolicy found.1 words
-NamesPlain found (Once (Serve args)) = (found.0 ≡ codes "serve") × NamesLines found.1 args
-NamesPlain found (Once (Simulate args)) = (found.0 ≡ codes "sim") × NamesLines found.1 args
+NamesPlain found (Once (Serve args)) = (found.0 ≡ codes "serve") × NamesNodeLines found.1 args
+NamesPlain found (Once (Simulate args)) = (found.0 ≡ codes "sim") × NamesNodeLines found.1 args
 NamesPlain found (Once (Explain words)) = (found.0 ≡ codes "explain") × NamesExplain found.1 words
 NamesPlain found (Once (Why args)) = (found.0 ≡ codes "why") × NamesImage found.1 args
 NamesPlain found (Once (Weigh words)) = (found.0 ≡ codes "weigh") × NamesWeigh found.1 words
@@ -119,7 +118,7 @@ NamesPlain found (Once (Node words)) = (found.0 ≡ codes "node") × NamesNodeFi
 NamesPlain found (Once (Packet words)) = (found.0 ≡ codes "packet") × NamesPacket found.1 words
 NamesPlain found (Once (Show words)) = (found.0 ≡ codes "show") × NamesShow found.1 words
 NamesPlain found (Once (Decide words)) = (found.0 ≡ codes "decide") × NamesDecide found.1 words
-NamesPlain found (Once (Trace args)) = (found.0 ≡ codes "trace") × NamesLines found.1 args
+NamesPlain found (Once (Trace args)) = (found.0 ≡ codes "trace") × NamesNodeLines found.1 args
 NamesPlain found (Once (Compare words)) = (found.0 ≡ codes "compare") × NamesCompare found.1 words
 NamesPlain found (Once (Map words)) = (found.0 ≡ codes "map") × NamesMap found.1 words
 NamesPlain found (Once (Rehearse words)) = (found.0 ≡ codes "rehearse") × NamesRehearse found.1 words
@@ -154,8 +153,8 @@ SpoilsPlain word.Dis rows = first_of (codes "image") rows ≡ None
 SpoilsPlain word.Verify rows = SpoilsImage rows
 SpoilsPlain word.Judge rows = SpoilsNodeLines rows
 SpoilsPlain word.Policy rows = SpoilsPolicy rows
-SpoilsPlain word.Serve rows = SpoilsLines rows
-SpoilsPlain word.Sim rows = SpoilsLines rows
+SpoilsPlain word.Serve rows = SpoilsNodeLines rows
+SpoilsPlain word.Sim rows = SpoilsNodeLines rows
 SpoilsPlain word.Live rows = SpoilsLive rows
 SpoilsPlain word.Explain rows = SpoilsExplain rows
 SpoilsPlain word.Why rows = SpoilsImage rows
@@ -164,7 +163,7 @@ SpoilsPlain word.Node rows = first_of (codes "node") rows ≡ None
 SpoilsPlain word.Packet rows = SpoilsPacket rows
 SpoilsPlain word.Show rows = first_of (codes "lines") rows ≡ None
 SpoilsPlain word.Decide rows = SpoilsDecide rows
-SpoilsPlain word.Trace rows = SpoilsLines rows
+SpoilsPlain word.Trace rows = SpoilsNodeLines rows
 SpoilsPlain word.Compare rows = SpoilsCompare rows
 SpoilsPlain word.Map rows = SpoilsMap rows
 SpoilsPlain word.Rehearse rows = SpoilsRehearse rows

@@ -347,7 +347,7 @@ fn table_sizes(job: &Job) -> Option<&MapSizes> {
         Job::Decide(words) => Some(&words.sizes),
         Job::Compare(words) => Some(&words.sizes),
         Job::Map(words) => Some(&words.sizes),
-        Job::Rehearse(words) => Some(&words.sizes),
+        Job::Rehearse(words) => words.sizes(),
         _ => None,
     }
 }

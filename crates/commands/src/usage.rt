@@ -25,7 +25,6 @@ use job_node_file::node_file::{node_file_command, node_file_job};
 use job_nodes::judge::judge_command;
 use job_nodes::sim::sim_command;
 use job_packets::packet::{packet_command, packet_job};
-use job_parts::lines::lines_args;
 use job_parts::usage::UsageFault;
 use job_ports::serve::serve_command;
 use job_rehearse::rehearse::{rehearse_command, rehearse_job};
@@ -143,8 +142,8 @@ fn plain_named(alloc: Global, word: Word, rows: &ArgMatches) -> Result<Work, Usa
         Word::Verify => Job::Verify(image_args(alloc, rows)?),
         Word::Judge => Job::Judge(node_lines(alloc, rows)?),
         Word::Policy => Job::Policy(policy_job(alloc, rows)?),
-        Word::Serve => Job::Serve(lines_args(alloc, rows)?),
-        Word::Sim => Job::Simulate(lines_args(alloc, rows)?),
+        Word::Serve => Job::Serve(node_lines(alloc, rows)?),
+        Word::Sim => Job::Simulate(node_lines(alloc, rows)?),
         Word::Explain => Job::Explain(explain_job(alloc, rows)?),
         Word::Why => Job::Why(image_args(alloc, rows)?),
         Word::Weigh => Job::Weigh(weigh_job(alloc, rows)?),
@@ -152,7 +151,7 @@ fn plain_named(alloc: Global, word: Word, rows: &ArgMatches) -> Result<Work, Usa
         Word::Packet => Job::Packet(packet_job(alloc, rows)?),
         Word::Show => Job::Show(show_job(alloc, rows)?),
         Word::Decide => Job::Decide(decide_job(alloc, rows)?),
-        Word::Trace => Job::Trace(lines_args(alloc, rows)?),
+        Word::Trace => Job::Trace(node_lines(alloc, rows)?),
         Word::Compare => Job::Compare(compare_job(alloc, rows)?),
         Word::Map => Job::Map(map_job(alloc, rows)?),
         Word::Rehearse => Job::Rehearse(rehearse_job(alloc, rows)?),
