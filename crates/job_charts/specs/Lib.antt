@@ -3,6 +3,8 @@ pub mod Courses
 pub mod Packets
 pub mod Witnesses
 pub mod Telling
+pub mod Rows
+pub mod AskedTables
 pub mod Compared
 pub mod Mapped
 pub mod CompareJob

@@ -64,11 +64,10 @@ pub fn map_job(alloc: Global, found: &ArgMatches) -> Result<MapWords, UsageFault
     Ok(MapWords { table, sizes })
 }
 
-/// Prints what the table of a file decides: each command lies in one line alone, with the rules that the table asks there; and
-/// behind these the rules that never match. Where the table has a fault that is printed, with its place, and the job failed.
+/// Prints what the table of a file decides: at each port each command lies in one line alone, with the rules that the table asks
+/// there; and behind these the rules that never match. Where the table has a fault that is printed, with its place, and the job failed.
 ///
 /// Faults are found in this order: the file (`CannotRead`, also where it is not UTF-8), and the table.
-#[tactic(auto, using(crate::proofs::Limits::limited))]
 pub fn map_file<'a, F: Files, W: Write>(
     alloc: Global,
     words: &'a MapWords,
@@ -81,8 +80,8 @@ pub fn map_file<'a, F: Files, W: Write>(
     ensures quiet { IfErr result (StopsBy (λ _. W.contents out.new ≡ W.contents out.old)) }
 {
     match table_in(alloc, files, words.table.as_str(), &words.sizes) {
-        Ok(table) => {
-            let text = map_text(alloc, table.rules())?;
+        Ok(policy) => {
+            let text = map_text(alloc, &policy)?;
             print_text(out, text.as_str())?;
             Ok(Status::Done)
         }

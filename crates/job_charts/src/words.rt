@@ -31,7 +31,7 @@ fn kinds_word(kinds: Kinds) -> &'static str
 }
 
 /// Adds a byte, where it is wanted.
-fn push_if(bytes: &mut Vec<u8>, wanted: bool, byte: u8) -> Result<(), AllocError>
+pub fn push_if(bytes: &mut Vec<u8>, wanted: bool, byte: u8) -> Result<(), AllocError>
     ensures { OnOk result (bytes.new.items ≡ bytes.old.items ++ one_if wanted byte) }
 {
     if wanted {

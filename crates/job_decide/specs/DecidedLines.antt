@@ -1,6 +1,6 @@
 -- The packet lines of a text, and what is printed of each.
 use Rattle.std.specs.Prelude.{◌≡◌, ℕ, List, Option, Some, None}
-use Rattle.policy_table.specs.declared.rules.Rule.{Rule}
+use Rattle.policy_table.specs.Policies.{PolicyValue}
 use Rattle.rmap.specs.Command.{discard_of}
 use Rattle.spw.specs.Cargo.{Cargo}
 use Rattle.job_nodes.specs.Feeds.{IsFed, IsNotFed}
@@ -10,10 +10,10 @@ use Rattle.job_decide.specs.Decided.{TellsPacket}
 use Rattle.job_decide.specs.declared.decide.Deciding.{Deciding}
 
 -- of a line that ends no packet nothing was printed and drawn, and else what becomes of its packet
-abbrev pub TellsCame : List Rule → Option (ℕ × Cargo) → (before after : List ℕ) → (old new : Option (List ℕ)) → Type 0
-TellsCame rules None before after old new = (after ≡ before) × (new ≡ old)
-TellsCame rules (Some came) before after old new =
-    TellsPacket came.0 rules came.1 (discard_of came.1.bytes) before after old new
+abbrev pub TellsCame : PolicyValue → Option (ℕ × Cargo) → (before after : List ℕ) → (old new : Option (List ℕ)) → Type 0
+TellsCame policy None before after old new = (after ≡ before) × (new ≡ old)
+TellsCame policy (Some came) before after old new =
+    TellsPacket came.0 policy came.1 (discard_of came.1.bytes) before after old new
 
 -- the line was taken by the table, which stays, and what comes of it was told
 pub record DecidesLine (line : List ℕ) (before after : Deciding) (old new : Option (List ℕ)) : Type 0 where

@@ -24,7 +24,7 @@ use job_parts::storage::Files;
 use job_parts::turns::{TakesLines, take_lines};
 use job_parts::usage::UsageFault;
 use machine::MapSizes;
-use policy::{Counts, Table};
+use policy::{Counts, Policy};
 use std::alloc::{AllocError, Global};
 use std::io::Write;
 
@@ -90,7 +90,7 @@ pub fn decide_job(alloc: Global, found: &ArgMatches) -> Result<DecideWords, Usag
 /// tickets were drawn.
 #[derive(Drop)]
 struct Deciding {
-    table: Table,
+    table: Policy,
     feeds: Feeds,
     counts: Counts,
 }
