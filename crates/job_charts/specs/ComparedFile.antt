@@ -1,5 +1,5 @@
 -- What the job `compare` reads and prints.
-use Rattle.std.specs.Prelude.{◌≡◌, ◌⊎◌, ◌<◌, true, ℕ, List, [], ◌∷◌, ◌++◌, Option, codes, string_bytes}
+use Rattle.std.specs.Prelude.{◌≡◌, ◌⊎◌, ◌<◌, Bool, true, ℕ, List, [], ◌∷◌, ◌++◌, Option, codes, string_bytes}
 use Rattle.std.specs.Io.KnownBytes.{Appends}
 use Rattle.charts.specs.Points.{IsDifference}
 use Rattle.charts.specs.Same.{AreSame}
@@ -58,10 +58,10 @@ AreSameAtAll one other = (port : ℕ) → port < 32 → AreSameAt one other port
 -- ---- what is printed
 
 -- two tables differ at some port, and where they do was printed
-pub record TellsDifferent (one other : PolicyValue) (old new : Option (List ℕ)) : Type 0 where
+pub record TellsDifferent (markdown : Bool) (one other : PolicyValue) (old new : Option (List ℕ)) : Type 0 where
   pub differ : DifferSomewhere one other
   pub text : List ℕ
-  pub told : TellsComparison one other text
+  pub told : TellsComparison markdown one other text
   pub printed : Appends old new text
 
 -- two tables decide all commands alike at each port, which was printed
@@ -70,10 +70,10 @@ pub record TellsSame (one other : PolicyValue) (old new : Option (List ℕ)) : T
   pub line : Appends old new (codes "same" ++ 10 ∷ [])
 
 -- what is printed of two tables, by the exit status
-abbrev pub TellsTables : (one other : PolicyValue) → (old new : Option (List ℕ)) → Status → Type 0
-TellsTables one other old new Done = TellsSame one other old new
-TellsTables one other old new Failed = TellsDifferent one other old new
-TellsTables one other old new Misused = ⊥
+abbrev pub TellsTables : (markdown : Bool) → (one other : PolicyValue) → (old new : Option (List ℕ)) → Status → Type 0
+TellsTables markdown one other old new Done = TellsSame one other old new
+TellsTables markdown one other old new Failed = TellsDifferent markdown one other old new
+TellsTables markdown one other old new Misused = ⊥
 
 -- why there is no table in the file of this name: it cannot be read, or the table has a fault, and the file's name is told with it
 abbrev pub IsNoNamed : {S : Type 0} → (reads : Reads S) → (name : List ℕ) → Maps → (before after : S) → NoPair → Type 0
@@ -127,7 +127,7 @@ module _ {S : Type 0} (reads : Reads S) (words : CompareWords) where
     pub one : PolicyValue
     pub other : PolicyValue
     pub tables : AreTables before one other after
-    pub told : TellsTables one other old new status
+    pub told : TellsTables words.markdown one other old new status
 
   -- a table has a fault, which was told with the name of its file and its place
   pub record TellsBad (before after : S) (old new : Option (List ℕ)) (status : Status) : Type 0 where

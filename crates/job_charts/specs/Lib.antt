@@ -6,6 +6,7 @@ pub mod Telling
 pub mod Rows
 pub mod AskedTables
 pub mod Compared
+pub mod Markdown
 pub mod Mapped
 pub mod CompareJob
 pub mod ComparedFile

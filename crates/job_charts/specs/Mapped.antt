@@ -15,41 +15,59 @@ use Rattle.policy_table.specs.Policies.{PolicyValue}
 use Rattle.policy_table.specs.PortTables.{is_named}
 use Rattle.job_charts.specs.AskedTables.{AskedValue, asked_at}
 use Rattle.job_charts.specs.Courses.{with_course}
+use Rattle.job_charts.specs.Markdown.{map_back, map_front, map_head}
 use Rattle.job_charts.specs.Rows.{RowValue, TellsPort, row_of, with_rows}
 use Rattle.job_charts.specs.Telling.{TellsFirst}
 use Rattle.job_charts.specs.Witnesses.{HasNoCommand, IsWitness}
 use Rattle.job_charts.specs.Words.{with_words}
 
+-- how a table is told: in markdown or in lines, and the comments of the lines of its text, by their numbers
+pub record StyleValue : Type 0 where
+  pub markdown : Bool
+  pub comments : List (List ℕ)
+
+-- of these parts
+abbrev pub style : (markdown : Bool) → (comments : List (List ℕ)) → StyleValue
+style markdown comments = record { markdown = markdown; comments = comments }
+
 -- the row of a line of a map at a port: its words, and what the table asks at a point
-abbrev pub line_row : AskedValue → Line → Point → RowValue
-line_row at line p =
+abbrev pub plain_row : AskedValue → Line → Point → RowValue
+plain_row at line p =
     row_of at.port (with_words [] line) (with_course at.lines (codes " : ") (steps_at at.rules p) ++ 10 ∷ []) []
 
+-- the same in markdown, with comments
+abbrev pub markdown_row : (comments : List (List ℕ)) → AskedValue → Line → Point → RowValue
+markdown_row comments at line p = row_of at.port (map_front line) (map_back at.lines comments (steps_at at.rules p)) []
+
+-- the row of a line in a style
+abbrev pub line_row : StyleValue → AskedValue → Line → Point → RowValue
+line_row how at line p = if how.markdown then markdown_row how.comments at line p else plain_row at line p
+
 -- the line of a place was told, with what the table asks at one of its points; it is plain
-pub record TellsPoint (at : AskedValue) (lines : List Line) (place : ℕ) (before after : List RowValue) : Type 0 where
+pub record TellsPoint (how : StyleValue) (at : AskedValue) (lines : List Line) (place : ℕ) (before after : List RowValue) : Type 0 where
   pub line : Line
   pub own : (d : Line) → get_or lines place d ≡ line
   pub point : Point
   pub witness : IsWitness lines place point
   pub plain : IsPlain lines line point
-  pub row : after ≡ before ++ line_row at line point ∷ []
+  pub row : after ≡ before ++ line_row how at line point ∷ []
 
 -- the line of a place was told, or no command has a point of it
-abbrev pub TellsLine : AskedValue → List Line → (place : ℕ) → (before after : List RowValue) → Type 0
-TellsLine at lines place before after =
-    TellsPoint at lines place before after ⊎ (HasNoCommand lines place × (after ≡ before))
+abbrev pub TellsLine : StyleValue → AskedValue → List Line → (place : ℕ) → (before after : List RowValue) → Type 0
+TellsLine how at lines place before after =
+    TellsPoint how at lines place before after ⊎ (HasNoCommand lines place × (after ≡ before))
 
 -- each line of a map of the table was told that some command has, in its order
-pub record TellsLines (at : AskedValue) (before after : List RowValue) : Type 0 where
+pub record TellsLines (how : StyleValue) (at : AskedValue) (before after : List RowValue) : Type 0 where
   pub chart : List Line
   pub is_map : IsMap at.rules chart
-  pub told : TellsFirst (TellsLine at chart) (length chart) before after
+  pub told : TellsFirst (TellsLine how at chart) (length chart) before after
 
 -- ---- rules that never match
 
--- the beginning of what is told of the rule of a line that never matches
-abbrev pub note_text : (line : ℕ) → List ℕ
-note_text line = codes "rule " ++ decimal line
+-- the beginning of what is told of the rule of a line that never matches: in markdown it is a paragraph
+abbrev pub note_text : (markdown : Bool) → (line : ℕ) → List ℕ
+note_text markdown line = (if markdown then 10 ∷ [] else []) ++ codes "rule " ++ decimal line
 
 -- the number of a rule behind others, if it is the first without quota at some point at which the rule of the place holds
 abbrev pub AddsStop : List Rule → (place stop : ℕ) → (before numbers : List ℕ) → Type 0
@@ -106,39 +124,43 @@ abbrev pub IsReason : List Rule → (lines : List ℕ) → (place : ℕ) → (te
 IsReason rules lines place text = IsAskedReason rules place text ⊎ IsStoppedReason rules lines place text
 
 -- the row of the rule of a line that never matches at a port, with the reason
-abbrev pub note_row : (port line : ℕ) → (reason : List ℕ) → RowValue
-note_row port line reason = row_of port (note_text line) (codes " never matches: " ++ reason ++ 10 ∷ []) []
+abbrev pub note_row : (markdown : Bool) → (port line : ℕ) → (reason : List ℕ) → RowValue
+note_row markdown port line reason = row_of port (note_text markdown line) (codes " never matches: " ++ reason ++ 10 ∷ []) []
 
 -- the rule of a place never matches, which was told with the reason
-pub record TellsNever (at : AskedValue) (place : ℕ) (before after : List RowValue) : Type 0 where
+pub record TellsNever (markdown : Bool) (at : AskedValue) (place : ℕ) (before after : List RowValue) : Type 0 where
   pub never : NeverMatches at.rules place
   pub reason : List ℕ
   pub is_reason : IsReason at.rules at.lines place reason
-  pub row : after ≡ before ++ note_row at.port (line_of at.lines (place + 1)) reason ∷ []
+  pub row : after ≡ before ++ note_row markdown at.port (line_of at.lines (place + 1)) reason ∷ []
 
 -- nothing was told of the rule of a place, which matches somewhere; or that it never matches
-abbrev pub TellsNote : AskedValue → (place : ℕ) → (before after : List RowValue) → Type 0
-TellsNote at place before after =
-    (Matches at.rules place × (after ≡ before)) ⊎ TellsNever at place before after
+abbrev pub TellsNote : (markdown : Bool) → AskedValue → (place : ℕ) → (before after : List RowValue) → Type 0
+TellsNote markdown at place before after =
+    (Matches at.rules place × (after ≡ before)) ⊎ TellsNever markdown at place before after
 
 -- of each rule of the table it was told whether it never matches
-abbrev pub TellsNotes : AskedValue → (before after : List RowValue) → Type 0
-TellsNotes at before after = TellsFirst (TellsNote at) (length at.rules) before after
+abbrev pub TellsNotes : (markdown : Bool) → AskedValue → (before after : List RowValue) → Type 0
+TellsNotes markdown at before after = TellsFirst (TellsNote markdown at) (length at.rules) before after
 
 -- ---- tables with ports
 
 -- what is told of each port of which a chart is made, of these ports
-abbrev pub TellsPorts : PolicyValue → (tells : AskedValueValue → (before after : List RowValue) → Type 0) → (count : ℕ)
+abbrev pub TellsPorts : PolicyValue → (tells : AskedValue → (before after : List RowValue) → Type 0) → (count : ℕ)
     → (before after : List RowValue) → Type 0
 TellsPorts policy tells count before after =
     TellsFirst (TellsPort (λ port. is_named port policy.rules) (λ port. tells (asked_at policy port))) count before after
 
+-- what is before all rows: in markdown the headings
+abbrev pub head_of : (markdown : Bool) → List ℕ
+head_of markdown = if markdown then map_head else []
+
 -- each line of a map of the table at each port, and behind them at each port the rules that never match; what is the same at
--- several ports once, and behind it at which where it is not so at all
-pub record TellsMap (policy : PolicyValue) (text : List ℕ) : Type 0 where
+-- several ports once, with these ports
+pub record TellsMap (how : StyleValue) (policy : PolicyValue) (text : List ℕ) : Type 0 where
   pub lines : List RowValue
-  pub lines_told : TellsPorts policy TellsLines 32 [] lines
+  pub lines_told : TellsPorts policy (TellsLines how) 32 [] lines
   pub notes : List RowValue
-  pub notes_told : TellsPorts policy TellsNotes 32 [] notes
-  pub is : text ≡ with_rows (λ port. is_named port policy.rules) notes
-      (with_rows (λ port. is_named port policy.rules) lines [] lines) notes
+  pub notes_told : TellsPorts policy (TellsNotes how.markdown) 32 [] notes
+  pub is : text ≡ with_rows false (λ port. is_named port policy.rules) notes
+      (with_rows how.markdown (λ port. is_named port policy.rules) lines (head_of how.markdown) lines) notes

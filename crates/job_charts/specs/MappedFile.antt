@@ -3,27 +3,30 @@ use Rattle.std.specs.Prelude.{◌≡◌, ◌⊎◌, ℕ, List, Option, string_by
 use Rattle.std.specs.Io.KnownBytes.{Appends}
 use Rattle.policy_table.specs.Policies.{PolicyValue}
 use Rattle.policy_table.specs.declared.text_faults.TextFault.{TextFault}
-use Rattle.job_decide.specs.Tables.{HoldsBadTable, HoldsTable, TellsTableFault}
+use Rattle.job_decide.specs.Tables.{HoldsBadTable, HoldsText, TellsTableFault}
 use Rattle.job_parts.specs.Files.{Reads}
 use Rattle.job_parts.specs.Reading.{TextUnread}
 use Rattle.job_parts.specs.declared.faults.Fault.{Fault}
 use Rattle.job_parts.specs.declared.faults.Fault.TheVariants.{NoMemory}
 use Rattle.job_parts.specs.declared.status.Status.{Status}
 use Rattle.job_parts.specs.declared.status.Status.TheVariants.{Done, Failed, Misused}
-use Rattle.job_charts.specs.Mapped.{TellsMap}
+use Rattle.job_charts.specs.Mapped.{TellsMap, style}
+use Rattle.job_charts.specs.Markdown.{comments_of}
 use Rattle.job_charts.specs.declared.map.MapWords.{MapWords}
+use Rattle.spw.specs.Line.{lines_of}
 
 module _ {S : Type 0} (reads : Reads S) (words : MapWords) where
-  -- the file has a table without a fault for these maps
-  abbrev pub IsGiven : (before : S) → PolicyValue → (after : S) → Type 0
-  IsGiven before policy after = HoldsTable reads before (string_bytes words.table) words.sizes policy after
+  -- the file has this text, which is a table without a fault for these maps
+  abbrev pub IsGiven : (before : S) → (written : List ℕ) → PolicyValue → (after : S) → Type 0
+  IsGiven before written policy after = HoldsText reads before (string_bytes words.table) words.sizes written policy after
 
   -- what the table decides was printed
   pub record MapsTable (before after : S) (old new : Option (List ℕ)) : Type 0 where
+    pub written : List ℕ
     pub policy : PolicyValue
-    pub given : IsGiven before policy after
+    pub given : IsGiven before written policy after
     pub text : List ℕ
-    pub told : TellsMap policy text
+    pub told : TellsMap (style words.markdown (comments_of (lines_of written))) policy text
     pub printed : Appends old new text
 
   -- the table has a fault, which was told with its place
@@ -41,8 +44,9 @@ module _ {S : Type 0} (reads : Reads S) (words : MapWords) where
 
   -- memory was refused behind the read
   pub record LacksMemory (before after : S) (fault : Fault) : Type 0 where
+    pub written : List ℕ
     pub policy : PolicyValue
-    pub given : IsGiven before policy after
+    pub given : IsGiven before written policy after
     pub is_fault : fault ≡ NoMemory
 
   -- the file cannot be read, or memory was refused behind the read; nothing was printed

@@ -78,9 +78,11 @@ ports_text ports beside =
     else if nat_le (length ports) 16 then numbers_text ports
     else codes "!" ++ numbers_text beside
 
--- the same behind a row: nothing for all
-abbrev pub port_words : (ports beside : List ℕ) → List ℕ
-port_words ports beside = if length ports == 32 then [] else codes " port " ++ ports_text ports beside
+-- the ports of a row: in markdown that word, and in a line nothing for all
+abbrev pub port_words : (markdown : Bool) → (ports beside : List ℕ) → List ℕ
+port_words markdown ports beside =
+    if markdown then ports_text ports beside
+    else if length ports == 32 then [] else codes " port " ++ ports_text ports beside
 
 -- the packet of a row, with its port
 abbrev pub packet_line : (port : ℕ) → (packet : List ℕ) → List ℕ
@@ -91,16 +93,18 @@ abbrev pub is_before : (row own : RowValue) → Bool
 is_before row own = nat_lt own.port row.port && says_same own row
 
 -- a row behind a text, with its ports; nothing where it was told at a port before
-abbrev pub with_row : (named : (port : ℕ) → Bool) → List RowValue → (before : List ℕ) → RowValue → List ℕ
-with_row named rows before row =
+abbrev pub with_row : (markdown : Bool) → (named : (port : ℕ) → Bool) → List RowValue → (before : List ℕ) → RowValue → List ℕ
+with_row markdown named rows before row =
     if list_any (λ own. is_before row own) rows then before
-    else before ++ row.front ++ port_words (ports_with named rows row) (ports_beside named rows row) ++ row.back
+    else before ++ row.front ++ port_words markdown (ports_with named rows row) (ports_beside named rows row) ++ row.back
     ++ packet_line row.port row.packet
 
 -- rows of some, behind a text
-abbrev pub with_rows : (named : (port : ℕ) → Bool) → (all : List RowValue) → (before : List ℕ) → List RowValue → List ℕ
-with_rows named all before [] = before
-with_rows named all before (row ∷ rows) = with_rows named all (with_row named all before row) rows
+abbrev pub with_rows : (markdown : Bool) → (named : (port : ℕ) → Bool) → (all : List RowValue) → (before : List ℕ) → List RowValue
+    → List ℕ
+with_rows markdown named all before [] = before
+with_rows markdown named all before (row ∷ rows) =
+    with_rows markdown named all (with_row markdown named all before row) rows
 
 -- ---- rows of ports
 

@@ -17,7 +17,7 @@ use crate::ports::{PORTS, Tables};
 use charts::first_difference;
 use clap::{ArgMatches, Command};
 use job_decide::tables::{NoTable, table_in};
-use job_parts::arguments::{file, name_of};
+use job_parts::arguments::{file, flag, is_set, name_of};
 use job_parts::faults::Fault;
 use job_parts::inputs::{Content, InputFile, Inputs};
 use job_parts::options::{maps_option, sizes_of};
@@ -44,6 +44,8 @@ pub struct CompareWords {
     pub new: String,
     /// How many cells each map of the node has, and of which kind it is.
     pub sizes: MapSizes,
+    /// Whether the differences are printed in markdown.
+    pub markdown: bool,
 }
 
 impl CompareWords {
@@ -54,7 +56,7 @@ impl CompareWords {
     }
 }
 
-/// `compare OLD NEW [--maps LIST]`.
+/// `compare OLD NEW [--maps LIST] [--markdown]`.
 pub fn compare_command<'a>(alloc: Global) -> Result<Command<'a>, AllocError>
     ensures shape { IfOk result (λ c. app_of c ≡ compare_app) }
     ensures local { IfOk result (λ c. (fields_of c).has_globals ≡ false) }
@@ -64,13 +66,16 @@ pub fn compare_command<'a>(alloc: Global) -> Result<Command<'a>, AllocError>
     let help = "The file of the new policy table, or - for standard input";
     let new = file(alloc, "new", "NEW", help);
     let maps = maps_option(alloc);
+    let help = "Print a table in markdown";
+    let markdown = flag(alloc, "markdown", help);
     Command::new(alloc, "compare")
         .about(
             "Tells where two policy tables decide differently, with a packet for each difference",
         )
         .arg(old)?
         .arg(new)?
-        .arg(maps)
+        .arg(maps)?
+        .arg(markdown)
 }
 
 /// Whether both tables would be read of standard input, which one read ends.
@@ -91,7 +96,13 @@ pub fn compare_job(alloc: Global, found: &ArgMatches) -> Result<CompareWords, Us
         return Err(UsageFault::BadOption);
     }
     let sizes = sizes_of(alloc, found)?;
-    Ok(CompareWords { old, new, sizes })
+    let markdown = is_set(found, "markdown");
+    Ok(CompareWords {
+        old,
+        new,
+        sizes,
+        markdown,
+    })
 }
 
 /// Why there are no two tables.
@@ -179,12 +190,13 @@ fn differ(alloc: Global, old: &Policy, new: &Policy) -> Result<bool, AllocError>
 /// Prints that two tables are the same, or where they differ.
 fn print_comparison<'a, W: Write>(
     alloc: Global,
+    markdown: bool,
     old: &Policy,
     new: &Policy,
     out: &mut W,
 ) -> Result<Status, Halt<'a>>
     ensures done { IfOk result
-        (TellsTables old.now new.now (W.contents out.old) (W.contents out.new)) }
+        (TellsTables markdown old.now new.now (W.contents out.old) (W.contents out.new)) }
     ensures stops { IfErr result (StopsBy (λ fault. fault ≡ NoMemory)) }
     ensures quiet { IfErr result (StopsBy (λ _. W.contents out.new ≡ W.contents out.old)) }
 {
@@ -192,13 +204,13 @@ fn print_comparison<'a, W: Write>(
         writeln!(out, "same")?;
         return Ok(Status::Done);
     }
-    let text = comparison_text(alloc, old, new)?;
+    let text = comparison_text(alloc, markdown, old, new)?;
     print_text(out, text.as_str())?;
     Ok(Status::Failed)
 }
 
-/// Prints `same` where the tables of two files decide all commands alike at each port, and else where they differ. Where a table has a fault
-/// that is printed, with the name of its file and the place, and the job failed.
+/// Prints `same` where the tables of two files decide all commands alike at each port, and else where they differ: with `--markdown`
+/// as a table in markdown. Where a table has a fault that is printed, with the name of its file and the place, and the job failed.
 ///
 /// Faults are found in this order: the file of the old table (`CannotRead`, also where it is not UTF-8), that table, the file
 /// of the new one, and that table.
@@ -214,7 +226,7 @@ pub fn compare_file<'a, F: Files, W: Write>(
     ensures quiet { IfErr result (StopsBy (λ _. W.contents out.new ≡ W.contents out.old)) }
 {
     match tables(alloc, words, files) {
-        Ok((old, new)) => print_comparison(alloc, &old, &new, out),
+        Ok((old, new)) => print_comparison(alloc, words.markdown, &old, &new, out),
         Err(NoPair::Ended(fault)) => Err(Halt::Ended(fault)),
         Err(NoPair::BadTable(name, fault)) => {
             print_named_fault(out, name, &fault)?;

@@ -4,12 +4,13 @@ ghost use Rattle.std.specs.Prelude.{◌≡◌, ◌<◌, ◌++◌, [], IfOk, OnOk
 ghost use Rattle.charts.specs.Lines.{IsComparison};
 ghost use Rattle.regions.specs.Points.{HasCommand};
 ghost use Rattle.job_charts.specs.AskedTables.{asked_at};
-ghost use Rattle.job_charts.specs.Compared.{IsDifferenceAt, TellsComparison, TellsLine, TellsLines, TellsPorts, courses_text, difference_row, is_named_by, packet_words, repeats_text, sign_text, sign_words, unasked_text};
+ghost use Rattle.job_charts.specs.Compared.{IsDifferenceAt, TellsComparison, TellsLine, TellsLines, TellsPorts, back_of, courses_text, difference_row, end_text, front_of, head_of, is_named_by, packet_words, repeats_text, sign_text, sign_words, unasked_text};
 ghost use Rattle.job_charts.specs.Rows.{TellsPort};
 ghost use Rattle.job_charts.specs.Telling.{TellsFirst};
 
 use crate::asked::Asked;
 use crate::courses::add_course;
+use crate::markdown::{comparison_back, comparison_front, comparison_head};
 use crate::packets::{add_packet, is_brought, packet_at};
 use crate::ports::{PORTS, Tables};
 use crate::rows::{Row, add_rows};
@@ -22,9 +23,10 @@ use policy::Policy;
 use regions::Point;
 use std::alloc::{AllocError, Global};
 
-/// What two tables ask at a port, and the lines of their comparison.
+/// What two tables ask at a port, the lines of their comparison, and whether they are told in markdown.
 #[derive(Clone, Copy)]
 struct Comparison<'a> {
+    markdown: bool,
     old: &'a Asked,
     new: &'a Asked,
     chart: &'a [Line],
@@ -91,31 +93,44 @@ fn difference_at(
     })
 }
 
+/// The end of what is told of a difference: in markdown that of a row.
+fn end_text(markdown: bool) -> &'static str
+    ensures { result.now ≡ end_text markdown }
+{
+    if markdown { " |\n" } else { "\n" }
+}
+
 /// Adds the packet of a point behind its port, whether the node of the jobs brings it to its table, and how often it has to come.
 fn add_packet_words(
     text: &mut String,
     alloc: Global,
+    markdown: bool,
     point: &Point,
     repeats: Repeats,
 ) -> Result<(), AllocError>
     requires { HasCommand point.now }
     ensures { OnOk result
-        (string_bytes text.new ≡ string_bytes text.old ++ packet_words point.now repeats) }
+        (string_bytes text.new ≡ string_bytes text.old ++ packet_words markdown point.now repeats) }
 {
     let packet = packet_at(alloc, point)?;
     add_packet(text, alloc, &packet)?;
     text.push_str(unasked_text(is_brought(&packet)))?;
     add_repeats(text, repeats)?;
-    text.push_str("\n")
+    text.push_str(end_text(markdown))
 }
 
 /// The packet of a point behind its port.
-fn packet_words(alloc: Global, point: &Point, repeats: Repeats) -> Result<String, AllocError>
+fn packet_words(
+    alloc: Global,
+    markdown: bool,
+    point: &Point,
+    repeats: Repeats,
+) -> Result<String, AllocError>
     requires { HasCommand point.now }
-    ensures { IfOk result (λ text. string_bytes text ≡ packet_words point.now repeats) }
+    ensures { IfOk result (λ text. string_bytes text ≡ packet_words markdown point.now repeats) }
 {
     let mut text = String::new(alloc);
-    add_packet_words(&mut text, alloc, point, repeats)?;
+    add_packet_words(&mut text, alloc, markdown, point, repeats)?;
     Ok(text)
 }
 
@@ -147,6 +162,36 @@ fn courses_text(
     Ok(text)
 }
 
+/// What is told of a difference before the ports: the sign and the words of the line.
+fn front_of(alloc: Global, markdown: bool, sign: Sign, line: &Line) -> Result<String, AllocError>
+    ensures { IfOk result (λ text. string_bytes text ≡ front_of markdown sign line.now) }
+{
+    if markdown {
+        comparison_front(alloc, sign_text(sign), line)
+    } else {
+        sign_words(alloc, sign, line)
+    }
+}
+
+/// What is told of it after them: what each table asks whose rules are in these lines.
+fn back_of(
+    alloc: Global,
+    markdown: bool,
+    old_lines: &[usize],
+    new_lines: &[usize],
+    difference: &Difference,
+) -> Result<String, AllocError>
+    ensures { IfOk result (λ text. string_bytes text
+        ≡ back_of markdown old_lines.now new_lines.now difference.now) }
+{
+    if markdown {
+        let (old, new) = (difference.old.as_slice(), difference.new.as_slice());
+        comparison_back(alloc, old_lines, new_lines, old, new)
+    } else {
+        courses_text(alloc, old_lines, new_lines, difference)
+    }
+}
+
 /// The row of a line: its sign and its words, what each table asks, and the packet of a point.
 fn difference_row(
     alloc: Global,
@@ -156,13 +201,13 @@ fn difference_row(
     point: &Point,
 ) -> Result<Row, AllocError>
     requires { HasCommand point.now }
-    ensures { IfOk result (λ row. row ≡ difference_row comparison.entry.old.now
+    ensures { IfOk result (λ row. row ≡ difference_row comparison.entry.markdown comparison.entry.old.now
         comparison.entry.new.now line.now difference.now point.now) }
 {
-    let (old, new) = (comparison.old, comparison.new);
-    let front = sign_words(alloc, difference.sign, line)?;
-    let back = courses_text(alloc, old.lines(), new.lines(), difference)?;
-    let packet = packet_words(alloc, point, difference.repeats)?;
+    let (old, new, markdown) = (comparison.old, comparison.new, comparison.markdown);
+    let front = front_of(alloc, markdown, difference.sign, line)?;
+    let back = back_of(alloc, markdown, old.lines(), new.lines(), difference)?;
+    let packet = packet_words(alloc, markdown, point, difference.repeats)?;
     Ok(Row::new(old.port(), front, back, packet))
 }
 
@@ -174,9 +219,8 @@ fn push_line(
     place: usize,
 ) -> Result<(), AllocError>
     requires place { place < length comparison.chart.now }
-    requires comparison
-        { IsComparison comparison.old.now.rules comparison.new.now.rules comparison.chart.now }
-    ensures { OnOk result (TellsLine comparison.entry.old.now comparison.entry.new.now
+    requires comparison { IsComparison comparison.old.now.rules comparison.new.now.rules comparison.chart.now }
+    ensures { OnOk result (TellsLine comparison.entry.markdown comparison.entry.old.now comparison.entry.new.now
         comparison.entry.chart.now place rows.old.items rows.new.items) }
 {
     charts_are_read();
@@ -196,7 +240,7 @@ fn push_chart(
     comparison: Comparison<'_>,
 ) -> Result<(), AllocError>
     requires { IsComparison comparison.old.now.rules comparison.new.now.rules comparison.chart.now }
-    ensures { OnOk result (TellsFirst (TellsLine comparison.entry.old.now comparison.entry.new.now
+    ensures { OnOk result (TellsFirst (TellsLine comparison.entry.markdown comparison.entry.old.now comparison.entry.new.now
         comparison.entry.chart.now) (length comparison.entry.chart.now)
         rows.old.items rows.new.items) }
 {
@@ -210,13 +254,15 @@ fn push_chart(
 fn push_lines(
     rows: &mut Vec<Row>,
     alloc: Global,
+    markdown: bool,
     old: &Asked,
     new: &Asked,
 ) -> Result<(), AllocError>
-    ensures { OnOk result (TellsLines old.now new.now rows.old.items rows.new.items) }
+    ensures { OnOk result (TellsLines markdown old.now new.now rows.old.items rows.new.items) }
 {
     let chart = comparison_of(alloc, old.rules(), new.rules())?;
     let comparison = Comparison {
+        markdown,
         old,
         new,
         chart: chart.as_slice(),
@@ -228,12 +274,13 @@ fn push_lines(
 fn push_lines_at(
     rows: &mut Vec<Row>,
     alloc: Global,
+    markdown: bool,
     old: &Policy,
     new: &Policy,
     port: u8,
 ) -> Result<(), AllocError>
     ensures { OnOk result (TellsPort (λ own. is_named_by old.now new.now own)
-        (λ own. TellsLines (asked_at old.now own) (asked_at new.now own)) port
+        (λ own. TellsLines markdown (asked_at old.now own) (asked_at new.now own)) port
         rows.old.items rows.new.items) }
 {
     if !Tables::Two(old, new).chart_port(port) {
@@ -241,27 +288,54 @@ fn push_lines_at(
     }
     let old = Asked::at(alloc, old, port)?;
     let new = Asked::at(alloc, new, port)?;
-    push_lines(rows, alloc, &old, &new)
+    push_lines(rows, alloc, markdown, &old, &new)
 }
 
 /// The rows of a comparison at each port.
-fn difference_rows(alloc: Global, old: &Policy, new: &Policy) -> Result<Vec<Row>, AllocError>
-    ensures { IfOk result (λ rows. TellsPorts old.now new.now 32 [] rows.items) }
+fn difference_rows(
+    alloc: Global,
+    markdown: bool,
+    old: &Policy,
+    new: &Policy,
+) -> Result<Vec<Row>, AllocError>
+    ensures { IfOk result (λ rows. TellsPorts markdown old.now new.now 32 [] rows.items) }
 {
     let mut rows = Vec::new(alloc);
     for port in 0..PORTS {
-        push_lines_at(&mut rows, alloc, old, new, port)?;
+        push_lines_at(&mut rows, alloc, markdown, old, new, port)?;
     }
     Ok(rows)
 }
 
-/// What is told of two tables where they differ: four lines for each line of their comparison, and in the first the ports, where
-/// it is not so at all.
-pub fn comparison_text(alloc: Global, old: &Policy, new: &Policy) -> Result<String, AllocError>
-    ensures { IfOk result (λ text. TellsComparison old.now new.now (string_bytes text)) }
+/// What is before all rows: in markdown the headings.
+fn head_of(alloc: Global, markdown: bool) -> Result<String, AllocError>
+    ensures { IfOk result (λ text. string_bytes text ≡ head_of markdown) }
 {
-    let rows = difference_rows(alloc, old, new)?;
-    let mut text = String::new(alloc);
-    add_rows(&mut text, alloc, Tables::Two(old, new), rows.as_slice())?;
+    if markdown {
+        comparison_head(alloc)
+    } else {
+        Ok(String::new(alloc))
+    }
+}
+
+/// What is told of two tables where they differ: four lines for each line of their comparison, and in the first the ports, where
+/// it is not so at all; in markdown a row of a table for each.
+pub fn comparison_text(
+    alloc: Global,
+    markdown: bool,
+    old: &Policy,
+    new: &Policy,
+) -> Result<String, AllocError>
+    ensures { IfOk result (λ text. TellsComparison markdown old.now new.now (string_bytes text)) }
+{
+    let rows = difference_rows(alloc, markdown, old, new)?;
+    let mut text = head_of(alloc, markdown)?;
+    add_rows(
+        &mut text,
+        alloc,
+        markdown,
+        Tables::Two(old, new),
+        rows.as_slice(),
+    )?;
     Ok(text)
 }

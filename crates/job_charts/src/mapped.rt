@@ -2,21 +2,25 @@
 
 ghost use Rattle.std.specs.Prelude.{◌≡◌, ◌<◌, ◌++◌, ◌∷◌, ◌+◌, ◌-◌, ◌^◌, [], IfOk, OnOk, codes, length, string_bytes};
 ghost use Rattle.std.specs.List.{flat_map};
+ghost use Rattle.basm.specs.Relation.{texts};
 ghost use Rattle.charts.specs.Deciders.{NeverMatches};
 ghost use Rattle.charts.specs.Lines.{IsMap};
 ghost use Rattle.differences.specs.Steps.{steps_at};
 ghost use Rattle.policy_table.specs.PortTables.{is_named};
 ghost use Rattle.job_charts.specs.AskedTables.{asked_at};
 ghost use Rattle.job_charts.specs.Courses.{with_course};
-ghost use Rattle.job_charts.specs.Mapped.{AddsStop, AreStops, IsReason, TellsLine, TellsLines, TellsMap, TellsNever, TellsNote, TellsNotes, TellsPorts, comma_line, draws_text, has_no_ticket, line_row, note_row, note_text, stops_text};
+ghost use Rattle.job_charts.specs.Mapped.{AddsStop, AreStops, IsReason, TellsLine, TellsLines, TellsMap, TellsNever, TellsNote, TellsNotes, TellsPorts, comma_line, draws_text, has_no_ticket, head_of, line_row, markdown_row, note_row, note_text, plain_row, stops_text};
+ghost use Rattle.job_charts.specs.Markdown.{map_back};
 ghost use Rattle.job_charts.specs.Rows.{TellsPort};
 ghost use Rattle.job_charts.specs.Telling.{TellsFirst};
 ghost use Rattle.job_charts.specs.Words.{with_words};
 
 use crate::asked::Asked;
 use crate::courses::add_course;
+use crate::markdown::{map_back, map_front, map_head};
 use crate::ports::{PORTS, Tables};
 use crate::rows::{Row, add_rows};
+use crate::styles::Style;
 use crate::witnesses::{line_at, some_point};
 use crate::words::add_words;
 use chart_lines::map_of;
@@ -50,32 +54,80 @@ fn line_course(alloc: Global, at: &Asked, point: &Point) -> Result<String, Alloc
 }
 
 /// The row of a line: its words, and what the table asks at a point.
-fn line_row(alloc: Global, at: &Asked, line: &Line, point: &Point) -> Result<Row, AllocError>
-    ensures { IfOk result (λ row. row ≡ line_row at.now line.now point.now) }
+fn plain_row(alloc: Global, at: &Asked, line: &Line, point: &Point) -> Result<Row, AllocError>
+    ensures { IfOk result (λ row. row ≡ plain_row at.now line.now point.now) }
 {
     let front = line_words(alloc, line)?;
     let back = line_course(alloc, at, point)?;
     Ok(Row::new(at.port(), front, back, String::new(alloc)))
 }
 
+/// The cells of a row after its ports: what the table asks at a point, with comments.
+fn course_cells(
+    alloc: Global,
+    comments: &[&str],
+    at: &Asked,
+    point: &Point,
+) -> Result<String, AllocError>
+    ensures { IfOk result (λ text. string_bytes text
+        ≡ map_back at.now.lines (texts comments.now) (steps_at at.now.rules point.now)) }
+{
+    let steps = course(alloc, at.rules(), point)?;
+    map_back(alloc, at.lines(), comments, steps.as_slice())
+}
+
+/// The row of a line in markdown.
+fn markdown_row(
+    alloc: Global,
+    comments: &[&str],
+    at: &Asked,
+    line: &Line,
+    point: &Point,
+) -> Result<Row, AllocError>
+    ensures { IfOk result (λ row.
+        row ≡ markdown_row (texts comments.now) at.now line.now point.now) }
+{
+    let front = map_front(alloc, line)?;
+    let back = course_cells(alloc, comments, at, point)?;
+    Ok(Row::new(at.port(), front, back, String::new(alloc)))
+}
+
+/// The row of a line.
+fn line_row(
+    alloc: Global,
+    how: &Style<'_>,
+    at: &Asked,
+    line: &Line,
+    point: &Point,
+) -> Result<Row, AllocError>
+    ensures { IfOk result (λ row. row ≡ line_row how.now at.now line.now point.now) }
+{
+    if how.is_markdown() {
+        markdown_row(alloc, how.comments(), at, line, point)
+    } else {
+        plain_row(alloc, at, line, point)
+    }
+}
+
 /// Adds the row of the line of a place; nothing, where it has no command.
 fn push_line(
     rows: &mut Vec<Row>,
     alloc: Global,
+    how: &Style<'_>,
     at: &Asked,
     chart: &[Line],
     place: usize,
 ) -> Result<(), AllocError>
     requires place { place < length chart.now }
     requires map { IsMap at.now.rules chart.now }
-    ensures { OnOk result (TellsLine at.now chart.now place rows.old.items rows.new.items) }
+    ensures { OnOk result (TellsLine how.now at.now chart.now place rows.old.items rows.new.items) }
 {
     charts_are_read();
     let Some(point) = some_point(chart, place) else {
         return Ok(());
     };
     let line = line_at(chart, place);
-    let row = line_row(alloc, at, &line, &point)?;
+    let row = line_row(alloc, how, at, &line, &point)?;
     Ok(rows.push(row)?)
 }
 
@@ -83,25 +135,31 @@ fn push_line(
 fn push_chart(
     rows: &mut Vec<Row>,
     alloc: Global,
+    how: &Style<'_>,
     at: &Asked,
     chart: &[Line],
 ) -> Result<(), AllocError>
     requires { IsMap at.now.rules chart.now }
-    ensures { OnOk result (TellsFirst (TellsLine at.now chart.now) (length chart.now)
+    ensures { OnOk result (TellsFirst (TellsLine how.now at.now chart.now) (length chart.now)
         rows.old.items rows.new.items) }
 {
     for place in 0..chart.len() {
-        push_line(rows, alloc, at, chart, place)?;
+        push_line(rows, alloc, how, at, chart, place)?;
     }
     Ok(())
 }
 
 /// Adds the row of each line of a map of the table.
-fn push_lines(rows: &mut Vec<Row>, alloc: Global, at: &Asked) -> Result<(), AllocError>
-    ensures { OnOk result (TellsLines at.now rows.old.items rows.new.items) }
+fn push_lines(
+    rows: &mut Vec<Row>,
+    alloc: Global,
+    how: &Style<'_>,
+    at: &Asked,
+) -> Result<(), AllocError>
+    ensures { OnOk result (TellsLines how.now at.now rows.old.items rows.new.items) }
 {
     let chart = map_of(alloc, at.rules())?;
-    push_chart(rows, alloc, at, chart.as_slice())
+    push_chart(rows, alloc, how, at, chart.as_slice())
 }
 
 /// Adds the number of a rule, if it decides without quota somewhere where the rule of a place holds.
@@ -217,10 +275,10 @@ fn reason(
 }
 
 /// What is told of the rule of a line that never matches, before the ports.
-fn note_text(alloc: Global, line: usize) -> Result<String, AllocError>
-    ensures { IfOk result (λ text. string_bytes text ≡ note_text line) }
+fn note_text(alloc: Global, markdown: bool, line: usize) -> Result<String, AllocError>
+    ensures { IfOk result (λ text. string_bytes text ≡ note_text markdown line) }
 {
-    let mut text = String::new(alloc);
+    let mut text = String::from_str(alloc, if markdown { "\n" } else { "" })?;
     write!(text, "rule {line}")?;
     Ok(text)
 }
@@ -236,10 +294,16 @@ fn never_text(alloc: Global, reason: &str) -> Result<String, AllocError>
 }
 
 /// The row of the rule of a line that never matches at a port, with the reason.
-fn note_row(alloc: Global, port: u8, line: usize, reason: &str) -> Result<Row, AllocError>
-    ensures { IfOk result (λ row. row ≡ note_row port line reason.now) }
+fn note_row(
+    alloc: Global,
+    markdown: bool,
+    port: u8,
+    line: usize,
+    reason: &str,
+) -> Result<Row, AllocError>
+    ensures { IfOk result (λ row. row ≡ note_row markdown port line reason.now) }
 {
-    let front = note_text(alloc, line)?;
+    let front = note_text(alloc, markdown, line)?;
     let back = never_text(alloc, reason)?;
     Ok(Row::new(port, front, back, String::new(alloc)))
 }
@@ -248,15 +312,16 @@ fn note_row(alloc: Global, port: u8, line: usize, reason: &str) -> Result<Row, A
 fn push_never(
     rows: &mut Vec<Row>,
     alloc: Global,
+    markdown: bool,
     at: &Asked,
     place: usize,
 ) -> Result<(), AllocError>
     requires place { place < length at.now.rules }
     requires never { NeverMatches at.now.rules place }
-    ensures { OnOk result (TellsNever at.now place rows.old.items rows.new.items) }
+    ensures { OnOk result (TellsNever markdown at.now place rows.old.items rows.new.items) }
 {
     let why = reason(alloc, at.rules(), at.lines(), place)?;
-    let row = note_row(alloc, at.port(), at.line_at(place), why.as_str())?;
+    let row = note_row(alloc, markdown, at.port(), at.line_at(place), why.as_str())?;
     Ok(rows.push(row)?)
 }
 
@@ -264,24 +329,30 @@ fn push_never(
 fn push_note(
     rows: &mut Vec<Row>,
     alloc: Global,
+    markdown: bool,
     at: &Asked,
     place: usize,
 ) -> Result<(), AllocError>
     requires { place < length at.now.rules }
-    ensures { OnOk result (TellsNote at.now place rows.old.items rows.new.items) }
+    ensures { OnOk result (TellsNote markdown at.now place rows.old.items rows.new.items) }
 {
     if never_matches(at.rules(), place) {
-        return push_never(rows, alloc, at, place);
+        return push_never(rows, alloc, markdown, at, place);
     }
     Ok(())
 }
 
 /// Adds the rows of the rules that never match.
-fn push_notes(rows: &mut Vec<Row>, alloc: Global, at: &Asked) -> Result<(), AllocError>
-    ensures { OnOk result (TellsNotes at.now rows.old.items rows.new.items) }
+fn push_notes(
+    rows: &mut Vec<Row>,
+    alloc: Global,
+    markdown: bool,
+    at: &Asked,
+) -> Result<(), AllocError>
+    ensures { OnOk result (TellsNotes markdown at.now rows.old.items rows.new.items) }
 {
     for place in 0..at.rules().len() {
-        push_note(rows, alloc, at, place)?;
+        push_note(rows, alloc, markdown, at, place)?;
     }
     Ok(())
 }
@@ -290,67 +361,82 @@ fn push_notes(rows: &mut Vec<Row>, alloc: Global, at: &Asked) -> Result<(), Allo
 fn push_lines_at(
     rows: &mut Vec<Row>,
     alloc: Global,
+    how: &Style<'_>,
     policy: &Policy,
     port: u8,
 ) -> Result<(), AllocError>
     ensures { OnOk result (TellsPort (λ own. is_named own policy.now.rules)
-        (λ own. TellsLines (asked_at policy.now own)) port rows.old.items rows.new.items) }
+        (λ own. TellsLines how.now (asked_at policy.now own)) port rows.old.items rows.new.items) }
 {
     if !Tables::One(policy).chart_port(port) {
         return Ok(());
     }
     let at = Asked::at(alloc, policy, port)?;
-    push_lines(rows, alloc, &at)
+    push_lines(rows, alloc, how, &at)
 }
 
 /// Adds the rows of the rules of a port that never match there, if a chart of it is made.
 fn push_notes_at(
     rows: &mut Vec<Row>,
     alloc: Global,
+    markdown: bool,
     policy: &Policy,
     port: u8,
 ) -> Result<(), AllocError>
     ensures { OnOk result (TellsPort (λ own. is_named own policy.now.rules)
-        (λ own. TellsNotes (asked_at policy.now own)) port rows.old.items rows.new.items) }
+        (λ own. TellsNotes markdown (asked_at policy.now own)) port rows.old.items rows.new.items) }
 {
     if !Tables::One(policy).chart_port(port) {
         return Ok(());
     }
     let at = Asked::at(alloc, policy, port)?;
-    push_notes(rows, alloc, &at)
+    push_notes(rows, alloc, markdown, &at)
 }
 
 /// The rows of the lines of a map at each port.
-fn line_rows(alloc: Global, policy: &Policy) -> Result<Vec<Row>, AllocError>
-    ensures { IfOk result (λ rows. TellsPorts policy.now TellsLines 32 [] rows.items) }
+fn line_rows(alloc: Global, how: &Style<'_>, policy: &Policy) -> Result<Vec<Row>, AllocError>
+    ensures { IfOk result (λ rows. TellsPorts policy.now (TellsLines how.now) 32 [] rows.items) }
 {
     let mut rows = Vec::new(alloc);
     for port in 0..PORTS {
-        push_lines_at(&mut rows, alloc, policy, port)?;
+        push_lines_at(&mut rows, alloc, how, policy, port)?;
     }
     Ok(rows)
 }
 
 /// The rows of the rules that never match, at each port.
-fn note_rows(alloc: Global, policy: &Policy) -> Result<Vec<Row>, AllocError>
-    ensures { IfOk result (λ rows. TellsPorts policy.now TellsNotes 32 [] rows.items) }
+fn note_rows(alloc: Global, markdown: bool, policy: &Policy) -> Result<Vec<Row>, AllocError>
+    ensures { IfOk result (λ rows. TellsPorts policy.now (TellsNotes markdown) 32 [] rows.items) }
 {
     let mut rows = Vec::new(alloc);
     for port in 0..PORTS {
-        push_notes_at(&mut rows, alloc, policy, port)?;
+        push_notes_at(&mut rows, alloc, markdown, policy, port)?;
     }
     Ok(rows)
 }
 
-/// What is told of a table: a line for each of its map, and one for each rule that never matches; behind each the ports, where it
-/// is not so at all.
-pub fn map_text(alloc: Global, policy: &Policy) -> Result<String, AllocError>
-    ensures { IfOk result (λ text. TellsMap policy.now (string_bytes text)) }
+/// What is before all rows: in markdown the headings.
+fn head_of(alloc: Global, markdown: bool) -> Result<String, AllocError>
+    ensures { IfOk result (λ text. string_bytes text ≡ head_of markdown) }
 {
-    let lines = line_rows(alloc, policy)?;
-    let notes = note_rows(alloc, policy)?;
-    let mut text = String::new(alloc);
-    add_rows(&mut text, alloc, Tables::One(policy), lines.as_slice())?;
-    add_rows(&mut text, alloc, Tables::One(policy), notes.as_slice())?;
+    if markdown {
+        map_head(alloc)
+    } else {
+        Ok(String::new(alloc))
+    }
+}
+
+/// What is told of a table: a line for each of its map, and one for each rule that never matches; behind each the ports, where it
+/// is not so at all. In markdown a line of the map is a row of a table, with its ports, and a rule that never matches a paragraph.
+pub fn map_text(alloc: Global, how: &Style<'_>, policy: &Policy) -> Result<String, AllocError>
+    ensures { IfOk result (λ text. TellsMap how.now policy.now (string_bytes text)) }
+{
+    let markdown = how.is_markdown();
+    let tables = Tables::One(policy);
+    let lines = line_rows(alloc, how, policy)?;
+    let notes = note_rows(alloc, markdown, policy)?;
+    let mut text = head_of(alloc, markdown)?;
+    add_rows(&mut text, alloc, markdown, tables, lines.as_slice())?;
+    add_rows(&mut text, alloc, false, tables, notes.as_slice())?;
     Ok(text)
 }

@@ -180,11 +180,19 @@ pub fn add_ports(text: &mut String, ports: &[u8], beside: &[u8]) -> Result<(), A
     add_numbers(text, beside)
 }
 
-/// Adds the word for ports behind a row: nothing for all.
-fn add_port_words(text: &mut String, ports: &[u8], beside: &[u8]) -> Result<(), AllocError>
+/// Adds the ports of a row: in markdown the word for them, and in a line nothing for all.
+fn add_port_words(
+    text: &mut String,
+    markdown: bool,
+    ports: &[u8],
+    beside: &[u8],
+) -> Result<(), AllocError>
     ensures { OnOk result
-        (string_bytes text.new ≡ string_bytes text.old ++ port_words ports.now beside.now) }
+        (string_bytes text.new ≡ string_bytes text.old ++ port_words markdown ports.now beside.now) }
 {
+    if markdown {
+        return add_ports(text, ports, beside);
+    }
     if ports.len() == usize::from(PORTS) {
         return Ok(());
     }
@@ -221,12 +229,13 @@ pub fn is_told(rows: &[Row], row: &Row) -> bool
 fn add_row(
     text: &mut String,
     alloc: Global,
+    markdown: bool,
     tables: Tables<'_>,
     rows: &[Row],
     row: &Row,
 ) -> Result<(), AllocError>
     ensures { OnOk result (string_bytes text.new
-        ≡ with_row (λ p. names_port tables.entry p) rows.now (string_bytes text.old) row.now) }
+        ≡ with_row markdown (λ p. names_port tables.entry p) rows.now (string_bytes text.old) row.now) }
 {
     if is_told(rows, row) {
         return Ok(());
@@ -234,7 +243,7 @@ fn add_row(
     let ports = ports_with(alloc, tables, rows, row)?;
     let beside = ports_beside(alloc, tables, rows, row)?;
     text.push_str(row.front())?;
-    add_port_words(text, ports.as_slice(), beside.as_slice())?;
+    add_port_words(text, markdown, ports.as_slice(), beside.as_slice())?;
     text.push_str(row.back())?;
     add_packet_line(text, row.port(), row.packet())
 }
@@ -243,14 +252,15 @@ fn add_row(
 pub fn add_rows(
     text: &mut String,
     alloc: Global,
+    markdown: bool,
     tables: Tables<'_>,
     rows: &[Row],
 ) -> Result<(), AllocError>
     ensures { OnOk result (string_bytes text.new
-        ≡ with_rows (λ p. names_port tables.entry p) rows.now (string_bytes text.old) rows.now) }
+        ≡ with_rows markdown (λ p. names_port tables.entry p) rows.now (string_bytes text.old) rows.now) }
 {
     for row in rows {
-        add_row(text, alloc, tables, rows, row)?;
+        add_row(text, alloc, markdown, tables, rows, row)?;
     }
     Ok(())
 }

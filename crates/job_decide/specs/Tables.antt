@@ -37,6 +37,13 @@ module _ {S : Type 0} (reads : Reads S) where
     pub is_table : WritesPolicy (lines_of text) policy
     pub faultless : policy_fault sizes policy ≡ None
 
+  -- the file was read, and gave the UTF-8 of this text, which is such a table
+  pub record HoldsText (before : S) (name : List ℕ) (sizes : Maps) (text : List ℕ) (policy : PolicyValue) (after : S) : Type 0 where
+    pub read : reads before name (Some text) after
+    pub utf8 : IsUtf8 text
+    pub is_table : WritesPolicy (lines_of text) policy
+    pub faultless : policy_fault sizes policy ≡ None
+
   -- the file was read, and gave the UTF-8 of a table whose first fault for these maps is this one, with its place
   pub record HoldsBadTable (before : S) (name : List ℕ) (sizes : Maps) (fault : TextFault) (after : S) : Type 0 where
     pub text : List ℕ

@@ -1,7 +1,7 @@
 //! The tables of files.
 
-ghost use Rattle.std.specs.Prelude.{◌≡◌, IfErr, IfOk, OnOk};
-ghost use Rattle.job_decide.specs.Tables.{HoldsTable, IsNoTable, TellsTableFault, line_of};
+ghost use Rattle.std.specs.Prelude.{◌≡◌, IfErr, IfOk, OnOk, string_bytes};
+ghost use Rattle.job_decide.specs.Tables.{HoldsTable, HoldsText, IsNoTable, TellsTableFault, line_of};
 ghost use Rattle.job_decide.specs.declared.tables.NoTable.TheVariants.{BadTable, Ended};
 ghost use Rattle.job_parts.specs.declared.faults.Fault.TheVariants.{NoMemory};
 
@@ -61,6 +61,22 @@ pub fn table_in<'a, F: Files>(
     Ok(Policy::read_for(alloc, text.as_str(), sizes)?)
 }
 
+/// The text of the file of this name, and the table that it writes, as [`table_in`] gives it.
+pub fn text_and_table<'a, F: Files>(
+    alloc: Global,
+    files: &mut F,
+    name: &'a str,
+    sizes: &MapSizes,
+) -> Result<(String, Policy), NoTable<'a>>
+    ensures table { IfOk result (λ made. HoldsText F.reads files.old name.now sizes.now
+        (string_bytes made.0) made.1 files.new) }
+    ensures none { IfErr result (IsNoTable F.reads files.old name.now sizes.now files.new) }
+{
+    let text = text_in(alloc, files, name)?;
+    let table = Policy::read_for(alloc, text.as_str(), sizes)?;
+    Ok((text, table))
+}
+
 /// Prints the fault of a table: its line, and a line with its place.
 pub fn print_table_fault<W: Write>(out: &mut W, fault: &TextFault) -> io::Result<()>
     ensures { OnOk result (TellsTableFault fault.now (W.contents out.old) (W.contents out.new)) }
@@ -74,8 +90,5 @@ pub fn print_table_fault<W: Write>(out: &mut W, fault: &TextFault) -> io::Result
 pub fn line_of(lines: &[usize], number: usize) -> usize
     ensures { result ≡ line_of lines.now number }
 {
-    lines
-        .get(number.saturating_sub(1))
-        .copied()
-        .unwrap_or(0)
+    lines.get(number.saturating_sub(1)).copied().unwrap_or(0)
 }
