@@ -1,5 +1,6 @@
 -- The lines of charts as rows of a table in markdown (GitHub Flavored Markdown, 4.10, Tables).
 use Rattle.std.specs.Prelude.{◌≡◌, ◌==◌, ◌||◌, ℕ, Bool, nat_lt, if◌then◌else◌, List, [], ◌∷◌, ◌++◌, codes, decimal, get_or, map, Option, Some, None}
+use Rattle.std.specs.Borrow.{Bor}
 use Rattle.std.specs.Char.{encode_utf8}
 use Rattle.std.specs.List.{after_first, flat_map}
 use Rattle.std.specs.Str.{chars, trim}
@@ -13,6 +14,10 @@ use Rattle.job_decide.specs.Tables.{line_of}
 use Rattle.job_charts.specs.Words.{addresses_text, kinds_word, set_text}
 use Rattle.job_charts.specs.declared.markdown.Column.{Column}
 use Rattle.job_charts.specs.declared.markdown.Column.TheVariants.{Asks, Verdict, Rule, Comment}
+
+-- texts that are lent
+abbrev pub texts : List (Bor (List ℕ)) → List (List ℕ)
+texts lent = map (λ text. text.now) lent
 
 -- ---- comments
 

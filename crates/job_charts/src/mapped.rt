@@ -2,7 +2,7 @@
 
 ghost use Rattle.std.specs.Prelude.{◌≡◌, ◌<◌, ◌++◌, ◌∷◌, ◌+◌, ◌-◌, ◌^◌, [], IfOk, OnOk, codes, length, string_bytes};
 ghost use Rattle.std.specs.List.{flat_map};
-ghost use Rattle.basm.specs.Relation.{texts};
+ghost use Rattle.job_charts.specs.Markdown.{texts};
 ghost use Rattle.charts.specs.Deciders.{NeverMatches};
 ghost use Rattle.charts.specs.Lines.{IsMap};
 ghost use Rattle.differences.specs.Steps.{steps_at};

@@ -3,7 +3,7 @@
 ghost use Rattle.std.specs.Prelude.{◌≡◌, ◌++◌, IfOk, OnOk, [], get_or, string_bytes};
 ghost use Rattle.std.specs.List.{flat_map};
 ghost use Rattle.std.specs.Str.{chars};
-ghost use Rattle.basm.specs.Relation.{texts};
+ghost use Rattle.job_charts.specs.Markdown.{texts};
 ghost use Rattle.rmap.specs.Verdict.{verdict_number};
 ghost use Rattle.spw.specs.Line.{lines_of as lines_in};
 ghost use Rattle.job_charts.specs.Markdown.{cell_char, comment_in, comment_text, comments_of, comparison_back, comparison_front, comparison_head, has_meaning, map_back, map_front, map_head, no_rule_text, quota_cell, step_cell, with_asks, with_cell, with_course_cell, with_line_cells};

@@ -1,7 +1,7 @@
 //! How a table is told.
 
 ghost use Rattle.std.specs.Prelude.{◌≡◌, IfOk};
-ghost use Rattle.basm.specs.Relation.{texts};
+ghost use Rattle.job_charts.specs.Markdown.{texts};
 ghost use Rattle.spw.specs.Line.{lines_of};
 ghost use Rattle.job_charts.specs.Mapped.{style};
 ghost use Rattle.job_charts.specs.Markdown.{comments_of};
@@ -18,7 +18,7 @@ pub struct Style<'a> {
 }
 
 impl<'a> Model for Style<'a> {
-    ghost use Rattle.basm.specs.Relation.{texts};
+    ghost use Rattle.job_charts.specs.Markdown.{texts};
     ghost use Rattle.job_charts.specs.Mapped.{StyleValue, style};
 
     ghost Value = { StyleValue };
