@@ -2,3 +2,4 @@ mod Limits
 mod PacketBytes
 mod WitnessPoints
 mod Telling
+mod Ports

@@ -174,8 +174,7 @@ fn push_line(
     place: usize,
 ) -> Result<(), AllocError>
     requires place { place < length comparison.chart.now }
-    requires comparison
-        { IsComparison comparison.old.now.rules comparison.new.now.rules comparison.chart.now }
+    requires comparison { IsComparison comparison.old.now.rules comparison.new.now.rules comparison.chart.now }
     ensures { OnOk result (TellsLine comparison.entry.old.now comparison.entry.new.now
         comparison.entry.chart.now place rows.old.items rows.new.items) }
 {
@@ -186,7 +185,8 @@ fn push_line(
     let line = line_at(comparison.chart, place);
     let difference = difference_at(alloc, comparison, &point)?;
     let row = difference_row(alloc, comparison, &line, &difference, &point)?;
-    Ok(rows.push(row)?)
+    rows.push(row)?;
+    Ok(())
 }
 
 /// Adds the row of each line.

@@ -76,7 +76,8 @@ fn push_line(
     };
     let line = line_at(chart, place);
     let row = line_row(alloc, at, &line, &point)?;
-    Ok(rows.push(row)?)
+    rows.push(row)?;
+    Ok(())
 }
 
 /// Adds the row of each line of a chart.
@@ -257,16 +258,12 @@ fn push_never(
 {
     let why = reason(alloc, at.rules(), at.lines(), place)?;
     let row = note_row(alloc, at.port(), at.line_at(place), why.as_str())?;
-    Ok(rows.push(row)?)
+    rows.push(row)?;
+    Ok(())
 }
 
 /// Adds the row of the rule of a place, where it never matches.
-fn push_note(
-    rows: &mut Vec<Row>,
-    alloc: Global,
-    at: &Asked,
-    place: usize,
-) -> Result<(), AllocError>
+fn push_note(rows: &mut Vec<Row>, alloc: Global, at: &Asked, place: usize) -> Result<(), AllocError>
     requires { place < length at.now.rules }
     ensures { OnOk result (TellsNote at.now place rows.old.items rows.new.items) }
 {

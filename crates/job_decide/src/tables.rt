@@ -74,8 +74,5 @@ pub fn print_table_fault<W: Write>(out: &mut W, fault: &TextFault) -> io::Result
 pub fn line_of(lines: &[usize], number: usize) -> usize
     ensures { result ≡ line_of lines.now number }
 {
-    lines
-        .get(number.saturating_sub(1))
-        .copied()
-        .unwrap_or(0)
+    lines.get(number.saturating_sub(1)).copied().unwrap_or(0)
 }
