@@ -230,7 +230,8 @@ fn push_line(
     let line = line_at(comparison.chart, place);
     let difference = difference_at(alloc, comparison, &point)?;
     let row = difference_row(alloc, comparison, &line, &difference, &point)?;
-    Ok(rows.push(row)?)
+    rows.push(row)?;
+    Ok(())
 }
 
 /// Adds the row of each line.

@@ -128,7 +128,8 @@ fn push_line(
     };
     let line = line_at(chart, place);
     let row = line_row(alloc, how, at, &line, &point)?;
-    Ok(rows.push(row)?)
+    rows.push(row)?;
+    Ok(())
 }
 
 /// Adds the row of each line of a chart.
@@ -322,7 +323,8 @@ fn push_never(
 {
     let why = reason(alloc, at.rules(), at.lines(), place)?;
     let row = note_row(alloc, markdown, at.port(), at.line_at(place), why.as_str())?;
-    Ok(rows.push(row)?)
+    rows.push(row)?;
+    Ok(())
 }
 
 /// Adds the row of the rule of a place, where it never matches.

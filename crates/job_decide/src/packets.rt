@@ -145,7 +145,13 @@ fn decide_admitted<W: Write>(
     let mut calls = Vec::new(alloc);
     let found = table.matched(front, tail, counts, &mut calls)?;
     let passed = passed_by(alloc, &table, found.verdict, front, tail, calls.as_slice())?;
-    let why = why_passed(alloc, policy.rules(), port, found.verdict, passed.as_slice())?;
+    let why = why_passed(
+        alloc,
+        policy.rules(),
+        port,
+        found.verdict,
+        passed.as_slice(),
+    )?;
     print_match(out, port, lines.as_slice(), found)?;
     Ok(print_more(out, why.as_str())?)
 }

@@ -86,7 +86,10 @@ pub fn reasons(
     for own in rules {
         let line = own.line;
         if let Some(wanted) = other_port(own, port) {
-            writeln!(text, "    rule {line}: PORT is {wanted}, the packet's {port}")?;
+            writeln!(
+                text,
+                "    rule {line}: PORT is {wanted}, the packet's {port}"
+            )?;
             continue;
         }
         let Some((why, rest)) = left.split_first() else {

@@ -1,10 +1,9 @@
-use Rattle.std.proofs.Common.{◌≡◌, ◌∙◌, ◌++◌, ◌∷◌, [], List, ℕ, ap, map, sym}
-use Rattle.std.proofs.lemmas.List.{append_assoc}
+use Rattle.std.proofs.Common.{◌≡◌, ◌∙◌, append-nil, sym}
 use Rattle.job_charts.specs.Markdown.{texts}
-use Rattle.job_charts.specs.Markdown.{comment_in}
+use Rattle.job_charts.proofs.Comments.{comments_more}
 use Rattle.job_charts.proofs.markdown.comments_of.Goals as goal
 
 pub loop-line-preserved : goal.loop-line-preserved
 loop-line-preserved c =
-    let next : c.loop-line.line-iterator ≡ c.in-Some.line.now ∷ c.next.new.self = c.in-Some.ensures.steps in
-    grind
+    comments_more c.loop-line.comments.items c.push.new.self.items c.comment_in.result c.in-Some.line.now c.loop-line.line-iterator c.next.new.self _
+    c.in_ok-push.ensures.items c.comment_in.ensures c.in-Some.ensures.steps c.loop-line.invariant
