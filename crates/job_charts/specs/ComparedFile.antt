@@ -7,6 +7,7 @@ use Rattle.machine.specs.Sizes.{Maps}
 use Rattle.policy_table.specs.Policies.{PolicyValue}
 use Rattle.policy_table.specs.Ports.{rules_at}
 use Rattle.policy_table.specs.TextFaults.{text_fault_of, text_fault_text}
+use Rattle.policy_table.specs.declared.rules.Rule.{Rule}
 use Rattle.policy_table.specs.declared.text_faults.TextFault.{TextFault}
 use Rattle.regions.specs.declared.points.Point.{Point}
 use Rattle.job_decide.specs.Tables.{HoldsBadTable, HoldsTable}
@@ -33,11 +34,14 @@ pub record TellsNamedFault (name : List ℕ) (fault : TextFault) (old new : Opti
 
 -- ---- where tables differ
 
--- two tables decide the command of a point differently at a port
+-- two tables of a port decide the command of a point differently
+abbrev pub HaveDifference : (one other : List Rule) → Type 0
+HaveDifference one other = (point : Point) × IsDifference one other point
+
+-- two tables do so at a port
 pub record DifferAt (one other : PolicyValue) (port : ℕ) : Type 0 where
   pub is_port : port < 32
-  pub point : Point
-  pub differ : IsDifference (rules_at port one.rules) (rules_at port other.rules) point
+  pub differ : HaveDifference (rules_at port one.rules) (rules_at port other.rules)
 
 -- at some port
 abbrev pub DifferSomewhere : (one other : PolicyValue) → Type 0

@@ -6,8 +6,9 @@ ghost use Rattle.clap.specs.declared.builder.command.Command.TheViews.{out-Comma
 ghost use Rattle.clap.specs.Walk.{rows_of};
 ghost use Rattle.clap.specs.Matches.{found_of};
 ghost use Rattle.job_parts.specs.Stops.{StopsBy};
+ghost use Rattle.charts.specs.Same.{AreSame};
 ghost use Rattle.job_charts.specs.CompareJob.{NamesCompare, RefusesCompare, are_one_input, compare_app};
-ghost use Rattle.job_charts.specs.ComparedFile.{AreTables, AreSameAtAll, AreSameIfCharted, ComparesFile, DifferAt, DifferSomewhere, IsNoNamed, IsNoPair, IsNotCompared, TellsNamedFault, TellsTables};
+ghost use Rattle.job_charts.specs.ComparedFile.{AreTables, AreSameAtAll, AreSameIfCharted, ComparesFile, DifferAt, DifferSomewhere, HaveDifference, IsNoNamed, IsNoPair, IsNotCompared, TellsNamedFault, TellsTables};
 ghost use Rattle.job_decide.specs.Tables.{HoldsTable};
 ghost use Rattle.job_parts.specs.declared.faults.Fault.TheVariants.{NoMemory};
 
@@ -159,6 +160,17 @@ fn print_named_fault<W: Write>(out: &mut W, name: &str, fault: &TextFault) -> io
     writeln!(out, "{fault}")
 }
 
+/// Whether two tables decide a command differently, by what they ask at a port.
+fn are_apart(old: &Asked, new: &Asked) -> bool
+    ensures { MatchBool result (HaveDifference old.now.rules new.now.rules)
+        (AreSame old.now.rules new.now.rules) }
+{
+    match first_difference(old.rules(), new.rules()) {
+        Some(_point) => true,
+        None => false,
+    }
+}
+
 /// Whether two tables decide a command differently at a port of which a chart is made.
 fn differ_at(alloc: Global, old: &Policy, new: &Policy, port: u8) -> Result<bool, AllocError>
     requires { port < 32 }
@@ -170,7 +182,7 @@ fn differ_at(alloc: Global, old: &Policy, new: &Policy, port: u8) -> Result<bool
     }
     let old = Asked::at(alloc, old, port)?;
     let new = Asked::at(alloc, new, port)?;
-    Ok(first_difference(old.rules(), new.rules()).is_some())
+    Ok(are_apart(&old, &new))
 }
 
 /// Whether two tables decide a command differently at some port.
