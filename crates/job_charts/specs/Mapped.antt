@@ -65,9 +65,13 @@ pub record TellsLines (how : StyleValue) (at : AskedValue) (before after : List 
 
 -- ---- rules that never match
 
+-- what is before a paragraph in markdown: an empty line
+abbrev pub paragraph_text : (markdown : Bool) → List ℕ
+paragraph_text markdown = if markdown then codes "\n" else []
+
 -- the beginning of what is told of the rule of a line that never matches: in markdown it is a paragraph
 abbrev pub note_text : (markdown : Bool) → (line : ℕ) → List ℕ
-note_text markdown line = (if markdown then 10 ∷ [] else []) ++ codes "rule " ++ decimal line
+note_text markdown line = paragraph_text markdown ++ codes "rule " ++ decimal line
 
 -- the number of a rule behind others, if it is the first without quota at some point at which the rule of the place holds
 abbrev pub AddsStop : List Rule → (place stop : ℕ) → (before numbers : List ℕ) → Type 0

@@ -1,5 +1,5 @@
 -- The lines of charts as rows of a table in markdown (GitHub Flavored Markdown, 4.10, Tables).
-use Rattle.std.specs.Prelude.{◌≡◌, ◌==◌, ◌||◌, ℕ, Bool, nat_lt, if◌then◌else◌, List, [], ◌∷◌, ◌++◌, codes, decimal, get_or, map, Option, Some, None}
+use Rattle.std.specs.Prelude.{◌==◌, ◌||◌, ℕ, Bool, nat_lt, if◌then◌else◌, List, [], ◌∷◌, ◌++◌, codes, decimal, get_or, map, Option, Some, None}
 use Rattle.std.specs.Borrow.{Bor}
 use Rattle.std.specs.Char.{encode_utf8}
 use Rattle.std.specs.List.{after_first, flat_map}
@@ -8,7 +8,6 @@ use Rattle.charts.specs.declared.lines.Line.{Line}
 use Rattle.differences.specs.declared.courses.Step.{Step}
 use Rattle.policy_table.specs.Statements.{is_semicolon}
 use Rattle.policy_table.specs.declared.rules.Quota.{Quota}
-use Rattle.regions.specs.declared.regions.Region.{Region}
 use Rattle.rmap.specs.Verdict.{verdict_number}
 use Rattle.job_decide.specs.Tables.{line_of}
 use Rattle.job_charts.specs.Words.{addresses_text, kinds_word, set_text}

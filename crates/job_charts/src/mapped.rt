@@ -9,7 +9,7 @@ ghost use Rattle.differences.specs.Steps.{steps_at};
 ghost use Rattle.policy_table.specs.PortTables.{is_named};
 ghost use Rattle.job_charts.specs.AskedTables.{asked_at};
 ghost use Rattle.job_charts.specs.Courses.{with_course};
-ghost use Rattle.job_charts.specs.Mapped.{AddsStop, AreStops, IsReason, TellsLine, TellsLines, TellsMap, TellsNever, TellsNote, TellsNotes, TellsPorts, comma_line, draws_text, has_no_ticket, head_of, line_row, markdown_row, note_row, note_text, plain_row, stops_text};
+ghost use Rattle.job_charts.specs.Mapped.{AddsStop, AreStops, IsReason, TellsLine, TellsLines, TellsMap, TellsNever, TellsNote, TellsNotes, TellsPorts, comma_line, draws_text, has_no_ticket, head_of, line_row, markdown_row, note_row, note_text, paragraph_text, plain_row, stops_text};
 ghost use Rattle.job_charts.specs.Markdown.{map_back};
 ghost use Rattle.job_charts.specs.Rows.{TellsPort};
 ghost use Rattle.job_charts.specs.Telling.{TellsFirst};
@@ -275,11 +275,18 @@ fn reason(
     stops_text(alloc, lines, stops.as_slice())
 }
 
+/// What is before a paragraph in markdown.
+fn paragraph_text(markdown: bool) -> &'static str
+    ensures { result.now ≡ paragraph_text markdown }
+{
+    if markdown { "\n" } else { "" }
+}
+
 /// What is told of the rule of a line that never matches, before the ports.
 fn note_text(alloc: Global, markdown: bool, line: usize) -> Result<String, AllocError>
     ensures { IfOk result (λ text. string_bytes text ≡ note_text markdown line) }
 {
-    let mut text = String::from_str(alloc, if markdown { "\n" } else { "" })?;
+    let mut text = String::from_str(alloc, paragraph_text(markdown))?;
     write!(text, "rule {line}")?;
     Ok(text)
 }

@@ -34,10 +34,15 @@ pub enum Column {
 fn has_meaning(c: char) -> bool
     ensures { result ≡ has_meaning c }
 {
-    match c {
-        '&' | '*' | '<' | '[' | '\\' | '_' | '`' | '|' | '~' => true,
-        _ => false,
-    }
+    c == '&'
+        || c == '*'
+        || c == '<'
+        || c == '['
+        || c == '\\'
+        || c == '_'
+        || c == '`'
+        || c == '|'
+        || c == '~'
 }
 
 /// Adds a character of a cell: a space in the place of a control character, and a backslash before one that has a meaning.
@@ -100,7 +105,7 @@ pub fn comments_of(alloc: Global, text: &str) -> Result<Vec<&str>, AllocError>
 fn comment_at<'a>(comments: &[&'a str], line: usize) -> &'a str
     ensures { result.now ≡ get_or (texts comments.now) line [] }
 {
-    match comments.get(line) {
+    match comments.get(line).copied() {
         Some(comment) => comment,
         None => "",
     }
