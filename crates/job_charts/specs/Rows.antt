@@ -26,6 +26,15 @@ abbrev pub says_same : (one other : RowValue) → Bool
 says_same one other =
     bytes_eq one.front other.front && (bytes_eq one.back other.back && bytes_eq one.packet other.packet)
 
+-- whether a row of another port says the same as one
+abbrev pub is_like : (row own : RowValue) → Bool
+is_like row own = not (own.port == row.port) && says_same own row
+
+-- the ports of the rows that say the same at another port
+abbrev pub ports_like : RowValue → List RowValue → List ℕ
+ports_like row [] = []
+ports_like row (own ∷ rows) = if is_like row own then own.port ∷ ports_like row rows else ports_like row rows
+
 -- ---- ports
 
 -- whether a rule of a table names a port, or of either of two
@@ -48,9 +57,9 @@ module _ (named : (port : ℕ) → Bool) where
   abbrev pub stands_for : (own port : ℕ) → Bool
   stands_for own port = if named port then own == port else not (named own)
 
-  -- whether a row is among the rows of a port
+  -- whether a row is among the rows of a port: it is of a chart that stands for it, or one that says the same at another is
   abbrev pub has_row : List RowValue → RowValue → (port : ℕ) → Bool
-  has_row rows row port = list_any (λ own. stands_for own.port port && says_same own row) rows
+  has_row rows row port = stands_for row.port port || list_any (λ own. stands_for own port) (ports_like row rows)
 
   -- the ports, of 32, among whose rows it is
   unfoldable pub ports_with : List RowValue → RowValue → List ℕ

@@ -1,8 +1,8 @@
 //! What is printed of tables at ports, row by row. A row that is the same at several ports is printed once.
 
-ghost use Rattle.std.specs.Prelude.{◌≡◌, ◌++◌, ◌&&◌, IfOk, OnOk, decimal, string_bytes};
+ghost use Rattle.std.specs.Prelude.{◌≡◌, ◌++◌, ◌||◌, IfOk, OnOk, decimal, string_bytes};
 ghost use Rattle.std.specs.List.{flat_map, list_any};
-ghost use Rattle.job_charts.specs.Rows.{comma_port, has_row, is_before, names_port, numbers_text, packet_line, port_words, ports_beside, ports_text, ports_with, row_of, says_same, stands_for, with_row, with_rows};
+ghost use Rattle.job_charts.specs.Rows.{comma_port, is_before, is_like, names_port, numbers_text, packet_line, port_words, ports_beside, ports_like, ports_text, ports_with, row_of, says_same, stands_for, with_row, with_rows};
 
 use crate::ports::{PORTS, Tables};
 use crate::words::push_if;
@@ -79,18 +79,39 @@ impl Row {
     }
 }
 
-/// Whether a row is that of a port, and says the same as another.
-fn is_at(tables: Tables<'_>, own: &Row, row: &Row, port: u8) -> bool
-    ensures { result ≡ (stands_for (λ p. names_port tables.entry p) own.now.port port && says_same own.now row.now) }
+/// Whether a row of another port says the same as one.
+fn is_like(row: &Row, own: &Row) -> bool
+    ensures { result ≡ is_like row.now own.now }
 {
-    tables.stand_for(own.port(), port) && own.says_same(row)
+    own.port() != row.port() && own.says_same(row)
 }
 
-/// Whether a row is among the rows of a port.
-fn has_row(tables: Tables<'_>, rows: &[Row], row: &Row, port: u8) -> bool
-    ensures { result ≡ has_row (λ p. names_port tables.entry p) rows.now row.now port }
+/// The ports of the rows that say the same at another port.
+fn ports_like(alloc: Global, rows: &[Row], row: &Row) -> Result<Vec<u8>, AllocError>
+    ensures { IfOk result (λ ports. ports.items ≡ ports_like row.now rows.now) }
 {
-    rows.iter().any(|own| is_at(tables, own, row, port))
+    let mut ports = Vec::new(alloc);
+    for own in rows {
+        if is_like(row, own) {
+            ports.push(own.port())?;
+        }
+    }
+    Ok(ports)
+}
+
+/// Whether what is charted of one of some ports is so at another.
+fn some_stands_for(tables: Tables<'_>, ports: &[u8], port: u8) -> bool
+    ensures { result ≡ list_any (λ own. stands_for (λ p. names_port tables.entry p) own port) ports.now }
+{
+    ports.iter().any(|own| tables.stand_for(*own, port))
+}
+
+/// Whether a row, which says the same at these other ports, is among the rows of a port.
+fn has_row(tables: Tables<'_>, row: &Row, others: &[u8], port: u8) -> bool
+    ensures { result ≡ (stands_for (λ p. names_port tables.entry p) row.now.port port
+        || list_any (λ own. stands_for (λ p. names_port tables.entry p) own port) others.now) }
+{
+    tables.stand_for(row.port(), port) || some_stands_for(tables, others, port)
 }
 
 /// The ports among whose rows a row is.
@@ -103,9 +124,14 @@ pub fn ports_with(
     ensures { IfOk result (λ ports. ports.items
         ≡ ports_with (λ p. names_port tables.entry p) rows.now row.now) }
 {
+    let others = ports_like(alloc, rows, row)?;
     let mut ports = Vec::new(alloc);
     for port in 0..PORTS {
-        push_if(&mut ports, has_row(tables, rows, row, port), port)?;
+        push_if(
+            &mut ports,
+            has_row(tables, row, others.as_slice(), port),
+            port,
+        )?;
     }
     Ok(ports)
 }
@@ -120,9 +146,14 @@ pub fn ports_beside(
     ensures { IfOk result (λ ports. ports.items
         ≡ ports_beside (λ p. names_port tables.entry p) rows.now row.now) }
 {
+    let others = ports_like(alloc, rows, row)?;
     let mut ports = Vec::new(alloc);
     for port in 0..PORTS {
-        push_if(&mut ports, !has_row(tables, rows, row, port), port)?;
+        push_if(
+            &mut ports,
+            !has_row(tables, row, others.as_slice(), port),
+            port,
+        )?;
     }
     Ok(ports)
 }
