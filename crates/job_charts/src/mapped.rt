@@ -320,16 +320,22 @@ fn note_row(
 fn push_never(
     rows: &mut Vec<Row>,
     alloc: Global,
-    markdown: bool,
+    how: &Style<'_>,
     at: &Asked,
     place: usize,
 ) -> Result<(), AllocError>
     requires place { place < length at.now.rules }
     requires never { NeverMatches at.now.rules place }
-    ensures { OnOk result (TellsNever markdown at.now place rows.old.items rows.new.items) }
+    ensures { OnOk result (TellsNever how.now.markdown at.now place rows.old.items rows.new.items) }
 {
     let why = reason(alloc, at.rules(), at.lines(), place)?;
-    let row = note_row(alloc, markdown, at.port(), at.line_at(place), why.as_str())?;
+    let row = note_row(
+        alloc,
+        how.is_markdown(),
+        at.port(),
+        at.line_at(place),
+        why.as_str(),
+    )?;
     rows.push(row)?;
     Ok(())
 }
@@ -338,15 +344,15 @@ fn push_never(
 fn push_note(
     rows: &mut Vec<Row>,
     alloc: Global,
-    markdown: bool,
+    how: &Style<'_>,
     at: &Asked,
     place: usize,
 ) -> Result<(), AllocError>
     requires { place < length at.now.rules }
-    ensures { OnOk result (TellsNote markdown at.now place rows.old.items rows.new.items) }
+    ensures { OnOk result (TellsNote how.now.markdown at.now place rows.old.items rows.new.items) }
 {
     if never_matches(at.rules(), place) {
-        return push_never(rows, alloc, markdown, at, place);
+        return push_never(rows, alloc, how, at, place);
     }
     Ok(())
 }
@@ -355,13 +361,13 @@ fn push_note(
 fn push_notes(
     rows: &mut Vec<Row>,
     alloc: Global,
-    markdown: bool,
+    how: &Style<'_>,
     at: &Asked,
 ) -> Result<(), AllocError>
-    ensures { OnOk result (TellsNotes markdown at.now rows.old.items rows.new.items) }
+    ensures { OnOk result (TellsNotes how.now.markdown at.now rows.old.items rows.new.items) }
 {
     for place in 0..at.rules().len() {
-        push_note(rows, alloc, markdown, at, place)?;
+        push_note(rows, alloc, how, at, place)?;
     }
     Ok(())
 }
@@ -388,18 +394,18 @@ fn push_lines_at(
 fn push_notes_at(
     rows: &mut Vec<Row>,
     alloc: Global,
-    markdown: bool,
+    how: &Style<'_>,
     policy: &Policy,
     port: u8,
 ) -> Result<(), AllocError>
     ensures { OnOk result (TellsPort (λ own. is_named own policy.now.rules)
-        (λ own. TellsNotes markdown (asked_at policy.now own)) port rows.old.items rows.new.items) }
+        (λ own. TellsNotes how.now.markdown (asked_at policy.now own)) port rows.old.items rows.new.items) }
 {
     if !Tables::One(policy).chart_port(port) {
         return Ok(());
     }
     let at = Asked::at(alloc, policy, port)?;
-    push_notes(rows, alloc, markdown, &at)
+    push_notes(rows, alloc, how, &at)
 }
 
 /// The rows of the lines of a map at each port.
@@ -414,12 +420,12 @@ fn line_rows(alloc: Global, how: &Style<'_>, policy: &Policy) -> Result<Vec<Row>
 }
 
 /// The rows of the rules that never match, at each port.
-fn note_rows(alloc: Global, markdown: bool, policy: &Policy) -> Result<Vec<Row>, AllocError>
-    ensures { IfOk result (λ rows. TellsPorts policy.now (TellsNotes markdown) 32 [] rows.items) }
+fn note_rows(alloc: Global, how: &Style<'_>, policy: &Policy) -> Result<Vec<Row>, AllocError>
+    ensures { IfOk result (λ rows. TellsPorts policy.now (TellsNotes how.now.markdown) 32 [] rows.items) }
 {
     let mut rows = Vec::new(alloc);
     for port in 0..PORTS {
-        push_notes_at(&mut rows, alloc, markdown, policy, port)?;
+        push_notes_at(&mut rows, alloc, how, policy, port)?;
     }
     Ok(rows)
 }
@@ -443,7 +449,7 @@ pub fn map_text(alloc: Global, how: &Style<'_>, policy: &Policy) -> Result<Strin
     let markdown = how.is_markdown();
     let tables = Tables::One(policy);
     let lines = line_rows(alloc, how, policy)?;
-    let notes = note_rows(alloc, markdown, policy)?;
+    let notes = note_rows(alloc, how, policy)?;
     let mut text = head_of(alloc, markdown)?;
     add_rows(&mut text, alloc, markdown, tables, lines.as_slice())?;
     add_rows(&mut text, alloc, false, tables, notes.as_slice())?;

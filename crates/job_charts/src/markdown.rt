@@ -166,12 +166,14 @@ fn add_course_cell(
     let Some((step, rest)) = steps.split_first() else {
         return text.push_str(no_rule_text(column));
     };
-    add_step_cell(text, column, lines, comments, step)?;
-    if step.rule.quota.is_none() {
-        return Ok(());
+    match step.rule.quota {
+        None => add_step_cell(text, column, lines, comments, step),
+        Some(_) => {
+            add_step_cell(text, column, lines, comments, step)?;
+            text.push_str(" else ")?;
+            add_course_cell(text, column, lines, comments, rest)
+        }
     }
-    text.push_str(" else ")?;
-    add_course_cell(text, column, lines, comments, rest)
 }
 
 /// Adds a cell of the course of a table, with the bar before it.
