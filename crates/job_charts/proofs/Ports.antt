@@ -34,13 +34,13 @@ second_no true t e = absurd (cc)
 second_no false t e = e
 
 -- the first port that is not named
-record IsFree (named : ℕ → Bool) (port : ℕ) (free : ℕ) : Type 0 where
+pub record IsFree (named : ℕ → Bool) (port : ℕ) (free : ℕ) : Type 0 where
   pub below : free < port
   pub own : named free ≡ false
   pub first : are_named named free ≡ true
 
 -- each port below one is named, or the first that is not is there
-FreeBelow : (named : ℕ → Bool) (port : ℕ) → Type 0
+abbrev pub FreeBelow : (named : ℕ → Bool) (port : ℕ) → Type 0
 FreeBelow named port = (are_named named port ≡ true) ⊎ ((free : ℕ) × IsFree named port free)
 
 free_next : (named : ℕ → Bool) (port : ℕ) (t : Bool) → named port ≡ t → FreeBelow named port → FreeBelow named (suc port)
@@ -54,7 +54,7 @@ free_below named zero = inl refl
 free_below named (suc port) = free_next named port (named port) refl (free_below named port)
 
 module _ (law : UnnamedPortsAreAlike) (one other : PolicyValue) (same : (port : ℕ) → port < 32 → AreSameIfCharted one other port) where
-  named : ℕ → Bool
+  abbrev pub named : ℕ → Bool
   named port = is_named_by one other port
 
   -- two ports that neither table names
