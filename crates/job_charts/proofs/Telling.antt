@@ -8,8 +8,9 @@ use Rattle.policy_table.specs.declared.rules.Rule.{Rule}
 use Rattle.regions.specs.declared.points.Point.{Point}
 use Rattle.job_charts.specs.AskedTables.{AskedValue}
 use Rattle.job_charts.specs.Compared.{IsDifferenceAt, TellsLine, difference_row}
-use Rattle.job_charts.specs.Mapped.{AddsStop, AreStops, StyleValue, TellsLine as MapLine, line_row}
+use Rattle.job_charts.specs.Mapped.{AddsStop, AreStops, TellsLine as MapLine, line_row}
 use Rattle.job_charts.specs.Rows.{RowValue}
+use Rattle.job_charts.specs.Styles.{StyleValue}
 use Rattle.job_charts.specs.Telling.{TellsFirst}
 use Rattle.job_charts.specs.Witnesses.{IsWitness}
 use Rattle.job_charts.specs.declared.compared.Difference.{Difference}

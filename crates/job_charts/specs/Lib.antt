@@ -7,6 +7,7 @@ pub mod Rows
 pub mod AskedTables
 pub mod Compared
 pub mod Markdown
+pub mod Styles
 pub mod Mapped
 pub mod CompareJob
 pub mod ComparedFile

@@ -17,18 +17,10 @@ use Rattle.job_charts.specs.AskedTables.{AskedValue, asked_at}
 use Rattle.job_charts.specs.Courses.{with_course}
 use Rattle.job_charts.specs.Markdown.{map_back, map_front, map_head}
 use Rattle.job_charts.specs.Rows.{RowValue, TellsPort, row_of, with_rows}
+use Rattle.job_charts.specs.Styles.{StyleValue}
 use Rattle.job_charts.specs.Telling.{TellsFirst}
 use Rattle.job_charts.specs.Witnesses.{HasNoCommand, IsWitness}
 use Rattle.job_charts.specs.Words.{with_words}
-
--- how a table is told: in markdown or in lines, and the comments of the lines of its text, by their numbers
-pub record StyleValue : Type 0 where
-  pub markdown : Bool
-  pub comments : List (List ℕ)
-
--- of these parts
-abbrev pub style : (markdown : Bool) → (comments : List (List ℕ)) → StyleValue
-style markdown comments = record { markdown = markdown; comments = comments }
 
 -- the row of a line of a map at a port: its words, and what the table asks at a point
 abbrev pub plain_row : AskedValue → Line → Point → RowValue

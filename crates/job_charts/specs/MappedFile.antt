@@ -10,8 +10,9 @@ use Rattle.job_parts.specs.declared.faults.Fault.{Fault}
 use Rattle.job_parts.specs.declared.faults.Fault.TheVariants.{NoMemory}
 use Rattle.job_parts.specs.declared.status.Status.{Status}
 use Rattle.job_parts.specs.declared.status.Status.TheVariants.{Done, Failed, Misused}
-use Rattle.job_charts.specs.Mapped.{TellsMap, style}
+use Rattle.job_charts.specs.Mapped.{TellsMap}
 use Rattle.job_charts.specs.Markdown.{comments_of}
+use Rattle.job_charts.specs.Styles.{style}
 use Rattle.job_charts.specs.declared.map.MapWords.{MapWords}
 use Rattle.spw.specs.Line.{lines_of}
 

@@ -3,7 +3,7 @@
 ghost use Rattle.std.specs.Prelude.{◌≡◌, IfOk};
 ghost use Rattle.job_charts.specs.Markdown.{texts};
 ghost use Rattle.spw.specs.Line.{lines_of};
-ghost use Rattle.job_charts.specs.Mapped.{style};
+ghost use Rattle.job_charts.specs.Styles.{style};
 ghost use Rattle.job_charts.specs.Markdown.{comments_of};
 
 use crate::markdown::comments_of;
@@ -19,7 +19,7 @@ pub struct Style<'a> {
 
 impl<'a> Model for Style<'a> {
     ghost use Rattle.job_charts.specs.Markdown.{texts};
-    ghost use Rattle.job_charts.specs.Mapped.{StyleValue, style};
+    ghost use Rattle.job_charts.specs.Styles.{StyleValue, style};
 
     ghost Value = { StyleValue };
 
