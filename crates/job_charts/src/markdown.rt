@@ -1,9 +1,10 @@
 //! Lines of charts as rows of a table in markdown.
 
 ghost use Rattle.std.specs.Prelude.{◌≡◌, ◌++◌, IfOk, OnOk, [], get_or, string_bytes};
-ghost use Rattle.std.specs.List.{flat_map};
+ghost use Rattle.std.specs.List.{after_first, flat_map};
 ghost use Rattle.std.specs.Str.{chars};
 ghost use Rattle.job_charts.specs.Markdown.{texts};
+ghost use Rattle.policy_table.specs.Statements.{is_semicolon};
 ghost use Rattle.rmap.specs.Verdict.{verdict_number};
 ghost use Rattle.spw.specs.Line.{lines_of as lines_in};
 ghost use Rattle.job_charts.specs.Markdown.{cell_char, comment_in, comment_text, comments_of, comparison_back, comparison_front, comparison_head, has_meaning, map_back, map_front, map_head, no_rule_text, quota_cell, step_cell, with_asks, with_cell, with_course_cell, with_line_cells};
@@ -79,14 +80,21 @@ fn add_comment(text: &mut String, comment: &str) -> Result<(), AllocError>
     add_chars(text, comment)
 }
 
-/// The comment of a line of a table: what is after its first semicolon.
+/// What is after the first semicolon of a line.
+fn after_semicolon(line: &str) -> &str
+    ensures { result.now ≡ after_first is_semicolon line.now }
+{
+    match line.split_once(';') {
+        Some((_, comment)) => comment,
+        None => "",
+    }
+}
+
+/// The comment of a line of a table.
 fn comment_in(line: &str) -> &str
     ensures { result.now ≡ comment_in line.now }
 {
-    match line.split_once(';') {
-        Some((_, comment)) => comment.trim(),
-        None => "",
-    }
+    after_semicolon(line).trim()
 }
 
 /// The comments of the lines of a text, by the numbers of the lines: the first is of no line, since lines count from 1.
