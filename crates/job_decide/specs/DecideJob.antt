@@ -1,5 +1,5 @@
 -- The job `decide`: its words, the node that it decides for, and the lines that it prints.
-use Rattle.std.specs.Prelude.{◌≡◌, ◌⊎◌, ℕ, List, [], ◌∷◌, ◌++◌, Option, Some, None, codes, decimal, string_bytes}
+use Rattle.std.specs.Prelude.{◌≡◌, ◌⊎◌, ℕ, List, [], ◌∷◌, ◌++◌, Option, Some, None, codes, decimal, option_map, string_bytes}
 use Rattle.clap.specs.Walk.{Row, first_of}
 use Rattle.clap.specs.Simple.{App, new_app, with_rule}
 use Rattle.machine.specs.declared.calls.Call.{Call}
@@ -14,6 +14,7 @@ use Rattle.job_parts.specs.Arguments.{file_rule, option_rule}
 use Rattle.job_parts.specs.Options.{GivesPorts, GivesSizes, IsBadCount, IsBadList}
 use Rattle.job_parts.specs.declared.usage.UsageFault.{UsageFault}
 use Rattle.job_parts.specs.declared.usage.UsageFault.TheVariants.{Parse, BadOption, Memory}
+use Rattle.job_decide.specs.Tables.{line_of}
 use Rattle.job_decide.specs.declared.decide.DecideWords.{DecideWords}
 
 -- `decide LINES TABLE [--maps LIST] [--ports N]`
@@ -47,10 +48,10 @@ RefusesDecide rows Memory = Unit {0}
 RefusesDecide rows BadOption = SpoilsDecide rows
 RefusesDecide rows (Parse text) = ⊥
 
--- the port of a packet, and the number of the rule that decides on it
+-- the port of a packet, and the line of the rule that decides on it
 abbrev pub rule_text : (port : ℕ) → Option ℕ → List ℕ
 rule_text port None = decimal port ++ codes " no rule"
-rule_text port (Some number) = decimal port ++ codes " rule " ++ decimal number
+rule_text port (Some line) = decimal port ++ codes " rule " ++ decimal line
 
 -- the ticket that the rule drew, if it did, to the end of the line
 abbrev pub ticket_text : Option Call → List ℕ
@@ -58,9 +59,9 @@ ticket_text None = 10 ∷ []
 ticket_text (Some call) = codes ", ticket " ++ decimal call.answer ++ codes " of " ++ decimal call.question.map ++ codes ":"
     ++ decimal call.question.key ++ 10 ∷ []
 
--- the line of a packet on which a table decides
-abbrev pub match_line : (port : ℕ) → Match → List ℕ
-match_line port found = rule_text port found.rule ++ codes " verdict " ++ decimal (verdict_number found.verdict)
+-- the line of a packet on which a table decides whose rules stand in these lines
+abbrev pub match_line : (port : ℕ) → (lines : List ℕ) → Match → List ℕ
+match_line port lines found = rule_text port (option_map (λ number. line_of lines number) found.rule) ++ codes " verdict " ++ decimal (verdict_number found.verdict)
     ++ ticket_text found.ticket
 
 -- the beginning of the line of a packet that a check of its header answers

@@ -1,6 +1,6 @@
 -- The packet lines of a text, and what is printed of each.
 use Rattle.std.specs.Prelude.{◌≡◌, ℕ, List, Option, Some, None}
-use Rattle.policy_table.specs.declared.rules.Rule.{Rule}
+use Rattle.policy_table.specs.Policies.{PolicyValue}
 use Rattle.rmap.specs.Command.{discard_of}
 use Rattle.rmap.specs.Windows.{WindowsValue}
 use Rattle.spw.specs.Cargo.{Cargo}
@@ -11,11 +11,11 @@ use Rattle.job_decide.specs.Decided.{TellsPacket}
 use Rattle.job_decide.specs.declared.decide.Deciding.{Deciding}
 
 -- of a line that ends no packet nothing was printed and drawn, and else what becomes of its packet
-abbrev pub TellsCame : WindowsValue → List Rule → Option (ℕ × Cargo) → (before after : List ℕ)
+abbrev pub TellsCame : WindowsValue → PolicyValue → Option (ℕ × Cargo) → (before after : List ℕ)
     → (old new : Option (List ℕ)) → Type 0
-TellsCame windows rules None before after old new = (after ≡ before) × (new ≡ old)
-TellsCame windows rules (Some came) before after old new =
-    TellsPacket windows came.0 rules came.1 (discard_of came.1.bytes) before after old new
+TellsCame windows policy None before after old new = (after ≡ before) × (new ≡ old)
+TellsCame windows policy (Some came) before after old new =
+    TellsPacket windows came.0 policy came.1 (discard_of came.1.bytes) before after old new
 
 -- the line was taken by the table, which stays, as the node's windows do, and what comes of it was told
 pub record DecidesLine (line : List ℕ) (before after : Deciding) (old new : Option (List ℕ)) : Type 0 where

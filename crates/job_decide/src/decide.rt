@@ -25,7 +25,7 @@ use job_parts::storage::Files;
 use job_parts::turns::{TakesLines, take_lines};
 use job_parts::usage::UsageFault;
 use machine::MapSizes;
-use policy::{Counts, Table};
+use policy::{Counts, Policy};
 use rmap::Windows;
 use std::alloc::{AllocError, Global};
 use std::io::Write;
@@ -95,7 +95,7 @@ pub fn decide_job(alloc: Global, found: &ArgMatches) -> Result<DecideWords, Usag
 /// drawn, and where the node's banks lie.
 #[derive(Drop)]
 struct Deciding<'a> {
-    table: Table,
+    table: Policy,
     feeds: Feeds,
     counts: Counts,
     windows: &'a Windows,

@@ -3,7 +3,7 @@ use Rattle.std.specs.Prelude.{◌≡◌, ◌⊎◌, ℕ, true, false, List, [], 
 use Rattle.std.specs.Borrow.{Bor}
 use Rattle.std.specs.Io.KnownBytes.{Appends}
 use Rattle.machine.specs.Sizes.{Maps}
-use Rattle.policy_table.specs.declared.table_faults.TableFault.{TableFault}
+use Rattle.policy_table.specs.declared.text_faults.TextFault.{TextFault}
 use Rattle.job_parts.specs.Files.{Reads}
 use Rattle.job_parts.specs.declared.faults.Fault.{Fault}
 use Rattle.job_parts.specs.declared.faults.Fault.TheVariants.{NoMemory}
@@ -116,7 +116,7 @@ pub record AsksAny (asked : Asked) (old new : Option (List ℕ)) (status : Statu
 -- a table has a fault, which was told with the name of its file and its place
 pub record TellsBad (holds : NoPolicy → Type 0) (old new : Option (List ℕ)) (status : Status) : Type 0 where
   pub file : Bor (List ℕ)
-  pub fault : TableFault
+  pub fault : TextFault
   pub bad : holds (BadTable file fault)
   pub told : TellsNamedFault file.now fault old new
   pub failed : status ≡ Failed
