@@ -1,10 +1,12 @@
 /* Upsets: one bit of a node's memory flips between two packets, and what comes then is compared with what comes if none flips.
  *
  *   upsets IMAGES                       the regions of the node's memory, and how many bytes each has
- *   upsets IMAGES REGION TRIALS SEED    a line a trial: region, place, bit, class, first other packet, what was done at its end
+ *   upsets IMAGES REGION TRIALS SEED [EACH]
+ *                                       a line a trial: region, place, bit, class, first other packet, what was done at its end
  *
  * IMAGES has the programs of slots 0 to 3, a line of digits each: those of tests/cases/upsets.cases, which `rules` says again.
- * REGION is a name of the first form, `any` for all of them by their bytes, or `none`: then nothing flips. Each trial is a
+ * With EACH the program that judges is scrubbed before each packet of so many. Generations are then not compared: a program that
+ * is mended has a new one. REGION is a name of the first form, `any` for all of them by their bytes, or `none`: then nothing flips. Each trial is a
  * process, so that it may end as it likes. The node's memory lies between pages that nobody may touch. The same seed gives the
  * same flips. `link/upsets` makes the table of docs/TESTING.md of the lines. It wants a system with fork and signals. */
 #include "packets.h"
@@ -290,7 +292,8 @@ struct answer {
 };
 
 struct end {
-  uint32_t banks, words, journals[BANKS]; /* how many entries, how many programs were loaded */
+  uint32_t banks, words, journals[BANKS]; /* how many entries */
+  uint32_t loaded;                        /* how many programs were loaded or mended */
   uint32_t entries[BANKS][ROOM];          /* a sum of each */
   bool damaged[BANKS][ROOM];              /* it is reported as damaged */
 };
@@ -303,6 +306,8 @@ static uint32_t sum_of(const void *bytes, size_t length, uint32_t sum) {
   return sum;
 }
 
+static uint32_t each; /* a scrub before each packet of so many; 0: none */
+
 static struct answer serve(const struct packet *packet) {
   static uint8_t paint[SANDBAR_MAX_REPLY];
   struct answer answer;
@@ -311,6 +316,7 @@ static struct answer serve(const struct packet *packet) {
   memset(&answer, 0, sizeof answer);
   answer.code = sandbar_serve(node, packet->port, packet->bytes, packet->length, packet->end, reply, SANDBAR_MAX_REPLY,
                               &answer.served);
+  if (each != 0) answer.served.generation = 0;
   uint32_t length = answer.served.reply_length;
   if (length > SANDBAR_MAX_REPLY) length = 0;
   answer.sum = sum_of(reply, length, 2166136261u);
@@ -327,12 +333,14 @@ static void read_entries(uint8_t bank, struct end *end) {
   static uint8_t packet[SANDBAR_MAX_PACKET];
   sandbar_journal journal = {0};
   uint32_t code = sandbar_journal_of(node, bank, &journal);
-  end->journals[bank] = sum_of(&journal.entries, sizeof journal.entries, code + journal.loaded);
+  end->journals[bank] = sum_of(&journal.entries, sizeof journal.entries, code + (each == 0 ? journal.loaded : 0));
+  end->loaded = journal.loaded;
   for (uint32_t k = 0; k < journal.entries && k < ROOM; k += 1) {
     sandbar_entry entry;
     memset(&entry, 0, sizeof entry);
     code = sandbar_entry_at(node, bank, k, packet, sizeof packet, &entry);
     end->damaged[bank][k] = code == SANDBAR_DAMAGED;
+    if (each != 0) entry.generation = 0;
     uint32_t sum = sum_of(&entry, sizeof entry, code);
     if (entry.packet_length <= sizeof packet) sum = sum_of(packet, entry.packet_length, sum);
     end->entries[bank][k] = sum;
@@ -585,6 +593,7 @@ static void begin(void) {
   sandbar_why why;
   uint32_t code = sandbar_open(node, 0xFE, PORTS, banks, BANKS, maps, MAPS, yes, sizeof yes, &why);
   if (code != SANDBAR_OK) fail("the node is not opened: %u", code);
+  if (each != 0 && sandbar_scrub_each(node, each) != SANDBAR_OK) fail("nothing is scrubbed");
   note(OPENING);
   mark_pages();
   note(SERVING);
@@ -626,7 +635,7 @@ static const char *const moments[] = {"packets", "looking", "closing", "ended"};
 /* What a trial leaves, as it went on: its own process may be gone. */
 struct seen {
   volatile int moment, signal;
-  volatile bool wrote, denied, over_quota, spilled, memory, words, entries, reported, closing;
+  volatile bool wrote, denied, over_quota, spilled, memory, words, entries, reported, mended, closing;
   volatile uint32_t first; /* the first packet whose answer is another; AFTER: none */
   volatile bool refused;   /* that answer refuses */
 };
@@ -683,6 +692,7 @@ static void go_wrong(void) {
   seen->words = end->words != wanted_end->words;
   seen->entries = are_other_entries(end, wanted_end);
   seen->reported = is_reported(end);
+  seen->mended = end->loaded != wanted_end->loaded;
   if (is_spilled()) seen->spilled = true;
   seen->moment = IN_CLOSING;
   if (sandbar_close(node) != SANDBAR_OK || freed_twice) seen->closing = true;
@@ -705,7 +715,8 @@ static const char *class_of(void) {
   if (seen->memory || seen->words) return "memory";
   if (seen->entries) return "entry";
   if (seen->reported) return "reported";
-  return in_closing || seen->closing ? "closing" : "nothing";
+  if (in_closing || seen->closing) return "closing";
+  return seen->mended ? "mended" : "nothing";
 }
 
 /* Flips a bit of the byte at a place, unless nothing is to flip. */
@@ -761,7 +772,8 @@ static void run_unflipped(void) {
 }
 
 int main(int count, char **words) {
-  if (count != 2 && count != 5) fail("IMAGES, or IMAGES REGION TRIALS SEED");
+  if (count != 2 && count != 5 && count != 6) fail("IMAGES, or IMAGES REGION TRIALS SEED [EACH]");
+  if (count == 6) each = (uint32_t)strtoul(words[5], NULL, 10);
   prepare(words[1]);
   if (count == 2) {
     for (int region = HANDLE; region < ANY; region += 1)
