@@ -308,6 +308,11 @@ static uint32_t sum_of(const void *bytes, size_t length, uint32_t sum) {
 
 static uint32_t each; /* a scrub before each packet of so many; 0: none */
 
+/* Whether a reply has a generation: that of a read of the load result. */
+static bool has_generation(const struct packet *packet) {
+  return packet->length >= 16 && packet->bytes[7] == 0xFF && number(packet->bytes + 8, 4) == 0x10000;
+}
+
 static struct answer serve(const struct packet *packet) {
   static uint8_t paint[SANDBAR_MAX_REPLY];
   struct answer answer;
@@ -319,8 +324,8 @@ static struct answer serve(const struct packet *packet) {
   if (each != 0) answer.served.generation = 0;
   uint32_t length = answer.served.reply_length;
   if (length > SANDBAR_MAX_REPLY) length = 0;
-  answer.sum = sum_of(reply, length, 2166136261u);
   last_reply = length;
+  answer.sum = sum_of(reply, each != 0 && has_generation(packet) ? 0 : length, 2166136261u);
   answer.spilled = memcmp(reply + length, paint, SANDBAR_MAX_REPLY - length) != 0;
   return answer;
 }

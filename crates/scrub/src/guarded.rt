@@ -184,11 +184,13 @@ impl GuardedNode {
         let Some((program, sum)) = made_again(alloc, self.node.program(slot), kept) else {
             return false;
         };
-        if self.node.publish(alloc, slot, program).is_err() {
-            return false;
+        match self.node.publish(alloc, slot, program) {
+            Ok(_generation) => {
+                self.keep(slot, SlotSums::of(sum));
+                true
+            }
+            Err(_fault) => false,
         }
-        self.keep(slot, SlotSums::of(sum));
-        true
     }
 
     /// From now on scrubs the program that judges a packet before each packet of so many; before none where it is 0.

@@ -51,8 +51,9 @@ fn mended_bits(told: Scrubbed) -> u8
 fn withdrawn_bits(told: Scrubbed) -> u8
     ensures { result ≡ withdrawn_bits told }
 {
-    let banks =
-        withdrawn_bit(told.reads, 1) + withdrawn_bit(told.writes, 2) + withdrawn_bit(told.rmws, 4);
+    let banks = withdrawn_bit(told.reads, 1)
+        + withdrawn_bit(told.writes, 2)
+        + withdrawn_bit(told.rmws, 4);
     banks + withdrawn_bit(told.window, 8)
 }
 
