@@ -21,7 +21,7 @@
 #include <stdint.h>
 
 /** The number of this header and of sandbarstove_frames.h: it rises with each change of a call, a struct or a number there. */
-#define SANDBAR_VERSION 6
+#define SANDBAR_VERSION 5
 
 /** What compilers that know of it are told of a call: its pointers are not null, and its code is looked at. */
 #ifndef SANDBAR_CALL
@@ -266,17 +266,17 @@ uint32_t sandbar_word(sandbar_node *node, uint8_t map, uint16_t cell, uint64_t *
 
 /**
  * Compares each slot's program, as it is run, with the sum that was kept when it was published. A program that differs is
- * made again of its image, by the next generation, if the verifier accepts it and it has that sum; it asks for memory for that.
- * Else its slot is withdrawn: each command for it is answered by a general error (status 1, ::SANDBAR_ANSWERED) until a load
- * publishes another program. If slot 3 is withdrawn, no load is permitted: so the program of @p image is then published for it,
- * if it may judge. An image of no bytes is none. Codes: ::SANDBAR_NO_NODE.
+ * made again of its image, by the next generation, if the verifier accepts it and it has that sum. It asks for memory for
+ * that. Else its slot is withdrawn: each command for it is answered by a general error (status 1, ::SANDBAR_ANSWERED) until a
+ * load publishes another program. If slot 3 is withdrawn, no load is permitted: so the program of @p image is then published
+ * for it, if it may judge. An image of no bytes is none. Codes: ::SANDBAR_NO_NODE.
  */
 SANDBAR_CALL
 uint32_t sandbar_scrub(sandbar_node *node, const uint8_t *image, size_t image_length, sandbar_scrubbed *scrubbed);
 
 /**
- * From now on scrubs the program that judges a packet before each packet of so many; before none where it is 0, as in a node
- * that was opened. Codes: ::SANDBAR_NO_NODE.
+ * From now on scrubs the program that judges a packet, before each packet of that number: 1 is each, 2 each second one. At 0,
+ * with which a node is opened, it scrubs none. Codes: ::SANDBAR_NO_NODE.
  */
 SANDBAR_CALL
 uint32_t sandbar_scrub_each(sandbar_node *node, uint32_t each);

@@ -5,7 +5,7 @@ import os
 from ctypes import CDLL, POINTER, Structure, c_char_p, c_size_t, c_uint8, c_uint16, c_uint32, c_uint64
 
 #: The SANDBAR_VERSION of the header for which the structs here are.
-VERSION = 6
+VERSION = 5
 #: The name of the shared object, and the variable that may name another file.
 NAME, VARIABLE = "libsandbarstove.so", "SANDBAR_LIBRARY"
 

@@ -1,4 +1,3 @@
 mod Seeing
 mod Four
-mod Scrubbing
 mod Serving

@@ -77,6 +77,14 @@ fn generations(node: &SingleNode) -> [u32; 4]
     ]
 }
 
+/// The generation at a slot. The condition is a slot below 4.
+fn generation_of(generations: &[u32; 4], slot: u8) -> u32
+    requires { slot < 4 }
+    ensures { slice_get generations.now slot ≡ Some result }
+{
+    generations[usize::from(slot)]
+}
+
 /// What is to be kept of a slot after a packet: what was, if its program has that generation. The condition is a slot below 4.
 fn followed_at(node: &SingleNode, slot: u8, generation: u32, kept: SlotSums) -> SlotSums
     requires { slot < 4 }
@@ -95,10 +103,10 @@ fn followed(node: &SingleNode, before: &[u32; 4], sums: &[SlotSums; 4]) -> [Slot
         → Follow programs node.now.programs sums.now result }
 {
     [
-        followed_at(node, 0, before[0], sums_at(sums, 0)),
-        followed_at(node, 1, before[1], sums_at(sums, 1)),
-        followed_at(node, 2, before[2], sums_at(sums, 2)),
-        followed_at(node, 3, before[3], sums_at(sums, 3)),
+        followed_at(node, 0, generation_of(before, 0), sums_at(sums, 0)),
+        followed_at(node, 1, generation_of(before, 1), sums_at(sums, 1)),
+        followed_at(node, 2, generation_of(before, 2), sums_at(sums, 2)),
+        followed_at(node, 3, generation_of(before, 3), sums_at(sums, 3)),
     ]
 }
 
