@@ -5,6 +5,8 @@
  *                                       a line a trial: region, place, bit, class, first other packet, what was done at its end
  *
  * IMAGES has the programs of slots 0 to 3, a line of digits each: those of tests/cases/upsets.cases, which `rules` says again.
+ *   upsets IMAGES withdrawn             scrubs programs that changed, where there is no memory to mend one
+ *
  * With EACH the program that judges is scrubbed before each packet of so many. Generations are then not compared: a program that
  * is mended has a new one. REGION is a name of the first form, `any` for all of them by their bytes, or `none`: then nothing flips. Each trial is a
  * process, so that it may end as it likes. The node's memory lies between pages that nobody may touch. The same seed gives the
@@ -69,6 +71,7 @@ static sandbar_node *node;
 static struct block blocks[MOST_BLOCKS];
 static uint32_t block_count, top;
 static bool freed_twice;
+static size_t most = SIZE_MAX; /* a larger block is refused */
 
 static void open_arena(void) {
   const int private = MAP_PRIVATE | MAP_ANONYMOUS | MAP_NORESERVE;
@@ -98,6 +101,7 @@ static struct block *block_at(const void *at) {
 rattle_block rattle_alloc(size_t size, size_t align) {
   static char nowhere;
   if (size == 0) size = align;
+  if (size > most) return (rattle_block){false, &nowhere};
   for (uint32_t k = 0; k < block_count; k += 1)
     if (!blocks[k].live && size < ARENA && whole(blocks[k].size) == whole(size)) return taken(&blocks[k], size);
   if (block_count == MOST_BLOCKS || size > ARENA - APART - 16 - top) return (rattle_block){false, &nowhere};
@@ -776,13 +780,74 @@ static void run_unflipped(void) {
   if (child < 0 || waitpid(child, &status, 0) != child || status != 0) fail("the run without a flip");
 }
 
+/* ---- programs that are withdrawn */
+
+static void check(bool holds, const char *what) {
+  if (!holds) fail("withdrawn: %s", what);
+}
+
+/* How many entries the journals have. */
+static uint64_t entries_now(void) {
+  uint64_t count = 0;
+  for (uint8_t bank = 0; bank < BANKS; bank += 1) {
+    sandbar_journal journal;
+    if (sandbar_journal_of(node, bank, &journal) != SANDBAR_OK) fail("no journal");
+    count += journal.entries;
+  }
+  return count;
+}
+
+/* Flips a bit of each program's operations. */
+static void flip_each(void) {
+  for (uint32_t k = 0; k < piece_count; k += 1)
+    if (region_of[pieces[k].at] == OPERATIONS) arena[pieces[k].at + 16] ^= 1;
+}
+
+/* All four programs change, and there is memory for packets alone: each slot is withdrawn, and nothing that comes is judged. Then the
+ * image that is lent is the program of slot 3, and lets others be loaded. */
+static void withdraw(void) {
+  static const uint8_t yes[] = IMAGE_OF(0);
+  sandbar_scrubbed told;
+  uint64_t before = entries_now();
+  flip_each();
+  most = 1100;
+  check(sandbar_scrub(node, yes, 0, &told) == SANDBAR_OK, "the scrub");
+  check(told.mended == 0 && told.withdrawn == 15 && told.restored == 0, "not all slots are");
+  for (uint32_t k = 0; k < AFTER; k += 1) {
+    struct answer answer = serve(&packets[BEFORE + k]);
+    if (packets[BEFORE + k].length > most) continue;
+    check(answer.code == SANDBAR_OK && answer.served.kind != SANDBAR_JUDGED, "a command is judged");
+    check(answer.served.verdict == 0 && answer.served.generation == 0, "a command has a verdict");
+  }
+  check(entries_now() == before, "a journal has one more entry");
+  most = SIZE_MAX;
+  check(sandbar_scrub(node, yes, sizeof yes, &told) == SANDBAR_OK, "the second scrub");
+  check(told.mended == 0 && told.withdrawn == 15 && told.restored == 1, "slot 3 is not restored");
+  for (uint8_t slot = 0; slot < SLOTS; slot += 1) {
+    struct packet two[2];
+    put_load(two, slot, slot);
+    struct answer staged = serve(&two[0]), loaded = serve(&two[1]);
+    check(is_done(&staged) && is_done(&loaded), "a load");
+  }
+  check(sandbar_scrub(node, yes, 0, &told) == SANDBAR_OK, "the third scrub");
+  check(told.mended == 0 && told.withdrawn == 0 && told.restored == 0, "a slot is withdrawn after its load");
+  struct answer answer = serve(&packets[BEFORE - 1]);
+  check(is_done(&answer), "the last read");
+  check(sandbar_close(node) == SANDBAR_OK && !freed_twice, "the closing");
+}
+
 int main(int count, char **words) {
-  if (count != 2 && count != 5 && count != 6) fail("IMAGES, or IMAGES REGION TRIALS SEED [EACH]");
+  if (count < 2 || count == 4 || count > 6) fail("IMAGES, or IMAGES REGION TRIALS SEED [EACH], or IMAGES withdrawn");
   if (count == 6) each = (uint32_t)strtoul(words[5], NULL, 10);
   prepare(words[1]);
   if (count == 2) {
     for (int region = HANDLE; region < ANY; region += 1)
       if (bytes_of((enum region)region) != 0) printf("%s %u\n", names[region], bytes_of((enum region)region));
+    return 0;
+  }
+  if (count == 3) {
+    if (strcmp(words[2], "withdrawn") != 0) fail("no %s", words[2]);
+    withdraw();
     return 0;
   }
   enum region region = HANDLE;
