@@ -21,10 +21,11 @@ withdrawn_bit Whole bit = 0
 withdrawn_bit Mended bit = 0
 withdrawn_bit Withdrawn bit = bit
 
--- a bit a slot
+-- the bits of the slots whose programs were mended
 abbrev pub mended_bits : Scrubbed → ℕ
 mended_bits told = mended_bit told.reads 1 + mended_bit told.writes 2 + mended_bit told.rmws 4 + mended_bit told.window 8
 
+-- the bits of the slots that are withdrawn
 abbrev pub withdrawn_bits : Scrubbed → ℕ
 withdrawn_bits told =
     withdrawn_bit told.reads 1 + withdrawn_bit told.writes 2 + withdrawn_bit told.rmws 4 + withdrawn_bit told.window 8
