@@ -1,6 +1,6 @@
 //! The link of this machine: standard input, standard output, and standard error.
 
-ghost use Rattle.std.specs.Prelude.{OnOk};
+ghost use Rattle.std.specs.Prelude.{◌≡◌, OnOk};
 ghost use Rattle.std.specs.Io.KnownBytes.{Appends};
 
 use linking::{Cannot, Link};
@@ -28,7 +28,12 @@ fn write_through<W: Write>(output: &mut W, bytes: &[u8]) -> io::Result<()>
 
 impl<I: Read + Drop, W: Write + Drop, E: Write + Drop> HostLink<I, W, E> {
     /// The link that reads from the first, sends to the second, and tells the third.
-    pub fn new(input: I, output: W, errors: E) -> HostLink<I, W, E> {
+    pub fn new(input: I, output: W, errors: E) -> HostLink<I, W, E>
+        ensures input { result.input ≡ input }
+        ensures output { result.output ≡ output }
+        ensures errors { result.errors ≡ errors }
+        ensures untold { result.untold ≡ 0 }
+    {
         HostLink {
             input,
             output,
@@ -39,12 +44,16 @@ impl<I: Read + Drop, W: Write + Drop, E: Write + Drop> HostLink<I, W, E> {
     }
 
     /// How many texts could not be told.
-    pub fn untold(&self) -> u64 {
+    pub fn untold(&self) -> u64
+        ensures { result ≡ self.now.untold }
+    {
         self.untold
     }
 
     /// The writer, and why the last bytes could not be sent, if they could not.
-    pub fn into_output(self) -> (W, io::Result<()>) {
+    pub fn into_output(self) -> (W, io::Result<()>)
+        ensures { result ≡ (self.entry.output, self.entry.lost) }
+    {
         (self.output, self.lost)
     }
 }
