@@ -52,14 +52,14 @@ impl<I: Read + Drop, W: Write + Drop, E: Write + Drop> HostLink<I, W, E> {
 
     /// The writer, and why the last bytes could not be sent, if they could not.
     pub fn into_output(self) -> (W, io::Result<()>)
-        ensures { result ≡ (self.entry.output, self.entry.lost) }
+        ensures { result ≡ (self.output, self.lost) }
     {
         (self.output, self.lost)
     }
 }
 
 impl<I: Read + Drop, W: Write + Drop, E: Write + Drop> Link for HostLink<I, W, E> {
-    ghost use Rattle.std.specs.Prelude.{ℕ, List, Option, ⊤, ⊥};
+    ghost use Rattle.std.specs.Prelude.{ℕ, List, Option, ⊤};
     ghost use Rattle.std.specs.Io.KnownBytes.{Appends, Consumes, Keeps};
     ghost use Rattle.job_frames.specs.Told.{IsTold};
 
