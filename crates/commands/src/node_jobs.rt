@@ -156,6 +156,7 @@ fn compare_on(words: CompareWords, sizes: MapSizes) -> CompareWords
         old: words.old,
         new: words.new,
         sizes,
+        markdown: words.markdown,
     }
 }
 
@@ -166,6 +167,7 @@ fn map_on(words: MapWords, sizes: MapSizes) -> MapWords
     MapWords {
         table: words.table,
         sizes,
+        markdown: words.markdown,
     }
 }
 
