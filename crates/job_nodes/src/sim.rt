@@ -114,6 +114,7 @@ impl TakesLines for Simulating {
 /// begins with bytes, which no schedule does.
 ///
 /// Faults are found in the order of [`lines_and_world`], and then each line.
+#[tactic(auto, using(crate::proofs::Scheduled::refuses_contents))]
 pub fn sim_file<'a, F: Files, W: Write>(
     alloc: Global,
     args: &'a NodeLines,

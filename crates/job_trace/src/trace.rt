@@ -88,6 +88,7 @@ fn tracing_on(alloc: Global, world: World) -> Result<Tracing, AllocError>
 /// `Misused`, with the line `bad option`, where a bank begins with bytes, which no schedule does.
 ///
 /// Faults are found in the order of [`lines_and_world`], and then each line.
+#[tactic(auto, using(crate::proofs::Scheduled::refuses_contents))]
 pub fn trace_file<'a, F: Files, W: Write>(
     alloc: Global,
     args: &'a NodeLines,

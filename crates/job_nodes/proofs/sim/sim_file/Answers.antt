@@ -10,7 +10,7 @@ use Rattle.job_parts.specs.declared.stops.Halt.{Halt}
 use Rattle.job_parts.specs.declared.stops.Halt.TheVariants.{Ended, Unwritten}
 use Rattle.job_nodes.specs.Beginning.{GivesSchedule}
 use Rattle.job_nodes.specs.Simulated.{IsCutShort, IsNotSimulated, IsStuck, SimulatesFile, SimulatesFrom, Steps}
-use Rattle.job_nodes.proofs.Scheduled.{refuses_contents, scheduled, world_in}
+use Rattle.job_nodes.proofs.Scheduled.{scheduled, world_in}
 use Rattle.job_nodes.proofs.Simulating.{cuts_short, simulates_from}
 use Rattle.job_nodes.proofs.sim.sim_file.Goals as goal
 
@@ -53,7 +53,3 @@ pub returns-in_err-take_lines-clause-stops : goal.returns-in_err-take_lines-clau
 returns-in_err-take_lines-clause-stops g c =
     let gone = err_from_is_err_and c.from_residual-in_err-take_lines.result c.from_residual-in_err-take_lines.ensures.1 in
     rw (gone.1, gone.2) (stops_short g.F.Files.reads c.args.args.now c.args.files.now c.lines_and_world.new.files (g.W.Write.contents c.args.out.now) (g.W.Write.contents c.take_lines.new.out) _ _ _ _ _ _ c.in_ok-text.ensures.given c.in-Some.is c.as_str.ensures.value c.in_err-take_lines.ensures.stops)
-
-pub returns-in_default-clause-done : goal.returns-in_default-clause-done
-returns-in_default-clause-done g c =
-    refuses_contents g.F.Files.reads c.args.args.now c.args.files.now _ _ c.lines_and_world.new.files (g.W.Write.contents c.args.out.now) _ c.in_ok-text.ensures.given c.in_default.is c.in_ok-write.ensures.bytes

@@ -14,7 +14,7 @@ use Rattle.job_parts.specs.declared.stops.Halt.TheVariants.{Ended, Unwritten}
 use Rattle.job_trace.specs.Traced.{IsCutShort, IsNotTraced, IsStuck, TracesFile, TracesLineFrom, TracesLines}
 use Rattle.job_trace.specs.declared.trace.Tracing.{Tracing}
 use Rattle.job_trace.proofs.LinesInTurn.{cuts_short, traces_all}
-use Rattle.job_trace.proofs.Scheduled.{refuses_contents, scheduled, world_in}
+use Rattle.job_trace.proofs.Scheduled.{scheduled, world_in}
 use Rattle.job_trace.proofs.trace.trace_file.Goals as goal
 
 module _ {S : Type 0} (reads : Reads S) (args : NodeLines) (before after : S) (old new : Option (List ℕ)) (text : List ℕ) (made : Option WorldValue) (world : WorldValue)
@@ -87,7 +87,3 @@ pub returns-in_err-tracing-clause-stops : goal.returns-in_err-tracing-clause-sto
 returns-in_err-tracing-clause-stops g c =
     let gone = err_from_is_err_and c.from_residual-in_err-tracing.result c.from_residual-in_err-tracing.ensures.1 in
     rw (gone.1, gone.2) (lacks_room g.F.Files.reads c.args.args.now c.args.files.now c.lines_and_world.new.files (g.W.Write.contents c.args.out.now) (g.W.Write.contents c.args.out.now) _ _ _ c.in_ok-text.ensures.given c.in-Some.is _ refl refl)
-
-pub returns-in_default-clause-done : goal.returns-in_default-clause-done
-returns-in_default-clause-done g c =
-    refuses_contents g.F.Files.reads c.args.args.now c.args.files.now _ _ c.lines_and_world.new.files (g.W.Write.contents c.args.out.now) _ c.in_ok-text.ensures.given c.in_default.is c.in_ok-write.ensures.bytes
