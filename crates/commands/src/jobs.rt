@@ -82,10 +82,8 @@ impl Job {
     /// What the job reads and writes.
     pub fn inputs(&self) -> Inputs<'_> {
         match self {
-            Job::Judge(args)
-            | Job::Serve(args)
-            | Job::Simulate(args)
-            | Job::Trace(args) => args.inputs(),
+            Job::Judge(args) | Job::Serve(args) | Job::Simulate(args) | Job::Trace(args) =>
+                args.inputs(),
             Job::Assemble(words) => words.inputs(),
             Job::Disassemble(words) => words.inputs(),
             Job::Verify(args) => args.inputs(),

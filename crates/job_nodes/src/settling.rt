@@ -66,11 +66,7 @@ fn happens(alloc: Global, world: &mut World, event: Event) -> Result<Outcome, Al
 
 /// Takes the packet of an event, and does the steps of its port up to the end of its command: what the last of them came to.
 /// The condition is a port of the world.
-pub(crate) fn settle(
-    alloc: Global,
-    world: &mut World,
-    event: Event,
-) -> Result<Outcome, AllocError>
+pub(crate) fn settle(alloc: Global, world: &mut World, event: Event) -> Result<Outcome, AllocError>
     requires { port_of event < length world.old.ports }
     ensures { IfOk result (λ last. Settles event last world.old world.new) }
 {

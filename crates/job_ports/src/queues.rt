@@ -163,12 +163,21 @@ fn own_desks<'r, J: Family, R: Wait>(
 {
     let config = own.config();
     // Memory alone can be refused to it: a configuration has no other number of ports than a node has.
-    let Ok((node, _cells, passes, mut line)) = Node::<J, _>::with_cells(alloc, rt, opened, &config, program)
-    else {
+    let Ok((node, _cells, passes, mut line)) = Node::<J, _>::with_cells(
+        alloc, rt, opened, &config, program,
+    ) else {
         return Err(AllocError);
     };
     let mut known = node.front();
-    set_all(rt, alloc, &node, &mut line, &mut known, own.banks(), own.contents())?;
+    set_all(
+        rt,
+        alloc,
+        &node,
+        &mut line,
+        &mut known,
+        own.banks(),
+        own.contents(),
+    )?;
     let (ports, put_passes, serve_passes) = fill(rt, alloc, arrivals)?;
     let mut workers = workers_of(alloc, &known, passes, serve_passes)?;
     load_first(rt, alloc, &node, &mut workers, own)?;

@@ -108,7 +108,15 @@ pub(crate) fn set_all<R: Wait, J: Family, Q: Wait + Drop>(
     for number in 0..count {
         let place = usize::from(number);
         let bytes = contents[place].bytes();
-        set_first(rt, alloc, node.bank(number), line, known, banks[place], bytes)?;
+        set_first(
+            rt,
+            alloc,
+            node.bank(number),
+            line,
+            known,
+            banks[place],
+            bytes,
+        )?;
     }
     Ok(())
 }

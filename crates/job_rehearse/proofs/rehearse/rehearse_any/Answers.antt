@@ -23,12 +23,15 @@ pub returns-in-Ok-clause-stops : goal.returns-in-Ok-clause-stops
 returns-in-Ok-clause-stops g c =
     let held = subst (λ (m : Maps). HoldsAsked g.F.Files.reads c.args.words.now m c.place_in.new.files c.asked_in.new.files c.in-Ok.asked) c.sizes.ensures c.in-Ok.ensures.asked in
     IfErr-weaker c.ask_any.result _ _
-    (λ halt stops. stops_more _ _ (λ fault lacks. (lacks.1, inr (record {
-      place = c.in_ok-place.place;
-      between = c.place_in.new.files;
-      placed = c.in_ok-place.ensures.place;
-      unasked = inr (record { asked = c.in-Ok.asked; held = held; no_memory = lacks.0 });
-    }))) halt stops)
+    (λ halt stops. stops_more _ _ (λ fault lacks. (
+      lacks.1,
+      inr (record {
+        place = c.in_ok-place.place;
+        between = c.place_in.new.files;
+        placed = c.in_ok-place.ensures.place;
+        unasked = inr (record { asked = c.in-Ok.asked; held = held; no_memory = lacks.0 });
+      }),
+    )) halt stops)
     c.ask_any.ensures.stops
 
 pub returns-in-Err-clause-done : goal.returns-in-Err-clause-done
@@ -48,10 +51,13 @@ returns-in-Err-clause-stops g c =
     let holds : NoPolicy → Type 0 = HoldsNotAsked g.F.Files.reads c.args.words.now (sizes_at c.in_ok-place.place) c.place_in.new.files c.asked_in.new.files in
     let none = subst (λ (m : Maps). HoldsNotAsked g.F.Files.reads c.args.words.now m c.place_in.new.files c.asked_in.new.files c.in-Err.none) c.sizes.ensures c.in-Err.ensures.none in
     IfErr-weaker c.tell_none.result _ _
-    (λ halt stops. stops_more _ _ (λ fault is. (is.1, inr (record {
-      place = c.in_ok-place.place;
-      between = c.place_in.new.files;
-      placed = c.in_ok-place.ensures.place;
-      unasked = inl (subst holds is.0 none);
-    }))) halt stops)
+    (λ halt stops. stops_more _ _ (λ fault is. (
+      is.1,
+      inr (record {
+        place = c.in_ok-place.place;
+        between = c.place_in.new.files;
+        placed = c.in_ok-place.ensures.place;
+        unasked = inl (subst holds is.0 none);
+      }),
+    )) halt stops)
     c.tell_none.ensures.stops

@@ -6,7 +6,7 @@ use Rattle.job_rehearse.proofs.rehearse.rehearse_one.Goals as goal
 pub returns-clause-done : goal.returns-clause-done
 returns-clause-done g c =
     IfOk-weaker c.rehearse_at.result _ _
-    (λ status does. inl (record { place = c.in_ok-place.place; between = c.place_in.new.files; placed = c.in_ok-place.ensures.place; port = c.not.is ; does = does }))
+    (λ status does. inl (record { place = c.in_ok-place.place; between = c.place_in.new.files; placed = c.in_ok-place.ensures.place; port = c.not.is; does = does }))
     c.rehearse_at.ensures.done
 
 pub returns-clause-stops : goal.returns-clause-stops
