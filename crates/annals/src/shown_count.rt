@@ -56,7 +56,8 @@ impl<J: Family> ShownCount<J> {
         let mut offer: Offer<Link, u64, Chained, Nothing> = front
             .seen
             .plain::<Nothing, (), Raise>(&());
-        self.word.load::<Count, Nothing>(&mut front.seen, &mut offer)
+        self.word
+            .load::<Count, Nothing>(&mut front.seen, &mut offer)
     }
 
     /// Shows the program of that number, if the one before it is the last that readers see: so if they saw that one, they see

@@ -49,9 +49,7 @@ impl Opened {
     /// # Errors
     ///
     /// The chain has begun already (no test met that).
-    pub fn into_publishes<J: Family>(
-        self,
-    ) -> Result<(Chain<J>, Line<J>, ShownCount<J>), AllocError>
+    pub fn into_publishes<J: Family>(self) -> Result<(Chain<J>, Line<J>, ShownCount<J>), AllocError>
         requires { self ≡ J.book }
         ensures number { IfOk result (λ made. made.0.number ≡ publishes_chain) }
         ensures none { IfOk result (λ made. publishes_of made.0.log ≡ []) }

@@ -44,7 +44,13 @@ impl Programs {
     {
         let (chain, mut line, shown_count) = opened.into_publishes()?;
         let (publisher, readers) = Programs::with_chain(
-            alloc, rt, chain, shown_count, &mut line, factory, readers,
+            alloc,
+            rt,
+            chain,
+            shown_count,
+            &mut line,
+            factory,
+            readers,
         )?;
         Ok((publisher, readers, line))
     }
@@ -94,7 +100,12 @@ impl Programs {
         publisher.make_room()?;
         publisher.history.show(&publisher.shown_count);
         let entrances = entrances(
-            alloc, &publisher.writer, &publisher.shown_count, &front, sizes, readers,
+            alloc,
+            &publisher.writer,
+            &publisher.shown_count,
+            &front,
+            sizes,
+            readers,
         )?;
         Ok((publisher, entrances))
     }
@@ -117,9 +128,7 @@ fn entrances<J: Family>(
     let mut entrances = Vec::with_capacity(alloc, usize::from(readers))?;
     for _port in 0..readers {
         let entrance = writer.factory().reader()?;
-        entrances.push(Reader::new(
-            entrance, shown_count.clone()?, front.again(), sizes,
-        ))?;
+        entrances.push(Reader::new(entrance, shown_count.clone()?, front.again(), sizes))?;
     }
     Ok(entrances)
 }

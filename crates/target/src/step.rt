@@ -7,10 +7,10 @@ ghost use mathlib.Core.List.{IsPrefix};
 ghost use Rattle.annals.specs.Shown.{IsTakenAt};
 
 use crate::pass::Pass;
+use annals::Front;
 use bank::{Admitted, Judged};
 use cells::CellSeat;
 use node_parts::{RunContext, Stop, admit, judge_by, slot};
-use annals::Front;
 use publish::{Family, Reader};
 use rmap::{Discard, ReplyBuf, Status, put_reply};
 use spw::Packet;
@@ -79,12 +79,7 @@ pub fn judge<J: Family>(
         Err((Stop::Answered(status), packet)) => return Step::Answered(status, packet),
     };
     pass.loader.line.tell(front);
-    let judged = match judge_taken(
-        &mut pass.context,
-        &mut pass.loader.reader,
-        front,
-        admitted,
-    ) {
+    let judged = match judge_taken(&mut pass.context, &mut pass.loader.reader, front, admitted) {
         Ok(judged) => judged,
         Err(admitted) => {
             put_reply(reply, &admitted.command(), Status::GeneralError, &[]);

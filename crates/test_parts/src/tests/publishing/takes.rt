@@ -35,11 +35,7 @@ fn a_program_is_never_let_go(rt: HostRuntime) -> Result<(), Fail> {
 }
 
 /// The budget and the generation of the program at a slot.
-fn shown<J: Family>(
-    reader: &mut Reader<J>,
-    front: &mut Front<J>,
-    slot: u8,
-) -> Option<(u32, u32)>
+fn shown<J: Family>(reader: &mut Reader<J>, front: &mut Front<J>, slot: u8) -> Option<(u32, u32)>
     requires { slot < 4 }
     ensures seen { IsPrefix reader.old.programs reader.new.programs }
     ensures generation { IfSome result (λ shown. generation_at reader.new.programs slot ≡ Some shown.1) }
