@@ -85,7 +85,7 @@ fn add_failed(
         Some(Fault::BadNode { place, .. }) => add_place(text, place.as_str()),
         Some(Fault::BadImage(_)) => add_form(text, alloc, noted.last()),
         Some(Fault::BadText(_) | Fault::BadTable(_)) | None => match noted.text() {
-            Some(read) => text.push_str(told_fault(alloc, job, read)?.as_str()),
+            Some(read) => text.push_str(told_fault(alloc, job, read, noted.is_on_node())?.as_str()),
             None => Ok(()),
         },
         Some(Fault::Refused(_) | Fault::NoMemory) => Ok(()),

@@ -26,11 +26,16 @@ decide_app =
     (option_rule (codes "maps")))
     (option_rule (codes "ports"))
 
+-- the address and the bank of the node of the jobs, by which the header of a command is checked
+abbrev pub own_windows : WindowsValue
+own_windows = windows_of 254 (own_bank ∷ [])
+
 -- the words are those of decide with these matches
 abbrev pub NamesDecide : List Row → DecideWords → Type 0
 NamesDecide rows words = (first_of (codes "lines") rows ≡ Some (string_bytes words.lines))
     × (first_of (codes "table") rows ≡ Some (string_bytes words.table))
     × GivesSizes (first_of (codes "maps") rows) words.sizes × GivesPorts (first_of (codes "ports") rows) words.ports
+    × (words.windows ≡ own_windows)
 
 -- matches without one of the files, or with a list of maps or a number of ports that is none
 abbrev pub SpoilsDecide : List Row → Type 0
@@ -42,10 +47,6 @@ abbrev pub RefusesDecide : List Row → UsageFault → Type 0
 RefusesDecide rows Memory = Unit {0}
 RefusesDecide rows BadOption = SpoilsDecide rows
 RefusesDecide rows (Parse text) = ⊥
-
--- the address and the bank of the node of the jobs, by which the header of a command is checked
-abbrev pub own_windows : WindowsValue
-own_windows = windows_of 254 (own_bank ∷ [])
 
 -- the port of a packet, and the line of the rule that decides on it
 abbrev pub rule_text : (port : ℕ) → Option ℕ → List ℕ

@@ -14,6 +14,7 @@ use Rattle.policy_table.specs.declared.mismatches.Passed.{Passed}
 use Rattle.policy_table.specs.declared.rules.Rule.{Rule}
 use Rattle.rmap.specs.Checks.{header_check, header_status}
 use Rattle.rmap.specs.Command.{CommandValue, command_of}
+use Rattle.rmap.specs.Windows.{WindowsValue}
 use Rattle.rmap.specs.declared.discard.Discard.{Discard}
 use Rattle.rmap.specs.declared.header_faults.HeaderFault.{HeaderFault}
 use Rattle.rmap.specs.declared.status.Status.{Status}
@@ -24,7 +25,7 @@ use Rattle.job_nodes.specs.JudgeJob.{discard_line}
 use Rattle.job_parts.specs.Printed.{PrintsMore}
 use Rattle.job_parts.specs.declared.stops.LineEnd.{LineEnd}
 use Rattle.job_parts.specs.declared.stops.LineEnd.TheVariants.{NoMemory}
-use Rattle.job_decide.specs.DecideJob.{match_line, own_windows, status_text}
+use Rattle.job_decide.specs.DecideJob.{match_line, status_text}
 
 -- why rules do not match of which that is told: those before the one that decides, where it refuses
 abbrev pub told_passed : Verdict → List Rule → Header → (draws : List Call) → List Passed
@@ -64,12 +65,12 @@ TellsCommand port policy c (Some fault) before after old new =
 TellsCommand port policy c None before after old new = TellsDecision port policy c before after old new
 
 -- of a packet that is no command the reason was told, and nothing drawn
-abbrev pub TellsPacket : (port : ℕ) → PolicyValue → Cargo → Option Discard → (before after : List ℕ)
+abbrev pub TellsPacket : WindowsValue → (port : ℕ) → PolicyValue → Cargo → Option Discard → (before after : List ℕ)
     → (old new : Option (List ℕ)) → Type 0
-TellsPacket port policy p (Some discard) before after old new =
+TellsPacket windows port policy p (Some discard) before after old new =
     (after ≡ before) × Appends old new (discard_line port discard)
-TellsPacket port policy p None before after old new =
-    TellsCommand port policy (command_of p) (header_check (command_of p) own_windows) before after old new
+TellsPacket windows port policy p None before after old new =
+    TellsCommand port policy (command_of p) (header_check (command_of p) windows) before after old new
 
 -- memory was refused, and nothing printed
 abbrev pub IsRefused : (old new : Option (List ℕ)) → LineEnd → Type 0

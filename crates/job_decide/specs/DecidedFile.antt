@@ -1,8 +1,10 @@
 -- What the job `decide` reads and prints.
 use Rattle.std.specs.Prelude.{◌≡◌, ◌⊎◌, ℕ, List, [], Option, Some, replicate, string_bytes}
+use Rattle.std.specs.Borrow.{Bor}
 use Rattle.std.specs.Str.{IsUtf8}
 use Rattle.policy_table.specs.Policies.{PolicyValue}
 use Rattle.policy_table.specs.declared.text_faults.TextFault.{TextFault}
+use Rattle.rmap.specs.Windows.{WindowsValue}
 use Rattle.spw.specs.Line.{lines_of}
 use Rattle.job_parts.specs.Files.{Reads}
 use Rattle.job_parts.specs.Reading.{TextUnread}
@@ -19,8 +21,9 @@ use Rattle.job_decide.specs.declared.tables.NoTable.{NoTable}
 use Rattle.job_decide.specs.declared.tables.NoTable.TheVariants.{BadTable, Ended}
 
 -- what decides by this table before the first line: nothing is held of any port, and no ticket was drawn
-abbrev pub at_first : PolicyValue → (ports : ℕ) → Deciding
-at_first policy ports = record { table = policy; feeds = replicate ports []; counts = replicate 2048 0 }
+abbrev pub at_first : PolicyValue → (ports : ℕ) → Bor WindowsValue → Deciding
+at_first policy ports windows =
+    record { table = policy; feeds = replicate ports []; counts = replicate 2048 0; windows = windows }
 
 module _ {S : Type 0} (reads : Reads S) (words : DecideWords) where
   -- the file of lines was read, and is UTF-8
@@ -37,7 +40,8 @@ module _ {S : Type 0} (reads : Reads S) (words : DecideWords) where
   -- the same, with what decides by the table before the first line
   pub record IsReady (before : S) (text : List ℕ) (deciding : Deciding) (after : S) : Type 0 where
     pub given : IsGiven before text deciding.table after
-    pub first : deciding ≡ at_first deciding.table words.ports
+    pub first : deciding ≡ at_first deciding.table words.ports deciding.windows
+    pub windows : deciding.windows.now ≡ words.windows
 
   -- the file of the table was read behind that of the lines, and this is the first fault of the table, with its place
   pub record HoldsTableFault (before after : S) (fault : TextFault) : Type 0 where
@@ -75,17 +79,21 @@ module _ {S : Type 0} (reads : Reads S) (words : DecideWords) where
   pub record DecidesFile (before after : S) (old new : Option (List ℕ)) : Type 0 where
     pub text : List ℕ
     pub policy : PolicyValue
+    pub windows : Bor WindowsValue
     pub left : Deciding
     pub given : IsGiven before text policy after
-    pub all : AreTaken DecidesLine (lines_of text) (at_first policy words.ports) left old new
+    pub windows_are : windows.now ≡ words.windows
+    pub all : AreTaken DecidesLine (lines_of text) (at_first policy words.ports windows) left old new
 
   -- each line up to one was taken in turn, and that one is bad
   pub record StopsFile (before after : S) (old new : Option (List ℕ)) (fault : Fault) : Type 0 where
     pub text : List ℕ
     pub policy : PolicyValue
+    pub windows : Bor WindowsValue
     pub left : Deciding
     pub given : IsGiven before text policy after
-    pub stop : StopsIn DecidesLine IsBadLine (lines_of text) (at_first policy words.ports) left old new fault
+    pub windows_are : windows.now ≡ words.windows
+    pub stop : StopsIn DecidesLine IsBadLine (lines_of text) (at_first policy words.ports windows) left old new fault
 
   -- why not all lines were taken
   abbrev pub IsNotDecided : (before after : S) → (old new : Option (List ℕ)) → Fault → Type 0

@@ -7,19 +7,18 @@ ghost use Rattle.policy_table.specs.Ports.{rules_at};
 ghost use Rattle.job_parts.specs.Printed.{PrintsMore, Prints};
 ghost use Rattle.job_parts.specs.Stops.{StopsLineBy};
 ghost use Rattle.job_decide.specs.Decided.{IsRefused, TellsCommand, TellsDecision, TellsMatch, TellsPacket, TellsStatus, told_passed};
-ghost use Rattle.job_decide.specs.DecideJob.{match_line, own_windows, rule_text, ticket_text};
+ghost use Rattle.job_decide.specs.DecideJob.{match_line, rule_text, ticket_text};
 ghost use Rattle.job_decide.specs.Tables.{line_of};
 ghost use Rattle.rmap.specs.Checks.{header_check};
 ghost use Rattle.rmap.specs.Command.{discard_of};
 
-use crate::node_windows::own_windows;
 use crate::reasons::{fault_text, reasons};
 use crate::tables::line_of;
 use job_nodes::judge::print_discard;
 use job_parts::stops::LineHalt;
 use machine::Call;
 use policy::{Counts, Match, Passed, Policy, PortRule, Table};
-use rmap::{Command, Status, Verdict, header_check};
+use rmap::{Command, Status, Verdict, Windows, header_check};
 use spw::Packet;
 use std::alloc::{AllocError, Global};
 use std::io::{self, Write};
@@ -159,6 +158,7 @@ fn decide_admitted<W: Write>(
 /// Prints the status of a command that a check of its header answers, or decides on it.
 fn decide_on<W: Write>(
     alloc: Global,
+    windows: &Windows,
     policy: &Policy,
     counts: &mut Counts,
     port: u8,
@@ -166,11 +166,11 @@ fn decide_on<W: Write>(
     out: &mut W,
 ) -> Result<(), LineHalt>
     ensures told { OnOk result (TellsCommand port policy.now command.now
-        (header_check command.now own_windows) counts.old counts.new
+        (header_check command.now windows.now) counts.old counts.new
         (W.contents out.old) (W.contents out.new)) }
     ensures stops { IfErr result (StopsLineBy (IsRefused (W.contents out.old) (W.contents out.new))) }
 {
-    match header_check(command, &own_windows()) {
+    match header_check(command, windows) {
         Ok(_place) => decide_admitted(alloc, policy, counts, port, command, out),
         Err(fault) => {
             let why = fault_text(alloc, fault)?;
@@ -179,21 +179,22 @@ fn decide_on<W: Write>(
     }
 }
 
-/// Decides on a packet at its port, and prints what comes of it.
+/// Decides on a packet at its port, for a node with these windows, and prints what comes of it.
 pub fn decide_packet<W: Write>(
     alloc: Global,
+    windows: &Windows,
     policy: &Policy,
     counts: &mut Counts,
     port: u8,
     packet: &Packet,
     out: &mut W,
 ) -> Result<(), LineHalt>
-    ensures told { OnOk result (TellsPacket port policy.now packet.now (discard_of packet.now.bytes)
+    ensures told { OnOk result (TellsPacket windows.now port policy.now packet.now (discard_of packet.now.bytes)
         counts.old counts.new (W.contents out.old) (W.contents out.new)) }
     ensures stops { IfErr result (StopsLineBy (IsRefused (W.contents out.old) (W.contents out.new))) }
 {
     match Command::view(packet) {
-        Ok(command) => decide_on(alloc, policy, counts, port, &command, out),
+        Ok(command) => decide_on(alloc, windows, policy, counts, port, &command, out),
         Err(discard) => Ok(print_discard(out, port, discard)?),
     }
 }

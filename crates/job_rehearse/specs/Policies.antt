@@ -154,41 +154,41 @@ module _ {S : Type 0} (reads : Reads S) where
   GivesNoPolicy before name sizes after none =
       CannotBeRead before name after none ⊎ HoldsNone before name sizes after none
 
-module _ {S : Type 0} (reads : Reads S) (words : RehearseWords) where
+module _ {S : Type 0} (reads : Reads S) (words : RehearseWords) (sizes : Maps) where
   -- the file of the old policy gave this program
   abbrev pub HoldsOld : (before : S) → Program → (after : S) → Type 0
   HoldsOld before p after =
-      (table : Option PolicyValue) × HoldsPolicy reads before (string_bytes words.old) words.sizes p table after
+      (table : Option (PolicyValue)) × HoldsPolicy reads before (string_bytes words.old) sizes p table after
 
   -- the files were read in this order, and gave policies of these images
   pub record AreImages (before : S) (images : Images) (after : S) : Type 0 where
     pub between : S
     pub first : HoldsOld before images.old between
-    pub second : HoldsPolicy reads between (string_bytes words.new) words.sizes images.new images.table after
+    pub second : HoldsPolicy reads between (string_bytes words.new) sizes images.new images.table after
 
   -- the file of the new policy gives none, behind that of the old one, which does
   pub record NewIsNone (before after : S) (none : NoPolicy) : Type 0 where
     pub between : S
     pub one : Program
     pub first : HoldsOld before one between
-    pub second : GivesNoPolicy reads between (string_bytes words.new) words.sizes after none
+    pub second : GivesNoPolicy reads between (string_bytes words.new) sizes after none
 
   -- a file gives no policy
   abbrev pub AreNoImages : (before after : S) → NoPolicy → Type 0
   AreNoImages before after none =
-      GivesNoPolicy reads before (string_bytes words.old) words.sizes after none ⊎ NewIsNone before after none
+      GivesNoPolicy reads before (string_bytes words.old) sizes after none ⊎ NewIsNone before after none
 
   -- the files gave what a rehearsal needs
   pub record HoldsBoth (before after : S) (made : Policies) : Type 0 where
     pub images : Images
     pub are_images : AreImages before images after
-    pub policies : ArePolicies images.old images.new words.sizes made
+    pub policies : ArePolicies images.old images.new sizes made
 
   -- the files gave policies that cannot be rehearsed with
   pub record BothUnready (before after : S) (fault : Fault) : Type 0 where
     pub images : Images
     pub are_images : AreImages before images after
-    pub unready : AreUnready images.old images.new words.sizes fault
+    pub unready : AreUnready images.old images.new sizes fault
 
   -- the same as a reason
   abbrev pub EndUnready : (before after : S) → NoPolicy → Type 0
@@ -203,13 +203,13 @@ module _ {S : Type 0} (reads : Reads S) (words : RehearseWords) where
   pub record HoldsAsked (before after : S) (made : Asked) : Type 0 where
     pub images : Images
     pub are_images : AreImages before images after
-    pub asked : AreAsked images words.sizes made
+    pub asked : AreAsked images sizes made
 
   -- the files gave policies of which the new one cannot be asked
   pub record BothUnasked (before after : S) (fault : Fault) : Type 0 where
     pub images : Images
     pub are_images : AreImages before images after
-    pub unasked : AreUnasked images words.sizes fault
+    pub unasked : AreUnasked images sizes fault
 
   -- the same as a reason
   abbrev pub EndUnasked : (before after : S) → NoPolicy → Type 0

@@ -151,13 +151,14 @@ fn policy_in<'a, F: Files>(
 fn images_read<'a, F: Files>(
     alloc: Global,
     words: &'a RehearseWords,
+    sizes: &MapSizes,
     files: &mut F,
 ) -> Result<Images, NoPolicy<'a>>
-    ensures images { IfOk result (λ made. AreImages F.reads words.now files.old made files.new) }
-    ensures none { IfErr result (AreNoImages F.reads words.now files.old files.new) }
+    ensures images { IfOk result (λ made. AreImages F.reads words.now sizes.now files.old made files.new) }
+    ensures none { IfErr result (AreNoImages F.reads words.now sizes.now files.old files.new) }
 {
-    let (old, _) = policy_in(alloc, files, words.old.as_str(), &words.sizes)?;
-    let (new, table) = policy_in(alloc, files, words.new.as_str(), &words.sizes)?;
+    let (old, _) = policy_in(alloc, files, words.old.as_str(), sizes)?;
+    let (new, table) = policy_in(alloc, files, words.new.as_str(), sizes)?;
     Ok(Images { old, new, table })
 }
 
@@ -199,20 +200,22 @@ fn policies_of<'a>(
     Ok(Policies { program, old, new })
 }
 
-/// The policies of a rehearsal, of the files that the words name.
+/// The policies of a rehearsal, of the files that the words name, for a node with maps of these sizes.
 ///
 /// Faults are found in this order: the file of the old policy, that policy, the file of the new one, that policy, and
 /// whether the old one may judge on the node.
 pub fn policies_in<'a, F: Files>(
     alloc: Global,
     words: &'a RehearseWords,
+    sizes: &MapSizes,
     files: &mut F,
 ) -> Result<Policies, NoPolicy<'a>>
-    ensures policies { IfOk result (HoldsBoth F.reads words.now files.old files.new) }
-    ensures none { IfErr result (HoldsNotBoth F.reads words.now files.old files.new) }
+    ensures policies { IfOk result (HoldsBoth F.reads words.now sizes.now files.old files.new) }
+    ensures sizes { IfOk result (λ made. made.program.sizes ≡ sizes.now) }
+    ensures none { IfErr result (HoldsNotBoth F.reads words.now sizes.now files.old files.new) }
 {
-    let images = images_read(alloc, words, files)?;
-    Ok(policies_of(alloc, &images.old, &images.new, &words.sizes)?)
+    let images = images_read(alloc, words, sizes, files)?;
+    Ok(policies_of(alloc, &images.old, &images.new, sizes)?)
 }
 
 /// What is asked of two images.
@@ -230,19 +233,20 @@ fn asked_of<'a>(alloc: Global, images: &Images, sizes: &MapSizes) -> Result<Aske
     })
 }
 
-/// The policies of which the new one is asked, of the files that the words name.
+/// The policies of which the new one is asked, of the files that the words name, for a node with maps of these sizes.
 ///
 /// Faults are found in the order of [`policies_in`], and then whether the new policy may judge on the node.
 pub fn asked_in<'a, F: Files>(
     alloc: Global,
     words: &'a RehearseWords,
+    sizes: &MapSizes,
     files: &mut F,
 ) -> Result<Asked, NoPolicy<'a>>
-    ensures asked { IfOk result (HoldsAsked F.reads words.now files.old files.new) }
-    ensures none { IfErr result (HoldsNotAsked F.reads words.now files.old files.new) }
+    ensures asked { IfOk result (HoldsAsked F.reads words.now sizes.now files.old files.new) }
+    ensures none { IfErr result (HoldsNotAsked F.reads words.now sizes.now files.old files.new) }
 {
-    let images = images_read(alloc, words, files)?;
-    Ok(asked_of(alloc, &images, &words.sizes)?)
+    let images = images_read(alloc, words, sizes, files)?;
+    Ok(asked_of(alloc, &images, sizes)?)
 }
 
 /// Prints the fault of a table: its line, and a line with the name of its file and the place.
