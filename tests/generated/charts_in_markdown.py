@@ -21,7 +21,7 @@ from rmapctl import Differs, Room
 PAIRS, RULES = 40, 9
 
 # What the runs have to come to, and how often.
-KINDS = {"rows of maps": 1_000, "rows of comparisons": 250, "comments": 300, "rows with more than one rule": 100,
+KINDS = {"rows of maps": 800, "rows of comparisons": 90, "comments": 110, "rows with more than one rule": 100,
          "rules that never match": 30, "pairs that are the same": 1}
 
 NAMED = [0, 1, 5, 31]
@@ -92,8 +92,12 @@ def course_of(row: dict[str, str], table: str = "") -> str:
 
 def said(line: str) -> str:
     """The comment of a line of a table, as a cell has it."""
-    text = re.sub(r"[\0-\x1f]", " ", line.partition(";")[2].strip())
-    return text or "-"
+    return re.sub(r"[\0-\x1f]", " ", line.partition(";")[2].strip() or "-")
+
+
+def spaced(text: str) -> str:
+    """A text as a reader sees it, who does not see how many spaces are side by side."""
+    return re.sub(" +", " ", text).strip()
 
 
 def check_map(room: Room, name: str, lines: list[str], seen: Counter[str]) -> None:
@@ -104,7 +108,7 @@ def check_map(room: Room, name: str, lines: list[str], seen: Counter[str]) -> No
     for row in rows:
         rules = row["Rule"].split(" else ")
         comments = ["-" if rule == "-" else said(lines[int(rule) - 1]) for rule in rules]
-        if read(row["Comment"]) != " else ".join(comments):
+        if spaced(read(row["Comment"])) != spaced(" else ".join(comments)):
             raise Differs(f"the comment {row['Comment']}, wanted {comments}")
         seen["comments"] += any(it != "-" for it in comments)
         seen["rows with more than one rule"] += len(rules) > 1

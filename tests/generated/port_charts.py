@@ -25,8 +25,8 @@ PAIRS, RULES, POINTS = 40, 9, 60
 NAMED, PORTS = [0, 1, 5, 31], [0, 1, 5, 31, 2]
 
 # What the runs have to come to, and how often.
-KINDS = {"points": 2_400, "points of lines with ports": 600, "points of else": 200, "witnesses": 250, "witnesses at another port than 0": 60,
-         "rules that never match": 40, "pairs that are the same": 1}
+KINDS = {"points": 2_400, "points of lines with ports": 1_500, "points of else": 300, "witnesses": 200, "witnesses at another port than 0": 140,
+         "rules that never match": 25, "pairs that are the same": 5}
 
 MAPS = ["--maps", ",".join(map(str, CELLS))]
 
@@ -272,10 +272,10 @@ def check_compare(random: Random, room: Room, tables: list[list[Asked]], seen: C
 
 
 def changed(random: Random, text: str, others: list[str]) -> str:
-    """A table that differs in a line or two, or not at all."""
+    """A table that differs in up to four lines."""
     lines = text.split("\n")
-    for _ in range(random.choice([0, 1, 1, 2])):
-        place = random.randrange(1, len(lines) + 1)
+    for _ in range(random.choice([0, 1, 2, 3, 4])):
+        place = random.randrange(1, len(lines) // 2 + 2)
         lines.insert(place, random.choice(others))
     return "\n".join(lines)
 
