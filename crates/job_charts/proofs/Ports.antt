@@ -1,5 +1,5 @@
 -- Ports of which no chart is made: what holds of the first that no rule names holds of each such.
-use Rattle.std.proofs.Common.{◌≡◌, inl, inr, ◌⊎◌, ◌<◌, ◌+◌, ℕ, zero, suc, Bool, true, false, List, refl, sym, ap, ◌∙◌, subst, arith}
+use Rattle.std.proofs.Common.{◌≡◌, inl, inr, ◌⊎◌, ◌<◌, ◌+◌, ℕ, zero, suc, Bool, true, false, List, refl, subst, arith}
 use Rattle.std.specs.Prelude.{◌&&◌, ◌||◌, nat_lt}
 use Rattle.std.proofs.lemmas.Bool.Decides.{nat_tests}
 use Rattle.charts.specs.Same.{AreSame}
@@ -9,7 +9,7 @@ use Rattle.policy_table.specs.Ports.{rules_at}
 use Rattle.policy_table.specs.declared.rules.Rule.{Rule}
 use Rattle.job_charts.specs.Compared.{is_named_by}
 use Rattle.job_charts.specs.ComparedFile.{AreSameAt, AreSameAtAll, AreSameIfCharted}
-use Rattle.job_charts.specs.Rows.{are_named, is_charted}
+use Rattle.job_charts.specs.Rows.{are_named}
 
 both : (s t : Bool) → s ≡ true → t ≡ true → (s && t) ≡ true
 both true true e h = refl
