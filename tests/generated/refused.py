@@ -23,7 +23,7 @@ from rmapctl import TOP, Differs, Done, Room
 from sessions import frames_as_lines
 
 # How many runs the gate does, and which request none has.
-RUNS, MOST = 100, 320
+RUNS, MOST = 100, 440
 
 # The line that tools/refuse.c writes at the end.
 COUNTS = re.compile(rb"marks 0 requests (\d+) bytes \d+\n")
@@ -144,7 +144,7 @@ JOBS = [
     Job("why unset", WHY, {"unset": UNSET}, status=1),
     Job("sim events", OUTCOMES, {"events": EVENTS}),
     Job("trace lines --ports 2", TRACED, {"lines": AT_ONE}),
-    Job("serve lines --node own.toml", [(REPLY,), ("discarded 0 lost 0\n", "discarded 0 lost 1\n")],
+    Job("serve lines --node own.toml", [(REPLY, ""), ("discarded 0 lost 0\n", "discarded 0 lost 1\n")],
         {"lines": READ, "own.toml": OWN, "begin": b"\0\0", "yes.img": YES}),
     Job("sim events --node zeros.toml", OUTCOMES, {"events": EVENTS, "zeros.toml": ZEROS, "yes.img": YES}),
     Job("trace lines --node zeros.toml", TRACED, {"lines": AT_ONE, "zeros.toml": ZEROS, "yes.img": YES}),
