@@ -2,6 +2,6 @@ mod Banks
 mod Continuing
 mod Loaded
 mod Scheduled
-mod Settling
+mod SettledNodes
 mod Simulating
-mod Worlds
+mod FirstWorlds

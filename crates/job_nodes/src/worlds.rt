@@ -108,7 +108,7 @@ fn load_reason(world: &World) -> u8
 }
 
 /// Loads an image at the world of that logical address, as the load of that number.
-#[tactic(auto, using(crate::proofs::Worlds::loads_world, crate::proofs::Worlds::leaves_world))]
+#[tactic(auto, using(crate::proofs::FirstWorlds::loads_world, crate::proofs::FirstWorlds::leaves_world))]
 fn load_world(
     alloc: Global,
     loading: &mut WorldLoading,
@@ -160,7 +160,7 @@ fn load_worlds(
 
 /// The world of that configuration at its beginning, in each of whose slots this program is. The condition is a program that
 /// was accepted for its maps.
-#[tactic(auto, using(crate::proofs::Worlds::own_start))]
+#[tactic(auto, using(crate::proofs::FirstWorlds::own_start))]
 fn first_world(alloc: Global, own: &OwnNode, program: Accepted) -> Result<World, AllocError>
     requires { program.sizes ≡ own.now.sizes }
     ensures { IfOk result (IsWorldOf (own_schedule own.now program.program) Start) }

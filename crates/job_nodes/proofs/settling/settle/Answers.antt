@@ -1,4 +1,4 @@
-use Rattle.job_nodes.proofs.Settling.{follows_first, follows_more, settles}
+use Rattle.job_nodes.proofs.SettledNodes.{follows_first, follows_more, settles}
 use Rattle.job_nodes.proofs.settling.settle.Goals as goal
 
 pub loop-step-init : goal.loop-step-init

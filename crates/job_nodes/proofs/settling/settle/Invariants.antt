@@ -1,4 +1,4 @@
-use Rattle.job_nodes.proofs.Settling.{Follows}
+use Rattle.job_nodes.proofs.SettledNodes.{Follows}
 use Rattle.job_nodes.proofs.settling.settle.Given as goal
 
 abbrev pub invariant-loop-step : goal.invariant-loop-step

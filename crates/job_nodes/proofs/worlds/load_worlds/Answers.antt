@@ -1,6 +1,6 @@
 use Rattle.std.proofs.Common.{◌<◌, length, arith, rules}
 use Rattle.std.proofs.lemmas.Result.{err_from_is_err_and}
-use Rattle.job_nodes.proofs.Worlds.{loads_none, stops_worlds, worlds_more}
+use Rattle.job_nodes.proofs.FirstWorlds.{loads_none, stops_worlds, worlds_more}
 use Rattle.job_nodes.proofs.worlds.load_worlds.Goals as goal
 
 pub loop-load-init : goal.loop-load-init

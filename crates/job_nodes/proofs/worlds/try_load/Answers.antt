@@ -1,4 +1,4 @@
-use Rattle.job_nodes.proofs.Worlds.{tries_world}
+use Rattle.job_nodes.proofs.FirstWorlds.{tries_world}
 use Rattle.job_nodes.proofs.worlds.try_load.Goals as goal
 
 pub returns-in-Ok : goal.returns-in-Ok
