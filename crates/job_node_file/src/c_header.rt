@@ -1,11 +1,31 @@
 //! A node as a header of C.
 
-use crate::c_bytes::add_c_bytes;
 use bver::Accepted;
 use job_config::own_node::OwnNode;
 use machine::{MapKind, MapSizes};
 use node_parts::BankConfig;
 use std::alloc::{AllocError, Global};
+
+/// How many bytes stand in a row.
+const ROW: usize = 16;
+
+/// Adds a byte, `0xHH,`, and behind it a line feed where its row ends, and else a space.
+fn add_byte(text: &mut String, byte: u8, ends: bool) -> Result<(), AllocError> {
+    let behind = if ends { '\n' } else { ' ' };
+    write!(text, "0x{byte:02X},{behind}")
+}
+
+/// Adds the bytes of an array, 16 in a row, and its end. An array of C is not empty: no bytes are a zero.
+fn add_c_bytes(text: &mut String, bytes: &[u8]) -> Result<(), AllocError> {
+    if bytes.is_empty() {
+        text.push_str("0\n")?;
+    }
+    for place in 0..bytes.len() {
+        let ends = place % ROW == ROW - 1 || place + 1 == bytes.len();
+        add_byte(text, bytes[place], ends)?;
+    }
+    text.push_str("};\n")
+}
 
 /// What stands before all else.
 const HEAD: &str = "\
