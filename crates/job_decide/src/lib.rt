@@ -4,5 +4,4 @@
 pub mod decide;
 pub mod node_windows;
 mod packets;
-mod reasons;
 pub mod tables;

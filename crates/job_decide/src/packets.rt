@@ -10,15 +10,159 @@ ghost use Rattle.rmap.specs.Checks.{header_check};
 ghost use Rattle.rmap.specs.Command.{discard_of};
 
 use crate::node_windows::own_windows;
-use crate::reasons::{fault_text, reasons};
 use job_nodes::judge::print_discard;
 use job_parts::stops::LineHalt;
 use machine::Call;
-use policy::{Counts, Match, Passed, Table};
-use rmap::{Command, Status, Verdict, header_check};
+use policy::{Counts, Match, Mismatch, OtherByte, Passed, RuleKind, Table};
+use rmap::{
+    CONTROL_SIZE, Command, HeaderFault, Instruction, Kind, LOAD_REGISTER, LOAD_RESULT_SIZE,
+    NoPlace, Status, Verdict, header_check,
+};
 use spw::Packet;
 use std::alloc::{AllocError, Global};
 use std::io::{self, Write};
+
+/// The word of a table for a kind.
+fn word_of(kind: RuleKind) -> &'static str {
+    match kind {
+        RuleKind::Read => "read",
+        RuleKind::Write => "write",
+        RuleKind::Rmw => "rmw",
+        RuleKind::Any => "any",
+    }
+}
+
+/// What a command is.
+fn name_of(kind: Kind) -> &'static str {
+    match kind {
+        Kind::Read => "a read",
+        Kind::Write => "a write",
+        Kind::Rmw => "a read-modify-write",
+        // A check of the header answers it, and no rule is asked.
+        Kind::Unused => "of no kind",
+    }
+}
+
+/// That a byte of a rule is not the command's.
+fn add_byte(text: &mut String, name: &str, bytes: OtherByte) -> Result<(), AllocError> {
+    let (wanted, given) = (bytes.wanted, bytes.given);
+    writeln!(text, "{name} is {wanted:02X}, the command's {given:02X}")
+}
+
+/// The first word of a rule that does not agree with the command, and how.
+fn add_mismatch(text: &mut String, mismatch: Mismatch) -> Result<(), AllocError> {
+    match mismatch {
+        Mismatch::Kind { wanted, given } => {
+            let wanted = word_of(wanted);
+            let given = name_of(given);
+            writeln!(text, "KIND is {wanted}, the command {given}")
+        }
+        Mismatch::Key(bytes) => add_byte(text, "KEY", bytes),
+        Mismatch::Initiator(bytes) => add_byte(text, "INIT", bytes),
+        Mismatch::Extended(bytes) => add_byte(text, "EXT", bytes),
+        Mismatch::Low { address, .. } => {
+            writeln!(text, "the address {address:08X} is below LOW")
+        }
+        Mismatch::High { last, .. } => {
+            writeln!(text, "the last address {last:08X} is above HIGH")
+        }
+    }
+}
+
+/// Why a rule does not match.
+fn add_passed(text: &mut String, why: Passed) -> Result<(), AllocError> {
+    match why {
+        Passed::Unlike(mismatch) => add_mismatch(text, mismatch),
+        Passed::Spent { call, limit } => {
+            let (ticket, map, cell) = (call.answer, call.question.map, call.question.key);
+            writeln!(
+                text,
+                "the ticket {ticket} of {map}:{cell} is not below {limit}"
+            )
+        }
+    }
+}
+
+/// A line for each rule that does not match, from the first on: its number, and why.
+fn reasons(alloc: Global, passed: &[Passed]) -> Result<String, AllocError> {
+    let mut text = String::new(alloc);
+    let mut number: usize = 0;
+    for why in passed {
+        number = number.saturating_add(1);
+        write!(text, "    rule {number}: ")?;
+        add_passed(&mut text, *why)?;
+    }
+    Ok(text)
+}
+
+/// Why the bytes of a command have no place.
+fn add_no_place(text: &mut String, miss: NoPlace) -> Result<(), AllocError> {
+    write!(text, "no place, ")?;
+    match miss {
+        NoPlace::NoBank { extended } => {
+            writeln!(text, "the extended address {extended:02X} is of no bank")
+        }
+        NoPlace::OutsideBank { address } => {
+            writeln!(text, "the address {address:08X} is in no bank")
+        }
+        NoPlace::BehindBank { address, length } => {
+            let last = (u64::from(address) + u64::from(length)).saturating_sub(1);
+            writeln!(text, "the last address {last:08X} is behind the bank")
+        }
+        NoPlace::OtherAtRegister { .. } => {
+            let (register, read, write) = (LOAD_REGISTER, LOAD_RESULT_SIZE, CONTROL_SIZE);
+            write!(text, "at {register:08X} there are a read of {read} bytes ")?;
+            writeln!(text, "and a write of {write}, with increment")
+        }
+        NoPlace::OutsideBootWindow { address, length } => {
+            writeln!(
+                text,
+                "the boot window has no {length} bytes at {address:08X}"
+            )
+        }
+    }
+}
+
+/// Why a command is of no used kind.
+fn add_unused(text: &mut String, instruction: Instruction) -> Result<(), AllocError> {
+    if instruction.is_command() {
+        let code = instruction.0 >> 2 & 0b1111;
+        writeln!(text, "the command code {code:04b} is unused")
+    } else {
+        writeln!(text, "the packet type is reserved")
+    }
+}
+
+/// The check of its header by which a command is answered, and what it found, as a line.
+fn fault_text(alloc: Global, fault: HeaderFault) -> Result<String, AllocError> {
+    let mut text = String::new(alloc);
+    match fault {
+        HeaderFault::UnusedCode { instruction } => add_unused(&mut text, instruction)?,
+        HeaderFault::OtherNode { target, node } => {
+            writeln!(
+                text,
+                "the target logical address is {target:02X}, the node's {node:02X}"
+            )?;
+        }
+        HeaderFault::WrongRmwLength { length } => {
+            writeln!(
+                text,
+                "a read-modify-write has a length of 0, 2, 4, 6 or 8, and not {length}"
+            )?;
+        }
+        HeaderFault::TooManyToVerify { length } => {
+            writeln!(
+                text,
+                "the verify bit goes with at most 1024 bytes, and not {length}"
+            )?;
+        }
+        HeaderFault::TooManyBytes { length } => {
+            writeln!(text, "a command has at most 4096 bytes, and not {length}")?;
+        }
+        HeaderFault::NoPlace(miss) => add_no_place(&mut text, miss)?,
+    }
+    Ok(text)
+}
 
 /// Prints text as it stands.
 fn print_more<W: Write>(out: &mut W, text: &str) -> io::Result<()>
