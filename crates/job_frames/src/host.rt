@@ -1,6 +1,6 @@
 //! The link of this machine: standard input, standard output, and standard error.
 
-ghost use Rattle.std.specs.Prelude.{⊤, OnOk};
+ghost use Rattle.std.specs.Prelude.{◌≡◌, ⊤, OnOk};
 ghost use Rattle.std.specs.Io.KnownBytes.{Appends};
 
 use linking::{Cannot, Link};
@@ -21,7 +21,11 @@ pub struct HostLink<'r, R: Eprint, I: Read + Drop, W: Write + Drop> {
 
 impl<'r, R: Eprint, I: Read + Drop, W: Write + Drop> HostLink<'r, R, I, W> {
     /// The link that reads from the one, and writes to the other.
-    pub fn new(rt: &'r R, input: I, output: W) -> HostLink<'r, R, I, W> {
+    pub fn new(rt: &'r R, input: I, output: W) -> HostLink<'r, R, I, W>
+        ensures input { result.input ≡ input }
+        ensures output { result.output ≡ output }
+        ensures untold { result.untold ≡ 0 }
+    {
         HostLink {
             rt,
             input,
@@ -32,12 +36,16 @@ impl<'r, R: Eprint, I: Read + Drop, W: Write + Drop> HostLink<'r, R, I, W> {
     }
 
     /// How many texts standard error did not take.
-    pub fn untold(&self) -> u64 {
+    pub fn untold(&self) -> u64
+        ensures { result ≡ self.now.untold }
+    {
         self.untold
     }
 
     /// The writer, and why the last bytes could not be sent, if they could not.
-    pub fn into_output(self) -> (W, io::Result<()>) {
+    pub fn into_output(self) -> (W, io::Result<()>)
+        ensures { result ≡ (self.entry.output, self.entry.lost) }
+    {
         (self.output, self.lost)
     }
 
