@@ -57,7 +57,7 @@ fn add_bad_line(
     let code = bad.number();
     let told = match (job, bad) {
         (Job::Simulate(_), BadLine::Line(LineFault::BadMarker)) => WHOLE_MARKER,
-        _ => bad.told(),
+        _ => bad.title(),
     };
     write!(text, "    line {number} fault {code}: {told}\n")
 }

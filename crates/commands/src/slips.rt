@@ -62,8 +62,8 @@ fn line_of(
 
 /// The line of the slip of words of `packet`.
 fn slip_line(alloc: Global, found: &ArgMatches, slip: Slip) -> Result<String, AllocError> {
-    let (word, wanted) = (slip.word(), slip.wanted());
-    let name = word.name();
+    let (word, wanted) = (slip.word(), slip.advice());
+    let name = word.title();
     if word.is_flag() {
         return format!(in alloc; "    {name} is there: {wanted}\n");
     }
@@ -114,7 +114,7 @@ fn option_line(alloc: Global, found: &ArgMatches) -> Result<String, AllocError> 
         return line_of(alloc, "--ports", text_of(found, "ports"), PORTS);
     }
     if let Err(UsageFault::BadOption) = slots_of(alloc, found) {
-        let wanted = Slip::Bad(PacketWord::Slot).wanted();
+        let wanted = Slip::Bad(PacketWord::Slot).advice();
         return line_of(alloc, "--slot", text_of(found, "slot"), wanted);
     }
     if let Err(PacketFault::Words(slip)) = loader_of(found) {

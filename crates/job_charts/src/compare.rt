@@ -1,6 +1,6 @@
 //! The job `compare`.
 
-ghost use Rattle.std.specs.Prelude.{◌≡◌, IfErr, IfOk, OnOk, false};
+ghost use Rattle.std.specs.Prelude.{◌≡◌, IfErr, IfOk, OnOk, false, None, Some, string_bytes};
 ghost use Rattle.clap.specs.Simple.{app_of};
 ghost use Rattle.clap.specs.declared.builder.command.Command.TheViews.{out-Command as fields_of};
 ghost use Rattle.clap.specs.Walk.{rows_of};
@@ -10,6 +10,8 @@ ghost use Rattle.job_charts.specs.CompareJob.{NamesCompare, RefusesCompare, are_
 ghost use Rattle.job_charts.specs.ComparedFile.{AreTables, ComparesFile, IsNoNamed, IsNoPair, IsNotCompared, TellsNamedFault, TellsTables};
 ghost use Rattle.job_decide.specs.Tables.{HoldsTable};
 ghost use Rattle.job_parts.specs.declared.faults.Fault.TheVariants.{NoMemory};
+ghost use Rattle.job_parts.specs.Inputs.{AreInputs, input};
+ghost use Rattle.job_parts.specs.declared.inputs.Content.TheVariants.{Table};
 
 use crate::compared::comparison_text;
 use charts::first_difference;
@@ -45,9 +47,15 @@ pub struct CompareWords {
 
 impl CompareWords {
     /// What the job reads: the old table, and then the new one.
-    pub fn inputs(&self) -> Inputs<'_> {
+    pub fn inputs(&self) -> Inputs<'_>
+        ensures { AreInputs (Some (input (string_bytes self.now.old) Table))
+            (Some (input (string_bytes self.now.new) Table)) None result }
+    {
         let old = InputFile::new(self.old.as_str(), Content::Table);
-        Inputs::two(old, InputFile::new(self.new.as_str(), Content::Table))
+        Inputs::of(
+            Some(old),
+            Some(InputFile::new(self.new.as_str(), Content::Table)),
+        )
     }
 }
 

@@ -1,6 +1,6 @@
 //! The job `map`.
 
-ghost use Rattle.std.specs.Prelude.{◌≡◌, IfErr, IfOk, false};
+ghost use Rattle.std.specs.Prelude.{◌≡◌, IfErr, IfOk, false, None, Some, string_bytes};
 ghost use Rattle.clap.specs.Simple.{app_of};
 ghost use Rattle.clap.specs.declared.builder.command.Command.TheViews.{out-Command as fields_of};
 ghost use Rattle.clap.specs.Walk.{rows_of};
@@ -8,6 +8,8 @@ ghost use Rattle.clap.specs.Matches.{found_of};
 ghost use Rattle.job_parts.specs.Stops.{StopsBy};
 ghost use Rattle.job_charts.specs.MapJob.{NamesMap, RefusesMap, map_app};
 ghost use Rattle.job_charts.specs.MappedFile.{IsNotMapped, MapsFile};
+ghost use Rattle.job_parts.specs.Inputs.{AreInputs, input};
+ghost use Rattle.job_parts.specs.declared.inputs.Content.TheVariants.{Table};
 
 use crate::mapped::map_text;
 use clap::{ArgMatches, Command};
@@ -35,8 +37,13 @@ pub struct MapWords {
 
 impl MapWords {
     /// What the job reads: the table.
-    pub fn inputs(&self) -> Inputs<'_> {
-        Inputs::one(InputFile::new(self.table.as_str(), Content::Table))
+    pub fn inputs(&self) -> Inputs<'_>
+        ensures { AreInputs (Some (input (string_bytes self.now.table) Table)) None None result }
+    {
+        Inputs::of(
+            Some(InputFile::new(self.table.as_str(), Content::Table)),
+            None,
+        )
     }
 }
 

@@ -6,7 +6,7 @@ ghost use Rattle.job_config.specs.declared.faults.ConfigFault.TheVariants.{Memor
 
 use crate::places::{Kind, NameKey, NumberKey, Place};
 use bpf::ImageFault;
-use bver::{Refusal, Refused};
+use bver::Refused;
 use job_parts::node_codes::NodeCode;
 use std::alloc::{AllocError, AllocFailed, Global};
 use std::fmt;
@@ -64,17 +64,6 @@ pub enum Trouble {
     NoImage(ImageFault),
     /// Its program may not judge on the node's maps.
     Refused(Refused),
-}
-
-impl Trouble {
-    /// Whether it is want of memory.
-    pub(crate) fn is_memory(self) -> bool {
-        match self {
-            Trouble::NoImage(fault) => fault == ImageFault::Memory,
-            Trouble::Refused(refused) => refused.code == Refusal::Memory,
-            Trouble::Unread | Trouble::TooLong { .. } => false,
-        }
-    }
 }
 
 /// What is wrong with a node's file.
@@ -247,6 +236,16 @@ fn wanted(kind: Kind) -> &'static str {
     }
 }
 
+/// The keys that a table of a kind may have, for the user.
+fn keys(kind: Kind) -> &'static str {
+    match kind {
+        Kind::Node => "address, bank, load, map, ports or program",
+        Kind::Bank => "base, contents, journal or size",
+        Kind::Map => "cells or peak",
+        Kind::Load => "image or slot",
+    }
+}
+
 impl fmt::Display for ConfigFault {
     fn fmt<W: fmt::Write>(&self, f: &mut fmt::Formatter<W>) -> fmt::Result {
         match self {
@@ -256,7 +255,7 @@ impl fmt::Display for ConfigFault {
                 write!(f, "line {line}: {message}")
             }
             ConfigFault::UnknownKey { place, key } => {
-                let (key, keys) = (key.text.escape_debug(), place.kind.keys());
+                let (key, keys) = (key.text.escape_debug(), keys(place.kind));
                 write!(f, "{place}key {key}: wanted {keys}")
             }
             ConfigFault::BadNumber {

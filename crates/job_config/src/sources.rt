@@ -1,12 +1,13 @@
 //! Where the node of a job comes from.
 
-ghost use Rattle.std.specs.Prelude.{◌≡◌, IfErr, IfOk, codes, false};
+ghost use Rattle.std.specs.Prelude.{◌≡◌, IfErr, IfOk, codes, false, None, option_map};
 ghost use Rattle.clap.specs.Simple.{app_of};
 ghost use Rattle.clap.specs.declared.builder.command.Command.TheViews.{out-Command as fields_of};
 ghost use Rattle.clap.specs.Walk.{rows_of, rule_of};
 ghost use Rattle.clap.specs.Matches.{found_of};
 ghost use Rattle.job_parts.specs.Arguments.{option_rule};
-ghost use Rattle.job_config.specs.Sources.{GivesSource, RefusesSource, is_alone, lacks, with_source_options};
+ghost use Rattle.job_parts.specs.Inputs.{AreInputs, input_value};
+ghost use Rattle.job_config.specs.Sources.{GivesSource, RefusesSource, first_file, is_alone, lacks, with_source_options};
 
 use clap::{Arg, ArgMatches, Command};
 use job_parts::arguments::{option, text_of};
@@ -29,7 +30,9 @@ pub enum NodeSource {
 
 impl NodeSource {
     /// The file that is read first of the node: its own, or the image that judges, if one is named.
-    pub fn input(&self) -> Option<InputFile<'_>> {
+    pub fn input(&self) -> Option<InputFile<'_>>
+        ensures { option_map input_value result ≡ first_file self.now }
+    {
         match self {
             NodeSource::File(name) => Some(InputFile::new(name.as_str(), Content::Node)),
             NodeSource::Words(words) => words.image_input(),
@@ -37,11 +40,10 @@ impl NodeSource {
     }
 
     /// What the node of a talk reads: that file.
-    pub fn inputs(&self) -> Inputs<'_> {
-        match self.input() {
-            Some(file) => Inputs::one(file),
-            None => Inputs::none(),
-        }
+    pub fn inputs(&self) -> Inputs<'_>
+        ensures { AreInputs (first_file self.now) None None result }
+    {
+        Inputs::of(self.input(), None)
     }
 }
 

@@ -1,6 +1,6 @@
 //! The job `node`.
 
-ghost use Rattle.std.specs.Prelude.{◌≡◌, IfErr, IfOk, codes, false, string_bytes};
+ghost use Rattle.std.specs.Prelude.{◌≡◌, IfErr, IfOk, codes, false, string_bytes, None, Some};
 ghost use Rattle.clap.specs.Matches.{found_of};
 ghost use Rattle.clap.specs.Simple.{app_of};
 ghost use Rattle.clap.specs.Walk.{rows_of};
@@ -10,6 +10,8 @@ ghost use Rattle.job_node_file.specs.Printed.{IsNotTold, PrintsNodeFile};
 ghost use Rattle.job_parts.specs.Arguments.{Lacks};
 ghost use Rattle.job_parts.specs.Statuses.{IsDoneWith};
 ghost use Rattle.job_parts.specs.Stops.{StopsBy};
+ghost use Rattle.job_parts.specs.Inputs.{AreInputs, input};
+ghost use Rattle.job_parts.specs.declared.inputs.Content.TheVariants.{Node};
 
 use crate::c_header::header_text;
 use bpf::Image;
@@ -113,8 +115,13 @@ pub struct NodeFileWords {
 
 impl NodeFileWords {
     /// What the job reads: the node's file; those beside it are named there.
-    pub fn inputs(&self) -> Inputs<'_> {
-        Inputs::one(InputFile::new(self.node.as_str(), Content::Node))
+    pub fn inputs(&self) -> Inputs<'_>
+        ensures { AreInputs (Some (input (string_bytes self.now.node) Node)) None None result }
+    {
+        Inputs::of(
+            Some(InputFile::new(self.node.as_str(), Content::Node)),
+            None,
+        )
     }
 }
 

@@ -1,12 +1,14 @@
 //! The arguments of the jobs that take the lines of a file, and what they read.
 
-ghost use Rattle.std.specs.Prelude.{◌≡◌, IfErr, IfOk, false, string_bytes};
+ghost use Rattle.std.specs.Prelude.{◌≡◌, IfErr, IfOk, false, string_bytes, None, Some};
 ghost use Rattle.clap.specs.Simple.{app_of};
 ghost use Rattle.clap.specs.declared.builder.command.Command.TheViews.{out-Command as fields_of};
 ghost use Rattle.clap.specs.Walk.{rows_of};
 ghost use Rattle.clap.specs.Matches.{found_of};
 ghost use Rattle.job_parts.specs.Given.{AreGiven, IsNotReady};
 ghost use Rattle.job_parts.specs.Lines.{NamesLines, RefusesLines, lines_app};
+ghost use Rattle.job_parts.specs.Inputs.{AreInputs, image_of, input};
+ghost use Rattle.job_parts.specs.declared.inputs.Content.TheVariants.{Lines};
 
 use crate::arguments::{file, name_of};
 use crate::factory::judging_program;
@@ -31,12 +33,12 @@ pub struct LinesArgs {
 
 impl LinesArgs {
     /// What such a job reads: the lines, and the image that judges, if one is named.
-    pub fn inputs(&self) -> Inputs<'_> {
+    pub fn inputs(&self) -> Inputs<'_>
+        ensures { AreInputs (Some (input (string_bytes self.now.lines) Lines)) (image_of self.now.node)
+            None result }
+    {
         let lines = InputFile::new(self.lines.as_str(), Content::Lines);
-        match self.node.image_input() {
-            Some(image) => Inputs::two(lines, image),
-            None => Inputs::one(lines),
-        }
+        Inputs::of(Some(lines), self.node.image_input())
     }
 }
 

@@ -1,6 +1,6 @@
 //! The job `rehearse`.
 
-ghost use Rattle.std.specs.Prelude.{◌≡◌, ◌≤◌, ◌++◌, ◌∷◌, [], IfErr, IfOk, OnOk, codes, false, length, option_map};
+ghost use Rattle.std.specs.Prelude.{◌≡◌, ◌≤◌, ◌++◌, ◌∷◌, [], IfErr, IfOk, OnOk, codes, false, length, option_map, None, Some, string_bytes};
 ghost use Rattle.clap.specs.Simple.{app_of};
 ghost use Rattle.clap.specs.declared.builder.command.Command.TheViews.{out-Command as fields_of};
 ghost use Rattle.clap.specs.Walk.{first_of, rows_of};
@@ -13,6 +13,8 @@ ghost use Rattle.job_rehearse.specs.RehearseJob.{GivesSlots, NamesRehearse, Refu
 ghost use Rattle.job_rehearse.specs.Loaders.{loader_text};
 ghost use Rattle.job_rehearse.specs.declared.policies.NoPolicy.TheVariants.{Ended};
 ghost use Rattle.job_rehearse.specs.Rehearsed.{AsksAny, DoesAny, DoesOne, IsNotRehearsed, IsStuck, IsUnasked, IsUndone, Rehearses, RehearsesFile, TellsBad, any_end, back_line, there_line};
+ghost use Rattle.job_parts.specs.Inputs.{AreInputs, input};
+ghost use Rattle.job_parts.specs.declared.inputs.Content.TheVariants.{ImageOrText};
 
 use crate::loaders::{Loader, Loaders, loader_in, loader_text, loaders_of, ports_in};
 use crate::loads::{Ending, LoadOf, load};
@@ -53,9 +55,15 @@ pub struct RehearseWords {
 
 impl RehearseWords {
     /// What the job reads: the old policy, and then the new one.
-    pub fn inputs(&self) -> Inputs<'_> {
+    pub fn inputs(&self) -> Inputs<'_>
+        ensures { AreInputs (Some (input (string_bytes self.now.old) ImageOrText))
+            (Some (input (string_bytes self.now.new) ImageOrText)) None result }
+    {
         let old = InputFile::new(self.old.as_str(), Content::ImageOrText);
-        Inputs::two(old, InputFile::new(self.new.as_str(), Content::ImageOrText))
+        Inputs::of(
+            Some(old),
+            Some(InputFile::new(self.new.as_str(), Content::ImageOrText)),
+        )
     }
 }
 

@@ -1,6 +1,6 @@
 //! The job `show`.
 
-ghost use Rattle.std.specs.Prelude.{◌≡◌, IfErr, IfOk, codes, false};
+ghost use Rattle.std.specs.Prelude.{◌≡◌, IfErr, IfOk, codes, false, None, Some, string_bytes};
 ghost use Rattle.clap.specs.Simple.{app_of};
 ghost use Rattle.clap.specs.declared.builder.command.Command.TheViews.{out-Command as fields_of};
 ghost use Rattle.clap.specs.Walk.{rows_of};
@@ -10,6 +10,8 @@ ghost use Rattle.job_parts.specs.Statuses.{IsDoneWith};
 ghost use Rattle.job_parts.specs.Stops.{StopsBy};
 ghost use Rattle.job_show.specs.ShowJob.{NamesShow, show_app};
 ghost use Rattle.job_show.specs.Shown.{IsNotShown, ShowsFile};
+ghost use Rattle.job_parts.specs.Inputs.{AreInputs, input};
+ghost use Rattle.job_parts.specs.declared.inputs.Content.TheVariants.{Lines};
 
 use crate::shown_lines::shown_line;
 use clap::{ArgMatches, Command};
@@ -37,8 +39,13 @@ pub struct ShowWords {
 
 impl ShowWords {
     /// What the job reads: the lines.
-    pub fn inputs(&self) -> Inputs<'_> {
-        Inputs::one(InputFile::new(self.lines.as_str(), Content::Lines))
+    pub fn inputs(&self) -> Inputs<'_>
+        ensures { AreInputs (Some (input (string_bytes self.now.lines) Lines)) None None result }
+    {
+        Inputs::of(
+            Some(InputFile::new(self.lines.as_str(), Content::Lines)),
+            None,
+        )
     }
 }
 

@@ -1,6 +1,6 @@
 //! The job `asm`.
 
-ghost use Rattle.std.specs.Prelude.{◌≡◌, IfErr, IfOk, OnOk, false};
+ghost use Rattle.std.specs.Prelude.{◌≡◌, IfErr, IfOk, OnOk, false, None, Some, string_bytes};
 ghost use Rattle.clap.specs.Simple.{app_of};
 ghost use Rattle.clap.specs.declared.builder.command.Command.TheViews.{out-Command as fields_of};
 ghost use Rattle.clap.specs.Walk.{rows_of};
@@ -10,6 +10,8 @@ ghost use Rattle.job_texts.specs.Assembled.{Assembles, HoldsText, IsNoText, IsNo
 ghost use Rattle.job_parts.specs.Printed.{Prints};
 ghost use Rattle.job_parts.specs.Statuses.{IsDoneWith};
 ghost use Rattle.job_parts.specs.Stops.{StopsBy};
+ghost use Rattle.job_parts.specs.Inputs.{AreInputs, input};
+ghost use Rattle.job_parts.specs.declared.inputs.Content.TheVariants.{Text};
 
 use crate::outputs::other_file;
 use basm::assemble;
@@ -37,7 +39,10 @@ pub struct AsmWords {
 
 impl AsmWords {
     /// What the job reads and writes: the text, and then the image.
-    pub fn inputs(&self) -> Inputs<'_> {
+    pub fn inputs(&self) -> Inputs<'_>
+        ensures { AreInputs (Some (input (string_bytes self.now.text) Text)) None
+            (Some (string_bytes self.now.image)) result }
+    {
         let text = InputFile::new(self.text.as_str(), Content::Text);
         Inputs::made(text, self.image.as_str())
     }

@@ -1,6 +1,6 @@
 //! The job `dis`.
 
-ghost use Rattle.std.specs.Prelude.{◌≡◌, IfErr, IfOk, codes, false, string_bytes};
+ghost use Rattle.std.specs.Prelude.{◌≡◌, IfErr, IfOk, codes, false, string_bytes, None, Some};
 ghost use Rattle.clap.specs.Simple.{app_of};
 ghost use Rattle.clap.specs.declared.builder.command.Command.TheViews.{out-Command as fields_of};
 ghost use Rattle.clap.specs.Walk.{rows_of};
@@ -10,6 +10,8 @@ ghost use Rattle.job_texts.specs.DisJob.{NamesDis, dis_app};
 ghost use Rattle.job_texts.specs.Disassembled.{Disassembles, IsNotPrinted};
 ghost use Rattle.job_parts.specs.Statuses.{IsDoneWith};
 ghost use Rattle.job_parts.specs.Stops.{StopsBy};
+ghost use Rattle.job_parts.specs.Inputs.{AreInputs, input};
+ghost use Rattle.job_parts.specs.declared.inputs.Content.TheVariants.{Image};
 
 use crate::listed::listed;
 use crate::needed::needed_line;
@@ -36,8 +38,13 @@ pub struct DisWords {
 
 impl DisWords {
     /// What the job reads: the image.
-    pub fn inputs(&self) -> Inputs<'_> {
-        Inputs::one(InputFile::new(self.image.as_str(), Content::Image))
+    pub fn inputs(&self) -> Inputs<'_>
+        ensures { AreInputs (Some (input (string_bytes self.now.image) Image)) None None result }
+    {
+        Inputs::of(
+            Some(InputFile::new(self.image.as_str(), Content::Image)),
+            None,
+        )
     }
 }
 

@@ -1,6 +1,6 @@
 //! The job `weigh`.
 
-ghost use Rattle.std.specs.Prelude.{◌≡◌, IfErr, IfOk, OnOk, false, string_bytes};
+ghost use Rattle.std.specs.Prelude.{◌≡◌, IfErr, IfOk, OnOk, false, string_bytes, None, Some};
 ghost use Rattle.clap.specs.Matches.{found_of};
 ghost use Rattle.clap.specs.Simple.{app_of};
 ghost use Rattle.clap.specs.Walk.{rows_of};
@@ -11,6 +11,8 @@ ghost use Rattle.job_parts.specs.Statuses.{IsDoneWith};
 ghost use Rattle.job_parts.specs.Stops.{StopsBy};
 ghost use Rattle.job_weigh.specs.WeighJob.{NamesWeigh, RefusesWeigh, weigh_app};
 ghost use Rattle.job_weigh.specs.Weighed.{Weighs, class_lines, lines_of, longest, time_lines};
+ghost use Rattle.job_parts.specs.Inputs.{AreInputs, input};
+ghost use Rattle.job_parts.specs.declared.inputs.Content.TheVariants.{Image};
 
 use crate::times::{Times, times_of};
 use bver::{Accepted, MapSizes, justified_programs};
@@ -40,8 +42,13 @@ pub struct WeighWords {
 
 impl WeighWords {
     /// What the job reads: the image.
-    pub fn inputs(&self) -> Inputs<'_> {
-        Inputs::one(InputFile::new(self.image.as_str(), Content::Image))
+    pub fn inputs(&self) -> Inputs<'_>
+        ensures { AreInputs (Some (input (string_bytes self.now.image) Image)) None None result }
+    {
+        Inputs::of(
+            Some(InputFile::new(self.image.as_str(), Content::Image)),
+            None,
+        )
     }
 }
 
