@@ -4,7 +4,6 @@ ghost use Rattle.std.specs.Prelude.{IfOk};
 ghost use Rattle.clap.specs.Walk.{texts};
 ghost use Rattle.commands.specs.CommandLine.{AsksFor};
 
-use crate::slips::help;
 use crate::usage::{command_line, words};
 use crate::work::Work;
 use clap::error::ErrorKind;
@@ -49,6 +48,26 @@ fn text_asked(alloc: Global, given: &[&str], text: String) -> Result<Asked, Usag
         Ok(Asked::Told(text))
     } else {
         Err(UsageFault::Parse(text))
+    }
+}
+
+/// The text of `--help` for these words: of all commands, or of the one that they name. What `clap` refuses of them is
+/// `Parse`.
+fn help(alloc: Global, words: &[&str]) -> Result<String, UsageFault> {
+    let mut asking = Vec::from_slice(alloc, words)?;
+    asking.push("--help")?;
+    match command_line(alloc)?.try_get_matches_from(asking.as_slice()) {
+        Ok(_) => Err(UsageFault::BadOption),
+        Err(refusal) => {
+            let Ok(text) = refusal.to_string(alloc) else {
+                return Err(UsageFault::Memory);
+            };
+            if refusal.kind() == ErrorKind::DisplayHelp {
+                Ok(text)
+            } else {
+                Err(UsageFault::Parse(text))
+            }
+        }
     }
 }
 

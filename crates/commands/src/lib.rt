@@ -2,16 +2,13 @@
 #![tactic(auto)]
 
 mod asked;
-mod denied_loads;
 mod dumps;
 mod ends;
-mod further_faults;
 mod hints;
 mod jobs;
 mod line_paths;
 mod noted;
 mod shows;
-mod shut_doors;
 mod slips;
 mod told_files;
 mod told_talk;

@@ -45,7 +45,7 @@ pub struct Noted<'a> {
 }
 
 /// Whether bytes begin as those of an image do.
-pub fn is_image(bytes: &[u8]) -> bool {
+fn is_image(bytes: &[u8]) -> bool {
     bytes.starts_with(MAGIC)
 }
 

@@ -1,12 +1,9 @@
 //! What more is told of words that name no work, and of a job that failed, behind the line that tells so.
 
-use crate::jobs::Job;
 use crate::usage::command_line;
 use clap::ArgMatches;
-use clap::error::ErrorKind;
 use job_codes::explain::codes_of;
 use job_config::sources::beside_node;
-use job_packets::orders::Order;
 use job_packets::packet::packet_words;
 use job_packets::slips::{PacketFault, PacketWord, Slip};
 use job_parts::arguments::{is_set, text_of};
@@ -147,47 +144,5 @@ pub fn told_option(alloc: Global, words: &[&str]) -> Result<String, AllocError> 
     match found.subcommand() {
         Some((_, found)) => option_line(alloc, found),
         None => Ok(String::new(alloc)),
-    }
-}
-
-/// The text of `--help` for these words: of all commands, or of the one that they name. What `clap` refuses of them is
-/// `Parse`.
-pub(crate) fn help(alloc: Global, words: &[&str]) -> Result<String, UsageFault> {
-    let mut asking = Vec::from_slice(alloc, words)?;
-    asking.push("--help")?;
-    match command_line(alloc)?.try_get_matches_from(asking.as_slice()) {
-        Ok(_) => Err(UsageFault::BadOption),
-        Err(refusal) => {
-            let Ok(text) = refusal.to_string(alloc) else {
-                return Err(UsageFault::Memory);
-            };
-            if refusal.kind() == ErrorKind::DisplayHelp {
-                Ok(text)
-            } else {
-                Err(UsageFault::Parse(text))
-            }
-        }
-    }
-}
-
-/// The line behind `bad option` of a job that was begun: what of a packet is too long.
-pub(crate) fn told_misuse(job: &Job) -> &'static str {
-    match job {
-        Job::Packet(words) => match &words.order {
-            Order::Load { .. } => "    IMAGE is too long: the staging has 16,384 bytes\n",
-            Order::Read { .. } | Order::Write { .. } | Order::Rmw { .. } => {
-                "    DATA is too long: a packet has at most 4,200 bytes\n"
-            }
-        },
-        _ => "",
-    }
-}
-
-/// The line behind `cannot write NAME` of a job that reads nothing, since its OUT is the file that it would read.
-pub(crate) fn told_output(job: &Job) -> &'static str {
-    let inputs = job.inputs();
-    match (inputs.first, inputs.output) {
-        (Some(input), Some(output)) if input.name == output => OWN_SOURCE,
-        _ => "",
     }
 }
