@@ -152,14 +152,16 @@ impl<'a> Noted<'a> {
 
     /// The bytes of the file that was read last, if it is none of lines.
     pub fn last(&self) -> Option<&[u8]>
-        ensures { option_map (λ bytes. bytes.now) result ≡ option_map (λ bytes. bytes.items) self.now.last }
+        ensures { option_map (λ bytes. bytes.now) result
+            ≡ option_map (λ bytes. bytes.items) self.now.last }
     {
         self.last.as_deref()
     }
 
     /// The text that was read last, if it is one.
     pub fn text(&self) -> Option<&str>
-        ensures { IfSome result (λ text. option_map (λ bytes. bytes.items) self.now.last ≡ Some text.now) }
+        ensures { IfSome result
+            (λ text. option_map (λ bytes. bytes.items) self.now.last ≡ Some text.now) }
     {
         match self.last() {
             Some(bytes) if !is_image(bytes) => str::from_utf8(bytes).ok(),

@@ -118,7 +118,8 @@ impl Frames {
         requires { MAX_PACKET ≤ length room.old }
         ensures told { result ≡ came_numbers taken (Some (came_of (Last end) self.old.held)) }
         ensures room { room.new ≡ put_front room.old self.old.held }
-        ensures behind { self.new ≡ record { head = self.old.head; flag = self.old.flag; left = self.old.left; held = [] } }
+        ensures behind { self.new
+            ≡ record { head = self.old.head; flag = self.old.flag; left = self.old.left; held = [] } }
     {
         let bytes = self.held.bytes();
         put_front(room, bytes);
@@ -138,7 +139,8 @@ impl Frames {
     fn end(&mut self, taken: u64, room: &mut [u8]) -> Option<CameNumbers>
         requires { MAX_PACKET ≤ length room.old }
         ensures told { result ≡ numbers_if taken (whole_of (came_of self.old.flag self.old.held)) }
-        ensures room { room.new ≡ put_front room.old (packet_in (whole_of (came_of self.old.flag self.old.held))) }
+        ensures room { room.new
+            ≡ put_front room.old (packet_in (whole_of (came_of self.old.flag self.old.held))) }
         ensures behind { self.new ≡ behind_end self.old }
     {
         match self.flag {
@@ -176,7 +178,8 @@ impl Frames {
     /// came. The bytes of a packet go to the front of the room. The condition is room for the longest packet.
     pub fn take(&mut self, bytes: &[u8], room: &mut [u8]) -> CameNumbers
         requires { MAX_PACKET ≤ length room.old }
-        ensures told { result ≡ came_numbers (take_whole self.old bytes.now).count (take_whole self.old bytes.now).came }
+        ensures told { result
+            ≡ came_numbers (take_whole self.old bytes.now).count (take_whole self.old bytes.now).came }
         ensures room { room.new ≡ put_front room.old (packet_in (take_whole self.old bytes.now).came) }
         ensures read { self.new ≡ (take_whole self.old bytes.now).next }
     {

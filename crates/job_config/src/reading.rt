@@ -386,7 +386,8 @@ fn line_at(text: &str, place: usize) -> usize {
 
 /// Why a text is no TOML.
 fn no_toml(alloc: Global, text: &str, fault: &toml::de::Error) -> Result<ConfigFault, AllocError>
-    ensures { IfOk result (λ bad. (bad ≡ Memory) ⊎ (¬ IsMemory fault.now × (code_of bad ≡ Some Text))) }
+    ensures { IfOk result
+        (λ bad. (bad ≡ Memory) ⊎ (¬ IsMemory fault.now × (code_of bad ≡ Some Text))) }
 {
     match fault.span() {
         Some(span) => Ok(ConfigFault::NoToml {
