@@ -29,26 +29,7 @@ use Rattle.job_trace.specs.TraceJob.{trace_app}
 use Rattle.job_weigh.specs.WeighJob.{weigh_app, NamesWeigh, SpoilsWeigh}
 use Rattle.commands.specs.declared.asked.Asked.{Asked}
 use Rattle.commands.specs.declared.asked.Asked.TheVariants.{Named, Told}
-use Rattle.commands.specs.declared.jobs.Job.TheVariants.{
-  Assemble,
-  Disassemble,
-  Verify,
-  Judge,
-  Policy,
-  Serve,
-  Simulate,
-  Explain,
-  Why,
-  Weigh,
-  Node,
-  Packet,
-  Show,
-  Decide,
-  Trace,
-  Compare,
-  Map,
-  Rehearse,
-}
+use Rattle.commands.specs.declared.jobs.Job.TheVariants.*
 use Rattle.commands.specs.Words.{name_of}
 use Rattle.commands.specs.declared.word.Word.{Word}
 use Rattle.commands.specs.declared.word.Word.TheVariants as word

@@ -3,26 +3,7 @@ use Rattle.std.specs.Prelude.{Bool, false, ℕ, ◌+◌}
 use Rattle.job_parts.specs.declared.inputs.Content.{Content}
 use Rattle.job_parts.specs.declared.inputs.Content.TheVariants as content
 use Rattle.commands.specs.declared.jobs.Job.{Job}
-use Rattle.commands.specs.declared.jobs.Job.TheVariants.{
-  Assemble,
-  Disassemble,
-  Verify,
-  Judge,
-  Policy,
-  Serve,
-  Simulate,
-  Explain,
-  Why,
-  Weigh,
-  Node,
-  Packet,
-  Show,
-  Decide,
-  Trace,
-  Compare,
-  Map,
-  Rehearse,
-}
+use Rattle.commands.specs.declared.jobs.Job.TheVariants.*
 use Rattle.commands.specs.declared.noted.Noted.{Noted}
 use Rattle.commands.specs.declared.noted.TheConstants.{MAX_TEXT}
 

@@ -24,26 +24,7 @@ use Rattle.job_parts.specs.declared.status.Status.{Status}
 use Rattle.job_parts.specs.declared.status.Status.TheVariants.{Done}
 use Rattle.commands.specs.Performed.{IsDone, IsEnded, Performs}
 use Rattle.commands.specs.declared.jobs.Job.{Job}
-use Rattle.commands.specs.declared.jobs.Job.TheVariants.{
-  Assemble,
-  Disassemble,
-  Verify,
-  Judge,
-  Policy,
-  Serve,
-  Simulate,
-  Explain,
-  Why,
-  Weigh,
-  Node,
-  Packet,
-  Show,
-  Decide,
-  Trace,
-  Compare,
-  Map,
-  Rehearse,
-}
+use Rattle.commands.specs.declared.jobs.Job.TheVariants.*
 use Rattle.test_kit_jobs.proofs.ChartsLeft.{compares_file, maps_file, uncompared, unmapped}
 use Rattle.test_kit_jobs.proofs.DecidesLeft.{decides_file, undecided}
 use Rattle.test_kit_jobs.proofs.RehearsesLeft.{rehearses_file, unrehearsed}
