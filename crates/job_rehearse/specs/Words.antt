@@ -8,20 +8,7 @@ use Rattle.rmap.specs.Codes.{status_code}
 use Rattle.rmap.specs.declared.boot.TheConstants.{LOAD_RESULT_SIZE}
 use Rattle.rmap.specs.declared.boot_records.LoadResult.{LoadResult}
 use Rattle.rmap.specs.declared.status.Status.{Status}
-use Rattle.rmap.specs.declared.status.Status.TheVariants.{
-  Success,
-  GeneralError,
-  UnusedCode,
-  InvalidKey,
-  InvalidDataCrc,
-  EarlyEndOfPacket,
-  TooMuchData,
-  ErrorEndOfPacket,
-  VerifyBufferOverrun,
-  NotAuthorised,
-  RmwDataLength,
-  InvalidLogicalAddress,
-}
+use Rattle.rmap.specs.declared.status.Status.TheVariants.*
 use Rattle.job_rehearse.specs.declared.steps.Step.{Step}
 use Rattle.job_rehearse.specs.declared.steps.Step.TheVariants.{Control, Part, Result}
 

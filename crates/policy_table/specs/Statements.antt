@@ -29,20 +29,7 @@ use Rattle.policy_table.specs.Ranges.{RangeText, is_name, range_named}
 use Rattle.policy_table.specs.Words.{AreWordsOf, IsFirstBad, LineWords, WritesNone, WritesSome, texts_of}
 use Rattle.policy_table.specs.declared.rules.Rule.{Rule}
 use Rattle.policy_table.specs.declared.statement_faults.StatementFault.{StatementFault}
-use Rattle.policy_table.specs.declared.statement_faults.StatementFault.TheVariants.{
-  Directive,
-  RangeCount,
-  RangeName,
-  RangeTwice,
-  RangeLow,
-  RangeHigh,
-  RuleCount,
-  Word,
-  Port,
-  RangeOrder,
-  RuleOrder,
-  NoCell,
-}
+use Rattle.policy_table.specs.declared.statement_faults.StatementFault.TheVariants.*
 use Rattle.policy_table.specs.declared.statements.RuleParts.{RuleParts}
 use Rattle.policy_table.specs.declared.statements.Span.{Span}
 use Rattle.policy_table.specs.declared.words.RuleWord.{RuleWord}

@@ -29,14 +29,7 @@ use Rattle.policy_table.specs.declared.faults.PolicyFault.{PolicyFault}
 use Rattle.policy_table.specs.declared.faults.PolicyFault.TheVariants as faults
 use Rattle.policy_table.specs.declared.rules.Rule.{Rule}
 use Rattle.policy_table.specs.declared.table_faults.TableFault.{TableFault}
-use Rattle.policy_table.specs.declared.table_faults.TableFault.TheVariants.{
-  TooLong,
-  BadRange,
-  Memory,
-  NoCell,
-  BadCount,
-  BadWord,
-}
+use Rattle.policy_table.specs.declared.table_faults.TableFault.TheVariants.*
 use Rattle.policy_table.specs.declared.words.RuleWord.{RuleWord}
 
 -- ---- what is told
