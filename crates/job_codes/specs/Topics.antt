@@ -1,23 +1,6 @@
 -- The codes that outputs tell: a kind and a number, which the enums of the kinds have.
-use Rattle.std.specs.Prelude.{
-  ◌≡◌,
-  ◌<◌,
-  ◌^◌,
-  ◌==◌,
-  ◌⊎◌,
-  ℕ,
-  List,
-  [],
-  ◌∷◌,
-  ◌++◌,
-  map,
-  Bool,
-  true,
-  is_some,
-  if◌then◌else◌,
-  codes,
-  decimal,
-}
+use Rattle.std.specs.Prelude.{◌≡◌, ◌<◌, ◌^◌, ◌==◌, ◌⊎◌, ℕ, List, [], ◌∷◌, ◌++◌, map, Bool, true, is_some}
+use Rattle.std.specs.Prelude.{if◌then◌else◌, codes, decimal}
 use Rattle.std.specs.Char.{to_ascii_lowercase}
 use Rattle.basm.specs.Codes.{asm_of_code}
 use Rattle.bpf.specs.Fault.{image_fault_of_code}

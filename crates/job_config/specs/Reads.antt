@@ -14,15 +14,8 @@ use Rattle.job_parts.specs.declared.faults.Fault.{Fault}
 use Rattle.job_parts.specs.declared.faults.Fault.TheVariants.*
 use Rattle.job_parts.specs.declared.node_codes.NodeCode.{NodeCode}
 use Rattle.job_parts.specs.declared.node_codes.NodeCode.TheVariants.{Text}
-use Rattle.job_config.specs.Configured.{
-  ConfigurationValue,
-  IsBadConfiguration,
-  configuration_at,
-  items_in,
-  list_at,
-  own_place,
-  table_in,
-}
+use Rattle.job_config.specs.Configured.{ConfigurationValue, IsBadConfiguration, configuration_at, items_in, list_at}
+use Rattle.job_config.specs.Configured.{own_place, table_in}
 use Rattle.job_config.specs.Faults.{code_of}
 use Rattle.job_config.specs.Names.{IsBeside, IsPathOf, name_at}
 use Rattle.job_config.specs.Numbers.{number_at}

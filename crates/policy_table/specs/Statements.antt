@@ -1,27 +1,7 @@
 -- The lines of a table of version 2: what stands before a comment is nothing, a range that has a name, or a rule with or
 -- without a port.
-use Rattle.std.specs.Prelude.{
-  ◌≡◌,
-  ℕ,
-  Bool,
-  true,
-  false,
-  ◌&&◌,
-  ◌==◌,
-  nat_lt,
-  bytes_eq,
-  is_none,
-  IsSome,
-  if◌then◌else◌,
-  List,
-  [],
-  ◌∷◌,
-  length,
-  codes,
-  Option,
-  Some,
-  None,
-}
+use Rattle.std.specs.Prelude.{◌≡◌, ℕ, Bool, true, false, ◌&&◌, ◌==◌, nat_lt, bytes_eq, is_none, IsSome}
+use Rattle.std.specs.Prelude.{if◌then◌else◌, List, [], ◌∷◌, length, codes, Option, Some, None}
 use Rattle.std.specs.List.{before_first}
 use Rattle.spw.specs.Line.{WritesPort, words_of}
 use Rattle.policy_table.specs.Fields.{IsAddress}

@@ -1,24 +1,6 @@
 -- Where the fault of a policy table is: its place in a text, and in a table with maps of some sizes.
-use Rattle.std.specs.Prelude.{
-  ◌≡◌,
-  ◌⊎◌,
-  ℕ,
-  zero,
-  suc,
-  nat_lt,
-  if◌then◌else◌,
-  List,
-  [],
-  ◌∷◌,
-  ◌++◌,
-  length,
-  codes,
-  decimal,
-  Option,
-  Some,
-  None,
-  option_map,
-}
+use Rattle.std.specs.Prelude.{◌≡◌, ◌⊎◌, ℕ, zero, suc, nat_lt, if◌then◌else◌, List, [], ◌∷◌, ◌++◌, length, codes}
+use Rattle.std.specs.Prelude.{decimal, Option, Some, None, option_map}
 use Rattle.std.specs.Option.{option_or}
 use Rattle.machine.specs.Sizes.{Maps}
 use Rattle.spw.specs.Line.{words_of}
