@@ -1,13 +1,13 @@
 //! The job `compare`.
 
-ghost use Rattle.std.specs.Prelude.{◌≡◌, IfErr, IfOk, OnOk, false, None, Some, string_bytes};
+ghost use Rattle.std.specs.Prelude.{◌≡◌, IfErr, IfOk, false, None, Some, string_bytes};
 ghost use Rattle.clap.specs.Simple.{app_of};
 ghost use Rattle.clap.specs.declared.builder.command.Command.TheViews.{out-Command as fields_of};
 ghost use Rattle.clap.specs.Walk.{rows_of};
 ghost use Rattle.clap.specs.Matches.{found_of};
 ghost use Rattle.job_parts.specs.Stops.{StopsBy};
-ghost use Rattle.job_charts.specs.CompareJob.{NamesCompare, RefusesCompare, are_one_input, compare_app};
-ghost use Rattle.job_charts.specs.ComparedFile.{AreTables, ComparesFile, IsNoNamed, IsNoPair, IsNotCompared, TellsNamedFault, TellsTables};
+ghost use Rattle.job_charts.specs.CompareJob.{NamesCompare, RefusesCompare, compare_app};
+ghost use Rattle.job_charts.specs.ComparedFile.{AreTables, ComparesFile, IsNoNamed, IsNoPair, IsNotCompared, TellsTables};
 ghost use Rattle.job_decide.specs.Tables.{HoldsTable};
 ghost use Rattle.job_parts.specs.declared.faults.Fault.TheVariants.{NoMemory};
 ghost use Rattle.job_parts.specs.Inputs.{AreInputs, input};
@@ -25,14 +25,12 @@ use job_parts::printing::print_text;
 use job_parts::status::Status;
 use job_parts::stops::Halt;
 use job_parts::storage::Files;
+use job_parts::two_files::{are_one_input, print_named_fault};
 use job_parts::usage::UsageFault;
 use machine::MapSizes;
 use policy_table::{Table, TableFault};
 use std::alloc::{AllocError, Global};
 use std::io::{self, Write};
-
-/// The name of standard input.
-const STANDARD_INPUT: &str = "-";
 
 /// The words of the job `compare`.
 #[derive(Debug, Drop)]
@@ -76,13 +74,6 @@ pub fn compare_command<'a>(alloc: Global) -> Result<Command<'a>, AllocError>
         .arg(old)?
         .arg(new)?
         .arg(maps)
-}
-
-/// Whether both tables would be read of standard input, which one read ends.
-fn are_one_input(old: &str, new: &str) -> bool
-    ensures { result ≡ are_one_input old.now new.now }
-{
-    old == STANDARD_INPUT && new == STANDARD_INPUT
 }
 
 /// The words of `compare` with these matches.
@@ -140,17 +131,6 @@ fn tables<'a, F: Files>(
     let old = named_table(alloc, files, words.old.as_str(), &words.sizes)?;
     let new = named_table(alloc, files, words.new.as_str(), &words.sizes)?;
     Ok((old, new))
-}
-
-/// Prints the fault of a table: its line, and a line with the name of its file and the place.
-fn print_named_fault<W: Write>(out: &mut W, name: &str, fault: &TableFault) -> io::Result<()>
-    ensures { OnOk result
-        (TellsNamedFault name.now fault.now (W.contents out.old) (W.contents out.new)) }
-{
-    let code = fault.fault().code();
-    writeln!(out, "policy fault {code}")?;
-    write!(out, "    {name} ")?;
-    writeln!(out, "{fault}")
 }
 
 /// Prints that two tables are the same, or where they differ.

@@ -13,3 +13,4 @@ pub mod Replies
 pub mod Statuses
 pub mod Stops
 pub mod Turns
+pub mod TwoFiles

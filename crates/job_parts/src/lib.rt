@@ -19,4 +19,5 @@ pub mod status;
 pub mod stops;
 pub mod storage;
 pub mod turns;
+pub mod two_files;
 pub mod usage;

@@ -11,7 +11,8 @@ use Rattle.job_parts.specs.declared.status.Status.TheVariants.{Done, Failed}
 use Rattle.job_rehearse.specs.Loaders.{loader_in, loader_text, ports_in}
 use Rattle.job_rehearse.specs.Loads.{Loads, StopsLoad}
 use Rattle.job_rehearse.specs.OpenPorts.{TellsAskers}
-use Rattle.job_rehearse.specs.Policies.{HoldsAsked, HoldsBoth, HoldsNotAsked, HoldsNotBoth, TellsNamedFault}
+use Rattle.job_parts.specs.TwoFiles.{TellsNamedFault}
+use Rattle.job_rehearse.specs.Policies.{HoldsAsked, HoldsBoth, HoldsNotAsked, HoldsNotBoth}
 use Rattle.job_rehearse.specs.Steps.{IsBegun}
 use Rattle.job_rehearse.specs.declared.loads.Ending.{Ending}
 use Rattle.job_rehearse.specs.declared.loads.Ending.TheVariants.{InPart, Loaded, LockedOut, NotLoaded}

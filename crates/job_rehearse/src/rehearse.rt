@@ -9,7 +9,7 @@ ghost use Rattle.job_parts.specs.Printed.{Prints};
 ghost use Rattle.job_parts.specs.Stops.{StopsBy};
 ghost use Rattle.rmap.specs.declared.boot.TheConstants.{STAGING_SIZE};
 ghost use Rattle.job_parts.specs.declared.faults.Fault.TheVariants.{NoMemory};
-ghost use Rattle.job_rehearse.specs.RehearseJob.{GivesSlots, NamesRehearse, RefusesRehearse, RefusesSlots, are_one_input, rehearse_app};
+ghost use Rattle.job_rehearse.specs.RehearseJob.{GivesSlots, NamesRehearse, RefusesRehearse, RefusesSlots, rehearse_app};
 ghost use Rattle.job_rehearse.specs.Loaders.{loader_text};
 ghost use Rattle.job_rehearse.specs.declared.policies.NoPolicy.TheVariants.{Ended};
 ghost use Rattle.job_rehearse.specs.Rehearsed.{AsksAny, DoesAny, DoesOne, IsNotRehearsed, IsStuck, IsUnasked, IsUndone, Rehearses, RehearsesFile, TellsBad, any_end, back_line, there_line};
@@ -19,7 +19,7 @@ ghost use Rattle.job_parts.specs.declared.inputs.Content.TheVariants.{ImageOrTex
 use crate::loaders::{Loader, Loaders, loader_in, loader_text, loaders_of, ports_in};
 use crate::loads::{Ending, LoadOf, load};
 use crate::open_ports::askers_text;
-use crate::policies::{Asked, NoPolicy, Policies, asked_in, policies_in, print_named_fault};
+use crate::policies::{Asked, NoPolicy, Policies, asked_in, policies_in};
 use crate::steps::Rehearsing;
 use clap::{ArgMatches, Command};
 use job_packets::numbers::{every_slot, slots_written};
@@ -30,13 +30,11 @@ use job_parts::printing::print_text;
 use job_parts::status::Status;
 use job_parts::stops::Halt;
 use job_parts::storage::Files;
+use job_parts::two_files::{are_one_input, print_named_fault};
 use job_parts::usage::UsageFault;
 use machine::MapSizes;
 use std::alloc::{AllocError, Global};
 use std::io::{self, Write};
-
-/// The name of standard input.
-const STANDARD_INPUT: &str = "-";
 
 /// The words of the job `rehearse`.
 #[derive(Debug, Drop)]
@@ -98,13 +96,6 @@ pub fn rehearse_command<'a>(alloc: Global) -> Result<Command<'a>, AllocError>
         .arg(initiator)?
         .arg(key)?
         .arg(any)
-}
-
-/// Whether both policies would be read of standard input, which one read ends.
-fn are_one_input(old: &str, new: &str) -> bool
-    ensures { result ≡ are_one_input old.now new.now }
-{
-    old == STANDARD_INPUT && new == STANDARD_INPUT
 }
 
 /// The slots by `--slot`, and each of the four without the option. `BadOption` where its value writes none.
