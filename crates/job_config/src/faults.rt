@@ -246,6 +246,25 @@ fn keys(kind: Kind) -> &'static str {
     }
 }
 
+impl fmt::Display for Found {
+    fn fmt<W: fmt::Write>(&self, f: &mut fmt::Formatter<W>) -> fmt::Result {
+        match self {
+            Found::Missing => write!(f, " is missing"),
+            Found::Number(number) => write!(f, " {number}"),
+            Found::Other => write!(f, " is no number"),
+        }
+    }
+}
+
+/// Prints that a table stands where none may, or that a list of tables is none.
+fn print_no_table<W: fmt::Write>(f: &mut fmt::Formatter<W>, place: &Place) -> fmt::Result {
+    let (word, number) = (place.kind.word(), place.number);
+    match number {
+        0 => write!(f, "{word} is no list of tables: wanted [[{word}]]"),
+        _ => write!(f, "{word} {number} is no table: wanted [[{word}]]"),
+    }
+}
+
 impl fmt::Display for ConfigFault {
     fn fmt<W: fmt::Write>(&self, f: &mut fmt::Formatter<W>) -> fmt::Result {
         match self {
@@ -266,21 +285,10 @@ impl fmt::Display for ConfigFault {
                 most,
             } => {
                 let key = key.word();
-                match found {
-                    Found::Missing => write!(f, "{place}{key} is missing")?,
-                    Found::Number(number) => write!(f, "{place}{key} {number}")?,
-                    Found::Other => write!(f, "{place}{key} is no number")?,
-                }
-                write!(f, ": wanted {least} to {most}")
+                write!(f, "{place}{key}{found}: wanted {least} to {most}")
             }
             ConfigFault::BadPeak(place) => write!(f, "{place}peak: wanted true or false"),
-            ConfigFault::NoTable(place) => {
-                let (word, number) = (place.kind.word(), place.number);
-                match number {
-                    0 => write!(f, "{word} is no list of tables: wanted [[{word}]]"),
-                    _ => write!(f, "{word} {number} is no table: wanted [[{word}]]"),
-                }
-            }
+            ConfigFault::NoTable(place) => print_no_table(f, place),
             ConfigFault::BadCount { kind, count } => {
                 let (word, wanted) = (kind.word(), wanted(*kind));
                 write!(f, "{count} {word}s: wanted {wanted}")

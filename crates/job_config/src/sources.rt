@@ -1,6 +1,6 @@
 //! Where the node of a job comes from.
 
-ghost use Rattle.std.specs.Prelude.{◌≡◌, IfErr, IfOk, codes, false, None, option_map};
+ghost use Rattle.std.specs.Prelude.{◌≡◌, IfErr, IfOk, IfSome, codes, false, None, option_map};
 ghost use Rattle.clap.specs.Simple.{app_of};
 ghost use Rattle.clap.specs.declared.builder.command.Command.TheViews.{out-Command as fields_of};
 ghost use Rattle.clap.specs.Walk.{rows_of, rule_of};
@@ -15,9 +15,6 @@ use job_parts::inputs::{Content, InputFile, Inputs};
 use job_parts::options::{NodeWords, node_arguments, node_words};
 use job_parts::usage::UsageFault;
 use std::alloc::{AllocError, Global};
-
-/// The options that say something of a node without a file, each with its two hyphens.
-const BESIDE: [&str; 3] = ["image", "maps", "ports"];
 
 /// Where the node of a job comes from.
 #[derive(Debug, Drop)]
@@ -81,12 +78,18 @@ fn is_alone(found: &ArgMatches) -> bool
 }
 
 /// The option that says something of the node beside `--node`, if there are both.
-pub fn beside_node(found: &ArgMatches) -> Option<&'static str> {
+pub fn beside_node(found: &ArgMatches) -> Option<&'static str>
+    ensures { IfSome result (λ name. lacks name.now (rows_of (found_of found.now)) ≡ false) }
+{
     text_of(found, "node")?;
-    for name in BESIDE {
-        if !lacks(found, name) {
-            return Some(name);
-        }
+    if !lacks(found, "image") {
+        return Some("image");
+    }
+    if !lacks(found, "maps") {
+        return Some("maps");
+    }
+    if !lacks(found, "ports") {
+        return Some("ports");
     }
     None
 }

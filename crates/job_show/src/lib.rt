@@ -2,5 +2,4 @@
 #![tactic(auto)]
 
 pub mod show;
-mod shown;
 pub mod shown_lines;
