@@ -5,6 +5,7 @@ ghost use Rattle.std.specs.Prelude.{◌≡◌, ◌<◌, ◌≤◌};
 ghost use Rattle.initiator.specs.Writing.{AreFields};
 
 use crate::tests::checks::{check, same};
+use crate::tests::packets::protocol::numbers;
 use initiator::{CommandFields, Reply, body_with_crc, write_command};
 use node_parts::{Served, Stop};
 use rmap::{Command, Instruction, Kind, Status, body_fault};
@@ -61,21 +62,7 @@ fn fields<'a>(
     }
 }
 
-/// The numbers of a header, in their order.
-fn numbers(command: &Command) -> [u32; 8] {
-    [
-        u32::from(command.target()),
-        u32::from(command.instruction().0),
-        u32::from(command.key()),
-        u32::from(command.initiator()),
-        u32::from(command.transaction()),
-        u32::from(command.extended()),
-        command.address(),
-        command.length(),
-    ]
-}
-
-/// The same of the fields of which it was made.
+/// The numbers of the header that these fields make, in their order.
 fn numbers_given(fields: &CommandFields) -> [u32; 8] {
     [
         u32::from(fields.target),
