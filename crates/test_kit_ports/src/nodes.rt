@@ -8,7 +8,7 @@ use std::alloc::Global;
 use std::sync::Wait;
 use std::test::Fail;
 use target::{Family, Line, Node, Opened, Pass};
-use test_kit::{bank, image_of_text, program, sizes};
+use test_kit::{image_of_text, sizes};
 
 /// The program of a text, with that budget, for maps of those sizes.
 pub fn accepted(alloc: Global, text: &str, budget: u32, maps: &str) -> Result<Accepted, Fail> {
@@ -50,17 +50,4 @@ pub(crate) fn node_and_line<J: Family, R: Wait + Drop>(
     };
     let (node, _cells, passes, line) = Node::with_cells(alloc, rt, opened, &config, factory)?;
     Ok((node, passes, line))
-}
-
-/// A node of one port and one bank, in which each command is authorised, and the pass of its port.
-pub fn one_port<J: Family, R: Wait + Drop>(
-    rt: R,
-    alloc: Global,
-    opened: Opened,
-) -> Result<(Node<J, R>, Pass<J>), Fail>
-    requires { opened ≡ J.book }
-{
-    let factory = program(alloc, 0)?;
-    let (node, mut passes) = shared_node::<J, _>(rt, alloc, opened, 1, &[bank(1024)], factory)?;
-    Ok((node, passes.pop().ok_or("no pass")?))
 }

@@ -13,8 +13,8 @@ use std::sync::Wait;
 use std::test::Fail;
 use std::thread::Threads;
 use target::{Family, Node, Opened};
-use test_kit::{BASE, PLAIN_READ, PLAIN_WRITE, bank};
-use test_kit_ports::{filled, one_port, served_port, text_of, worker};
+use test_kit::{BASE, PLAIN_READ, PLAIN_WRITE, bank, program};
+use test_kit_ports::{filled, served_port, shared_node, text_of, worker};
 
 /// Which sends of a sink fail.
 #[derive(Clone, Copy, Debug, PartialEq, Eq)]
@@ -161,7 +161,9 @@ fn serve_always_failing<J: Family + Send + Sync + 'static, R: Threads + Wait + A
 ) -> Result<(), Fail>
     requires { opened ≡ J.book }
 {
-    let (node, pass) = one_port::<J, _>(rt, alloc, opened)?;
+    let factory = program(alloc, 0)?;
+    let (node, mut passes) = shared_node::<J, _>(rt, alloc, opened, 1, &[bank(1024)], factory)?;
+    let pass = passes.pop().ok_or("no pass")?;
     let (port, _put_pass, serve_pass) = filled(rt, alloc, 2, &[PLAIN_WRITE])?;
     let sink = Failing::new(alloc, pass.port(), Failure::Always);
     let worker = worker(&node, &port, pass, serve_pass, sink)?;
