@@ -1,8 +1,7 @@
 //! The job `why`.
 
 ghost use Rattle.std.specs.Prelude.{◌≡◌, [], IfErr, IfOk, OnOk, false, string_bytes};
-ghost use Rattle.clap.specs.Simple.{app_of};
-ghost use Rattle.clap.specs.declared.builder.command.Command.TheViews.{out-Command as fields_of};
+ghost use Rattle.job_parts.specs.Matched.{app_of, fields_of};
 ghost use Rattle.bpf.specs.Program.{insn_at};
 ghost use Rattle.bpf.specs.Reading.{Fails, image_reading};
 ghost use Rattle.job_parts.specs.Printed.{Prints};

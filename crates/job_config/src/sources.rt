@@ -1,10 +1,8 @@
 //! Where the node of a job comes from.
 
 ghost use Rattle.std.specs.Prelude.{◌≡◌, IfErr, IfOk, IfSome, codes, false, None, option_map};
-ghost use Rattle.clap.specs.Simple.{app_of};
-ghost use Rattle.clap.specs.declared.builder.command.Command.TheViews.{out-Command as fields_of};
+ghost use Rattle.job_parts.specs.Matched.{app_of, fields_of, found_of};
 ghost use Rattle.clap.specs.Walk.{rows_of, rule_of};
-ghost use Rattle.clap.specs.Matches.{found_of};
 ghost use Rattle.job_parts.specs.Arguments.{option_rule};
 ghost use Rattle.job_parts.specs.Inputs.{AreInputs, input_value};
 ghost use Rattle.job_config.specs.Sources.{GivesSource, RefusesSource, first_file, is_alone, lacks, with_source_options};

@@ -5,6 +5,7 @@ pub mod Files
 pub mod Given
 pub mod Inputs
 pub mod Lines
+pub mod Matched
 pub mod NodeCodes
 pub mod Options
 pub mod Printed

@@ -1,10 +1,7 @@
 //! The arguments of the jobs that take the lines of a file, and what they read.
 
 ghost use Rattle.std.specs.Prelude.{◌≡◌, IfErr, IfOk, false, string_bytes, None, Some};
-ghost use Rattle.clap.specs.Simple.{app_of};
-ghost use Rattle.clap.specs.declared.builder.command.Command.TheViews.{out-Command as fields_of};
-ghost use Rattle.clap.specs.Walk.{rows_of};
-ghost use Rattle.clap.specs.Matches.{found_of};
+ghost use Rattle.job_parts.specs.Matched.{app_of, fields_of, found_of, rows_of};
 ghost use Rattle.job_parts.specs.Given.{AreGiven, IsNotReady};
 ghost use Rattle.job_parts.specs.Lines.{NamesLines, RefusesLines, lines_app};
 ghost use Rattle.job_parts.specs.Inputs.{AreInputs, image_of, input};

@@ -1,10 +1,8 @@
 //! The values of the options `--maps` and `--ports`, and the words of a node.
 
 ghost use Rattle.std.specs.Prelude.{◌≡◌, All, IfErr, IfOk, MatchResult, codes, false, option_map, string_bytes, [], None};
-ghost use Rattle.clap.specs.Simple.{app_of};
-ghost use Rattle.clap.specs.declared.builder.command.Command.TheViews.{out-Command as fields_of};
+ghost use Rattle.job_parts.specs.Matched.{app_of, fields_of, found_of};
 ghost use Rattle.clap.specs.Walk.{first_of, rows_of, rule_of};
-ghost use Rattle.clap.specs.Matches.{found_of};
 ghost use Rattle.basm.specs.Relation.{texts};
 ghost use Rattle.job_parts.specs.Arguments.{option_rule};
 ghost use Rattle.job_parts.specs.Inputs.{AreInputs, image_of, input_value};

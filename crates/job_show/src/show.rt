@@ -1,10 +1,7 @@
 //! The job `show`.
 
 ghost use Rattle.std.specs.Prelude.{◌≡◌, IfErr, IfOk, codes, false, None, Some, string_bytes};
-ghost use Rattle.clap.specs.Simple.{app_of};
-ghost use Rattle.clap.specs.declared.builder.command.Command.TheViews.{out-Command as fields_of};
-ghost use Rattle.clap.specs.Walk.{rows_of};
-ghost use Rattle.clap.specs.Matches.{found_of};
+ghost use Rattle.job_parts.specs.Matched.{app_of, fields_of, found_of, rows_of};
 ghost use Rattle.job_parts.specs.Arguments.{Lacks};
 ghost use Rattle.job_parts.specs.Statuses.{IsDoneWith};
 ghost use Rattle.job_parts.specs.Stops.{StopsBy};

@@ -1,10 +1,7 @@
 //! The arguments of the jobs that verify an image.
 
 ghost use Rattle.std.specs.Prelude.{◌≡◌, IfErr, IfOk, false, None, Some, string_bytes};
-ghost use Rattle.clap.specs.Simple.{app_of};
-ghost use Rattle.clap.specs.declared.builder.command.Command.TheViews.{out-Command as fields_of};
-ghost use Rattle.clap.specs.Walk.{rows_of};
-ghost use Rattle.clap.specs.Matches.{found_of};
+ghost use Rattle.job_parts.specs.Matched.{app_of, fields_of, found_of, rows_of};
 ghost use Rattle.job_texts.specs.Images.{NamesImage, RefusesImage, maps_app};
 ghost use Rattle.job_parts.specs.Inputs.{AreInputs, input};
 ghost use Rattle.job_parts.specs.declared.inputs.Content.TheVariants.{Image, ImageOrText};
