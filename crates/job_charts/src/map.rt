@@ -5,11 +5,11 @@ ghost use Rattle.clap.specs.Simple.{app_of};
 ghost use Rattle.clap.specs.declared.builder.command.Command.TheViews.{out-Command as fields_of};
 ghost use Rattle.clap.specs.Walk.{rows_of};
 ghost use Rattle.clap.specs.Matches.{found_of};
+ghost use Rattle.job_parts.specs.Inputs.{AreInputs, input};
+ghost use Rattle.job_parts.specs.declared.inputs.Content.TheVariants.{Table};
 ghost use Rattle.job_parts.specs.Stops.{StopsBy};
 ghost use Rattle.job_charts.specs.MapJob.{NamesMap, RefusesMap, map_app};
 ghost use Rattle.job_charts.specs.MappedFile.{IsNotMapped, MapsFile};
-ghost use Rattle.job_parts.specs.Inputs.{AreInputs, input};
-ghost use Rattle.job_parts.specs.declared.inputs.Content.TheVariants.{Table};
 
 use crate::mapped::map_text;
 use clap::{ArgMatches, Command};
