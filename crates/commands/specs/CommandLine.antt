@@ -1,5 +1,5 @@
 -- The command line of rmapctl, as clap reads it, and what its matches name: a job over files, or a talk.
-use Rattle.std.specs.Prelude.{◌≡◌, ◌≢◌, ◌⊎◌, List, [], Option, Some, None, true, codes}
+use Rattle.std.specs.Prelude.{◌≡◌, ◌≢◌, ◌⊎◌, List, [], Option, Some, None, true, codes, Bool, false, not, ◌||◌}
 use Rattle.clap.specs.Walk.{Row, Text, first_of}
 use Rattle.clap.specs.Simple.{App, Shape, new_app, on_top, with_subcommand, subcommand_of}
 use Rattle.clap.specs.Faults.{fault_of}
@@ -168,3 +168,9 @@ NamesNone words (Parse text) = ¬ AreTaken words
 abbrev pub AsksFor : List Text → Asked → Type 0
 AsksFor words (Named work) = NamesWork words work
 AsksFor words (Told text) = Unit {0}
+
+-- the words ask for a work that waits for standard input: a talk in lines, or any work if no word was given
+abbrev pub waits : Asked → (without_words : Bool) → Bool
+waits (Named (Live words)) without_words = not words.frames || without_words
+waits (Named (Once job)) without_words = without_words
+waits (Told text) without_words = false

@@ -1,8 +1,8 @@
 //! What the words of a command line ask for: a work, or a text.
 
-ghost use Rattle.std.specs.Prelude.{IfOk};
+ghost use Rattle.std.specs.Prelude.{◌≡◌, IfOk, is_some};
 ghost use Rattle.clap.specs.Walk.{texts};
-ghost use Rattle.commands.specs.CommandLine.{AsksFor};
+ghost use Rattle.commands.specs.CommandLine.{AsksFor, waits};
 
 use crate::usage::{command_line, words};
 use crate::work::Work;
@@ -91,7 +91,9 @@ pub fn asked_of(alloc: Global, given: &[&str]) -> Result<Asked, UsageFault>
 
 /// What is told of what words ask for before it waits for standard input, where that is a terminal: of a talk, and where no word
 /// was given.
-pub fn told_wait(asked: &Asked, without_words: bool) -> Option<&'static str> {
+pub fn told_wait(asked: &Asked, without_words: bool) -> Option<&'static str>
+    ensures { is_some result ≡ waits asked.now without_words }
+{
     match asked {
         Asked::Named(Work::Live(words)) if !words.frames => Some(LIVE_WAITS),
         Asked::Named(_) if without_words => Some(JUDGE_WAITS),

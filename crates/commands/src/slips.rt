@@ -2,7 +2,7 @@
 
 use crate::usage::command_line;
 use clap::ArgMatches;
-use job_codes::explain::codes_of;
+use job_codes::topics::{CodeKind, KINDS};
 use job_config::sources::beside_node;
 use job_packets::packet::packet_words;
 use job_packets::slips::{PacketFault, PacketWord, Slip};
@@ -80,6 +80,19 @@ fn pair_line(alloc: Global, found: &ArgMatches) -> Result<String, AllocError> {
         Some(new) => line_of(alloc, "NEW", Some(new), ONE_INPUT),
         None => Ok(String::new(alloc)),
     }
+}
+
+/// The codes that have this number, with commas between them.
+fn codes_of(alloc: Global, number: u8) -> Result<String, AllocError> {
+    let mut text = String::new(alloc);
+    for place in 0..KINDS {
+        let kind = CodeKind::at(place);
+        if kind.topic(number).is_some() {
+            let (comma, word) = (if text.is_empty() { "" } else { ", " }, kind.word());
+            write!(text, "{comma}{word}{number}")?;
+        }
+    }
+    Ok(text)
 }
 
 /// The line of a code that is none: where it is a number, with the codes that have it.

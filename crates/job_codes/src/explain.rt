@@ -84,19 +84,6 @@ fn listing(alloc: Global) -> Result<String, AllocError> {
     Ok(text)
 }
 
-/// The codes that have this number, with commas between them.
-pub fn codes_of(alloc: Global, number: u8) -> Result<String, AllocError> {
-    let mut text = String::new(alloc);
-    for place in 0..KINDS {
-        let kind = CodeKind::at(place);
-        if kind.topic(number).is_some() {
-            let (comma, word) = (if text.is_empty() { "" } else { ", " }, kind.word());
-            write!(text, "{comma}{word}{number}")?;
-        }
-    }
-    Ok(text)
-}
-
 /// What is told of the code that is written so: its line, and when it comes and what to do.
 fn explanation(alloc: Global, code: &str) -> Result<(String, &'static str), AllocError> {
     let mut text = String::new(alloc);

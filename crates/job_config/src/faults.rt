@@ -256,6 +256,22 @@ impl fmt::Display for Found {
     }
 }
 
+/// Prints that a table has a key that it may not have.
+fn print_unknown<W: fmt::Write>(
+    f: &mut fmt::Formatter<W>,
+    place: &Place,
+    key: &Word,
+) -> fmt::Result {
+    let (key, keys) = (key.text.escape_debug(), keys(place.kind));
+    write!(f, "{place}key {key}: wanted {keys}")
+}
+
+/// Prints that there are too many tables of a kind, or too few.
+fn print_count<W: fmt::Write>(f: &mut fmt::Formatter<W>, kind: Kind, count: usize) -> fmt::Result {
+    let (word, wanted) = (kind.word(), wanted(kind));
+    write!(f, "{count} {word}s: wanted {wanted}")
+}
+
 /// Prints that a table stands where none may, or that a list of tables is none.
 fn print_no_table<W: fmt::Write>(f: &mut fmt::Formatter<W>, place: &Place) -> fmt::Result {
     let (word, number) = (place.kind.word(), place.number);
@@ -273,10 +289,7 @@ impl fmt::Display for ConfigFault {
                 let message = message.text.as_str();
                 write!(f, "line {line}: {message}")
             }
-            ConfigFault::UnknownKey { place, key } => {
-                let (key, keys) = (key.text.escape_debug(), keys(place.kind));
-                write!(f, "{place}key {key}: wanted {keys}")
-            }
+            ConfigFault::UnknownKey { place, key } => print_unknown(f, place, key),
             ConfigFault::BadNumber {
                 place,
                 key,
@@ -289,10 +302,7 @@ impl fmt::Display for ConfigFault {
             }
             ConfigFault::BadPeak(place) => write!(f, "{place}peak: wanted true or false"),
             ConfigFault::NoTable(place) => print_no_table(f, place),
-            ConfigFault::BadCount { kind, count } => {
-                let (word, wanted) = (kind.word(), wanted(*kind));
-                write!(f, "{count} {word}s: wanted {wanted}")
-            }
+            ConfigFault::BadCount { kind, count } => print_count(f, *kind, *count),
             ConfigFault::NoName { place, key } => {
                 let key = key.word();
                 write!(f, "{place}{key}: wanted the name of a file")
