@@ -3,7 +3,7 @@
 ghost use Rattle.std.specs.Prelude.{◌≡◌};
 
 use initiator::Seen;
-use job_parts::paths::{add_path, path_in_front};
+use job_show::paths::{add_path, path_in_front};
 use rmap::Flaw;
 use spw::{Packet, first_word, read_part};
 use std::alloc::{AllocError, Global};

@@ -11,7 +11,6 @@ pub mod inputs;
 pub mod lines;
 pub mod node_codes;
 pub mod options;
-pub mod paths;
 pub mod printing;
 pub mod programs;
 pub mod replies;

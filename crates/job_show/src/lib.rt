@@ -1,5 +1,6 @@
 //! The job of `rmapctl` that tells in words what packet lines say.
 #![tactic(auto)]
 
+pub mod paths;
 pub mod show;
 pub mod shown_lines;

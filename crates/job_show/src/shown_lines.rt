@@ -5,10 +5,10 @@ ghost use Rattle.job_show.specs.ShownLines.{EndsLine, IsLineFault};
 ghost use Rattle.spw.specs.Line.{HasFault, marker_word, words_of as words_in};
 ghost use Rattle.spw.specs.declared.faults.LineFault.TheVariants.{Memory};
 
+use crate::paths::{add_path, path_in_front};
 use bpf::ImageFault;
 use initiator::{NoReply, Reply, Seen};
 use job_parts::bad_lines::BadLine;
-use job_parts::paths::{add_path, path_in_front};
 use node_parts::LoadRefusal;
 use rmap::{
     BodyFault, CONTROL_SIZE, Command, ControlData, Discard, Flaw, HeaderFault, Instruction, Kind,
