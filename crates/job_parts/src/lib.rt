@@ -6,7 +6,6 @@ pub mod arguments;
 pub mod bad_lines;
 pub mod factory;
 pub mod faults;
-pub mod host;
 pub mod inputs;
 pub mod lines;
 pub mod node_codes;
