@@ -44,7 +44,8 @@ impl<'r, R: Eprint, I: Read + Drop, W: Write + Drop> HostLink<'r, R, I, W> {
 
     /// The writer, and why the last bytes could not be sent, if they could not.
     pub fn into_output(self) -> (W, io::Result<()>)
-        ensures { result ≡ (self.entry.output, self.entry.lost) }
+        ensures output { result.0 ≡ self.entry.output }
+        ensures lost { result.1 ≡ self.entry.lost }
     {
         (self.output, self.lost)
     }

@@ -97,7 +97,8 @@ impl<I: BufRead + Drop, W: Write + Drop> HostTalk<I, W> {
 
     /// The writer, and why the last text could not be sent, if it could not.
     pub fn into_output(self) -> (W, io::Result<()>)
-        ensures { result ≡ (self.output, self.lost) }
+        ensures output { result.0 ≡ self.output }
+        ensures lost { result.1 ≡ self.lost }
     {
         (self.output, self.lost)
     }
