@@ -49,7 +49,7 @@ impl NodeWords {
 }
 
 /// The sizes of no maps.
-fn no_maps() -> MapSizes
+pub fn no_maps() -> MapSizes
     ensures { result ≡ listed_maps [] }
 {
     MapSizes::new(&[]).unwrap()
