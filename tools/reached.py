@@ -49,15 +49,6 @@ def items(text):
             yield words[0], words[2] if len(words) == 3 else words[0]
 
 
-def variants(module):
-    """The variants of the enum whose variants are this module."""
-    crate, _, path = module.removeprefix("Rattle.").partition(".specs.declared.")
-    *folders, enum, _ = path.split(".")
-    text = (specs.TOP / "crates" / crate / "src" / f"{'/'.join(folders)}.rt").read_text()
-    body = re.search(rf"^pub(?:\(crate\))? enum {enum}\b[^{{]*\{{\n(.*?)^\}}", text, re.MULTILINE | re.DOTALL)[1]
-    return re.findall(r"^    (\w+)", body, re.MULTILINE)
-
-
 # A module whose `where` stands in a line of its own, and its items two columns further right.
 LONG_MODULE = re.compile(r"^(module _ .*)\n  where\n((?:    .*\n|\n)*)", re.M)
 
@@ -128,10 +119,6 @@ class File:
     def read_use(self, text):
         text = re.sub(r"\s+", " ", text)
         module, names, short = USE.match(text).groups()
-        if module.endswith(".*"):
-            module = module[:-2]
-            self.scope.update((name, (module, name)) for name in variants(module))
-            return
         if names is None:
             self.modules[short or module.rsplit(".", 1)[-1]] = module
             return

@@ -29,7 +29,9 @@ use Rattle.job_trace.specs.TraceJob.{trace_app}
 use Rattle.job_weigh.specs.WeighJob.{weigh_app, NamesWeigh, SpoilsWeigh}
 use Rattle.commands.specs.declared.asked.Asked.{Asked}
 use Rattle.commands.specs.declared.asked.Asked.TheVariants.{Named, Told}
-use Rattle.commands.specs.declared.jobs.Job.TheVariants.*
+use Rattle.commands.specs.declared.jobs.Job.TheVariants.{Judge, Serve, Simulate, Trace, Assemble, Disassemble}
+use Rattle.commands.specs.declared.jobs.Job.TheVariants.{Verify, Policy, Explain, Why, Weigh, Node, Packet, Show}
+use Rattle.commands.specs.declared.jobs.Job.TheVariants.{Decide, Compare, Map, Rehearse}
 use Rattle.commands.specs.Words.{name_of}
 use Rattle.commands.specs.declared.word.Word.{Word}
 use Rattle.commands.specs.declared.word.Word.TheVariants as word

@@ -3,7 +3,9 @@ use Rattle.std.specs.Prelude.{Bool, false, ℕ, ◌+◌}
 use Rattle.job_parts.specs.declared.inputs.Content.{Content}
 use Rattle.job_parts.specs.declared.inputs.Content.TheVariants as content
 use Rattle.commands.specs.declared.jobs.Job.{Job}
-use Rattle.commands.specs.declared.jobs.Job.TheVariants.*
+use Rattle.commands.specs.declared.jobs.Job.TheVariants.{Judge, Serve, Simulate, Trace, Assemble, Disassemble}
+use Rattle.commands.specs.declared.jobs.Job.TheVariants.{Verify, Policy, Explain, Why, Weigh, Node, Packet, Show}
+use Rattle.commands.specs.declared.jobs.Job.TheVariants.{Decide, Compare, Map, Rehearse}
 use Rattle.commands.specs.declared.noted.Noted.{Noted}
 use Rattle.commands.specs.declared.noted.TheConstants.{MAX_TEXT}
 

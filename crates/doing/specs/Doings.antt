@@ -5,7 +5,9 @@ use Rattle.commands.specs.Notes.{is_dump, reads_dump}
 use Rattle.commands.specs.Performed.{Performs}
 use Rattle.commands.specs.ShownTalk.{ShowsTalk}
 use Rattle.commands.specs.declared.jobs.Job.{Job}
-use Rattle.commands.specs.declared.jobs.Job.TheVariants.*
+use Rattle.commands.specs.declared.jobs.Job.TheVariants.{Judge, Serve, Simulate, Trace, Assemble, Disassemble}
+use Rattle.commands.specs.declared.jobs.Job.TheVariants.{Verify, Policy, Explain, Why, Weigh, Node, Packet, Show}
+use Rattle.commands.specs.declared.jobs.Job.TheVariants.{Decide, Compare, Map, Rehearse}
 use Rattle.commands.specs.declared.work.Work.{Work}
 use Rattle.commands.specs.declared.work.Work.TheVariants.{Once, Live}
 use Rattle.folders.specs.Folders.{FolderValue}

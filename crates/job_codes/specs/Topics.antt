@@ -14,7 +14,8 @@ use Rattle.node_parts.specs.Loads.{load_refusal_of_code}
 use Rattle.job_parts.specs.BadLines.{bad_line_of_number}
 use Rattle.job_parts.specs.NodeCodes.{node_code_of}
 use Rattle.job_codes.specs.declared.topics.CodeKind.{CodeKind}
-use Rattle.job_codes.specs.declared.topics.CodeKind.TheVariants.*
+use Rattle.job_codes.specs.declared.topics.CodeKind.TheVariants.{Verifier, Text, Image, Insn, Line, Frame, Discard}
+use Rattle.job_codes.specs.declared.topics.CodeKind.TheVariants.{Status, Load, Policy, Node}
 
 -- the kind at a place of the order in which codes are listed, the last one at every later place
 unfoldable pub kind_at : ℕ → CodeKind

@@ -11,7 +11,8 @@ use Rattle.job_parts.specs.Files.{Reads}
 use Rattle.job_parts.specs.Given.{HoldsProgram}
 use Rattle.job_parts.specs.Reading.{TextUnread}
 use Rattle.job_parts.specs.declared.faults.Fault.{Fault}
-use Rattle.job_parts.specs.declared.faults.Fault.TheVariants.*
+use Rattle.job_parts.specs.declared.faults.Fault.TheVariants.{CannotRead, CannotWrite, NoMemory, BadText, BadTable}
+use Rattle.job_parts.specs.declared.faults.Fault.TheVariants.{BadImage, Refused, BadNode, BadLine}
 use Rattle.job_parts.specs.declared.node_codes.NodeCode.{NodeCode}
 use Rattle.job_parts.specs.declared.node_codes.NodeCode.TheVariants.{Text}
 use Rattle.job_config.specs.Configured.{ConfigurationValue, IsBadConfiguration, configuration_at, items_in, list_at}
