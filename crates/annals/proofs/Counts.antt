@@ -15,7 +15,7 @@ use Rattle.bank.specs.Records.{BankValue, ShareValue, JudgedValue, EntryValue, n
 use Rattle.annals.specs.declared.deed.Act.{Act}
 use Rattle.annals.specs.declared.deed.Act.TheVariants.{Leaves, Sets, Rotates, Publishes}
 use Rattle.annals.specs.declared.deed.Deed.{Deed}
-use Rattle.annals.specs.declared.deed.Deed.TheVariants.{Opens, Does, Asks}
+use Rattle.annals.specs.declared.deed.Deed.TheVariants.{Opens, Does, Asks, Shows}
 use Rattle.annals.specs.declared.deed.Link.{Link}
 use Rattle.annals.specs.Chains.{ChainValue, LineValue, at_bank, chain_of, line_with, link}
 use Rattle.annals.specs.Banks.{CountsOn, numbers_at, with_entry, entries_in, entries_of, memory_after, zeros, IsKept}
@@ -67,6 +67,7 @@ with_append (Does (Sets x)) xs ys = refl
 with_append (Does (Rotates x)) xs ys = refl
 with_append (Does (Publishes x)) xs ys = refl
 with_append (Asks x) xs ys = refl
+with_append Shows xs ys = refl
 
 entries_snoc : (ls : List Link) (k place next : ℕ) (e : EntryValue) → entries_in (ls ++ link k place (Does (Leaves e)) next ∷ []) ≡ entries_in ls ++ e ∷ []
 entries_snoc [] k place next e = refl

@@ -10,7 +10,7 @@ use Rattle.bank.specs.Records.{EntryValue, numbers_of}
 use Rattle.annals.specs.declared.deed.Act.{Act}
 use Rattle.annals.specs.declared.deed.Act.TheVariants.{Leaves, Sets, Rotates, Publishes}
 use Rattle.annals.specs.declared.deed.Deed.{Deed}
-use Rattle.annals.specs.declared.deed.Deed.TheVariants.{Opens, Does, Asks}
+use Rattle.annals.specs.declared.deed.Deed.TheVariants.{Opens, Does, Asks, Shows}
 use Rattle.annals.specs.declared.deed.Link.{Link}
 use Rattle.annals.specs.Chains.{AreAsked, Due, IsDue, asked_by, asked_in, at_bank, at_chain, chain_of, done_for, left_in, line_of, link, owner_of, with_asked, with_done, with_left}
 use Rattle.annals.specs.Banks.{entries_in, entries_of, numbers_at, with_entry}
@@ -42,6 +42,7 @@ asked_joined : (d : Deed) (xs ys : List Due) → with_asked d (xs ++ ys) ≡ wit
 asked_joined (Opens x) xs ys = refl
 asked_joined (Does a) xs ys = refl
 asked_joined (Asks x) xs ys = refl
+asked_joined Shows xs ys = refl
 
 asked_append : (ls ms : List Link) → asked_in (ls ++ ms) ≡ asked_in ls ++ asked_in ms
 asked_append [] ms = refl
@@ -67,6 +68,7 @@ done_joined owner chain (Does a) xs ys = here (owner_of a == owner) where
   here true = refl
   here false = refl
 done_joined owner chain (Asks x) xs ys = refl
+done_joined owner chain Shows xs ys = refl
 
 pub done_append : (owner : ℕ) (ls ms : List Link) → done_for owner (ls ++ ms) ≡ done_for owner ls ++ done_for owner ms
 done_append owner [] ms = refl
@@ -124,6 +126,7 @@ abbrev with_act : ℕ → Deed → List Act → List Act
 with_act owner (Opens x) acts = acts
 with_act owner (Does a) acts = cond (owner_of a == owner) (a ∷ acts) acts
 with_act owner (Asks x) acts = acts
+with_act owner Shows acts = acts
 
 -- the acts of that owner among those deeds
 acts_in : ℕ → List Link → List Act
@@ -137,6 +140,7 @@ own_acts owner k chain (Does a) ds acts is same = here (owner_of a == owner) whe
   here true = ap (λ (n : ℕ). at_chain k ((n, a) ∷ ds)) is ∙ (acts_own k a ds ∙ ap (λ (xs : List Act). a ∷ xs) same)
   here false = same
 own_acts owner k chain (Asks x) ds acts is same = same
+own_acts owner k chain Shows ds acts is same = same
 
 other_acts : (owner k chain : ℕ) (d : Deed) (ds : List Due) → k ≢ chain → at_chain k (with_done owner chain d ds) ≡ at_chain k ds
 other_acts owner k chain (Opens x) ds not = refl
@@ -145,6 +149,7 @@ other_acts owner k chain (Does a) ds not = here (owner_of a == owner) where
   here true = acts_other k chain a ds not
   here false = refl
 other_acts owner k chain (Asks x) ds not = refl
+other_acts owner k chain Shows ds not = refl
 
 -- what somebody did at a chain are his acts in it
 acts_at : (owner k : ℕ) (log : List Link) → at_chain k (done_for owner log) ≡ acts_in owner (chain_of k log)
@@ -184,6 +189,7 @@ left_of owner (Does (Publishes x)) acts es same = here (owner_of (Publishes x) =
   here true = same
   here false = same
 left_of owner (Asks x) acts es same = same
+left_of owner Shows acts es same = same
 
 left_by : (owner : ℕ) (ls : List Link) → left_in (acts_in owner ls) ≡ by_port owner (entries_in ls)
 unfolding acts_in
@@ -278,6 +284,7 @@ pub still_asked : (log v : List Link) (chain place next : ℕ) (deed : Deed) →
 still_asked log v chain place next (Opens x) pre same due asked = none_asked log (link chain place (Opens x) next) (λ owner. refl) asked
 still_asked log v chain place next (Does a) pre same due asked = does_asked log v chain place next a pre same due asked
 still_asked log v chain place next (Asks x) pre same due asked = none_asked log (link chain place (Asks x) next) (λ owner. refl) asked
+still_asked log v chain place next Shows pre same due asked = absurd due
 
 -- ---- a line that asks and does
 

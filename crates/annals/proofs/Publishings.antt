@@ -8,7 +8,7 @@ use Rattle.bank.specs.Records.{EntryValue}
 use Rattle.annals.specs.declared.deed.Act.{Act}
 use Rattle.annals.specs.declared.deed.Act.TheVariants.{Leaves, Sets, Rotates, Publishes}
 use Rattle.annals.specs.declared.deed.Deed.{Deed}
-use Rattle.annals.specs.declared.deed.Deed.TheVariants.{Opens, Does, Asks}
+use Rattle.annals.specs.declared.deed.Deed.TheVariants.{Opens, Does, Asks, Shows}
 use Rattle.annals.specs.declared.deed.Link.{Link}
 use Rattle.annals.specs.Chains.{Due, LineValue, at_bank, at_chain, chain_of, left_in, link, IsFirst}
 use Rattle.annals.specs.Publishes.{EntriesAreNoLoads, LoadsAreListed, LoadsAreNoEntries, loads_in, published_in, with_published, with_publish, publishes_in, publishes_of, publishes_chain}
@@ -21,6 +21,7 @@ with_publishes (Does (Sets x)) ps qs = refl
 with_publishes (Does (Rotates x)) ps qs = refl
 with_publishes (Does (Publishes x)) ps qs = refl
 with_publishes (Asks x) ps qs = refl
+with_publishes Shows ps qs = refl
 
 publishes_append : (ls ms : List Link) → publishes_in (ls ++ ms) ≡ publishes_in ls ++ publishes_in ms
 publishes_append [] ms = refl

@@ -8,11 +8,14 @@ use lib.ListN.{replicate}
 use prog.Atomic.{either}
 use Rattle.logbook.specs.Pages.{Book, Named, Cell, cell, keeps, gives, adds, Nib, no_nib, may_write, step, Moves, Goes}
 use Rattle.annals.specs.declared.deed.Link.{Link}
-use Rattle.annals.specs.Chains.{asked_in, chain_of, next_of, with_asked, IsHome, AreHome, AreAsked, AreChained, IsDue, Draws, Begins, Adds, Looks, link, IsAdded, IsFirst, word_of}
+use Rattle.annals.specs.Chains.{asked_in, chain_of, next_of, with_asked, IsHome, AreHome, AreAsked, IsDue, Draws, Begins, Adds, Looks, link, IsAdded, IsFirst, word_of}
+use Rattle.annals.specs.Rule.{AreChained, shown_word}
+use Rattle.annals.specs.Shown.{shows}
 use Rattle.annals.specs.Banks.{memory_after, after_link, after_deed, zeros, entries_of, entries_in, with_entry}
 use Rattle.std.specs.Prelude.{fold}
 use Rattle.annals.proofs.Fronts.{prefix_trans, prefix_length, prefix_whole}
 use Rattle.annals.proofs.Dues.{LeavesNone, between_same, chain_prefix, chain_snoc, none_asked, own_snoc, still_asked}
+use Rattle.annals.proofs.Listing.{due_quiet, listed_quiet, none_listed, shown_quiet}
 
 abbrev pub shown : List Link → List Link
 shown log = []
@@ -22,14 +25,14 @@ moved xs ys n = Unit {0}
 
 -- ---- cells
 
-set_home : (cs : List Cell) (k n j : ℕ) → IsHome cs j → IsHome (slice_set cs k (n, true)) j
+pub set_home : (cs : List Cell) (k n j : ℕ) → IsHome cs j → IsHome (slice_set cs k (n, true)) j
 set_home [] k n j is = absurd (cc is)
 set_home (c ∷ cs) zero n zero is = refl
 set_home (c ∷ cs) zero n (suc j) is = is
 set_home (c ∷ cs) (suc k) n zero is = is
 set_home (c ∷ cs) (suc k) n (suc j) is = set_home cs k n j is
 
-set_length : (cs : List Cell) (k : ℕ) (c : Cell) → length (slice_set cs k c) ≡ length cs
+pub set_length : (cs : List Cell) (k : ℕ) (c : Cell) → length (slice_set cs k c) ≡ length cs
 set_length [] k c = refl
 set_length (d ∷ cs) zero c = refl
 set_length (d ∷ cs) (suc k) c = ap suc (set_length cs k c)
@@ -45,7 +48,7 @@ more_cell (c ∷ cs) more zero in_it = refl
 more_cell (c ∷ cs) more (suc j) in_it = more_cell cs more j (omega (arith, in_it))
 
 -- a cell that is at home, written with what it has, leaves all as it is
-same_cell : (cs : List Cell) (k n : ℕ) → (cell cs k).1 ≡ true → n ≡ (cell cs k).0 → slice_set cs k (n, true) ≡ cs
+pub same_cell : (cs : List Cell) (k n : ℕ) → (cell cs k).1 ≡ true → n ≡ (cell cs k).0 → slice_set cs k (n, true) ≡ cs
 same_cell cs k n home is =
     ap (λ (c : Cell). slice_set cs k c) (pair n true (cell cs k) is (sym home)) ∙ set-get_or cs k (0, false)
   where
@@ -54,7 +57,7 @@ same_cell cs k n home is =
 
 -- ---- chains
 
-still_home : (cs ds : List Cell) (log : List Link) → ((j : ℕ) → IsHome cs j → IsHome ds j) → AreHome cs log → AreHome ds log
+pub still_home : (cs ds : List Cell) (log : List Link) → ((j : ℕ) → IsHome cs j → IsHome ds j) → AreHome cs log → AreHome ds log
 still_home cs ds [] stays are = tt
 still_home cs ds (l ∷ []) stays are = tt
 still_home cs ds (l ∷ m ∷ ls) stays are = (stays l.next are.0, still_home cs ds (m ∷ ls) stays are.1)
@@ -105,8 +108,11 @@ draws_kept cs log kept =
       row = omega (arith, kept.row, length-append cs ((0, false) ∷ []));
       homes = λ c few. more_home cs ((0, false) ∷ []) c (kept.homes c few);
       begun = λ c few is. kept.begun c few (sym (ap (λ (d : Cell). d.0) (more_cell cs ((0, false) ∷ []) c (omega (arith, few, kept.row)))) ∙ is);
-      used = λ c. still_home cs (cs ++ (0, false) ∷ []) (chain_of c log) (λ j home. more_home cs ((0, false) ∷ []) j home) (kept.used c);
+      used = λ c few. still_home cs (cs ++ (0, false) ∷ []) (chain_of c log) (λ j home. more_home cs ((0, false) ∷ []) j home) (kept.used c few);
       asked = kept.asked;
+      home = more_home cs ((0, false) ∷ []) shown_word kept.home;
+      shown = ap (λ (d : Cell). d.0) (more_cell cs ((0, false) ∷ []) shown_word (omega (arith, kept.row))) ∙ kept.shown;
+      listed = kept.listed;
     })
 
 pub draws_moves : (c : ℕ) (v : List Link) (e : Link) → c < 42
@@ -126,17 +132,20 @@ draws_moves c v e few cs log kept pre away = (
 )
 
 -- behind a step that gives its pen's cell home, the entry that was added follows the one of its chain that names the cell
-adds_kept : (cs : List Cell) (log : List Link) (e : Link) (key value : ℕ) → key ≡ next_of (chain_of e.chain log) → key < length cs → (cell cs key).1 ≡ false → 0 < length (chain_of e.chain log) → AreAsked (log ++ e ∷ []) → AreChained cs log
+adds_kept : (cs : List Cell) (log : List Link) (e : Link) (key value : ℕ) → key ≡ next_of (chain_of e.chain log) → key < length cs → (cell cs key).1 ≡ false → 0 < length (chain_of e.chain log) → AreAsked (log ++ e ∷ []) → shows e.deed ≡ 0 → AreChained cs log
     → AreChained (slice_set cs key (value, true)) (log ++ e ∷ [])
-adds_kept cs log e key value names few away some asked kept =
+adds_kept cs log e key value names few away some asked quiet kept =
     let ds = slice_set cs key (value, true) in
     let used : IsHome ds (next_of (chain_of e.chain log)) = subst (λ (k : ℕ). IsHome ds k) names (ap (λ (c : Cell). c.1) (get_or-set_same cs key (value, true) (0, false) few)) in
     record {
       row = omega (arith, kept.row, set_length cs key (value, true));
       homes = λ c row. set_home cs key value c (kept.homes c row);
       begun = λ c row is. begun c row is;
-      used = λ c. chained c (e.chain == c) refl;
+      used = λ c row. chained c row (e.chain == c) refl;
       asked = asked;
+      home = set_home cs key value shown_word kept.home;
+      shown = ap (λ (d : Cell). d.0) (get_or-set_other cs key shown_word (value, true) (0, false) aside) ∙ (kept.shown ∙ sym (shown_quiet log e quiet));
+      listed = listed_quiet log e quiet kept.listed;
     }
   where
     ds : List Cell
@@ -144,6 +153,9 @@ adds_kept cs log e key value names few away some asked kept =
 
     apart : (c : ℕ) → c < 42 → c ≢ key
     apart c row same = absurd (cc (kept.homes c row, subst (λ (k : ℕ). (cell cs k).1 ≡ false) (sym same) away))
+
+    aside : shown_word ≢ key
+    aside same = absurd (cc (kept.home, subst (λ (k : ℕ). (cell cs k).1 ≡ false) (sym same) away))
 
     before : (c : ℕ) → c < 42 → (cell ds c).0 ≡ 0 → chain_of c log ≡ []
     before c row is = kept.begun c row (sym (ap (λ (d : Cell). d.0) (get_or-set_other cs key c (value, true) (0, false) (apart c row))) ∙ is)
@@ -154,17 +166,17 @@ adds_kept cs log e key value names few away some asked kept =
         let not : e.chain ≢ c = λ same. absurd (omega (arith, some, ap length (subst (λ (k : ℕ). chain_of k log ≡ []) (sym same) none))) in
         other_snoc c log e not ∙ none
 
-    still : (c : ℕ) → AreHome ds (chain_of c log)
-    still c = still_home cs ds (chain_of c log) (λ j home. set_home cs key value j home) (kept.used c)
+    still : (c : ℕ) → c < 42 → AreHome ds (chain_of c log)
+    still c row = still_home cs ds (chain_of c log) (λ j home. set_home cs key value j home) (kept.used c row)
 
-    chained : (c : ℕ) (b : Bool) → (e.chain == c) ≡ b → AreHome ds (chain_of c (log ++ e ∷ []))
-    chained c true is =
+    chained : (c : ℕ) → c < 42 → (b : Bool) → (e.chain == c) ≡ b → AreHome ds (chain_of c (log ++ e ∷ []))
+    chained c row true is =
         let same : e.chain ≡ c = grind (arith, nat_tests, is) in
         let home : IsHome ds (next_of (chain_of c log)) = subst (λ (k : ℕ). IsHome ds (next_of (chain_of k log))) same (subst (λ (k : ℕ). IsHome ds k) names (ap (λ (d : Cell). d.1) (get_or-set_same cs key (value, true) (0, false) few))) in
-        rw (own_snoc c log e same) (home_snoc ds (chain_of c log) e (still c) (λ some. home))
-    chained c false is =
+        rw (own_snoc c log e same) (home_snoc ds (chain_of c log) e (still c row) (λ some. home))
+    chained c row false is =
         let not : e.chain ≢ c = λ same. absurd (grind (arith, nat_tests, is, same)) in
-        rw (other_snoc c log e not) (still c)
+        rw (other_snoc c log e not) (still c row)
 
 -- whatever the book is, the exchange adds the entry to the chain of whoever has the pen
 pub adds_moves : (c : ℕ) (own v : List Link) (e : Link) (p : Nib) → c < 42 → IsPrefix own v → 0 < length (chain_of c own) → p.right ≡ may_write → p.key ≡ next_of (chain_of c own)
@@ -173,7 +185,7 @@ pub adds_moves : (c : ℕ) (own v : List Link) (e : Link) (p : Nib) → c < 42 �
 adds_moves c own v e p few begins some right key chain place due cs log kept pre away =
     let off = away right in
     let out : (cell cs (next_of (chain_of c own))).1 ≡ false = subst (λ (k : ℕ). (cell cs k).1 ≡ false) key off.1 in
-    let same : chain_of c own ≡ chain_of c log = whole cs (chain_of c own) (chain_of c log) some (chain_prefix c own log (prefix_trans own v log begins pre)) (kept.used c) out in
+    let same : chain_of c own ≡ chain_of c log = whole cs (chain_of c own) (chain_of c log) some (chain_prefix c own log (prefix_trans own v log begins pre)) (kept.used c few) out in
     let ours : chain_of e.chain log ≡ chain_of c own = ap (λ (k : ℕ). chain_of k log) chain ∙ sym same in
     let here : chain_of e.chain v ≡ chain_of e.chain log = subst (λ (k : ℕ). chain_of k v ≡ chain_of k log) (sym chain) (between_same c own v log begins pre same) in
     let asked : AreAsked (log ++ e ∷ []) = still_asked log v e.chain e.place e.next e.deed pre here due kept.asked in (
@@ -184,24 +196,31 @@ adds_moves c own v e p few begins some right key chain place due cs log kept pre
         e ∷ [],
         None,
         right,
-        rw (unchanged cs log c few kept) (adds_kept cs log e p.key p.value (key ∙ ap next_of (sym ours)) off.0 off.1 (subst (λ (l : List Link). 0 < length l) (sym ours) some) asked kept),
+        rw (unchanged cs log c few kept) (adds_kept cs log e p.key p.value (key ∙ ap next_of (sym ours)) off.0 off.1 (subst (λ (l : List Link). 0 < length l) (sym ours) some) asked (due_quiet e.chain e.deed v due) kept),
         inl (refl, refl),
         record { before = log; log = refl; seen = pre; place = ap length ours ∙ sym place; asked = kept.asked },
       ),
     )
 
 -- the first entry of a chain
-begins_kept : (cs : List Cell) (log : List Link) (e : Link) → e.chain < 42 → chain_of e.chain log ≡ [] → LeavesNone e → AreChained cs log → AreChained (slice_set cs e.chain (1, true)) (log ++ e ∷ [])
-begins_kept cs log e few none leaves kept = record {
+begins_kept : (cs : List Cell) (log : List Link) (e : Link) → e.chain < 42 → chain_of e.chain log ≡ [] → LeavesNone e → shows e.deed ≡ 0 → AreChained cs log
+    → AreChained (slice_set cs e.chain (1, true)) (log ++ e ∷ [])
+begins_kept cs log e few none leaves quiet kept = record {
   row = omega (arith, kept.row, set_length cs e.chain (1, true));
   homes = λ c row. set_home cs e.chain 1 c (kept.homes c row);
   begun = λ c row is. begun c row (e.chain == c) refl is;
-  used = λ c. chained c (e.chain == c) refl;
+  used = λ c row. chained c row (e.chain == c) refl;
   asked = none_asked log e leaves kept.asked;
+  home = set_home cs e.chain 1 shown_word kept.home;
+  shown = ap (λ (d : Cell). d.0) (get_or-set_other cs e.chain shown_word (1, true) (0, false) aside) ∙ (kept.shown ∙ sym (shown_quiet log e quiet));
+  listed = listed_quiet log e quiet kept.listed;
 }
   where
     ds : List Cell
     ds = slice_set cs e.chain (1, true)
+
+    aside : shown_word ≢ e.chain
+    aside same = absurd (omega (arith, few, same))
 
     begun : (c : ℕ) → c < 42 → (b : Bool) → (e.chain == c) ≡ b → (cell ds c).0 ≡ 0 → chain_of c (log ++ e ∷ []) ≡ []
     begun c row true here is =
@@ -214,32 +233,32 @@ begins_kept cs log e few none leaves kept = record {
         let apart : c ≢ e.chain = λ same. not (sym same) in
         other_snoc c log e not ∙ kept.begun c row (sym (ap (λ (d : Cell). d.0) (get_or-set_other cs e.chain c (1, true) (0, false) apart)) ∙ is)
 
-    still : (c : ℕ) → AreHome ds (chain_of c log)
-    still c = still_home cs ds (chain_of c log) (λ j home. set_home cs e.chain 1 j home) (kept.used c)
+    still : (c : ℕ) → c < 42 → AreHome ds (chain_of c log)
+    still c row = still_home cs ds (chain_of c log) (λ j home. set_home cs e.chain 1 j home) (kept.used c row)
 
-    chained : (c : ℕ) (b : Bool) → (e.chain == c) ≡ b → AreHome ds (chain_of c (log ++ e ∷ []))
-    chained c true here =
+    chained : (c : ℕ) → c < 42 → (b : Bool) → (e.chain == c) ≡ b → AreHome ds (chain_of c (log ++ e ∷ []))
+    chained c row true here =
         let same : e.chain ≡ c = grind (arith, nat_tests, here) in
         let empty : chain_of c log ≡ [] = subst (λ (k : ℕ). chain_of k log ≡ []) same none in
         rw (own_snoc c log e same, empty) tt
-    chained c false here =
+    chained c row false here =
         let not : e.chain ≢ c = λ same. absurd (grind (arith, nat_tests, here, same)) in
-        rw (other_snoc c log e not) (still c)
+        rw (other_snoc c log e not) (still c row)
 
-begins_goes : (cs : List Cell) (log v : List Link) (e : Link) → e.chain < 42 → e.place ≡ length (chain_of e.chain v) → LeavesNone e → IsPrefix v log → AreChained cs log → (b : Bool) → ((cell cs e.chain).0 == 0) ≡ b
+begins_goes : (cs : List Cell) (log v : List Link) (e : Link) → e.chain < 42 → e.place ≡ length (chain_of e.chain v) → LeavesNone e → shows e.deed ≡ 0 → IsPrefix v log → AreChained cs log → (b : Bool) → ((cell cs e.chain).0 == 0) ≡ b
     → Goes AreChained shown moved e.chain (v, (no_nib, None)) (λ n. either (n == 0) 1 n) (Begins (step e.chain 0 1 e) (v, (no_nib, None))) cs log
-begins_goes cs log v e few place leaves pre kept true is =
+begins_goes cs log v e few place leaves quiet pre kept true is =
     let here : (cell cs e.chain).0 ≡ 0 = grind (arith, nat_tests, is) in
     let none : chain_of e.chain log ≡ [] = kept.begun e.chain few here in (
       keeps,
       e ∷ [],
       None,
       tt,
-      rw is (begins_kept cs log e few none leaves kept),
+      rw is (begins_kept cs log e few none leaves quiet kept),
       inl (refl, refl),
       rw is (record { added = record { before = log; log = refl; seen = pre; place = omega (arith, place, ap length none, prefix_length (chain_of e.chain v) (chain_of e.chain log) (chain_prefix e.chain v log pre)); asked = kept.asked }; none = none }),
     )
-begins_goes cs log v e few place leaves pre kept false is = (
+begins_goes cs log v e few place leaves quiet pre kept false is = (
   keeps,
   [],
   None,
@@ -250,22 +269,25 @@ begins_goes cs log v e few place leaves pre kept false is = (
 )
 
 -- whatever the book is, the exchange adds the first entry of the chain, or finds that there is one
-pub begins_moves : (c : ℕ) (v : List Link) (e : Link) → c < 42 → e.chain ≡ c → e.place ≡ length (chain_of c v) → LeavesNone e
+pub begins_moves : (c : ℕ) (v : List Link) (e : Link) → c < 42 → e.chain ≡ c → e.place ≡ length (chain_of c v) → LeavesNone e → shows e.deed ≡ 0
     → Moves AreChained shown moved c (v, (no_nib, None)) (λ n. either (n == 0) 1 n) (Begins (step c 0 1 e) (v, (no_nib, None)))
-begins_moves c v e few chain place leaves =
+begins_moves c v e few chain place leaves quiet =
     subst (λ (k : ℕ). Moves AreChained shown moved k (v, (no_nib, None)) (λ n. either (n == 0) 1 n) (Begins (step k 0 1 e) (v, (no_nib, None)))) chain
     (λ cs log kept pre away.
     let row : e.chain < 42 = subst (λ (k : ℕ). k < 42) (sym chain) few in
-    (omega (arith, row, kept.row), kept.homes e.chain row, begins_goes cs log v e row (place ∙ ap (λ (k : ℕ). length (chain_of k v)) (sym chain)) leaves pre kept ((cell cs e.chain).0 == 0) refl))
+    (omega (arith, row, kept.row), kept.homes e.chain row, begins_goes cs log v e row (place ∙ ap (λ (k : ℕ). length (chain_of k v)) (sym chain)) leaves quiet pre kept ((cell cs e.chain).0 == 0) refl))
 
--- the rule holds of 42 words and no entry
-pub woven_at_first : AreChained (replicate 42 (0, true)) []
+-- the rule holds of 43 words and no entry
+pub woven_at_first : AreChained (replicate 43 (0, true)) []
 woven_at_first = record {
   row = omega arith;
-  homes = λ c few. ap (λ (d : Cell). d.1) (get_or-replicate 42 c (0, true) (0, false) few);
+  homes = λ c few. ap (λ (d : Cell). d.1) (get_or-replicate 43 c (0, true) (0, false) (omega (arith, few)));
   begun = λ c few is. refl;
-  used = λ c. tt;
+  used = λ c few. tt;
   asked = λ owner. ([], refl);
+  home = ap (λ (d : Cell). d.1) (get_or-replicate 43 42 (0, true) (0, false) (omega arith));
+  shown = ap (λ (d : Cell). d.0) (get_or-replicate 43 42 (0, true) (0, false) (omega arith));
+  listed = none_listed;
 }
 
 -- ---- what an added entry tells
@@ -317,7 +339,7 @@ pub looks_moves : (c : ℕ) (own v : List Link) (e : Link) (p : Nib) → c < 42 
 looks_moves c own v e p few begins some right key chain place cs log kept pre away =
     let off = away right in
     let out : (cell cs (next_of (chain_of c own))).1 ≡ false = subst (λ (k : ℕ). (cell cs k).1 ≡ false) key off.1 in
-    let same : chain_of c own ≡ chain_of c log = whole cs (chain_of c own) (chain_of c log) some (chain_prefix c own log (prefix_trans own v log begins pre)) (kept.used c) out in
+    let same : chain_of c own ≡ chain_of c log = whole cs (chain_of c own) (chain_of c log) some (chain_prefix c own log (prefix_trans own v log begins pre)) (kept.used c few) out in
     let ours : chain_of e.chain log ≡ chain_of c own = ap (λ (k : ℕ). chain_of k log) chain ∙ sym same in
     let all : log ++ [] ≡ log = append-nil log in (
       omega (arith, few, kept.row),

@@ -13,7 +13,7 @@ use Rattle.bank.specs.Records.{EntryValue, ShareValue, JudgedValue, BankValue, a
 use Rattle.annals.specs.declared.deed.Act.{Act}
 use Rattle.annals.specs.declared.deed.Act.TheVariants.{Leaves, Sets, Rotates, Publishes}
 use Rattle.annals.specs.declared.deed.Deed.{Deed}
-use Rattle.annals.specs.declared.deed.Deed.TheVariants.{Opens, Does, Asks}
+use Rattle.annals.specs.declared.deed.Deed.TheVariants.{Opens, Does, Asks, Shows}
 use Rattle.annals.specs.declared.deed.Link.{Link}
 use Rattle.annals.specs.Chains.{ChainValue, Due, LineValue, IsLast, at_bank, chain_of, with_left}
 
@@ -33,6 +33,7 @@ abbrev pub after_deed : Memory → Deed → Memory
 after_deed m (Opens opening) = zeros (opening.0, opening.1)
 after_deed m (Does act) = after_act m act
 after_deed m (Asks due) = m
+after_deed m Shows = m
 
 -- memory after an entry of the history
 abbrev pub after_link : Memory → Link → Memory
@@ -47,6 +48,7 @@ abbrev pub with_entry : Deed → List EntryValue → List EntryValue
 with_entry (Opens opening) entries = entries
 with_entry (Does act) entries = with_left act entries
 with_entry (Asks due) entries = entries
+with_entry Shows entries = entries
 
 -- the entries of journals that those deeds left, in order
 abbrev pub entries_in : List Link → List EntryValue

@@ -10,7 +10,7 @@ use Rattle.bank.specs.Records.{EntryValue}
 use Rattle.annals.specs.declared.deed.Act.{Act}
 use Rattle.annals.specs.declared.deed.Act.TheVariants.{Leaves, Sets, Rotates, Publishes}
 use Rattle.annals.specs.declared.deed.Deed.{Deed}
-use Rattle.annals.specs.declared.deed.Deed.TheVariants.{Opens, Does, Asks}
+use Rattle.annals.specs.declared.deed.Deed.TheVariants.{Opens, Does, Asks, Shows}
 use Rattle.annals.specs.declared.deed.Link.{Link}
 
 -- that deed, which is the one of that place of its chain, behind which the pen of that cell adds
@@ -45,6 +45,7 @@ abbrev pub with_asked : Deed → List Due → List Due
 with_asked (Opens opening) dues = dues
 with_asked (Does act) dues = dues
 with_asked (Asks due) dues = due ∷ dues
+with_asked Shows dues = dues
 
 -- what is asked for, in order
 abbrev pub asked_in : List Link → List Due
@@ -64,6 +65,7 @@ abbrev pub with_done : (owner chain : ℕ) → Deed → List Due → List Due
 with_done owner chain (Opens opening) dues = dues
 with_done owner chain (Does act) dues = if owner_of act == owner then (chain, act) ∷ dues else dues
 with_done owner chain (Asks due) dues = dues
+with_done owner chain Shows dues = dues
 
 -- what a line's owner did at all chains, in order
 abbrev pub done_for : ℕ → List Link → List Due
@@ -90,11 +92,12 @@ left_in (act ∷ acts) = with_left act (left_in acts)
 abbrev pub at_bank : ℕ → List Due → List EntryValue
 at_bank bank dues = left_in (at_chain bank dues)
 
--- the deed may be the next at that chain: an act has to be the next one that its owner asked for
+-- the deed may be the next at that chain: an act has to be the next one that its owner asked for, and no chain shows programs
 abbrev pub IsDue : ℕ → Deed → List Link → Type 0
 IsDue chain (Opens opening) log = Unit {0}
 IsDue chain (Does act) log = asked_by (owner_of act) log ≡ done_for (owner_of act) log ++ (chain, act) ∷ []
 IsDue chain (Asks due) log = Unit {0}
+IsDue chain Shows log = ⊥
 
 -- each owner of a line asked for its acts before they were done, in that order, each once
 abbrev pub AreAsked : List Link → Type 0
@@ -120,15 +123,6 @@ abbrev pub AreHome : List Cell → List Link → Type 0
 AreHome cells [] = Unit {0}
 AreHome cells (l ∷ []) = Unit {0}
 AreHome cells (l ∷ m ∷ ls) = IsHome cells l.next × AreHome cells (m ∷ ls)
-
--- the words of the 42 chains are at home, a chain whose word is 0 has no entry, of each chain what each entry but the last
--- names was used, and what was done was asked for
-pub record AreChained (cells : List Cell) (log : List Link) : Type 0 where
-  pub row : 42 ≤ length cells
-  pub homes : (c : ℕ) → c < 42 → IsHome cells c
-  pub begun : (c : ℕ) → c < 42 → (cell cells c).0 ≡ 0 → chain_of c log ≡ []
-  pub used : (c : ℕ) → AreHome cells (chain_of c log)
-  pub asked : AreAsked log
 
 -- the word of a chain
 abbrev pub word_of : Book → ℕ → Named

@@ -1,3 +1,5 @@
 pub mod Chains
 pub mod Banks
 pub mod Publishes
+pub mod Shown
+pub mod Rule

@@ -7,7 +7,7 @@ use Rattle.node_programs.specs.declared.publishes.Publish.{Publish}
 use Rattle.annals.specs.declared.deed.Act.{Act}
 use Rattle.annals.specs.declared.deed.Act.TheVariants.{Leaves, Sets, Rotates, Publishes}
 use Rattle.annals.specs.declared.deed.Deed.{Deed}
-use Rattle.annals.specs.declared.deed.Deed.TheVariants.{Opens, Does, Asks}
+use Rattle.annals.specs.declared.deed.Deed.TheVariants.{Opens, Does, Asks, Shows}
 use Rattle.annals.specs.declared.deed.Link.{Link}
 use Rattle.annals.specs.Chains.{Due, LineValue, at_bank, at_chain, chain_of, done_for, line_with}
 
@@ -27,6 +27,7 @@ abbrev pub with_publish : Deed → List Publish → List Publish
 with_publish (Opens opening) publishes = publishes
 with_publish (Does act) publishes = with_published act publishes
 with_publish (Asks due) publishes = publishes
+with_publish Shows publishes = publishes
 
 -- the publishes among those deeds, in order
 abbrev pub publishes_in : List Link → List Publish

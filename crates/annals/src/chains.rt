@@ -9,16 +9,18 @@ ghost use Rattle.annals.specs.Banks.{memory_after, zeros, entries_of};
 ghost use Rattle.annals.specs.Publishes.{publishes_in};
 
 use crate::deed::{Link, OpensBank, Tells};
+use crate::shown_count::ShownCount;
 use logbook::{Gain, Offer, Opening, Pen, Pens, Plain, Play, Rule, Seen, Start, Word};
 use std::marker::{Brand, Model, PhantomData};
 
-/// The rule of the history: each entry of a chain but its last names a cell that is at home.
+/// The rule of the history: each entry of a chain but its last names a cell that is at home, and one word counts the programs
+/// that readers see.
 pub(crate) struct Chained;
 
 impl Rule<Link, u64> for Chained {
     ghost use Rattle.std.specs.Prelude.{[]};
     ghost use base.Fml.{ftrue};
-    ghost use Rattle.annals.specs.Chains.{AreChained};
+    ghost use Rattle.annals.specs.Rule.{AreChained};
 
     ghost holds = { λ cells log. AreChained cells log };
 
@@ -43,7 +45,7 @@ impl Opening<(), Link> for Empty {
 }
 
 /// Callers trade nothing.
-struct Nothing;
+pub(crate) struct Nothing;
 
 impl Gain<Link, u64> for Nothing {
     ghost use base.Fml.{ftrue};
@@ -149,14 +151,14 @@ pub struct Opened {
 }
 
 impl Model for Opened {
-    ghost use Rattle.std.specs.Prelude.{◌≡◌, ◌+◌, ℕ, []};
+    ghost use Rattle.std.specs.Prelude.{◌≡◌, ◌<◌, ◌+◌, ◌-◌, ℕ, []};
     ghost use Rattle.logbook.specs.Pages.{Book};
 
     ghost Value = { Book × ℕ };
 
-    ghost view = { λ o. (o.seen.book, o.pens.left) };
+    ghost view = { λ o. (o.seen.book, o.pens.left - 1) };
 
-    ghost invariant = { λ o. (o.pens.book ≡ o.seen.book) × (o.pens.next + o.pens.left ≡ 42) × (o.seen.log ≡ []) };
+    ghost invariant = { λ o. (o.pens.book ≡ o.seen.book) × (o.pens.next + o.pens.left ≡ 43) × (0 < o.pens.left) × (o.seen.log ≡ []) };
 }
 
 impl Opened {
@@ -164,7 +166,7 @@ impl Opened {
     pub fn new() -> Opened
         ensures { result.1 ≡ 42 }
     {
-        let (seen, pens) = Seen::open_row::<(), Empty>(&(), Start::alone(), 42);
+        let (seen, pens) = Seen::open_row::<(), Empty>(&(), Start::alone(), 43);
         Opened { pens, seen }
     }
 
@@ -231,6 +233,21 @@ impl Opened {
             seen,
             of: PhantomData,
         })
+    }
+}
+
+impl Opened {
+    /// The word that counts the programs which readers see. The condition is a history of which all chains are taken or left out.
+    pub fn into_shown_count<J: Family>(self) -> ShownCount<J>
+        requires family { self.0 ≡ J.book }
+        requires none { self.1 ≡ 0 }
+    {
+        let Opened { mut pens, seen: _ } = self;
+        let mut pen = pens.take();
+        ShownCount {
+            word: Word::tracked(0, &mut pen),
+            of: PhantomData,
+        }
     }
 }
 

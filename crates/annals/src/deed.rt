@@ -27,6 +27,8 @@ pub enum Deed {
     Does(Act),
     /// That was asked for, at the chain of that number.
     Asks((u64, Act)),
+    /// From here on readers see one program more of those that were published.
+    Shows,
 }
 
 /// An entry of the history: a deed in the chain of that number, which is a bank's, that of the publishes, or a port's line, its

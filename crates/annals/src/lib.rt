@@ -16,6 +16,7 @@ mod kept;
 mod laws;
 mod line;
 mod publishes;
+mod shown_count;
 
 pub use beginning::Beginning;
 pub use chains::{Chain, Family, Front, Opened};
@@ -24,3 +25,4 @@ pub use kept::Kept;
 pub use laws::{acts_grow, loads_are_apart, publishes_grow, share_one_history};
 pub use line::Line;
 pub use publishes::BANK_CHAINS;
+pub use shown_count::ShownCount;

@@ -13,3 +13,4 @@ pub mod Deciding
 pub mod Meeting
 pub mod Resting
 pub mod Plainness
+pub mod Mistelling

@@ -2,13 +2,16 @@
 #![tactic(auto)]
 
 mod asked;
+mod denied_loads;
 mod dumps;
 mod ends;
 mod hints;
 mod jobs;
 mod line_paths;
+mod node_jobs;
 mod noted;
 mod shows;
+mod shut_doors;
 mod slips;
 mod told_files;
 mod told_talk;
@@ -22,7 +25,9 @@ pub use ends::{told_end, told_node};
 pub use job_charts::compare::CompareWords;
 pub use job_charts::map::MapWords;
 pub use job_codes::explain::ExplainWords;
+pub use job_config::configuration::Configuration;
 pub use job_config::node_lines::NodeLines;
+pub use job_config::reading::configuration_in;
 pub use job_config::sources::NodeSource;
 pub use job_decide::decide::DecideWords;
 pub use job_frames::holding::live_frames;
@@ -49,6 +54,7 @@ pub use job_texts::dis::DisWords;
 pub use job_texts::images::ImageArgs;
 pub use job_weigh::weigh::WeighWords;
 pub use jobs::{Job, JobEnd, perform, perform_told};
+pub use node_jobs::{NodeJob, node_inputs};
 pub use noted::{Cause, Noted};
 pub use shows::show_talk;
 pub use slips::{OWN_SOURCE, told_option};

@@ -13,6 +13,7 @@ apart name other false tells differ = refl
 
 pub newest_sets : (before after : FolderValue) (name bytes : List ℕ) → after ≡ (name, bytes) ∷ before → Sets before name bytes after
 newest_sets before after name bytes is = subst (λ (sheets : FolderValue). Sets before name bytes sheets) (sym is) (record {
+  newest = refl;
   own = ap (λ (is_same : Bool). if is_same then Some bytes else content_of before name) ((bytes_eq-Decides name name).1 refl);
   others = λ other differ. ap (λ (is_same : Bool). if is_same then Some bytes else content_of before other)
       (apart name other (bytes_eq name other) (bytes_eq-Decides name other) differ);

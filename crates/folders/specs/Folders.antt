@@ -22,8 +22,9 @@ abbrev pub FolderReads : (before : FolderValue) → List ℕ → Option (List �
 FolderReads before name None after = after ≡ before
 FolderReads before name (Some bytes) after = (after ≡ before) × (content_of before name ≡ Some bytes)
 
--- the file of this name has these bytes, and every other is as it was
+-- the file of this name comes before all others and has these bytes, and every other is as it was
 pub record Sets (before : FolderValue) (name bytes : List ℕ) (after : FolderValue) : Type 0 where
+  pub newest : after ≡ (name, bytes) ∷ before
   pub own : content_of after name ≡ Some bytes
   pub others : (other : List ℕ) → other ≢ name → content_of after other ≡ content_of before other
 

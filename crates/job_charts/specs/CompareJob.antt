@@ -2,19 +2,20 @@
 use Rattle.std.specs.Prelude.{◌≡◌, ◌⊎◌, false, List, Some, None, codes, string_bytes}
 use Rattle.clap.specs.Walk.{Row, first_of}
 use Rattle.clap.specs.Simple.{App, new_app, with_rule}
-use Rattle.job_parts.specs.Arguments.{file_rule, option_rule}
+use Rattle.job_parts.specs.Arguments.{file_rule, flag_rule, is_set, option_rule}
 use Rattle.job_parts.specs.Options.{GivesSizes, IsBadList}
 use Rattle.job_parts.specs.TwoFiles.{NamesOneInput, are_one_input}
 use Rattle.job_parts.specs.declared.usage.UsageFault.{UsageFault}
 use Rattle.job_parts.specs.declared.usage.UsageFault.TheVariants.{Parse, BadOption, Memory}
 use Rattle.job_charts.specs.declared.compare.CompareWords.{CompareWords}
 
--- `compare OLD NEW [--maps LIST]`
+-- `compare OLD NEW [--maps LIST] [--markdown]`
 abbrev pub compare_app : App
 compare_app =
     with_rule
+    (with_rule
     (with_rule (with_rule (new_app (codes "compare")) (file_rule (codes "old"))) (file_rule (codes "new")))
-    (option_rule (codes "maps"))
+    (option_rule (codes "maps"))) (flag_rule (codes "markdown"))
 
 -- the words are those of compare with these matches
 pub record NamesCompare (rows : List Row) (words : CompareWords) : Type 0 where
@@ -22,6 +23,7 @@ pub record NamesCompare (rows : List Row) (words : CompareWords) : Type 0 where
   pub new : first_of (codes "new") rows ≡ Some (string_bytes words.new)
   pub apart : are_one_input (string_bytes words.old) (string_bytes words.new) ≡ false
   pub sizes : GivesSizes (first_of (codes "maps") rows) words.sizes
+  pub markdown : words.markdown ≡ is_set (codes "markdown") rows
 
 -- matches without one of the files, with one input for both, or with a list of maps that is none
 abbrev pub SpoilsCompare : List Row → Type 0

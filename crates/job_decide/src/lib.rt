@@ -4,4 +4,5 @@
 pub mod decide;
 pub mod node_windows;
 mod packets;
+mod reasons;
 pub mod tables;

@@ -3,7 +3,7 @@
 ghost use Rattle.std.specs.Prelude.{◌≡◌, OnOk};
 ghost use Rattle.job_parts.specs.TwoFiles.{TellsNamedFault, are_one_input};
 
-use policy_table::TableFault;
+use policy_table::TextFault;
 use std::io::{self, Write};
 
 /// The name of standard input.
@@ -17,7 +17,7 @@ pub fn are_one_input(old: &str, new: &str) -> bool
 }
 
 /// Prints the fault of a table: its line, and a line with the name of its file and the place.
-pub fn print_named_fault<W: Write>(out: &mut W, name: &str, fault: &TableFault) -> io::Result<()>
+pub fn print_named_fault<W: Write>(out: &mut W, name: &str, fault: &TextFault) -> io::Result<()>
     ensures { OnOk result
         (TellsNamedFault name.now fault.now (W.contents out.old) (W.contents out.new)) }
 {

@@ -1,8 +1,12 @@
 //! What the host calls.
 
-use crate::pieces::{Given, given_of, told_of};
-use doing::do_words;
-use folders::{Folder, Sheet};
+ghost use Rattle.std.specs.Prelude.{◌≡◌, ◌≤◌, ◌<◌, IfOk, MatchOption, length};
+ghost use Rattle.page_c.specs.Answers.{Answers, IsAnswered, with_bytes};
+ghost use Rattle.page_c.specs.declared.calls.TheConstants.{NO_WORDS};
+ghost use Rattle.page_format.specs.Given.{IsNotGiven};
+
+use doing::{STANDARD_INPUT, do_words};
+use page_format::{Given, files_since, given_of, told_of};
 use std::alloc::{AllocError, Global};
 
 /// Where memory was refused.
@@ -11,21 +15,19 @@ const NO_MEMORY: u64 = 0;
 /// Where the bytes are no words and files.
 const NO_WORDS: u64 = 1;
 
-/// The files of a folder that were written, if so many were there before: the newest come first.
-fn written_of<'a>(folder: &'a Folder<'_>, count: usize) -> &'a [Sheet] {
-    let sheets = folder.sheets();
-    &sheets[..sheets.len().saturating_sub(count)]
-}
-
-/// What the words and files in pieces come to, in pieces. `None` where the bytes are no words and files.
-fn answer(alloc: Global, given: &[u8]) -> Result<Option<Vec<u8>>, AllocError> {
-    let Some(given) = given_of(alloc, given)? else {
+/// The bytes of what the words and files come to that the given bytes are. `None` where they are none.
+#[tactic(auto, using(crate::proofs::Answering::answered, crate::proofs::Answering::sheets_counted))]
+fn answer(alloc: Global, given: &[u8]) -> Result<Option<Vec<u8>>, AllocError>
+    ensures { IfOk result (λ found. MatchOption found (IsNotGiven given.now)
+        (λ bytes. Answers given.now bytes.items)) }
+{
+    let Some(given) = given_of(alloc, STANDARD_INPUT, given)? else {
         return Ok(None);
     };
     let Given { words, folder } = given;
     let count = folder.sheets().len();
     let left = do_words(alloc, words.as_slice(), folder)?;
-    let written = written_of(&left.folder, count);
+    let written = files_since(&left.folder, count);
     let done = &left.done;
     let bytes = told_of(
         alloc,
@@ -38,7 +40,11 @@ fn answer(alloc: Global, given: &[u8]) -> Result<Option<Vec<u8>>, AllocError> {
 }
 
 /// Puts bytes at the beginning of room, if they fit, and answers how many there are.
-fn put(room: &mut [u8], bytes: &[u8]) -> u64 {
+#[tactic(auto, using(crate::proofs::Answering::bytes_put))]
+fn put(room: &mut [u8], bytes: &[u8]) -> u64
+    ensures counted { result ≡ length bytes.now }
+    ensures put { room.new ≡ with_bytes room.old bytes.now }
+{
     if bytes.len() <= room.len() {
         let (own, _) = room.split_at_mut(bytes.len());
         own.copy_from_slice(bytes);
@@ -46,11 +52,15 @@ fn put(room: &mut [u8], bytes: &[u8]) -> u64 {
     bytes.len() as u64
 }
 
-/// Does what the words of a command line ask for over files, both given in pieces, and puts what came of it at the beginning
-/// of `told`, where it has room. Answers how many bytes that takes, which are more than 1; 0 where memory was refused, and 1
-/// where the bytes are no words and files.
+/// Does what the words of a command line ask for over files, both given as bytes, and puts the bytes of what came of it at the
+/// beginning of `told`, if they fit there. Answers how many bytes they are, which are more than 1; 0 if memory was refused, and 1
+/// if the bytes are no words and files. `page_format` says how words, files and what came of them are bytes.
 #[unsafe(no_mangle)]
-pub extern "C" fn sandbar_perform(alloc: Global, given: &[u8], told: &mut [u8]) -> u64 {
+pub extern "C" fn sandbar_perform(alloc: Global, given: &[u8], told: &mut [u8]) -> u64
+    ensures nothing { result ≤ NO_WORDS → told.new ≡ told.old }
+    ensures refused { result ≡ NO_WORDS → IsNotGiven given.now }
+    ensures answered { NO_WORDS < result → IsAnswered given.now told.old told.new result }
+{
     match answer(alloc, given) {
         Ok(Some(bytes)) => put(told, bytes.as_slice()),
         Ok(None) => NO_WORDS,

@@ -5,4 +5,3 @@
 #![tactic(auto)]
 
 mod calls;
-mod pieces;

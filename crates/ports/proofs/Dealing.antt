@@ -18,6 +18,7 @@ use Rattle.node_parts.specs.Served.{EndsAtWindow, IsStagedAt}
 use Rattle.annals.specs.declared.deed.Link.{Link}
 use Rattle.annals.specs.Banks.{takes}
 use Rattle.annals.specs.Chains.{Due}
+use Rattle.annals.specs.Shown.{IsTakenAt}
 use Rattle.target.specs.Loads.{AsksForLoad}
 use Rattle.target.specs.Passes.{PortPass}
 use Rattle.ports.specs.Due.{Judging, stand, standing, IsBanked, IsWindowed, HasFinished, HasLoadEnd, HasDealt}
@@ -52,47 +53,47 @@ judging_of : (h between : PassValue) (p : Cargo) (j : JudgedValue) (reply : List
 judging_of h between p j reply entered loaded is =
     record { judged = j; program = is.program; calls = is.calls; entered = entered; loaded = loaded; reply = reply }
 
-judged_so : (h after : PortPass) (between : PassValue) (f reached : List Link) (p : Cargo) (j : JudgedValue) (reply : List ℕ) (entered : Bool) (loaded : Option Publish) → (is : IsJudgement h.pass between p j) → IsBanked (judging_of h.pass between p j reply entered loaded is) (stand between h.asked f) (standing after reached) ⊎ IsWindowed (judging_of h.pass between p j reply entered loaded is) (stand between h.asked f) (standing after reached) → HasDealt p (standing h f) (standing after reached) reply false
+judged_so : (h after : PortPass) (between : PassValue) (f seen reached : List Link) (p : Cargo) (j : JudgedValue) (reply : List ℕ) (entered : Bool) (loaded : Option Publish) → IsTakenAt f seen between.programs → (is : IsJudgement h.pass between p j) → IsBanked (judging_of h.pass between p j reply entered loaded is) (stand between h.asked seen) (standing after reached) ⊎ IsWindowed (judging_of h.pass between p j reply entered loaded is) (stand between h.asked seen) (standing after reached) → HasDealt p (standing h f) (standing after reached) reply false
 unfolding judging_of
-judged_so h after between f reached p j reply entered loaded is end = record {
+judged_so h after between f seen reached p j reply entered loaded moment is end = record {
   deed = Judged (judging_of h.pass between p j reply entered loaded is);
-  dealt = record { between = between; judgement = is; program = refl; calls = refl; ended = end };
+  dealt = record { between = between; reached = seen; moment = moment; judgement = is; program = refl; calls = refl; ended = end };
   reply_is = refl;
   dropped_is = refl;
 }
 
-pub banked : (h between after : PortPass) (f reached : List Link) (p : Cargo) (j : JudgedValue) (k : ℕ) (reply : List ℕ) → IsJudgement h.pass between.pass p j → between.asked ≡ h.asked → j.place ≡ Bank k
-    → HasFinished f reached between.pass after.pass between.asked after.asked j reply → HasDealt p (standing h f) (standing after reached) reply false
+pub banked : (h between after : PortPass) (f seen reached : List Link) (p : Cargo) (j : JudgedValue) (k : ℕ) (reply : List ℕ) → IsTakenAt f seen between.pass.programs → IsJudgement h.pass between.pass p j → between.asked ≡ h.asked → j.place ≡ Bank k
+    → HasFinished seen reached between.pass after.pass between.asked after.asked j reply → HasDealt p (standing h f) (standing after reached) reply false
 unfolding judging_of
-banked h between after f reached p j k reply is line at end =
-    let own : HasFinished f reached between.pass after.pass h.asked after.asked j reply = subst (λ (l : List Due). HasFinished f reached between.pass after.pass l after.asked j reply) line end in
+banked h between after f seen reached p j k reply moment is line at end =
+    let own : HasFinished seen reached between.pass after.pass h.asked after.asked j reply = subst (λ (l : List Due). HasFinished seen reached between.pass after.pass l after.asked j reply) line end in
     let entered = takes own.before (share_of between.pass j.place) j && has_room own.before.bank j.port in
-    judged_so h after between.pass f reached p j reply entered None is (inl (record { number = k; place = at; ended = own; entered = refl; loaded = refl }))
+    judged_so h after between.pass f seen reached p j reply entered None moment is (inl (record { number = k; place = at; ended = own; entered = refl; loaded = refl }))
 
 begins_itself : (xs : List Publish) → IsPrefix xs xs
 begins_itself xs = ([], append-nil xs)
 
-windowed : (h between after : PortPass) (f : List Link) (p : Cargo) (j : JudgedValue) (result : Status) (reply : List ℕ) → IsJudgement h.pass between.pass p j → after.asked ≡ h.asked
-    → EndsAtWindow j.place between.pass after.pass between.pass.programs between.pass.programs j result reply → HasDealt p (standing h f) (standing after f) reply false
+windowed : (h between after : PortPass) (f seen : List Link) (p : Cargo) (j : JudgedValue) (result : Status) (reply : List ℕ) → IsTakenAt f seen between.pass.programs → IsJudgement h.pass between.pass p j → after.asked ≡ h.asked
+    → EndsAtWindow j.place between.pass after.pass between.pass.programs between.pass.programs j result reply → HasDealt p (standing h f) (standing after seen) reply false
 unfolding judging_of
-windowed h between after f p j result reply is line end =
+windowed h between after f seen p j result reply moment is line end =
     let programs = between.pass.programs in
-    judged_so h after between.pass f f p j reply false None is (inr (record { old = programs; new = programs; begins = begins_itself programs; result = result; ended = end; entered = refl; asks_for = (refl, line); front = refl }))
+    judged_so h after between.pass f seen seen p j reply false None moment is (inr (record { old = programs; new = programs; begins = begins_itself programs; result = result; ended = end; entered = refl; asks_for = (refl, line); front = refl }))
 
-pub staged : (h between after : PortPass) (f : List Link) (p : Cargo) (j : JudgedValue) (place : Place) (result : Status) (reply : List ℕ) → IsJudgement h.pass between.pass p j → between.asked ≡ h.asked → place ≡ j.place → IsStagingPlace place
-    → IsStagedAt between.pass after.pass j result reply → after.asked ≡ between.asked → HasDealt p (standing h f) (standing after f) reply false
-staged h between after f p j place result reply is line same at end still =
+pub staged : (h between after : PortPass) (f seen : List Link) (p : Cargo) (j : JudgedValue) (place : Place) (result : Status) (reply : List ℕ) → IsTakenAt f seen between.pass.programs → IsJudgement h.pass between.pass p j → between.asked ≡ h.asked → place ≡ j.place → IsStagingPlace place
+    → IsStagedAt between.pass after.pass j result reply → after.asked ≡ between.asked → HasDealt p (standing h f) (standing after seen) reply false
+staged h between after f seen p j place result reply moment is line same at end still =
     let programs = between.pass.programs in
-    windowed h between after f p j result reply is (still ∙ line) (subst (λ x. EndsAtWindow x between.pass after.pass programs programs j result reply) same (elim at [
+    windowed h between after f seen p j result reply moment is (still ∙ line) (subst (λ x. EndsAtWindow x between.pass after.pass programs programs j result reply) same (elim at [
       | inl bytes ↦ subst (λ x. EndsAtWindow x between.pass after.pass programs programs j result reply) (sym bytes) (end, refl)
       | inr loaded ↦ subst (λ x. EndsAtWindow x between.pass after.pass programs programs j result reply) (sym loaded) (end, refl)
     ]))
 
-pub loaded : (h between after : PortPass) (f : List Link) (p : Cargo) (j : JudgedValue) (reply : List ℕ) → IsJudgement h.pass between.pass p j → between.asked ≡ h.asked → j.place ≡ Control
-    → HasLoadEnd between.pass after.pass between.asked after.asked j reply → HasDealt p (standing h f) (standing after f) reply false
+pub loaded : (h between after : PortPass) (f seen : List Link) (p : Cargo) (j : JudgedValue) (reply : List ℕ) → IsTakenAt f seen between.pass.programs → IsJudgement h.pass between.pass p j → between.asked ≡ h.asked → j.place ≡ Control
+    → HasLoadEnd between.pass after.pass between.asked after.asked j reply → HasDealt p (standing h f) (standing after seen) reply false
 unfolding judging_of
-loaded h between after f p j reply is line at end =
-    judged_so h after between.pass f f p j reply false end.loaded is (inr (record {
+loaded h between after f seen p j reply moment is line at end =
+    judged_so h after between.pass f seen seen p j reply false end.loaded moment is (inr (record {
       old = end.old;
       new = end.new;
       begins = end.begins;

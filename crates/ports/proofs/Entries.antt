@@ -4,18 +4,20 @@ use Rattle.std.specs.Prelude.{IfSome, IfNone, MatchBool, if◌then◌else◌}
 use Rattle.std.proofs.lemmas.Bool.{cases_Bool}
 use mathlib.Core.List.{IsPrefix}
 use Rattle.spw.specs.Cargo.{Cargo}
+use Rattle.bank.specs.declared.bank.Applied.{Applied}
 use Rattle.bank.specs.Records.{BankValue, ShareValue, JudgedValue, has_room, number_left}
 use Rattle.node_programs.specs.declared.publishes.Publish.{Publish}
 use Rattle.node_parts.specs.Passes.{PassValue}
 use Rattle.node_parts.specs.Applied.{share_of}
 use Rattle.annals.specs.declared.deed.Link.{Link}
-use Rattle.annals.specs.Banks.{takes}
+use Rattle.annals.specs.Banks.{IsDone, takes}
 use Rattle.annals.specs.Publishes.{publishes_of}
 use Rattle.target.specs.Finished.{IsDoneBehind}
 use Rattle.ports.specs.Due.{Judging, Deed, Standing, stand, Worked, IsBanked, IsWindowed, IsJudged, judgings}
 use Rattle.ports.specs.Due.Deed.{Dropped, Answered, Judged}
-use Rattle.ports.specs.Laws.{HasEntered, IsByPublished, EntriesFollow}
-use Rattle.ports.proofs.Following.{dealt_stays, judged_by}
+use Rattle.ports.specs.Laws.{HasEntered, IsByPublished, IsByShown, EntriesFollow}
+use Rattle.ports.proofs.Following.{dealt_stays, judged_by, judged_shown}
+use Rattle.ports.proofs.Keeping.{prefix_same, prefix_trans}
 
 -- whatever the publishes are that those begin which the port had seen, the command was judged by one of them
 abbrev pub IsJudgedBehind : ℕ → Judging → PassValue → Type 0
@@ -44,14 +46,33 @@ done_behind j h after is left =
     let number = (end.applied parts.0).number ∙ left_some before.bank share j.judged parts.1 in
     subst (λ (o : Option ℕ). IfSome o (λ n. IsDoneBehind h.pass.programs before.chain.number h.front after.front share j.judged is.ended.result j.reply)) number end.done
 
+-- a command that was done after what somebody saw was done after what he had seen before
+pub done_since : (bank : ℕ) (known first reached : List Link) (share : ShareValue) (j : JudgedValue) (result : Applied) (reply : List ℕ) → IsPrefix known first → IsDone bank first reached share j result reply → IsDone bank known reached share j result reply
+done_since bank known first reached share j result reply begins done = record {
+  place = done.place;
+  last = record { before = done.last.before; next = done.last.next; log = done.last.log; seen = prefix_trans known first done.last.before begins done.last.seen };
+  status = done.status;
+  numbers = done.numbers;
+  reply_is = done.reply_is;
+}
+
+-- a moment before what somebody saw is one before what he saw later
+pub shown_before : (known seen later : List Link) (j : Judging) → IsPrefix seen later → IsByShown known seen j → IsByShown known later j
+shown_before known seen later j begins is = record { at = is.at; after = is.after; before = prefix_trans is.at seen later is.before begins; shown = is.shown }
+
+pub shown_begins : (known seen : List Link) (j : Judging) → IsByShown known seen j → IsPrefix known seen
+shown_begins known seen j is = prefix_trans known is.at seen is.after is.before
+
 -- so it stands in the history behind the program that judged it
-entered : (port : ℕ) (j : Judging) (h after : Standing) → IsJudgedBehind port j h.pass → IsBanked j h after → j.entered ≡ true → HasEntered port h.front after.front j
-entered port j h after by is left = let behind = done_behind j h after is left in record {
+unfoldable pub entered : (port : ℕ) (known : List Link) (j : Judging) (h after : Standing) → IsJudgedBehind port j h.pass → IsByShown known h.front j → IsBanked j h after → j.entered ≡ true → HasEntered port known after.front j
+unfolding done_since done_behind
+entered port known j h after by moment is left = let behind = done_behind j h after is left in record {
   bank = is.ended.before.chain.number;
   share = share_of h.pass j.judged.place;
   result = is.ended.result;
-  done = behind.done;
+  done = done_since is.ended.before.chain.number known h.front after.front (share_of h.pass j.judged.place) j.judged is.ended.result j.reply (shown_begins known h.front j moment) behind.done;
   by = by (publishes_of behind.done.last.before) behind.published;
+  moment = shown_before known h.front behind.done.last.before j behind.done.last.seen moment;
 }
 
 -- one that left none added nothing
@@ -67,23 +88,46 @@ not_entered j h after is none =
     subst (λ (o : Option ℕ). IfNone o (after.front ≡ h.front)) number end.none
 
 -- what a judged command did to the history that its port knows
-step : (port : ℕ) (j : Judging) (h after : Standing) → IsJudgedBehind port j h.pass → IsBanked j h after ⊎ IsWindowed j h after → MatchBool j.entered (HasEntered port h.front after.front j) (after.front ≡ h.front)
-step port j h after by (inl banked) = elim (cases_Bool j.entered) [
-  | inl left ↦ subst (λ b. MatchBool b (HasEntered port h.front after.front j) (after.front ≡ h.front)) (sym left) (entered port j h after by banked left)
-  | inr none ↦ subst (λ b. MatchBool b (HasEntered port h.front after.front j) (after.front ≡ h.front)) (sym none) (not_entered j h after banked none)
+step : (port : ℕ) (known : List Link) (j : Judging) (h after : Standing) → IsJudgedBehind port j h.pass → IsByShown known h.front j → IsBanked j h after ⊎ IsWindowed j h after → MatchBool j.entered (HasEntered port known after.front j) (IsPrefix known after.front)
+step port known j h after by moment (inl banked) = elim (cases_Bool j.entered) [
+  | inl left ↦ subst (λ b. MatchBool b (HasEntered port known after.front j) (IsPrefix known after.front)) (sym left) (entered port known j h after by moment banked left)
+  | inr none ↦ subst (λ b. MatchBool b (HasEntered port known after.front j) (IsPrefix known after.front)) (sym none)
+      (prefix_trans known h.front after.front (shown_begins known h.front j moment) (prefix_same h.front after.front (not_entered j h after banked none)))
 ]
-step port j h after by (inr windowed) =
-    subst (λ b. MatchBool b (HasEntered port h.front after.front j) (after.front ≡ h.front)) (sym windowed.entered) windowed.front
+step port known j h after by moment (inr windowed) =
+    subst (λ b. MatchBool b (HasEntered port known after.front j) (IsPrefix known after.front)) (sym windowed.entered)
+    (prefix_trans known h.front after.front (shown_begins known h.front j moment) (prefix_same h.front after.front windowed.front))
+
+-- the history that a port knows may have begun earlier
+entered_since : (port : ℕ) (known first reached : List Link) (j : Judging) → IsPrefix known first → HasEntered port first reached j → HasEntered port known reached j
+unfolding done_since
+entered_since port known first reached j begins is = record {
+  bank = is.bank;
+  share = is.share;
+  result = is.result;
+  done = done_since is.bank known first reached is.share j.judged is.result j.reply begins is.done;
+  by = is.by;
+  moment = record { at = is.moment.at; after = prefix_trans known first is.moment.at begins is.moment.after; before = is.moment.before; shown = is.moment.shown };
+}
+
+follow_since : (port : ℕ) (known first : List Link) (js : List Judging) (reached : List Link) → IsPrefix known first → EntriesFollow port first js reached → EntriesFollow port known js reached
+follow_since port known first [] reached begins is = prefix_trans known first reached begins is
+follow_since port known first (j ∷ js) reached begins is = by j.entered is (follow_since port known first js reached begins) where
+  by : (b : Bool) → MatchBool b ((between : List Link) × HasEntered port first between j × EntriesFollow port between js reached) (EntriesFollow port first js reached)
+      → (EntriesFollow port first js reached → EntriesFollow port known js reached)
+      → MatchBool b ((between : List Link) × HasEntered port known between j × EntriesFollow port between js reached) (EntriesFollow port known js reached)
+  by true here later = (here.0, entered_since port known first here.0 j begins here.1, here.2)
+  by false here later = later here
 
 -- one judged command before the others
-follows : (entered : Bool) (port : ℕ) (j : Judging) (js : List Judging) (known between reached : List Link) → MatchBool entered (HasEntered port known between j) (between ≡ known)
+follows : (entered : Bool) (port : ℕ) (j : Judging) (js : List Judging) (known between reached : List Link) → MatchBool entered (HasEntered port known between j) (IsPrefix known between)
     → EntriesFollow port between js reached
     → MatchBool entered ((l : List Link) × HasEntered port known l j × EntriesFollow port l js reached) (EntriesFollow port known js reached)
 follows true port j js known between reached here rest = (between, here, rest)
-follows false port j js known between reached here rest = subst (λ l. EntriesFollow port l js reached) here rest
+follows false port j js known between reached here rest = follow_since port known between js reached here rest
 
 pub entries_follow : (h after : Standing) (ps : List Cargo) (ds : List Deed) → Worked h ps ds after → EntriesFollow h.pass.port h.front (judgings ds) after.front
-entries_follow h after [] [] w = ap (λ (x : Standing). x.front) w
+entries_follow h after [] [] w = prefix_same h.front after.front (ap (λ (x : Standing). x.front) w)
 entries_follow h after [] (d ∷ ds) w = absurd w
 entries_follow h after (p ∷ ps) [] w = absurd w
 entries_follow h after (p ∷ ps) (Dropped ∷ ds) w =
@@ -94,4 +138,4 @@ entries_follow h after (p ∷ ps) (Judged j ∷ ds) w =
     let port = (dealt_stays (Judged j) p h w.0 w.1).port in
     let rest = subst (λ (n : ℕ). EntriesFollow n w.0.front (judgings ds) after.front) port (entries_follow w.0 after ps ds w.2) in
     follows j.entered h.pass.port j (judgings ds) h.front w.0.front after.front
-    (step h.pass.port j (stand w.1.between h.asked h.front) w.0 (λ published begins. judged_by j p h w.0 published w.1 begins) w.1.ended) rest
+    (step h.pass.port h.front j (stand w.1.between h.asked w.1.reached) w.0 (λ published begins. judged_by j p h w.0 published w.1 begins) (judged_shown j p h w.0 w.1) w.1.ended) rest

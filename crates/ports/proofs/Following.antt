@@ -25,7 +25,8 @@ use Rattle.node_parts.specs.Loaded.{EndsAs}
 use Rattle.node_parts.specs.Served.{EndsAtWindow}
 use Rattle.ports.specs.Due.{Judging, Deed, Standing, stand, Worked, IsBanked, IsWindowed, IsJudged, IsDealt, judgings}
 use Rattle.ports.specs.Due.Deed.{Dropped, Answered, Judged}
-use Rattle.ports.specs.Laws.{IsByPublished, calls_of, is_bank_of, is_entry_at, entries_at, number_at, SharesCount}
+use Rattle.annals.specs.Shown.{shown_of}
+use Rattle.ports.specs.Laws.{IsByPublished, IsByShown, calls_of, is_bank_of, is_entry_at, entries_at, number_at, SharesCount}
 use Rattle.ports.proofs.Keeping.{end_keeps, prefix_same, prefix_trans}
 
 -- ---- what stays of a port, and that it saw more
@@ -86,7 +87,7 @@ pub dealt_stays : (d : Deed) (p : Cargo) (h after : Standing) → IsDealt d p h 
 dealt_stays Dropped p h after is = same_stays h after is.same
 dealt_stays (Answered reply) p h after is = same_stays h after is.same
 dealt_stays (Judged j) p h after is =
-    stays_on h.pass is.between after.pass (run_stays h.pass is.between p j.judged is.judgement) (end_stays j (stand is.between h.asked h.front) after is.ended)
+    stays_on h.pass is.between after.pass (run_stays h.pass is.between p j.judged is.judgement) (end_stays j (stand is.between h.asked is.reached) after is.ended)
 
 pub worked_stays : (h after : Standing) (ps : List Cargo) (ds : List Deed) → Worked h ps ds after → Stays h.pass after.pass
 worked_stays h after [] [] w = same_stays h after w
@@ -119,8 +120,22 @@ judged_by j p h after published is begins =
           (subst (λ a. IsVerdict a h.pass.port j.calls p j.judged.verdict) (sym is.program) (subst (λ l. IsVerdict run.program h.pass.port l p j.judged.verdict) (sym is.calls) for.verdict));
     }
 
+-- and by the one that readers saw in its slot at the moment of its take
+pub judged_shown : (j : Judging) (p : Cargo) (h after : Standing) → (is : IsJudged j p h after) → IsByShown h.front is.reached j
+judged_shown j p h after is =
+    let run = is.judgement in
+    let saw : shown_of is.moment.at ≡ run.seen = is.moment.seen ∙ ap (λ (x : PassValue). x.programs) run.asked in
+    record {
+      at = is.moment.at;
+      after = is.moment.after;
+      before = is.moment.before;
+      shown = subst (λ l. judging_program l (slot_of (command_kind (command_of j.judged.packet)) j.judged.place) ≡ Some (j.program, j.judged.generation)) (sym saw)
+          (subst (λ c. judging_program run.seen (slot_of (command_kind (command_of c)) j.judged.place) ≡ Some (j.program, j.judged.generation)) (sym run.judged_for.packet)
+          (subst (λ a. judging_program run.seen (slot_of (command_kind (command_of p)) j.judged.place) ≡ Some (a, j.judged.generation)) (sym is.program) run.taken.shown));
+    }
+
 judged_published : (j : Judging) (p : Cargo) (h after : Standing) → IsJudged j p h after → IsByPublished after.pass.programs h.pass.port j
-judged_published j p h after is = judged_by j p h after after.pass.programs is (end_stays j (stand is.between h.asked h.front) after is.ended).programs
+judged_published j p h after is = judged_by j p h after after.pass.programs is (end_stays j (stand is.between h.asked is.reached) after is.ended).programs
 
 pub programs_were_published : (h after : Standing) (ps : List Cargo) (ds : List Deed) → Worked h ps ds after → All (IsByPublished after.pass.programs h.pass.port) (judgings ds)
 programs_were_published h after [] [] w = All-nil (IsByPublished after.pass.programs h.pass.port)
@@ -141,7 +156,7 @@ programs_were_published h after (p ∷ ps) (Judged j ∷ ds) w =
 
 judged_asks : (j : Judging) (p : Cargo) (h after : Standing) → IsJudged j p h after → after.pass.seat.asked ≡ h.pass.seat.asked ++ j.calls
 judged_asks j p h after is =
-    let end = end_keeps j (stand is.between h.asked h.front) after is.ended in
+    let end = end_keeps j (stand is.between h.asked is.reached) after is.ended in
     ap (λ (s : SeatValue). s.asked) end.seat ∙ ap (λ (x : PassValue). x.seat.asked) is.judgement.asked ∙ ap (λ l. h.pass.seat.asked ++ l) (sym is.calls)
 
 pub ask_once : (h after : Standing) (ps : List Cargo) (ds : List Deed) → Worked h ps ds after → after.pass.seat.asked ≡ h.pass.seat.asked ++ calls_of ds
@@ -255,7 +270,7 @@ pub judged_number : (k : ℕ) (j : Judging) (p : Cargo) (h after : Standing) →
 judged_number k j p h after is below =
     let same : number_at is.between k ≡ number_at h.pass k = ap (λ x. number_at x k) is.judgement.asked in
     let count = (run_stays h.pass is.between p j.judged is.judgement).count in
-    let end = end_number k j (stand is.between h.asked h.front) after is.ended (omega (arith, count, below)) in
+    let end = end_number k j (stand is.between h.asked is.reached) after is.ended (omega (arith, count, below)) in
     omega (arith, same, end)
 
 entries_more : (k : ℕ) (j : Judging) (js : List Judging) → length (filter (is_entry_at k) (j ∷ js)) ≡ one_at k j + length (filter (is_entry_at k) js)

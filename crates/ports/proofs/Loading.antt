@@ -51,7 +51,7 @@ module _ (no_loads : EntriesAreNoLoads) (listed : LoadsAreListed) where
       loads_asked w.0 after ps ds w.2 ∙ ap (λ (x : Standing). loads_in x.asked ++ loaded_by (judgings ds)) w.1.same
   loads_asked h after (p ∷ ps) (Judged j ∷ ds) w =
       let rest = loaded_by (judgings ds) in
-      let one = end_loads j (stand w.1.between h.asked h.front) w.0 w.1.ended in
+      let one = end_loads j (stand w.1.between h.asked w.1.reached) w.0 w.1.ended in
       loads_asked w.0 after ps ds w.2
       ∙ (ap (λ (l : List Publish). l ++ rest) one
       ∙ (append_assoc (loads_in h.asked) (with_loaded j.loaded []) rest

@@ -22,9 +22,9 @@ use Rattle.annals.specs.Banks.{entries_by, entries_in, entries_of, with_entry}
 use Rattle.annals.specs.Publishes.{publishes_of}
 use Rattle.ports.specs.Due.{Judging, Deed, Standing, stand, Worked, IsBanked, IsWindowed, IsJudged, judgings}
 use Rattle.ports.specs.Due.Deed.{Dropped, Answered, Judged}
-use Rattle.ports.specs.Laws.{AreEntriesOf, EntriesFollow, HasEntered, IsEntryOf, WorkersEntriesAreAll, is_bank_of, is_entry_at, number_at}
-use Rattle.ports.proofs.Entries.{IsJudgedBehind, both_are, done_behind, entries_follow}
-use Rattle.ports.proofs.Following.{bit, dealt_stays, judged_by, judged_number, one_at, shares_count}
+use Rattle.ports.specs.Laws.{AreEntriesOf, EntriesFollow, HasEntered, IsByShown, IsEntryOf, WorkersEntriesAreAll, is_bank_of, is_entry_at, number_at}
+use Rattle.ports.proofs.Entries.{IsJudgedBehind, both_are, done_behind, entered, entries_follow}
+use Rattle.ports.proofs.Following.{bit, dealt_stays, judged_by, judged_number, judged_shown, one_at, shares_count}
 use Rattle.ports.proofs.Keeping.{prefix_trans, prefix_same}
 
 -- ---- lists
@@ -57,6 +57,7 @@ with_joined (deeds.Does (acts.Sets x)) xs ys = refl
 with_joined (deeds.Does (acts.Rotates x)) xs ys = refl
 with_joined (deeds.Does (acts.Publishes x)) xs ys = refl
 with_joined (deeds.Asks x) xs ys = refl
+with_joined deeds.Shows xs ys = refl
 
 entries_append : (ls ms : List Link) → entries_in (ls ++ ms) ≡ entries_in ls ++ entries_in ms
 entries_append [] ms = refl
@@ -79,7 +80,7 @@ by_one port k place next e is =
 -- ---- fronts
 
 follow_prefix : (port : ℕ) (known : List Link) (js : List Judging) (reached : List Link) → EntriesFollow port known js reached → IsPrefix known reached
-follow_prefix port known [] reached is = prefix_same known reached is
+follow_prefix port known [] reached is = is
 follow_prefix port known (j ∷ js) reached is = by j.entered is (λ from rest. follow_prefix port from js reached rest) where
   by : (b : Bool) → MatchBool b ((between : List Link) × HasEntered port known between j × EntriesFollow port between js reached) (EntriesFollow port known js reached)
       → ((from : List Link) → EntriesFollow port from js reached → IsPrefix from reached) → IsPrefix known reached
@@ -104,8 +105,9 @@ place_is k n place at here =
     let same : (n == k) ≡ true = subst (λ (p : Place). is_bank_of k p ≡ true) at here in
     grind (arith, nat_tests, same)
 
-left_at : (port k : ℕ) (j : Judging) (h after : Standing) → j.judged.port ≡ port → IsJudgedBehind port j h.pass → IsBanked j h after → is_entry_at k j ≡ true → HasLeft port k j h after
-left_at port k j h after own by is here =
+left_at : (port k : ℕ) (known : List Link) (j : Judging) (h after : Standing) → j.judged.port ≡ port → IsJudgedBehind port j h.pass → IsByShown known h.front j → IsBanked j h after → is_entry_at k j ≡ true → HasLeft port k j h after
+unfolding entered
+left_at port k known j h after own by moment is here =
     let parts = both_are j.entered (is_bank_of k j.judged.place) here in
     let behind = done_behind j h after is parts.0 in
     let done = behind.done in
@@ -127,15 +129,9 @@ left_at port k j h after own by is here =
       all = ap (entries_by port k) done.last.log ∙ (by_append port k before (link n place (deeds.Does (acts.Leaves e)) done.last.next ∷ []) ∙ ap (λ (es : List EntryValue). entries_by port k before ++ es) one);
       count = sym (length-map (entries_by port k before) (λ (x : EntryValue). x.number)) ∙ (ap length numbers ∙ (range_length 0 share.number ∙ number));
       is = record {
-        known = h.front;
+        known = known;
         reached = after.front;
-        entered = record {
-          bank = n;
-          share = share;
-          result = is.ended.result;
-          done = done;
-          by = by (publishes_of done.last.before) behind.published;
-        };
+        entered = entered port known j h after by moment is parts.0;
         stands = prefix_same after.front after.front refl;
         entry_is = ap (λ (i : ℕ). numbered_entry i j.judged is.ended.result.status) number;
       };
@@ -149,11 +145,11 @@ judged_left : (k : ℕ) (j : Judging) (p : Cargo) (h after : Standing) → IsJud
 judged_left k j p h after is here =
     let port = h.pass.port in
     let own : j.judged.port ≡ port = is.judgement.judged_for.port_of in
-    let middle = stand is.between h.asked h.front in
+    let middle = stand is.between h.asked is.reached in
     let number : number_at is.between k ≡ number_at h.pass k = ap (λ (x : PassValue). number_at x k) is.judgement.asked in
     elim is.ended [
       | inl banked ↦
-          let left = left_at port k j middle after own (λ published begins. judged_by j p h after published is begins) banked here in record {
+          let left = left_at port k h.front j middle after own (λ published begins. judged_by j p h after published is begins) (judged_shown j p h after is) banked here in record {
             before = left.before;
             entry = left.entry;
             all = left.all;

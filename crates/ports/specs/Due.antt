@@ -22,6 +22,7 @@ use Rattle.node_parts.specs.Served.{EndsAtWindow}
 use Rattle.annals.specs.declared.deed.Link.{Link}
 use Rattle.annals.specs.Banks.{KeptValue, takes}
 use Rattle.annals.specs.Chains.{Due}
+use Rattle.annals.specs.Shown.{IsTakenAt}
 use Rattle.target.specs.Finished.{AsksForEntry, IsFinishedAt}
 use Rattle.target.specs.Loads.{AsksForLoad}
 use Rattle.target.specs.Passes.{PortPass}
@@ -150,14 +151,17 @@ pub record IsWindowed (judging : Judging) (h after : Standing) : Type 0 where
   pub asks_for : AsksForLoad h.pass.port judging.loaded old new h.asked after.asked
   pub front : after.front ≡ h.front
 
--- the command of the packet was judged in one run, which left the port so, and ended at some bank or in the boot window
+-- the command of the packet was judged in one run, which left the port so, by the programs that readers saw at one moment of the
+-- history, after what the port knew; and it ended at some bank or in the boot window
 pub record IsJudged (judging : Judging) (p : Cargo) (h after : Standing) : Type 0 where
   pub between : PassValue
+  pub reached : List Link
+  pub moment : IsTakenAt h.front reached between.programs
   pub judgement : IsJudgement h.pass between p judging.judged
   pub program : judging.program ≡ judgement.program
   pub calls : judging.calls ≡ judgement.calls
-  pub ended : IsBanked judging (stand between h.asked h.front) after
-      ⊎ IsWindowed judging (stand between h.asked h.front) after
+  pub ended : IsBanked judging (stand between h.asked reached) after
+      ⊎ IsWindowed judging (stand between h.asked reached) after
 
 -- what became of one packet and of its port: it was dropped, answered without a run, or judged
 abbrev pub IsDealt : Deed → Cargo → (h after : Standing) → Type 0

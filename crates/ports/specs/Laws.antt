@@ -19,6 +19,7 @@ use Rattle.annals.specs.declared.deed.Link.{Link}
 use Rattle.annals.specs.Banks.{IsDone, entries_by}
 use Rattle.annals.specs.Chains.{done_for}
 use Rattle.annals.specs.Publishes.{loads_by, loads_in, publishes_of}
+use Rattle.annals.specs.Shown.{shown_of}
 use Rattle.target.specs.Lines.{CountsAllOf}
 use Rattle.ports.specs.Due.{Judging, Deed, Standing, Worked, judgings}
 
@@ -81,20 +82,30 @@ WorkersSharesCount =
     (h after : Standing) (packets : List Cargo) (deeds : List Deed) → Worked h packets deeds after
     → SharesCount h.pass after.pass deeds
 
+-- at one moment after what was known, and not after what was reached, readers saw the program in the command's slot by which it
+-- was judged: so that was the last of its slot then
+pub record IsByShown (known reached : List Link) (judging : Judging) : Type 0 where
+  pub at : List Link
+  pub after : IsPrefix known at
+  pub before : IsPrefix at reached
+  pub shown : judging_program (shown_of at) (slot_of (command_kind (command_of judging.judged.packet)) judging.judged.place)
+      ≡ Some (judging.program, judging.judged.generation)
+
 -- the command was done at a bank: it is the last of a history that goes on from what its port knew, and status and reply are
 -- the definition's on the replay of what stands before it there; before it stands the publish of the program by which it was
--- judged
+-- judged, which was the last of its slot that readers saw at a moment after what its port knew
 pub record HasEntered (port : ℕ) (known reached : List Link) (judging : Judging) : Type 0 where
   pub bank : ℕ
   pub share : ShareValue
   pub result : Applied
   pub done : IsDone bank known reached share judging.judged result judging.reply
   pub by : IsByPublished (publishes_of done.last.before) port judging
+  pub moment : IsByShown known done.last.before judging
 
--- the entries of a port stand in the history in the order of its packets, each behind all that the port knew then; what left
--- no entry added nothing
+-- the entries of a port stand in the history in the order of its packets, each behind all that the port knew then; from what
+-- left no entry the port may know more
 abbrev pub EntriesFollow : (port : ℕ) (known : List Link) → List Judging → (reached : List Link) → Type 0
-EntriesFollow port known [] reached = reached ≡ known
+EntriesFollow port known [] reached = IsPrefix known reached
 EntriesFollow port known (judging ∷ judgings) reached =
     MatchBool judging.entered
     ((between : List Link) × HasEntered port known between judging × EntriesFollow port between judgings reached)

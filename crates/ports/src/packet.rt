@@ -58,7 +58,8 @@ fn load_locked<R: Wait, J: Family, Q: Wait + Drop>(
 /// `reply` holds the reply that is due then, if any. Whether the packet was no command. The lock of the bank is held
 /// round `finish` alone, the publisher's round `load` alone, and none round `judge`. A command that leaves an entry at a bank
 /// is the last of the history that the port then knows; of any other it is said that some bank, or some list of publishes,
-/// was what it met. The condition is a pass with a share of each bank of the node.
+/// was what it met. The program that judges is the last of its slot that readers saw at one moment after what the port knew.
+/// The condition is a pass with a share of each bank of the node.
 pub(crate) fn serve_packet<R: Wait, J: Family, Q: Wait + Drop>(
     rt: &R,
     alloc: Global,
@@ -74,12 +75,14 @@ pub(crate) fn serve_packet<R: Wait, J: Family, Q: Wait + Drop>(
     ensures banks { length pass.new.pass.shares ≡ length pass.old.pass.shares }
 {
     let _banks = pass.banks();
-    let judged = match judge(pass, packet, reply) {
+    let mut seen = front.again();
+    let judged = match judge(pass, &mut seen, packet, reply) {
         Step::Discarded(_, _packet) => return true,
         Step::Answered(_, _packet) => return false,
         Step::Unread(_packet) => return false,
         Step::Judged(judged) => judged,
     };
+    *front = seen;
     match judged.place() {
         Place::Bank(k) => finish_locked(rt, node.bank(k), pass, front, judged, reply),
         Place::Staging | Place::LoadResult => {

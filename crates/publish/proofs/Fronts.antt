@@ -5,6 +5,7 @@ use mathlib.Core.List.{IsPrefix}
 use Rattle.node_programs.specs.declared.publishes.Publish.{Publish}
 use Rattle.annals.specs.declared.deed.Link.{Link}
 use Rattle.annals.specs.Publishes.{PublishesGrow, publishes_of}
+use Rattle.annals.specs.Shown.{IsTakenAt}
 use Rattle.publish.specs.Reached.{Known, known}
 
 -- each list begins with itself
@@ -60,3 +61,12 @@ prefix_of_two xs ys grow (inr p) le = prefix_same (publishes_of xs) (publishes_o
 pub swapped : {A B : Type 0} → A ⊎ B → B ⊎ A
 swapped (inl a) = inr a
 swapped (inr b) = inl b
+
+-- a moment after what somebody saw is one after what he had seen before
+pub taken_since : (known first reached : List Link) (programs same : List Publish) → IsPrefix known first → programs ≡ same → IsTakenAt first reached programs → IsTakenAt known reached same
+taken_since known first reached programs same begins is at = record {
+  at = at.at;
+  after = prefix_trans known first at.at begins at.after;
+  before = at.before;
+  seen = at.seen ∙ is;
+}

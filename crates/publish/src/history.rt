@@ -9,11 +9,14 @@ ghost use Rattle.annals.specs.Publishes.{line_loading, publishes_chain, publishe
 ghost use Rattle.node_programs.specs.Histories.{entry, longer_history};
 ghost use Rattle.publish.specs.Reached.{reached};
 
-use annals::{BANK_CHAINS, Beginning, Chain, Family, Line, publishes_grow};
+use annals::{BANK_CHAINS, Beginning, Chain, Family, Line, ShownCount, publishes_grow};
 use bver::Accepted;
 use std::alloc::AllocError;
 use std::marker::Model;
 use std::sync::Arc;
+
+/// How many chains are lines of ports: as many as a node may have.
+const PORT_LINES: u8 = 32;
 
 /// An empty history, which belongs to no node yet, with all its chains. Contracts see it as its book.
 #[derive(Drop)]
@@ -40,12 +43,13 @@ impl Opened {
         }
     }
 
-    /// The chain of its publishes, in which nothing was published yet, and the instrument's line: nobody adds to others.
+    /// The chain of its publishes, in which nothing was published yet, the instrument's line, and the word that counts what readers
+    /// see: nobody adds to other chains.
     ///
     /// # Errors
     ///
     /// The chain has begun already (no test met that).
-    pub fn into_publishes<J: Family>(self) -> Result<(Chain<J>, Line<J>), AllocError>
+    pub fn into_publishes<J: Family>(self) -> Result<(Chain<J>, Line<J>, ShownCount<J>), AllocError>
         requires { self ≡ J.book }
         ensures number { IfOk result (λ made. made.0.number ≡ publishes_chain) }
         ensures none { IfOk result (λ made. publishes_of made.0.log ≡ []) }
@@ -59,7 +63,16 @@ impl Opened {
         let Some(line) = Line::of_instrument(&mut chains) else {
             return Err(AllocError);
         };
-        Ok((chain, line))
+        chains.skip(PORT_LINES);
+        Ok((chain, line, chains.into_shown_count()))
+    }
+
+    /// What a port knows at first of the history: nothing.
+    pub fn front<J: Family>(&self) -> annals::Front<J>
+        requires { self.now ≡ J.book }
+        ensures { result ≡ [] }
+    {
+        self.chains.front()
     }
 
     /// The history, as its chains are taken.
@@ -140,6 +153,14 @@ impl<J: Family> History<J> {
     {
         self.chain.has_published(&front.beginning);
     }
+
+    /// Readers see its last program too, if they saw all before it.
+    pub(crate) fn show(&self, shown_count: &ShownCount<J>)
+        requires { 0 < length self.now }
+    {
+        let mut front = self.chain.beginning().front();
+        shown_count.raise(&mut front, self.count);
+    }
 }
 
 /// A beginning of the history that was reached. Contracts see it as its family and its programs.
@@ -196,6 +217,14 @@ impl Front {
             self.count = other.count;
             self.beginning = other.beginning.again();
         }
+    }
+
+    /// What a port of that node knows by it.
+    pub(crate) fn known<J: Family>(&self) -> annals::Front<J>
+        requires { self.now.family ≡ J.book }
+        ensures { publishes_of result ≡ self.now.programs }
+    {
+        self.beginning.front()
     }
 
     /// Whoever knows a beginning of the node's history then knows these publishes as well.

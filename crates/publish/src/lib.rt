@@ -17,7 +17,7 @@ mod rule;
 mod table;
 mod told;
 
-pub use annals::{Family, Line};
+pub use annals::{Family, Front, Line};
 pub use history::Opened;
 pub use laws::readers_know_a_beginning;
 pub use loader::Loader;

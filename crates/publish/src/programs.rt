@@ -12,7 +12,7 @@ use crate::publisher::Publisher;
 use crate::reader::Reader;
 use crate::rule::{InFamily, Sight};
 use crate::table::Table;
-use annals::{Chain, Family, Line};
+use annals::{Chain, Family, Line, ShownCount};
 use bver::{Accepted, MapSizes};
 use left_right::writer::Writer;
 use std::alloc::{AllocError, Global};
@@ -42,9 +42,15 @@ impl Programs {
             (λ made. made.1.items ≡ replicate readers (known (entry 0 factory ∷ []) None)) }
         ensures line { IfOk result (λ made. made.2 ≡ opening_line factory) }
     {
-        let (chain, mut line) = opened.into_publishes()?;
+        let (chain, mut line, shown_count) = opened.into_publishes()?;
         let (publisher, readers) = Programs::with_chain(
-            alloc, rt, chain, &mut line, factory, readers,
+            alloc,
+            rt,
+            chain,
+            shown_count,
+            &mut line,
+            factory,
+            readers,
         )?;
         Ok((publisher, readers, line))
     }
@@ -59,6 +65,7 @@ impl Programs {
         alloc: Global,
         rt: R,
         chain: Chain<J>,
+        shown_count: ShownCount<J>,
         line: &mut Line<J>,
         factory: Accepted,
         readers: u8,
@@ -71,6 +78,7 @@ impl Programs {
         ensures asked { IfOk result (λ _. line.new ≡ line_loading line.old (entry 0 factory)) }
     {
         let sizes = factory.sizes();
+        let shown_count = Arc::new(alloc, shown_count)?;
         let first = (0u8, Arc::new(alloc, factory)?);
         let history = History::begin(chain, line, &first);
         let front = history.front();
@@ -86,10 +94,19 @@ impl Programs {
             alloc,
             writer,
             history,
+            shown_count,
             rt,
         };
         publisher.make_room()?;
-        let entrances = entrances(alloc, &publisher.writer, &front, sizes, readers)?;
+        publisher.history.show(&publisher.shown_count);
+        let entrances = entrances(
+            alloc,
+            &publisher.writer,
+            &publisher.shown_count,
+            &front,
+            sizes,
+            readers,
+        )?;
         Ok((publisher, entrances))
     }
 }
@@ -98,6 +115,7 @@ impl Programs {
 fn entrances<J: Family>(
     alloc: Global,
     writer: &Writer<Table, Table, Sight, InFamily<J>>,
+    shown_count: &Arc<ShownCount<J>>,
     front: &Front,
     sizes: MapSizes,
     readers: u8,
@@ -110,7 +128,7 @@ fn entrances<J: Family>(
     let mut entrances = Vec::with_capacity(alloc, usize::from(readers))?;
     for _port in 0..readers {
         let entrance = writer.factory().reader()?;
-        entrances.push(Reader::new(entrance, front.again(), sizes))?;
+        entrances.push(Reader::new(entrance, shown_count.clone()?, front.again(), sizes))?;
     }
     Ok(entrances)
 }

@@ -12,7 +12,7 @@ use crate::loader::Loader;
 use crate::rule::{InFamily, Shows, Sight};
 use crate::table::Table;
 use crate::told::Told;
-use annals::{Family, Line};
+use annals::{Family, Line, ShownCount};
 use bver::{Accepted, MapSizes};
 use core::mem::replace_with;
 use left_right::writer::Writer;
@@ -27,6 +27,7 @@ pub struct Publisher<J: Family, R: Wait + Drop> {
     pub(crate) alloc: Global,
     pub(crate) writer: Writer<Table, Table, Sight, InFamily<J>>,
     pub(crate) history: History<J>,
+    pub(crate) shown_count: Arc<ShownCount<J>>,
     pub(crate) rt: R,
 }
 
@@ -47,6 +48,7 @@ impl<J: Family, R: Wait + Drop> Drop for Publisher<J, R> {
             alloc: _,
             writer,
             history: _history,
+            shown_count: _shown_count,
             rt,
         } = self;
         drop(writer.take(&rt));
@@ -101,6 +103,7 @@ impl<J: Family, R: Wait + Drop> Publisher<J, R> {
         replace_with(&mut self.writer, (table, &self.rt), |writer, (table, rt)| {
             shown(rt, writer, table)
         });
+        self.history.show(&self.shown_count);
         Ok(told)
     }
 

@@ -3,9 +3,9 @@
 ghost use Rattle.std.specs.Prelude.{◌≡◌, ◌<◌, ◌≤◌, true, false, IfSome, Some, None, length};
 ghost use Rattle.std.specs.Borrow.{sem, RestsIfNone};
 ghost use mathlib.Core.List.{IsPrefix};
-ghost use Rattle.left_right.specs.Sides.{view};
 ghost use Rattle.bver.specs.Justified.{IsJustified};
 ghost use Rattle.annals.specs.Publishes.{publishes_of};
+ghost use Rattle.annals.specs.Shown.{IsTakenAt};
 ghost use Rattle.node_programs.specs.Published.{judging_program, program_at, generation_at, sizes_of};
 ghost use Rattle.publish.specs.Reached.{IsInside, known, reached};
 ghost use Rattle.publish.specs.contracts.reader.Reader.{the_row};
@@ -14,12 +14,13 @@ use crate::history::Front;
 use crate::rule::{InFamily, Looks, Sight};
 use crate::table::Table;
 use crate::told::Told;
-use annals::Family;
+use annals::{Family, ShownCount};
 use bver::{Accepted, MapSizes};
 use left_right::reader::{Reader as Entrance, Reading};
 use node_programs::Shown;
 use std::marker::Model;
 use std::mem;
+use std::sync::Arc;
 
 /// What a port has of the table of programs: how it enters, and how far the history is known to it. It is outside of the
 /// table or inside, and always can enter again. Contracts see it as the programs that it knows, and those of the table in
@@ -27,15 +28,14 @@ use std::mem;
 pub struct Reader<J: Family> {
     outside: Option<Entrance<Table, Sight, InFamily<J>>>,
     inside: Option<Reading<Table, Sight, InFamily<J>>>,
+    shown_count: Arc<ShownCount<J>>,
     known: Front,
     sizes: MapSizes,
 }
 
 impl<J: Family> Model for Reader<J> {
-    ghost use Rattle.std.specs.Prelude.{◌≡◌, ◌<◌, ◌⊎◌, IfSome, IsSome, length};
+    ghost use Rattle.std.specs.Prelude.{◌≡◌, ◌<◌, ◌⊎◌, IsSome, length};
     ghost use Rattle.core.specs.Option.{option_map};
-    ghost use mathlib.Core.List.{IsPrefix};
-    ghost use Rattle.left_right.specs.Sides.{view as sight};
     ghost use Rattle.node_programs.specs.Published.{sizes_of as first_sizes};
     ghost use Rattle.publish.specs.Reached.{Known, known as knows};
 
@@ -43,7 +43,7 @@ impl<J: Family> Model for Reader<J> {
 
     ghost view = { λ r. knows r.known.programs (option_map (λ s. s.part.value.programs) r.inside) };
 
-    ghost invariant = { λ r. (r.known.family ≡ J.book) × (0 < length r.known.programs) × (r.sizes ≡ first_sizes r.known.programs) × IfSome r.outside (λ e. IsPrefix (sight e.place) r.known.programs) × IfSome r.inside (λ e. IsPrefix (sight e.place) r.known.programs) × (IsSome r.outside ⊎ IsSome r.inside) };
+    ghost invariant = { λ r. (r.known.family ≡ J.book) × (0 < length r.known.programs) × (r.sizes ≡ first_sizes r.known.programs) × (IsSome r.outside ⊎ IsSome r.inside) };
 }
 
 impl<J: Family> Drop for Reader<J> {
@@ -51,6 +51,7 @@ impl<J: Family> Drop for Reader<J> {
         let Self {
             outside: _outside,
             inside,
+            shown_count: _shown_count,
             known: _known,
             sizes: _,
         } = self;
@@ -71,18 +72,19 @@ impl<J: Family> Reader<J> {
     /// A reader that knows so much.
     pub(crate) fn new(
         entrance: Entrance<Table, Sight, InFamily<J>>,
+        shown_count: Arc<ShownCount<J>>,
         front: Front,
         sizes: MapSizes,
     ) -> Reader<J>
         requires family { front.family ≡ J.book }
         requires some { 0 < length front.programs }
         requires sizes { sizes ≡ sizes_of front.programs }
-        requires sight { IsPrefix (view entrance.place) front.programs }
         ensures { result ≡ known front.programs None }
     {
         Reader {
             outside: Some(entrance),
             inside: None,
+            shown_count,
             known: front,
             sizes,
         }
@@ -124,10 +126,15 @@ impl<J: Family> Reader<J> {
         self.known.advance(told.front());
     }
 
-    /// Takes the program of a slot, which is below 4. `None` where a program that was taken was never let go of,
-    /// where the publisher is gone, and where the table shows less than is known (no test met that).
-    pub fn take(&mut self, slot: u8) -> Option<Taken<'_, J>>
+    /// Takes the program of a slot, which is below 4: there is one moment of the node's history, not before what somebody knew
+    /// and not after what he then knows, at which readers saw exactly the programs of the table that is taken. `None` where a
+    /// program that was taken was never let go of, where the publisher is gone, and where the table shows less than is known or
+    /// was seen (no test met that).
+    pub fn take(&mut self, front: &mut annals::Front<J>, slot: u8) -> Option<Taken<'_, J>>
         requires slot { slot < 4 }
+        ensures known { IsPrefix front.old front.new }
+        ensures moment { IfSome result
+            (λ t. IsTakenAt front.old front.new t.reader.now.programs) }
         ensures* unchanged { sem 𝓛
             (RestsIfNone (the_row J.row J.Family) self.entry (λ t. t.reader.ghost_name) result
             (λ n. n ≡ self.old)) }
@@ -138,15 +145,17 @@ impl<J: Family> Reader<J> {
         ensures sizes { IfSome result
             (λ t. sizes_of t.reader.now.programs ≡ sizes_of self.old.programs) }
     {
-        if self.enter() {
+        if self.enter(front) {
             Some(Taken { reader: self, slot })
         } else {
             None
         }
     }
 
-    /// Enters the table, where it shows no less than is known, and knows that.
-    fn enter(&mut self) -> bool
+    /// Enters the table, where it shows no less than is known and was seen, and knows that.
+    fn enter(&mut self, front: &mut annals::Front<J>) -> bool
+        ensures front { IsPrefix front.old front.new }
+        ensures moment { result ≡ true → IsTakenAt front.old front.new self.new.programs }
         ensures entered { result ≡ true → IsPrefix self.old.programs self.new.programs
             × IsInside self.new }
         ensures out { result ≡ false → self.new ≡ self.old }
@@ -158,6 +167,7 @@ impl<J: Family> Reader<J> {
         let Some(entrance) = self.outside.take() else {
             return false;
         };
+        let least = self.shown_count.count(front);
         let reading = match entrance.enter_as::<Looks<J>>() {
             Ok(reading) => reading,
             Err(entrance) => {
@@ -165,12 +175,14 @@ impl<J: Family> Reader<J> {
                 return false;
             }
         };
-        let is_late = reading.get().front().len() < self.known.len();
-        self.known.advance(reading.get().front());
-        if is_late {
+        let count = reading.get().front().len();
+        let table = reading.get().front().known();
+        let is_taken = self.shown_count.settle(front, least, &table, count);
+        if !is_taken || count < self.known.len() {
             self.outside = Some(reading.leave());
             return false;
         }
+        self.known.advance(reading.get().front());
         if let Some(late) = mem::replace(&mut self.inside, Some(reading)) {
             drop(late.leave());
         }

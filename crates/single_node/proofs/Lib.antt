@@ -7,3 +7,4 @@ mod Nodes
 mod Handing
 mod Ending
 mod Running
+mod Growing

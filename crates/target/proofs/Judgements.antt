@@ -1,5 +1,5 @@
 -- A command that was judged by the program that was taken.
-use Rattle.std.proofs.Common.{◌≡◌, ℕ, List, Option, None, Some, refl, sym, ap, ap₂, subst, ◌∙◌}
+use Rattle.std.proofs.Common.{◌≡◌, ℕ, List, ◌++◌, Option, None, Some, refl, sym, ap, ap₂, subst, ◌∙◌, append_assoc}
 use Rattle.std.specs.Option.{option_map}
 use mathlib.Core.List.{IsPrefix}
 use Rattle.spw.specs.Cargo.{Cargo}
@@ -14,6 +14,8 @@ use Rattle.node_parts.specs.Slots.{slot_of}
 use Rattle.node_parts.specs.Passes.{RunContextValue, pass_of}
 use Rattle.node_parts.specs.Steps.{IsAdmission, IsJudgedOnce, IsJudgement, IsTaken, IsVerdict}
 use Rattle.target.specs.Steps.{IsJudgedByTaken}
+use Rattle.annals.specs.Shown.{IsTakenAt}
+use Rattle.annals.specs.declared.deed.Link.{Link}
 
 some_same : {A : Type 0} (x y : A) → Some x ≡ Some y → x ≡ y
 some_same x y e = cc
@@ -67,3 +69,12 @@ judgement_of b left known seen shares staging admitted p j admission by =
         verdict = subst (λ (x : Cargo). IsVerdict by.program b.port once.calls x j.verdict) admission.packet once.judged.verdict;
       };
     }
+
+-- a moment after what somebody saw is one after what he had seen before
+pub taken_since : (known first reached : List Link) (programs : List Publish) → IsPrefix known first → IsTakenAt first reached programs → IsTakenAt known reached programs
+taken_since known first reached programs begins at = record {
+  at = at.at;
+  after = (begins.0 ++ at.after.0, sym (append_assoc known begins.0 at.after.0) ∙ (ap (λ (l : List Link). l ++ at.after.0) begins.1 ∙ at.after.1));
+  before = at.before;
+  seen = at.seen;
+}

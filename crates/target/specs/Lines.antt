@@ -1,5 +1,5 @@
 -- A port's line of the history of its node's banks, beside its shares of them.
-use Rattle.std.specs.Prelude.{◌≡◌, ◌<◌, ℕ, List, length, slice_index_or}
+use Rattle.std.specs.Prelude.{◌≡◌, ◌<◌, ℕ, List, [], length, map, slice_index_or}
 use Rattle.std.specs.List.{range_with_len}
 use mathlib.Core.List.{IsPrefix}
 use Rattle.rmap.specs.declared.places.Place.TheVariants.{Bank}
@@ -15,6 +15,10 @@ pub record IsLineOf (port : ℕ) (shares : List ShareValue) (line : LineValue) :
   pub line_is : line.port ≡ port
   pub ports : (k : ℕ) → k < length shares → (slice_index_or shares k (first_share port)).port ≡ port
   pub counts : (k : ℕ) → k < length shares → IsCountOf (slice_index_or shares k (first_share port)) k line
+
+-- the lines of so many ports, in which nothing was asked for
+abbrev pub fresh_lines : ℕ → List LineValue
+fresh_lines ports = map (λ port. record { port = port; asked = [] }) (range_with_len 0 ports)
 
 -- at each bank the port's entries in that history have the numbers from 0 on, each once and in order, and none that is not
 -- below its share's

@@ -3,6 +3,8 @@ use Rattle.std.specs.Prelude.{◌≡◌, ℕ, List, []}
 use Rattle.spw.specs.Cargo.{Cargo}
 use Rattle.rmap.specs.Command.{command_of}
 use Rattle.bver.specs.Justified.{AcceptedValue}
+use Rattle.annals.specs.Shown.{IsTakenAt}
+use Rattle.annals.specs.declared.deed.Link.{Link}
 use Rattle.bank.specs.Records.{AdmittedValue, JudgedValue}
 use Rattle.node_programs.specs.declared.publishes.Publish.{Publish}
 use Rattle.node_parts.specs.Passes.{PassValue, RunContextValue}
@@ -17,6 +19,13 @@ pub record IsJudgedByTaken (known seen : List Publish) (old new : RunContextValu
   pub program : AcceptedValue
   pub taken : IsTaken known seen (command_of admitted.packet) admitted.place program j.generation
   pub once : IsJudgedOnce program j.generation old new admitted j
+
+-- the programs by which a command was judged are those that readers saw at one moment of the history
+abbrev pub IsAtMoment : Step → (known reached : List Link) → (after : PassValue) → Type 0
+IsAtMoment (Discarded d back) known reached after = Unit {0}
+IsAtMoment (Answered status back) known reached after = Unit {0}
+IsAtMoment (Unread back) known reached after = Unit {0}
+IsAtMoment (Judged j) known reached after = IsTakenAt known reached after.programs
 
 -- how far a packet comes by itself, what becomes of the port, and the reply that is due then: no
 -- program runs but for a command that is judged, and for that one it runs once

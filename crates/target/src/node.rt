@@ -164,7 +164,7 @@ impl<J: Family, R: Wait + Drop> Node<J, R> {
             rt,
             chain,
             &mut line,
-            &mut history,
+            history,
             config,
             factory,
             &mut by_port,

@@ -1,17 +1,18 @@
 //! What is made beside the banks of a node: the cells of its maps, what publishes its programs, and the passes of its ports.
 
-ghost use Rattle.std.specs.Prelude.{◌≡◌, ◌≤◌, ◌-◌, [], length, IfOk};
+ghost use Rattle.std.specs.Prelude.{◌≡◌, ◌≤◌, ◌+◌, ◌-◌, [], length, IfOk};
 ghost use base.Stored.{Gv};
 ghost use Rattle.annals.specs.Publishes.{line_loading, publishes_chain, publishes_of};
 ghost use Rattle.bver.specs.Justified.{AcceptedValue};
 ghost use Rattle.cells.specs.Seats.{cells};
 ghost use Rattle.node_parts.specs.Nodes.{AreSharesOf, first_passes, first_programs};
 ghost use Rattle.node_programs.specs.Histories.{entry};
+ghost use Rattle.target.specs.Lines.{fresh_lines};
 ghost use Rattle.target.specs.Nodes.{AreFirst};
 ghost use Rattle.target.specs.Passes.{unasked};
 
 use crate::pass::Pass;
-use annals::{Chain, Family, Line};
+use annals::{Chain, Family, Line, ShownCount};
 use bver::Accepted;
 use cells::{CellSeat, Cells};
 use node_parts::{NodeConfig, PortShares, RunContext};
@@ -22,34 +23,53 @@ use spw::PORTS;
 use std::alloc::{AllocError, Global};
 use std::sync::Wait;
 
-/// The pass of each port, in order, each with its line, which is the next chain of the history. It ends with `AllocError` also
-/// where a chain has begun before (no test met that).
+/// The line of each port, in order, as the next chains of a history, and the word that counts what readers see: the chains of
+/// other ports are left out. It ends with `AllocError` also where a chain has begun before (no test met that).
+fn lines<J: Family>(
+    alloc: Global,
+    ports: u8,
+    mut history: annals::Opened,
+) -> Result<(Vec<Line<J>>, ShownCount<J>), AllocError>
+    requires family { history.0 ≡ J.book }
+    requires chains { history.1 ≡ 32 }
+    requires ports { ports ≤ PORTS }
+    ensures { IfOk result (λ made. made.0.items ≡ fresh_lines ports) }
+{
+    let mut lines = Vec::with_capacity(alloc, usize::from(ports))?;
+    for port in 0..ports {
+        let Some(line) = Line::new(port, &mut history) else {
+            return Err(AllocError);
+        };
+        lines.push(line)?;
+    }
+    history.skip(PORTS - ports);
+    Ok((lines, history.into_shown_count()))
+}
+
+/// The pass of each port, in order, each with its line.
 fn passes<J: Family>(
     alloc: Global,
     config: &NodeConfig,
     by_port: &mut Vec<PortShares>,
     mut seats: Vec<CellSeat>,
     mut readers: Vec<Reader<J>>,
-    history: &mut annals::Opened,
+    lines: Vec<Line<J>>,
 ) -> Result<Vec<Pass<J>>, AllocError>
     requires banks { length config.now.banks.now ≤ MAX_BANKS }
     requires ports { config.now.ports ≤ PORTS }
     requires by_port { AreSharesOf config.now by_port.old.items }
     requires made { (factory : AcceptedValue) × (home : Gv)
         × AreFirst factory home config.now.ports seats.items readers.items }
-    requires family { history.old.0 ≡ J.book }
-    requires chains { history.old.1 ≡ 32 }
+    requires lines { lines.items ≡ fresh_lines config.now.ports }
     ensures { (factory : AcceptedValue) (home : Gv)
         → AreFirst factory home config.now.ports seats.items readers.items
         → IfOk result (λ passes. passes.items ≡ unasked (first_passes config.now factory home)) }
 {
     let mut passes = Vec::with_capacity(alloc, by_port.len())?;
-    for port in 0..config.ports {
+    for line in lines {
+        let port = line.port();
         let (Some(seat), Some(reader)) = (seats.pop(), readers.pop()) else {
             unreachable!()
-        };
-        let Some(line) = Line::new(port, history) else {
-            return Err(AllocError);
         };
         let pass = Pass {
             context: RunContext::new(port, config.windows(), seat),
@@ -70,15 +90,15 @@ pub(crate) fn cells_and_passes<J: Family, R: Wait + Drop>(
     rt: R,
     chain: Chain<J>,
     line: &mut Line<J>,
-    history: &mut annals::Opened,
+    history: annals::Opened,
     config: &NodeConfig,
     factory: Accepted,
     by_port: &mut Vec<PortShares>,
 ) -> Result<(Cells, Publisher<J, R>, Vec<Pass<J>>), AllocError>
     requires number { chain.number ≡ publishes_chain }
     requires none { publishes_of chain.log ≡ [] }
-    requires family { history.old.0 ≡ J.book }
-    requires chains { history.old.1 ≡ 32 }
+    requires family { history.0 ≡ J.book }
+    requires chains { history.1 ≡ 32 }
     requires sizes { factory.sizes ≡ config.now.sizes }
     requires banks { length config.now.banks.now ≤ MAX_BANKS }
     requires ports { config.now.ports ≤ PORTS }
@@ -91,7 +111,16 @@ pub(crate) fn cells_and_passes<J: Family, R: Wait + Drop>(
     ensures asked { IfOk result (λ _. line.new ≡ line_loading line.old (entry 0 factory)) }
 {
     let (cells, seats) = Cells::new(alloc, &config.sizes, config.ports)?;
-    let (publisher, readers) = Programs::with_chain(alloc, rt, chain, line, factory, config.ports)?;
-    let passes = passes(alloc, config, by_port, seats, readers, history)?;
+    let (lines, shown_count) = lines(alloc, config.ports, history)?;
+    let (publisher, readers) = Programs::with_chain(
+        alloc,
+        rt,
+        chain,
+        shown_count,
+        line,
+        factory,
+        config.ports,
+    )?;
+    let passes = passes(alloc, config, by_port, seats, readers, lines)?;
     Ok((cells, publisher, passes))
 }

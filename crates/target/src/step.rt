@@ -2,9 +2,12 @@
 
 ghost use Rattle.std.specs.Prelude.{◌≡◌, IfErr, IfOk, OnErr};
 ghost use Rattle.node_programs.specs.Published.{sizes_of};
-ghost use Rattle.target.specs.Steps.{IsJudgedByTaken, IsStep};
+ghost use Rattle.target.specs.Steps.{IsAtMoment, IsJudgedByTaken, IsStep};
+ghost use mathlib.Core.List.{IsPrefix};
+ghost use Rattle.annals.specs.Shown.{IsTakenAt};
 
 use crate::pass::Pass;
+use annals::Front;
 use bank::{Admitted, Judged};
 use cells::CellSeat;
 use node_parts::{RunContext, Stop, admit, judge_by, slot};
@@ -31,18 +34,21 @@ pub enum Step {
 fn judge_taken<J: Family>(
     context: &mut RunContext<CellSeat>,
     reader: &mut Reader<J>,
+    front: &mut Front<J>,
     admitted: Admitted,
 ) -> Result<Judged, Admitted>
     requires { context.old.seat.sizes ≡ sizes_of reader.old.programs }
     ensures judged { IfOk result (λ j.
         IsJudgedByTaken reader.old.programs reader.new.programs
         context.old context.new admitted j) }
+    ensures known { IsPrefix front.old front.new }
+    ensures moment { IfOk result (λ _. IsTakenAt front.old front.new reader.new.programs) }
     ensures back { IfErr result (λ back. back ≡ admitted) }
     ensures same { OnErr result ((context.new ≡ context.old) × (reader.new ≡ reader.old)) }
     ensures sizes { sizes_of reader.new.programs ≡ sizes_of reader.old.programs }
 {
     let slot = slot(admitted.command().kind(), admitted.place());
-    match reader.take(slot) {
+    match reader.take(front, slot) {
         Some(taken) => {
             let accepted = taken.accepted();
             Ok(judge_by(context, accepted, taken.generation(), admitted))
@@ -53,10 +59,18 @@ fn judge_taken<J: Family>(
 
 /// Judges a packet: discards it, answers it by its header, or runs the program that the port's reader takes in the slot of
 /// its place on the header of its command. That is the program that some list of publishes has there which begins with
-/// all that the port knew; that it is the last published, and that one is taken at all, is tested. `reply` holds the reply
-/// that is due then, if any.
-pub fn judge<J: Family>(pass: &mut Pass<J>, packet: Packet, reply: &mut ReplyBuf) -> Step
+/// all that the port knew, and which was what readers saw at one moment of the node's history: not before what the port knew of
+/// that, and what it did, nor after what it then knows. That one is taken at all is tested. `reply` holds the reply that is due
+/// then, if any.
+pub fn judge<J: Family>(
+    pass: &mut Pass<J>,
+    front: &mut Front<J>,
+    packet: Packet,
+    reply: &mut ReplyBuf,
+) -> Step
     ensures step { IsStep result packet pass.old.pass pass.new.pass reply.new }
+    ensures known { IsPrefix front.old front.new }
+    ensures moment { IsAtMoment result front.old front.new pass.new.pass }
     ensures asked { pass.new.asked ≡ pass.old.asked }
 {
     let admitted = match admit(packet, pass.context.windows(), reply) {
@@ -64,7 +78,8 @@ pub fn judge<J: Family>(pass: &mut Pass<J>, packet: Packet, reply: &mut ReplyBuf
         Err((Stop::Discarded(discard), packet)) => return Step::Discarded(discard, packet),
         Err((Stop::Answered(status), packet)) => return Step::Answered(status, packet),
     };
-    let judged = match judge_taken(&mut pass.context, &mut pass.loader.reader, admitted) {
+    pass.loader.line.tell(front);
+    let judged = match judge_taken(&mut pass.context, &mut pass.loader.reader, front, admitted) {
         Ok(judged) => judged,
         Err(admitted) => {
             put_reply(reply, &admitted.command(), Status::GeneralError, &[]);

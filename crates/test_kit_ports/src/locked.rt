@@ -13,7 +13,7 @@ use spw::Packet;
 use std::alloc::Global;
 use std::sync::Wait;
 use std::test::Fail;
-use target::{BankLock, Family, Line, Node, Opened, Pass, Step, finish, judge, load, stage};
+use target::{BankLock, Family, Front, Line, Node, Opened, Pass, Step, finish, judge, load, stage};
 use test_kit::{SpareBank, packet};
 
 /// A node behind its locks, the instrument's line, the passes of its ports, a spare bank for commands to no bank of the node, and the reply to the
@@ -31,10 +31,11 @@ pub struct LockedNode<J: Family, R: Wait + Drop> {
 /// The command of a packet, judged at the pass's port, or what became of the packet.
 fn judged_at<J: Family>(
     pass: &mut Pass<J>,
+    front: &mut Front<J>,
     packet: Packet,
     reply: &mut ReplyBuf,
 ) -> Result<Judged, Served> {
-    match judge(pass, packet, reply) {
+    match judge(pass, front, packet, reply) {
         Step::Judged(judged) => Ok(judged),
         Step::Discarded(discard, _packet) => Err(Served::Stopped(Stop::Discarded(discard))),
         Step::Answered(status, _packet) => Err(Served::Stopped(Stop::Answered(status))),
@@ -119,7 +120,8 @@ impl<J: Family, R: Wait + Drop> LockedNode<J, R> {
         let node = &self.node;
         let spare = &mut self.spare;
         let reply = &mut self.reply;
-        let judged = match judged_at(pass, packet, reply) {
+        let mut front = node.front();
+        let judged = match judged_at(pass, &mut front, packet, reply) {
             Ok(judged) => judged,
             Err(served) => return Ok(served),
         };
@@ -146,7 +148,8 @@ impl<J: Family, R: Wait + Drop> LockedNode<J, R> {
     pub fn judged_by(&mut self, port: u8, line: &str) -> Result<(u32, u64), Fail> {
         let sent = packet(self.alloc, line)?;
         let pass = self.passes.get_mut(usize::from(port)).ok_or("no port")?;
-        let Ok(judged) = judged_at(pass, sent, &mut self.reply) else {
+        let mut front = self.node.front();
+        let Ok(judged) = judged_at(pass, &mut front, sent, &mut self.reply) else {
             return Err("the packet stops".into());
         };
         let found = (judged.generation(), judged.verdict());

@@ -69,7 +69,7 @@ fn status_of_read<J: Family, R: Wait + Drop>(
 {
     let mut reply = ReplyBuf::new();
     let (_, sent) = read_line(alloc, PLAIN_READ).ok()?;
-    let judged = match judge(pass, sent, &mut reply) {
+    let judged = match judge(pass, &mut node.front(), sent, &mut reply) {
         Step::Judged(judged) => judged,
         Step::Discarded(_, _packet) | Step::Answered(_, _packet) | Step::Unread(_packet) => {
             return None;

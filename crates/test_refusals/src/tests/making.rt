@@ -129,6 +129,7 @@ fn programs_are_made<J: Family, R: Wait + Abort>(
 {
     let factory = accepted(alloc, "mov r0, 0; exit", 2, MAPS)?;
     let wanted = operations(alloc, &factory)?;
+    let mut front = opened.front::<J>();
     begin(alloc)?;
     let made = Programs::new::<J, _>(alloc, rt, opened, factory, 2);
     end(alloc)?;
@@ -137,7 +138,7 @@ fn programs_are_made<J: Family, R: Wait + Abort>(
     };
     let mut reader = readers.pop().ok_or("two readers")?;
     for slot in 0..4u8 {
-        let taken = reader.take(slot).ok_or("no program")?;
+        let taken = reader.take(&mut front, slot).ok_or("no program")?;
         let found = operations(alloc, taken.accepted())?;
         same(
             rt,

@@ -8,7 +8,7 @@ use super::marks::{begin, end, tell};
 use bpf::Image;
 use bver::{Accepted, MapSizes, verify};
 use node_programs::PublishFault;
-use publish::{Family, Opened, Programs, Reader};
+use publish::{Family, Front, Opened, Programs, Reader};
 use std::alloc::{AllocError, Global};
 use std::marker::Brand;
 use std::process::Abort;
@@ -116,10 +116,14 @@ fn memory_refused_to_copy_program(rt: HostRuntime) -> Result<(), Fail> {
 }
 
 /// The generation and the operations of the program of each slot, as a text.
-fn shown<J: Family>(alloc: Global, reader: &mut Reader<J>) -> Result<String, Fail> {
+fn shown<J: Family>(
+    alloc: Global,
+    reader: &mut Reader<J>,
+    front: &mut Front<J>,
+) -> Result<String, Fail> {
     let mut text = String::new(alloc);
     for slot in 0..4u8 {
-        let taken = reader.take(slot).ok_or("no program")?;
+        let taken = reader.take(front, slot).ok_or("no program")?;
         let operations = operations(alloc, taken.accepted())?;
         writeln!(text, "{slot}: {} {operations}", taken.generation())?;
     }
@@ -144,13 +148,14 @@ fn installed<J: Family, R: Wait + Abort + Print>(
     requires { opened ≡ J.book }
 {
     let factory = accepted(alloc, "mov r0, 0; exit", 2, "")?;
+    let mut front = opened.front::<J>();
     let (mut publisher, mut readers, mut line) = Programs::new::<J, _>(
         alloc, rt, opened, factory, 1,
     )?;
     let mut reader = readers.pop().ok_or("a reader")?;
     let mut generation = 0u32;
     for budget in 3..8u32 {
-        let before = shown(alloc, &mut reader)?;
+        let before = shown(alloc, &mut reader, &mut front)?;
         let program = of_budget(alloc, &publisher.sizes(), budget)?;
         begin(alloc)?;
         let published = publisher.install(&mut line, 1, program);
@@ -163,11 +168,11 @@ fn installed<J: Family, R: Wait + Abort + Print>(
             Err(fault) => {
                 same(rt, "the fault", fault, PublishFault::Memory);
                 tell(rt, "Memory")?;
-                let after = shown(alloc, &mut reader)?;
+                let after = shown(alloc, &mut reader, &mut front)?;
                 same(rt, "what is shown", after.as_str(), before.as_str());
             }
         }
-        let taken = reader.take(1).map(|taken| taken.generation());
+        let taken = reader.take(&mut front, 1).map(|taken| taken.generation());
         same(rt, "the generation", taken, Some(generation));
     }
     check(rt, "four publishes or more", generation >= 4);

@@ -1,19 +1,21 @@
 use Rattle.std.proofs.Common.{◌≡◌, ◌≢◌, ℕ, ◌+◌, ◌-◌, ◌<◌, ◌≤◌, ◌∷◌, ◌++◌, ap, [], List, get_or, length, set, subst, sym, ◌∙◌, arith, rules}
-use Rattle.std.proofs.lemmas.List.FromFn.{map-range_with_len_more}
-use Rattle.std.specs.Prelude.{map, replicate}
+use Rattle.std.proofs.lemmas.List.FromFn.{get_or-map-range_with_len, length-map-range_with_len, map-range_with_len_more}
+use Rattle.std.proofs.lemmas.Iterator.Adapters.{YieldsList-from_vec}
+use Rattle.std.proofs.lemmas.Iterator.Consumers.{YieldsList-end, YieldsList-turn}
+use Rattle.std.specs.Prelude.{None, map, replicate, vec_items}
 use Rattle.std.specs.List.{range_with_len}
-use Rattle.std.proofs.lemmas.List.{length-replicate, length-map, map_push, get_or_read, get_or-set_other, replicate_more}
-use Rattle.cells.specs.Seats.{CellSeatValue}
+use Rattle.std.proofs.lemmas.List.{length-replicate, length-map, map_push, get_or_read, get_or-set_other, length-append, replicate_more}
+use Rattle.cells.specs.Seats.{CellSeatValue, seat}
 use Rattle.node_programs.specs.Published.{sizes_of}
-use Rattle.publish.specs.Reached.{Known}
+use Rattle.publish.specs.Reached.{Known, known}
 use Rattle.annals.specs.Chains.{LineValue}
-use Rattle.target.specs.Lines.{IsLineOf}
+use Rattle.target.specs.Lines.{IsLineOf, fresh_lines}
 use Rattle.target.proofs.Askings.{same_before, same_last}
 use Rattle.target.proofs.Lining.{new_line}
 use Rattle.bank.specs.Records.{ShareValue, first_share}
 use Rattle.node_parts.specs.Passes.{PassValue, RunContextValue}
 use Rattle.target.specs.Passes.{port_pass, unasked}
-use Rattle.node_parts.specs.Nodes.{range_of, first_pass}
+use Rattle.node_parts.specs.Nodes.{range_of, first_pass, first_programs}
 use Rattle.target.proofs.parts.passes.Goals as goal
 
 -- the line of a port beside its shares, of which nothing was asked
@@ -43,47 +45,117 @@ last_of ports port one taken before after below all last =
     replicate_more (ports - (port + 1)) one ∙ sym (ap (λ n. replicate n one) count) ∙ sym all ∙ last in
     (sym (same_before _ _ _ _ begins), sym (same_last _ _ _ _ begins))
 
+-- the line of that place among those of so many ports
+line_at : (ports place : ℕ) (lines : List LineValue) (line : LineValue) → lines ≡ fresh_lines ports → place < length lines → line ≡ get_or lines place line → (place < ports) × (line ≡ record { port = place; asked = [] })
+line_at ports place lines line are inside read =
+    let fresh : ℕ → LineValue = λ port. record { port = port; asked = [] } in
+    let many : length lines ≡ ports = ap (λ (ls : List LineValue). length ls) are ∙ length-map-range_with_len fresh 0 ports in
+    let below : place < ports = omega (arith, inside, many) in
+    (below, read ∙ (ap (λ (ls : List LineValue). get_or ls place line) are ∙ get_or-map-range_with_len fresh 0 ports place place line below (omega arith)))
+
 pub invariant_of-pass : goal.invariant_of-pass
 invariant_of-pass g c =
     let banks = c.args.config.now.banks.now in
     let ports = c.args.config.now.ports in
-    let port = c.loop-port.port in
+    let port = length c.loop-line.yielded in
+    let began = c.into_iter-line-iterator.ensures.into_iter_gives in
+    let road = YieldsList-from_vec {s = c.into_iter-line-iterator.result} (vec_items c.args.lines) began.0 (began.1 ∙ c.args.lines.ok.0) in
+    let turn = YieldsList-turn road c.loop-line.yielded c.loop-line.line-iterator c.loop-line.yielded_by c.next.result c.next.new.self c.in-Some.line c.in-Some.is c.next.ensures.steps in
+    let here = line_at c.args.config.now.ports (length c.loop-line.yielded) (vec_items c.args.lines) c.in-Some.line c.requires.lines turn.0 turn.1 in
+    let below = here.0 in
+    let number : c.port-port.result ≡ length c.loop-line.yielded = c.port-port.ensures ∙ ap (λ (l : LineValue). l.port) here.1 in
     let shares : c.take.result.items ≡ replicate (length banks) (first_share port) =
-    taken c.loop-port.by_port.items (length banks) ports port c.from.result c.take.result.items c.index_mut.result.now c.loop-port.invariant.count c.loop-port-test.true c.from.ensures c.take.ensures.shares c.index_mut.ensures.value c.loop-port.invariant.rest in
+    taken c.loop-line.by_port.items (length banks) ports port c.from.result c.take.result.items c.index_mut.result.now c.loop-line.invariant.count below (c.from.ensures ∙ number) c.take.ensures.shares c.index_mut.ensures.value c.loop-line.invariant.rest in
     let made = c.requires.made in
-    let first = c.loop-port.invariant.parts made.0 made.1 made.2 in
-    let seat = last_of ports port _ c.in-Some-Some.seat c.loop-port.seats.items _ c.loop-port-test.true first.seats_are c.in-Some-Some.ensures.items in
-    let reader = last_of ports port _ c.in-Some-Some.reader c.loop-port.readers.items _ c.loop-port-test.true first.readers_are c.in-Some-Some.ensures'.items in (
+    let first = c.loop-line.invariant.parts made.0 made.1 made.2 in
+    let seat = last_of ports port _ c.in-Some-Some.seat c.loop-line.seats.items _ below first.seats_are c.in-Some-Some.ensures.items in
+    let reader = last_of ports port _ c.in-Some-Some.reader c.loop-line.readers.items _ below first.readers_are c.in-Some-Some.ensures'.items in (
       record {
-        sizes = ap (λ (b : RunContextValue). b.seat.sizes) c.new-in-loop-port.ensures ∙ ap (λ (s : CellSeatValue). s.sizes) seat.1 ∙ sym (ap (λ (r : Known). sizes_of r.programs) reader.1);
-        port = rw (c.new-in-loop-port.ensures) (omega (arith, c.requires.ports, c.loop-port-test.true));
-        shares = rw (shares, c.new-in-loop-port.ensures, c.windows.ensures, length-map banks range_of) (length-replicate (length banks) (first_share port));
+        sizes = ap (λ (b : RunContextValue). b.seat.sizes) c.new.ensures ∙ ap (λ (s : CellSeatValue). s.sizes) seat.1 ∙ sym (ap (λ (r : Known). sizes_of r.programs) reader.1);
+        port = rw (c.new.ensures) (omega (arith, c.requires.ports, below, number));
+        shares = rw (shares, c.new.ensures, c.windows.ensures, length-map banks range_of) (length-replicate (length banks) (first_share port));
       },
-      line_of_new port _ (length banks) _ _ (ap (λ (b : RunContextValue). b.port) c.new-in-loop-port.ensures) shares c.in-Some.ensures.line,
+      line_of_new port _ (length banks) _ _ (ap (λ (b : RunContextValue). b.port) c.new.ensures ∙ number) shares here.1,
     )
 
-pub loop-port-preserved : goal.loop-port-preserved
-loop-port-preserved g c =
+pub loop-line-preserved : goal.loop-line-preserved
+loop-line-preserved g c =
     let banks = c.args.config.now.banks.now in
     let ports = c.args.config.now.ports in
-    let port = c.loop-port.port in
+    let port = length c.loop-line.yielded in
+    let began = c.into_iter-line-iterator.ensures.into_iter_gives in
+    let road = YieldsList-from_vec {s = c.into_iter-line-iterator.result} (vec_items c.args.lines) began.0 (began.1 ∙ c.args.lines.ok.0) in
+    let turn = YieldsList-turn road c.loop-line.yielded c.loop-line.line-iterator c.loop-line.yielded_by c.next.result c.next.new.self c.in-Some.line c.in-Some.is c.next.ensures.steps in
+    let here = line_at c.args.config.now.ports (length c.loop-line.yielded) (vec_items c.args.lines) c.in-Some.line c.requires.lines turn.0 turn.1 in
+    let below = here.0 in
+    let number : c.port-port.result ≡ length c.loop-line.yielded = c.port-port.ensures ∙ ap (λ (l : LineValue). l.port) here.1 in
     let shares : c.take.result.items ≡ replicate (length banks) (first_share port) =
-    taken c.loop-port.by_port.items (length banks) ports port c.from.result c.take.result.items c.index_mut.result.now c.loop-port.invariant.count c.loop-port-test.true c.from.ensures c.take.ensures.shares c.index_mut.ensures.value c.loop-port.invariant.rest in
-    let first = c.loop-port.invariant.parts in
+    taken c.loop-line.by_port.items (length banks) ports port c.from.result c.take.result.items c.index_mut.result.now c.loop-line.invariant.count below (c.from.ensures ∙ number) c.take.ensures.shares c.index_mut.ensures.value c.loop-line.invariant.rest in
+    let first = c.loop-line.invariant.parts in
+    let next : length (c.loop-line.yielded ++ c.in-Some.line ∷ []) ≡ port + 1 = length-append c.loop-line.yielded (c.in-Some.line ∷ []) in
     record {
       count = search rules;
-      parts = λ factory home begins. record {
-        seats_are = (last_of ports port _ c.in-Some-Some.seat c.loop-port.seats.items _ c.loop-port-test.true (first factory home begins).seats_are c.in-Some-Some.ensures.items).0;
-        readers_are = (last_of ports port _ c.in-Some-Some.reader c.loop-port.readers.items _ c.loop-port-test.true (first factory home begins).readers_are c.in-Some-Some.ensures'.items).0;
-      };
+      parts = λ factory home begins. rw next (record {
+        seats_are = (last_of ports port _ c.in-Some-Some.seat c.loop-line.seats.items _ below (first factory home begins).seats_are c.in-Some-Some.ensures.items).0;
+        readers_are = (last_of ports port _ c.in-Some-Some.reader c.loop-line.readers.items _ below (first factory home begins).readers_are c.in-Some-Some.ensures'.items).0;
+      });
       passes = λ factory home begins.
-          let seat = last_of ports port _ c.in-Some-Some.seat c.loop-port.seats.items _ c.loop-port-test.true (first factory home begins).seats_are c.in-Some-Some.ensures.items in
-          let reader = last_of ports port _ c.in-Some-Some.reader c.loop-port.readers.items _ c.loop-port-test.true (first factory home begins).readers_are c.in-Some-Some.ensures'.items in
+          let seat = last_of ports port _ c.in-Some-Some.seat c.loop-line.seats.items _ below (first factory home begins).seats_are c.in-Some-Some.ensures.items in
+          let reader = last_of ports port _ c.in-Some-Some.reader c.loop-line.readers.items _ below (first factory home begins).readers_are c.in-Some-Some.ensures'.items in
           let more = map-range_with_len_more (first_pass c.args.config.now.address banks factory home) 0 port port (omega arith) in
-          let asked = ap (λ (l : LineValue). l.asked) c.in-Some.ensures.line in
+          let asked = ap (λ (l : LineValue). l.asked) here.1 in
           let all = ap unasked more ∙ map_push (λ (h : PassValue). port_pass h []) (map (first_pass c.args.config.now.address banks factory home) (range_with_len 0 port)) (first_pass c.args.config.now.address banks factory home port) in
-          c.in_ok-push.ensures.items ∙ rw (c.loop-port.invariant.passes factory home begins, c.new-in-loop-port.ensures, seat.1, c.windows.ensures, reader.1, shares, c.in_ok-new.ensures, asked) (sym all);
-      rest = later c.loop-port.by_port.items (length banks) ports port c.from.result _ c.from.ensures c.loop-port.invariant.rest;
-      family = search rules;
-      chains = search rules;
+          rw next (c.in_ok-push.ensures.items ∙ rw (c.loop-line.invariant.passes factory home begins, c.new.ensures, number, seat.1, c.windows.ensures, reader.1, shares, c.in_ok-new.ensures, asked) (sym all));
+      rest = rw next (later c.loop-line.by_port.items (length banks) ports port c.from.result _ (c.from.ensures ∙ number) c.loop-line.invariant.rest);
     }
+
+pub unreachable-requires : goal.unreachable-requires
+unreachable-requires g c =
+    let ports = c.args.config.now.ports in
+    let place = length c.loop-line.yielded in
+    let began = c.into_iter-line-iterator.ensures.into_iter_gives in
+    let road = YieldsList-from_vec {s = c.into_iter-line-iterator.result} (vec_items c.args.lines) began.0 (began.1 ∙ c.args.lines.ok.0) in
+    let turn = YieldsList-turn road c.loop-line.yielded c.loop-line.line-iterator c.loop-line.yielded_by c.next.result c.next.new.self c.in-Some.line c.in-Some.is c.next.ensures.steps in
+    let here = line_at ports place (vec_items c.args.lines) c.in-Some.line c.requires.lines turn.0 turn.1 in
+    let below : place < ports = here.0 in
+    let number : c.port-port.result ≡ place = c.port-port.ensures ∙ ap (λ (l : LineValue). l.port) here.1 in
+    let made = c.requires.made in
+    let first = c.loop-line.invariant.parts made.0 made.1 made.2 in
+    let seats : 0 < length c.loop-line.seats.items = omega (arith, below, ap (λ (l : List CellSeatValue). length l) first.seats_are, length-replicate (ports - place) (seat made.0.sizes made.1 [])) in
+    let readers : 0 < length c.loop-line.readers.items = omega (arith, below, ap (λ (l : List Known). length l) first.readers_are, length-replicate (ports - place) (known (first_programs made.0) None)) in
+    search rules
+
+pub new-requires : goal.new-requires
+new-requires g c =
+    let ports = c.args.config.now.ports in
+    let place = length c.loop-line.yielded in
+    let began = c.into_iter-line-iterator.ensures.into_iter_gives in
+    let road = YieldsList-from_vec {s = c.into_iter-line-iterator.result} (vec_items c.args.lines) began.0 (began.1 ∙ c.args.lines.ok.0) in
+    let turn = YieldsList-turn road c.loop-line.yielded c.loop-line.line-iterator c.loop-line.yielded_by c.next.result c.next.new.self c.in-Some.line c.in-Some.is c.next.ensures.steps in
+    let here = line_at ports place (vec_items c.args.lines) c.in-Some.line c.requires.lines turn.0 turn.1 in
+    let below : place < ports = here.0 in
+    let number : c.port-port.result ≡ place = c.port-port.ensures ∙ ap (λ (l : LineValue). l.port) here.1 in
+    omega (arith, c.requires.ports, below, number)
+
+pub index_mut-requires : goal.index_mut-requires
+index_mut-requires g c =
+    let ports = c.args.config.now.ports in
+    let place = length c.loop-line.yielded in
+    let began = c.into_iter-line-iterator.ensures.into_iter_gives in
+    let road = YieldsList-from_vec {s = c.into_iter-line-iterator.result} (vec_items c.args.lines) began.0 (began.1 ∙ c.args.lines.ok.0) in
+    let turn = YieldsList-turn road c.loop-line.yielded c.loop-line.line-iterator c.loop-line.yielded_by c.next.result c.next.new.self c.in-Some.line c.in-Some.is c.next.ensures.steps in
+    let here = line_at ports place (vec_items c.args.lines) c.in-Some.line c.requires.lines turn.0 turn.1 in
+    let below : place < ports = here.0 in
+    let number : c.port-port.result ≡ place = c.port-port.ensures ∙ ap (λ (l : LineValue). l.port) here.1 in
+    omega (arith, c.from.ensures, number, below, c.loop-line.invariant.count)
+
+pub returns : goal.returns
+returns g c = λ factory home begins.
+    let ports = c.args.config.now.ports in
+    let banks = c.args.config.now.banks.now in
+    let fresh : ℕ → LineValue = λ port. record { port = port; asked = [] } in
+    let began = c.into_iter-line-iterator.ensures.into_iter_gives in
+    let road = YieldsList-from_vec {s = c.into_iter-line-iterator.result} (vec_items c.args.lines) began.0 (began.1 ∙ c.args.lines.ok.0) in
+    let end = YieldsList-end road c.loop-line.yielded c.loop-line.line-iterator c.loop-line.yielded_by c.next.result c.next.new.self c.in-None.is c.next.ensures.steps in
+    let many : length c.loop-line.yielded ≡ ports = end.1 ∙ (ap (λ (ls : List LineValue). length ls) c.requires.lines ∙ length-map-range_with_len fresh 0 ports) in
+    c.loop-line.invariant.passes factory home begins ∙ ap (λ (n : ℕ). unasked (map (first_pass c.args.config.now.address banks factory home) (range_with_len 0 n))) many

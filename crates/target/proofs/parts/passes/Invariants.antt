@@ -9,12 +9,10 @@ use base.Stored.{Gv}
 use Rattle.bank.specs.Records.{first_share}
 use Rattle.target.proofs.parts.passes.Given as goal
 
-abbrev pub invariant-loop-port : goal.invariant-loop-port
-invariant-loop-port g l = record {
+abbrev pub invariant-loop-line : goal.invariant-loop-line
+invariant-loop-line g l = record {
   count : length l.by_port.items ≡ l.config.ports;
-  parts : (factory : AcceptedValue) (home : Gv) → AreFirst factory home l.config.ports l.initial.seats.items l.initial.readers.items → AreFirst factory home (l.config.ports - l.port) l.seats.items l.readers.items;
-  passes : (factory : AcceptedValue) (home : Gv) → AreFirst factory home l.config.ports l.initial.seats.items l.initial.readers.items → l.passes.items ≡ unasked (map (first_pass l.config.address l.config.banks.now factory home) (range_with_len 0 l.port));
-  rest : (k : ℕ) → l.port ≤ k → k < l.config.ports → get_or l.by_port.items k [] ≡ replicate (length l.config.banks.now) (first_share k);
-  family : l.history.0 ≡ g.J.Family.book;
-  chains : l.port + l.history.1 ≡ 32;
+  parts : (factory : AcceptedValue) (home : Gv) → AreFirst factory home l.config.ports l.initial.seats.items l.initial.readers.items → AreFirst factory home (l.config.ports - length l.yielded) l.seats.items l.readers.items;
+  passes : (factory : AcceptedValue) (home : Gv) → AreFirst factory home l.config.ports l.initial.seats.items l.initial.readers.items → l.passes.items ≡ unasked (map (first_pass l.config.address l.config.banks.now factory home) (range_with_len 0 (length l.yielded)));
+  rest : (k : ℕ) → length l.yielded ≤ k → k < l.config.ports → get_or l.by_port.items k [] ≡ replicate (length l.config.banks.now) (first_share k);
 }

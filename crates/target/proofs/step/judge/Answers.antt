@@ -3,7 +3,7 @@ use Rattle.node_parts.specs.Passes.{pass_of}
 use Rattle.node_parts.specs.Steps.{IsAdmission, IsJudgement}
 use Rattle.target.specs.Passes.{PortPass}
 use Rattle.target.specs.Steps.{IsJudgedByTaken}
-use Rattle.target.proofs.Judgements.{judgement_of}
+use Rattle.target.proofs.Judgements.{judgement_of, taken_since}
 use Rattle.target.proofs.step.judge.Goals as goal
 
 pub returns-clause-step : goal.returns-clause-step
@@ -16,3 +16,7 @@ returns-clause-step g c =
     let by : IsJudgedByTaken c.pass.inside.loader.reader.programs c.judge_taken.new.reader.programs b c.judge_taken.new.context admitted judged = search rules in
     let judgement = judgement_of b c.judge_taken.new.context c.pass.inside.loader.reader.programs c.judge_taken.new.reader.programs c.pass.inside.shares.items c.pass.inside.staging admitted c.args.packet judged admission by in
     (subst (λ (h : PortPass). IsJudgement h.pass left c.args.packet judged) c.pass.view_is judgement, search rules)
+
+pub returns-clause-moment : goal.returns-clause-moment
+returns-clause-moment g c =
+    taken_since c.args.front.now c.tell.new.front c.judge_taken.new.front c.judge_taken.new.reader.programs c.tell.ensures.known c.in-Ok-judge_taken.ensures.moment

@@ -6,7 +6,7 @@ ghost use mathlib.Core.List.{IsPrefix};
 use crate::tests::checks::same;
 use crate::tests::publishing::program;
 use bver::MapSizes;
-use publish::{Family, Line, Opened, Programs, Publisher, Reader, Told};
+use publish::{Family, Front, Line, Opened, Programs, Publisher, Reader, Told};
 use std::alloc::Global;
 use std::marker::Brand;
 use std::process::Abort;
@@ -67,6 +67,7 @@ fn loads<J: Family, R: Wait + Drop>(
     alloc: Global,
     desk: &Mutex<Desk<J, R>>,
     mut reader: Reader<J>,
+    mut front: Front<J>,
     budget: u8,
 ) -> Met {
     let mut met = Met {
@@ -81,7 +82,7 @@ fn loads<J: Family, R: Wait + Drop>(
         if met.generations.push(told.generation()).is_err() {
             return met;
         }
-        match reader.take(1) {
+        match reader.take(&mut front, 1) {
             Some(taken) => {
                 if taken.generation() < told.generation() {
                     met.late = met.late.wrapping_add(1);
@@ -124,14 +125,15 @@ fn two_load<J: Family + Send + Sync, R: Threads + Wait + Abort + Sync>(
     requires { opened ≡ J.book }
 {
     let factory = program(alloc, &MapSizes::new(&[])?, 2).ok_or("the factory program")?;
+    let front = opened.front::<J>();
     let (publisher, mut readers, line) = Programs::new::<J, _>(alloc, rt, opened, factory, 2)?;
     let desk = Mutex::new(Desk { publisher, line });
     let first = readers.pop().ok_or("two readers")?;
     let second = readers.pop().ok_or("two readers")?;
     let (a, b) = join(
         rt,
-        || loads(rt, alloc, &desk, first, 3),
-        || loads(rt, alloc, &desk, second, 4),
+        || loads(rt, alloc, &desk, first, front.again(), 3),
+        || loads(rt, alloc, &desk, second, front.again(), 4),
     );
     check(rt, 2 * LOADS, &[a, b])
 }
@@ -144,6 +146,7 @@ fn four_load<J: Family + Send + Sync, R: Threads + Wait + Abort + Sync>(
     requires { opened ≡ J.book }
 {
     let factory = program(alloc, &MapSizes::new(&[])?, 2).ok_or("the factory program")?;
+    let front = opened.front::<J>();
     let (publisher, mut readers, line) = Programs::new::<J, _>(alloc, rt, opened, factory, 4)?;
     let desk = Mutex::new(Desk { publisher, line });
     let first = readers.pop().ok_or("four readers")?;
@@ -155,15 +158,15 @@ fn four_load<J: Family + Send + Sync, R: Threads + Wait + Abort + Sync>(
         || {
             join(
                 rt,
-                || loads(rt, alloc, &desk, first, 3),
-                || loads(rt, alloc, &desk, second, 4),
+                || loads(rt, alloc, &desk, first, front.again(), 3),
+                || loads(rt, alloc, &desk, second, front.again(), 4),
             )
         },
         || {
             join(
                 rt,
-                || loads(rt, alloc, &desk, third, 5),
-                || loads(rt, alloc, &desk, fourth, 6),
+                || loads(rt, alloc, &desk, third, front.again(), 5),
+                || loads(rt, alloc, &desk, fourth, front.again(), 6),
             )
         },
     );

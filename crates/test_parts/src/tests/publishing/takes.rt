@@ -8,7 +8,7 @@ use crate::tests::checks::same;
 use crate::tests::publishing::program;
 use bver::MapSizes;
 use node_programs::PublishFault;
-use publish::{Family, Opened, Programs, Reader};
+use publish::{Family, Front, Opened, Programs, Reader};
 use std::alloc::Global;
 use std::marker::Brand;
 use std::mem;
@@ -35,12 +35,12 @@ fn a_program_is_never_let_go(rt: HostRuntime) -> Result<(), Fail> {
 }
 
 /// The budget and the generation of the program at a slot.
-fn shown<J: Family>(reader: &mut Reader<J>, slot: u8) -> Option<(u32, u32)>
+fn shown<J: Family>(reader: &mut Reader<J>, front: &mut Front<J>, slot: u8) -> Option<(u32, u32)>
     requires { slot < 4 }
     ensures seen { IsPrefix reader.old.programs reader.new.programs }
     ensures generation { IfSome result (λ shown. generation_at reader.new.programs slot ≡ Some shown.1) }
 {
-    let taken = reader.take(slot)?;
+    let taken = reader.take(front, slot)?;
     Some((taken.accepted().budget(), taken.generation()))
 }
 
@@ -53,6 +53,7 @@ fn a_program_is_shown<J: Family, R: Wait + Abort>(
 {
     let sizes = MapSizes::new(&[])?;
     let factory = program(alloc, &sizes, 2).ok_or("the factory program")?;
+    let mut front = opened.front::<J>();
     let (mut publisher, mut readers, mut line) = Programs::new::<J, _>(
         alloc, rt, opened, factory, 1,
     )?;
@@ -61,7 +62,7 @@ fn a_program_is_shown<J: Family, R: Wait + Abort>(
         same(
             rt,
             "a slot at first",
-            shown(&mut reader, slot),
+            shown(&mut reader, &mut front, slot),
             Some((2, 0)),
         );
     }
@@ -73,13 +74,13 @@ fn a_program_is_shown<J: Family, R: Wait + Abort>(
     same(
         rt,
         "the slot beside it",
-        shown(&mut reader, 0),
+        shown(&mut reader, &mut front, 0),
         Some((2, 0)),
     );
     same(
         rt,
         "the slot of the publish",
-        shown(&mut reader, 1),
+        shown(&mut reader, &mut front, 1),
         Some((3, 1)),
     );
     Ok(())
@@ -94,6 +95,7 @@ fn another_publish_is_shown<J: Family, R: Wait + Abort>(
 {
     let sizes = MapSizes::new(&[])?;
     let factory = program(alloc, &sizes, 2).ok_or("the factory program")?;
+    let mut front = opened.front::<J>();
     let (mut publisher, mut readers, mut line) = Programs::new::<J, _>(
         alloc, rt, opened, factory, 2,
     )?;
@@ -108,13 +110,13 @@ fn another_publish_is_shown<J: Family, R: Wait + Abort>(
     same(
         rt,
         "the slot of two publishes",
-        shown(&mut untold, 3),
+        shown(&mut untold, &mut front, 3),
         Some((4, 2)),
     );
     same(
         rt,
         "the slot beside it",
-        shown(&mut untold, 2),
+        shown(&mut untold, &mut front, 2),
         Some((2, 0)),
     );
     Ok(())
@@ -129,13 +131,14 @@ fn nothing_more_is_shown<J: Family, R: Wait + Abort>(
 {
     let sizes = MapSizes::new(&[])?;
     let factory = program(alloc, &sizes, 2).ok_or("the factory program")?;
+    let mut front = opened.front::<J>();
     let (publisher, mut readers, _line) = Programs::new::<J, _>(alloc, rt, opened, factory, 1)?;
     let mut reader = readers.pop().ok_or("a reader")?;
-    mem::forget(reader.take(0));
+    mem::forget(reader.take(&mut front, 0));
     same(
         rt,
         "whether there is a program",
-        reader.take(0).is_some(),
+        reader.take(&mut front, 0).is_some(),
         false,
     );
     drop(reader);

@@ -23,7 +23,7 @@ compare_exchange-found-requires g c =
       book,
       none.0 ∙ book,
       offer.0,
-      rw (none.1, offer.1, offer.3) (begins_moves c.tracked-head.result.key c.again-seen.result.log _ few refl refl (λ port. refl)),
+      rw (none.1, offer.1, offer.3) (begins_moves c.tracked-head.result.key c.again-seen.result.log _ few refl refl (λ port. refl) refl),
     )
 
 pub invariant_of-result : goal.invariant_of-result

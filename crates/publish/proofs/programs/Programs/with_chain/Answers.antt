@@ -3,6 +3,6 @@ use Rattle.publish.specs.Reached.{Reached}
 use Rattle.publish.proofs.Families.{begins}
 use Rattle.publish.proofs.programs.Programs.with_chain.Goals as goal
 
-pub new-requires-2-clause-rule : goal.new-requires-2-clause-rule
-new-requires-2-clause-rule g c =
+pub new-requires-3-clause-rule : goal.new-requires-3-clause-rule
+new-requires-3-clause-rule g c =
     begins _ _ (ap (λ (t : Reached). t.family) (c.in_ok-table.ensures ∙ (c.again.ensures ∙ c.front-front.ensures)))

@@ -1,0 +1,35 @@
+-- The rule of the history, and what the steps say that show programs to readers.
+use Rattle.std.specs.Prelude.{ℕ, ◌≡◌, ◌<◌, ◌≤◌, ◌+◌, ◌==◌, List, [], length, MatchBool}
+use Rattle.logbook.specs.Pages.{Cell, cell, Step, View}
+use Rattle.annals.specs.declared.deed.Deed.TheVariants.{Shows}
+use Rattle.annals.specs.declared.deed.Link.{Link}
+use Rattle.annals.specs.Chains.{AreAsked, AreHome, IsHome, chain_of, link}
+use Rattle.annals.specs.Shown.{AreListed, shown_in}
+
+-- the key of the word that counts the programs which readers see: that behind the words of the chains
+abbrev pub shown_word : ℕ
+shown_word = 42
+
+-- the words of the 42 chains are at home, a chain whose word is 0 has no entry, of each chain what each entry but the last
+-- names was used, and what was done was asked for; one word more is how many programs readers see, which were published
+pub record AreChained (cells : List Cell) (log : List Link) : Type 0 where
+  pub row : 43 ≤ length cells
+  pub homes : (c : ℕ) → c < 42 → IsHome cells c
+  pub begun : (c : ℕ) → c < 42 → (cell cells c).0 ≡ 0 → chain_of c log ≡ []
+  pub used : (c : ℕ) → c < 42 → AreHome cells (chain_of c log)
+  pub asked : AreAsked log
+  pub home : IsHome cells shown_word
+  pub shown : (cell cells shown_word).0 ≡ shown_in log
+  pub listed : AreListed log
+
+-- what a step adds that shows one more program: a deed of no chain
+abbrev pub showing : Link
+showing = link shown_word 0 Shows shown_word
+
+-- the history so far was seen, and how many programs readers see at its end
+abbrev pub Counts : Step Link → View Link ℕ → ℕ → View Link ℕ → Type 0
+Counts s v found w = shown_in w.0 ≡ found
+
+-- readers see one program more; or they saw another number of them
+abbrev pub Raises : Step Link → View Link ℕ → ℕ → View Link ℕ → Type 0
+Raises s v found w = MatchBool (found == s.old) (shown_in w.0 ≡ s.old + 1) (shown_in w.0 ≡ found)

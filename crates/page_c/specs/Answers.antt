@@ -1,0 +1,29 @@
+-- What a call of the module answers.
+use Rattle.std.specs.Prelude.{◌≡◌, ◌++◌, ℕ, List, length, drop, nat_le, if◌then◌else◌, string_bytes}
+use Rattle.clap.specs.Walk.{Text}
+use Rattle.folders.specs.Folders.{FolderValue}
+use Rattle.page_format.specs.Given.{IsGiven}
+use Rattle.page_format.specs.Told.{IsTold, files_since}
+use Rattle.doing.specs.Doings.{DoesWords, words_given}
+use Rattle.doing.specs.declared.doing.Left.{Left}
+
+-- the bytes that were given are words and a folder, the words were done over the folder, and the other bytes are what came of
+-- that: status, output, what was told, and the files that the folder got
+pub record Answers (given bytes : List ℕ) : Type 0 where
+  pub words : List Text
+  pub folder : FolderValue
+  pub left : Left
+  pub is_given : IsGiven words folder given
+  pub does : DoesWords (words_given words) folder left
+  pub is_told : IsTold left.done.status left.done.out.items (string_bytes left.done.told) (files_since (length folder) left.folder) bytes
+
+-- room with bytes at its beginning, if they fit
+abbrev pub with_bytes : (room bytes : List ℕ) → List ℕ
+with_bytes room bytes = if nat_le (length bytes) (length room) then bytes ++ drop (length bytes) room else room
+
+-- an answer of so many bytes was put into the room, if it fits
+pub record IsAnswered (given old new : List ℕ) (count : ℕ) : Type 0 where
+  pub bytes : List ℕ
+  pub answers : Answers given bytes
+  pub counted : length bytes ≡ count
+  pub put : new ≡ with_bytes old bytes

@@ -1,0 +1,4 @@
+mod Cutting
+mod Found
+mod Refused
+mod Written

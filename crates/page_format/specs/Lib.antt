@@ -1,0 +1,4 @@
+pub mod Given
+pub mod Pieces
+pub mod Reading
+pub mod Told

@@ -1,0 +1,16 @@
+//! How words and files, and what came of them, are bytes.
+//!
+//! A number is four bytes, the lowest first. A piece is its length, a number, and then its bytes.
+//!
+//! A host hands over the number of words, each word as a piece, and of each file its name and its bytes as two pieces. It gets
+//! back the exit status, a number; what standard output and standard error have, two pieces; and of each file that was written
+//! its name and its bytes, the newest first.
+#![tactic(auto)]
+
+mod laws;
+mod reading;
+mod writing;
+
+pub use laws::{given_is_read_once, told_is_read_once};
+pub use reading::{Given, given_of};
+pub use writing::{files_since, told_of};

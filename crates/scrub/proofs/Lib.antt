@@ -1,0 +1,3 @@
+mod Seeing
+mod Four
+mod Serving

@@ -1,0 +1,4 @@
+pub mod Numbers
+pub mod Sums
+pub mod Kept
+pub mod Guarded
