@@ -145,13 +145,6 @@ typedef struct sandbar_served {
   uint8_t extended;      /**< its extended address: the number of the bank, or 255 for the boot window (at 32) */
 } sandbar_served;
 
-/** What a scrub of the programs found: a bit a slot, 1 for slot 0, then 2, 4 and 8. 3 bytes. */
-typedef struct sandbar_scrubbed {
-  uint8_t mended;    /**< its program was damaged, and was made again of its image (at 0) */
-  uint8_t withdrawn; /**< its program was damaged and not mended, or it was withdrawn before: no program judges (at 1) */
-  uint8_t restored;  /**< 1: the image that was lent is now the program of slot 3, which was withdrawn; else 0 (at 2) */
-} sandbar_scrubbed;
-
 /** An entry of a bank's journal, without its packet. 32 bytes. */
 typedef struct sandbar_entry {
   uint64_t number;        /**< counts the entries of its port at this bank: 0, 1, 2 .. over all its journals (at 0) */
@@ -263,23 +256,6 @@ uint32_t sandbar_poke(sandbar_node *node, uint8_t bank, uint32_t address, const 
  */
 SANDBAR_CALL
 uint32_t sandbar_word(sandbar_node *node, uint8_t map, uint16_t cell, uint64_t *word);
-
-/**
- * Compares each slot's program, as it is run, with the sum that was kept when it was published. A program that differs is
- * made again of its image, by the next generation, if the verifier accepts it and it has that sum. It asks for memory for
- * that. Else its slot is withdrawn: each command for it is answered by a general error (status 1, ::SANDBAR_ANSWERED) until a
- * load publishes another program. If slot 3 is withdrawn, no load is permitted: so the program of @p image is then published
- * for it, if it may judge. An image of no bytes is none. Codes: ::SANDBAR_NO_NODE.
- */
-SANDBAR_CALL
-uint32_t sandbar_scrub(sandbar_node *node, const uint8_t *image, size_t image_length, sandbar_scrubbed *scrubbed);
-
-/**
- * From now on scrubs the program that judges a packet, before each packet of that number: 1 is each, 2 each second one. At 0,
- * with which a node is opened, it scrubs none. Codes: ::SANDBAR_NO_NODE.
- */
-SANDBAR_CALL
-uint32_t sandbar_scrub_each(sandbar_node *node, uint32_t each);
 
 /** The CRC of RMAP, for packets that are made. */
 SANDBAR_CALL

@@ -386,24 +386,6 @@ static void words_of_cells(void) {
   answers(sandbar_close(&node), SANDBAR_OK, "close");
 }
 
-/* Scrubs of programs that are whole: nothing changes. What comes of others, upsets.c shows. */
-static void scrubs(void) {
-  uint8_t packet[64], reply[SANDBAR_MAX_REPLY];
-  sandbar_scrubbed told = {7, 7, 7};
-  sandbar_journal journal;
-  sandbar_node node = opened(&bank, 1, yes, sizeof yes);
-  answers(sandbar_scrub(&node, yes, sizeof yes, &told), SANDBAR_OK, "scrub");
-  holds(told.mended == 0 && told.withdrawn == 0 && told.restored == 0, "each is whole");
-  for (uint32_t each = 0; each < 4; each += 1) {
-    answers(sandbar_scrub_each(&node, each), SANDBAR_OK, "scrub each");
-    for (uint8_t k = 0; k < 5; k += 1)
-      holds(serve(&node, 0, packet, put_read(packet, k, 0, 0xA0000000u, 1), reply).status == 0, "served");
-  }
-  answers(sandbar_journal_of(&node, 0, &journal), SANDBAR_OK, "journal");
-  holds(journal.loaded == 0 && journal.entries == 20, "no program is published");
-  answers(sandbar_close(&node), SANDBAR_OK, "close");
-}
-
 /* What is not open, and what is not served. */
 static void refusals(void) {
   uint8_t packet[SANDBAR_MAX_PACKET + 1] = {0}, room[SANDBAR_MAX_REPLY];
@@ -411,7 +393,6 @@ static void refusals(void) {
   sandbar_served served = untouched_served;
   sandbar_journal journal;
   sandbar_entry entry;
-  sandbar_scrubbed scrubbed = {7, 7, 7};
   uint64_t word = 7;
   memset(room, 0xEE, sizeof room);
   for (int round = 0; round < 2; round += 1) {
@@ -422,8 +403,6 @@ static void refusals(void) {
     answers(sandbar_peek(&node, 0, 0, room, 1), SANDBAR_NO_NODE, "peek");
     answers(sandbar_poke(&node, 0, 0, packet, 1, 4), SANDBAR_NO_NODE, "poke");
     answers(sandbar_word(&node, 0, 0, &word), SANDBAR_NO_NODE, "word");
-    answers(sandbar_scrub(&node, packet, 0, &scrubbed), SANDBAR_NO_NODE, "scrub");
-    answers(sandbar_scrub_each(&node, 1), SANDBAR_NO_NODE, "scrub each");
     answers(sandbar_close(&node), SANDBAR_NO_NODE, "close");
     if (round == 1) break;
     node = opened(&bank, 1, yes, sizeof yes);
@@ -433,7 +412,6 @@ static void refusals(void) {
     answers(sandbar_serve(&node, 1, packet, 4200, 1, room, 4120, &served), SANDBAR_NO_ROOM, "4,120 bytes of room");
     answers(sandbar_close(&node), SANDBAR_OK, "close");
   }
-  holds(scrubbed.mended == 7 && scrubbed.withdrawn == 7 && scrubbed.restored == 7, "no slots were written");
   holds(same_served(&served, &untouched_served) && word == 7, "no numbers were written");
   holds(room[0] == 0xEE && room[4119] == 0xEE, "no reply was written");
 }
@@ -545,7 +523,6 @@ int main(int count, char **words) {
   memory();
   openings();
   words_of_cells();
-  scrubs();
   refusals();
   order();
   /* NO_MEMORY alone is left to memory.c */

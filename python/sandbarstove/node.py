@@ -79,18 +79,6 @@ class Entry:
     end: str = "EOP"
 
 
-@dataclass(frozen=True)
-class Scrubbed:
-    """What a scrub found: the slots whose programs were mended, those that are withdrawn, and whether slot 3 was restored."""
-    mended: tuple[int, ...]
-    withdrawn: tuple[int, ...]
-    restored: bool
-
-
-def _slots(bits: int) -> tuple[int, ...]:
-    return tuple(slot for slot in range(4) if bits >> slot & 1)
-
-
 def _array(kind: type, rows: Sequence[tuple]):
     """Structs side by side, and one where there is none: no pointer is null."""
     return (kind * max(len(rows), 1))(*(kind(*row) for row in rows))
@@ -209,17 +197,6 @@ class Node:
         told = c_uint64()
         self._done(self._c.sandbar_word(byref(self._node), _byte("map", map), _checked("cell", cell, 0xFFFF), byref(told)))
         return told.value
-
-    def scrub(self, image: bytes = b"") -> Scrubbed:
-        """Compares each slot's program with the sum that was kept of it. A program that differs is made again, or its slot is withdrawn.
-        The program of an image that is given is published for slot 3 if that is withdrawn."""
-        told = c.ScrubbedRecord()
-        self._done(self._c.sandbar_scrub(byref(self._node), image, len(image), byref(told)))
-        return Scrubbed(_slots(told.mended), _slots(told.withdrawn), bool(told.restored))
-
-    def scrub_each(self, packets: int) -> None:
-        """From now on scrubs the program that judges a packet before each packet of so many; before none where it is 0."""
-        self._done(self._c.sandbar_scrub_each(byref(self._node), _checked("packets", packets, 0xFFFFFFFF)))
 
     def close(self) -> None:
         """Gives all memory back. Closing twice does nothing."""

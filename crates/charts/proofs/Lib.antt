@@ -13,4 +13,3 @@ pub mod Deciding
 pub mod Meeting
 pub mod Resting
 pub mod Plainness
-pub mod Mistelling

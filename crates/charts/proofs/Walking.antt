@@ -1,10 +1,10 @@
 -- Two courses, a rule at a time.
-use Rattle.std.proofs.Common.{◌≡◌, ◌<◌, ◌+◌, ◌&&◌, ℕ, suc, Bool, true, false, List, [], ◌∷◌, length, get_or, drop, drop-cons, add-one, refl, ap, sym, subst, true≢false, arith, is_none, ◌∙◌}
-use Rattle.std.specs.Prelude.{Option, Some, None, if◌then◌else◌}
+use Rattle.std.proofs.Common.{◌≡◌, ◌<◌, ◌+◌, ℕ, suc, Bool, true, List, ◌∷◌, length, get_or, drop, drop-cons, add-one, refl, ap, sym, ◌∙◌}
+use Rattle.std.specs.Prelude.{Option, None, if◌then◌else◌}
 use Rattle.policy_table.specs.declared.rules.Quota.{Quota}
 use Rattle.policy_table.specs.declared.rules.Rule.{Rule}
 use Rattle.regions.specs.declared.points.Point.{Point}
-use Rattle.charts.specs.Lines.{course, course_from, goes_on}
+use Rattle.charts.specs.Lines.{course_from, goes_on}
 use Rattle.charts.specs.Points.{holds_at}
 
 opened : (n i : ℕ) (d : Rule) (rules : List Rule) (p : Point) → i < length rules
@@ -35,81 +35,3 @@ course_ends n i d rules p q lt one other none =
   where
     kept : (t u : Bool) (o : Option Quota) (a b : List ℕ) → t ≡ true → u ≡ true → o ≡ None → (if t then n ∷ goes_on o a else a) ≡ (if u then n ∷ goes_on o b else b)
     kept t u o a b e f g = rw (e, f, g) refl
-
--- a course that is numbered from a later number on does not begin with this one
-begins_later : (k n : ℕ) (rules : List Rule) (p : Point) (rest : List ℕ) → n < k → course_from k rules p ≡ n ∷ rest → ⊥
-begins_later k n [] p rest lt e =
-    let none : 0 ≡ length (n ∷ rest) = ap (λ (ns : List ℕ). length ns) e in
-    omega (arith, none)
-begins_later k n (rule ∷ rules) p rest lt e =
-    step (holds_at rule p) (course_from (suc k) rules p) (begins_later (suc k) n rules p rest (omega (arith, lt))) e
-  where
-    step : (t : Bool) (a : List ℕ) → (a ≡ n ∷ rest → ⊥) → (if t then k ∷ goes_on rule.quota a else a) ≡ n ∷ rest → ⊥
-    step true a later same =
-        let first : k ≡ n = ap (λ (ns : List ℕ). get_or ns 0 0) same in
-        omega (arith, lt, first)
-    step false a later same = later same
-
--- where a rule holds at one of two points alone, the courses from it on differ
-pub course_apart : (n i : ℕ) (d : Rule) (rules : List Rule) (p q : Point) → i < length rules
-    → (holds_at (get_or rules i d) p ≡ holds_at (get_or rules i d) q → ⊥)
-    → course_from n (drop i rules) p ≡ course_from n (drop i rules) q
-    → ⊥
-course_apart n i d rules p q lt differ same =
-    split (holds_at (get_or rules i d) p) (holds_at (get_or rules i d) q) differ (sym (opened n i d rules p lt) ∙ same ∙ opened n i d rules q lt)
-  where
-    split : (t u : Bool) → (t ≡ u → ⊥)
-        → (if t then n ∷ goes_on (get_or rules i d).quota (course_from (suc n) (drop (i + 1) rules) p) else course_from (suc n) (drop (i + 1) rules) p)
-        ≡ (if u then n ∷ goes_on (get_or rules i d).quota (course_from (suc n) (drop (i + 1) rules) q) else course_from (suc n) (drop (i + 1) rules) q)
-        → ⊥
-    split true true apart e = apart refl
-    split true false apart e = begins_later (suc n) n (drop (i + 1) rules) q _ (omega arith) (sym e)
-    split false true apart e = begins_later (suc n) n (drop (i + 1) rules) p _ (omega arith) e
-    split false false apart e = apart refl
-
--- where a rule holds alike at both points, and lets what is behind it be asked, the courses behind it are the same if those from it on are
-pub course_back : (n i : ℕ) (d : Rule) (rules : List Rule) (p q : Point) → i < length rules → holds_at (get_or rules i d) p ≡ holds_at (get_or rules i d) q
-    → (holds_at (get_or rules i d) p && is_none (get_or rules i d).quota) ≡ false
-    → course_from n (drop i rules) p ≡ course_from n (drop i rules) q
-    → course_from (suc n) (drop (i + 1) rules) p ≡ course_from (suc n) (drop (i + 1) rules) q
-course_back n i d rules p q lt same on e =
-    kept (holds_at (get_or rules i d) p) (holds_at (get_or rules i d) q) (get_or rules i d).quota _ _ same on (sym (opened n i d rules p lt) ∙ e ∙ opened n i d rules q lt)
-  where
-    kept : (t u : Bool) (o : Option Quota) (a b : List ℕ) → t ≡ u → (t && is_none o) ≡ false → (if t then n ∷ goes_on o a else a) ≡ (if u then n ∷ goes_on o b else b) → a ≡ b
-    kept true true None a b f g h = absurd (true≢false g)
-    kept true true (Some quota) a b f g h = ap (λ (ns : List ℕ). drop 1 ns) h
-    kept true false o a b f g h = absurd (true≢false f)
-    kept false true o a b f g h = absurd (true≢false (sym f))
-    kept false false o a b f g h = h
-
--- the courses from a rule on are the same just where the whole courses are
-pub record GoOnAlike (rules : List Rule) (number : ℕ) (p q : Point) : Type 0 where
-  pub forth : course_from (suc number) (drop number rules) p ≡ course_from (suc number) (drop number rules) q → course rules p ≡ course rules q
-  pub back : course rules p ≡ course rules q → course_from (suc number) (drop number rules) p ≡ course_from (suc number) (drop number rules) q
-
-pub alike_first : (rules : List Rule) (p q : Point) → GoOnAlike rules 0 p q
-alike_first rules p q = record { forth = λ e. e; back = λ e. e }
-
-pub alike_more : (rules : List Rule) (i : ℕ) (d : Rule) (p q : Point) → i < length rules → GoOnAlike rules i p q
-    → holds_at (get_or rules i d) p ≡ holds_at (get_or rules i d) q
-    → (holds_at (get_or rules i d) p && is_none (get_or rules i d).quota) ≡ false
-    → GoOnAlike rules (i + 1) p q
-alike_more rules i d p q lt alike same on = record {
-  forth = λ e. alike.forth (course_more (suc i) i d rules p q lt same (subst (λ (n : ℕ). course_from (suc n) (drop (i + 1) rules) p ≡ course_from (suc n) (drop (i + 1) rules) q) (add-one i) e));
-  back = λ e. subst (λ (n : ℕ). course_from (suc n) (drop (i + 1) rules) p ≡ course_from (suc n) (drop (i + 1) rules) q) (sym (add-one i)) (course_back (suc i) i d rules p q lt same on (alike.back e));
-}
-
-pub alike_ends : (rules : List Rule) (i : ℕ) (d : Rule) (p q : Point) → i < length rules → GoOnAlike rules i p q
-    → holds_at (get_or rules i d) p ≡ true → holds_at (get_or rules i d) q ≡ true → (get_or rules i d).quota ≡ None
-    → course rules p ≡ course rules q
-alike_ends rules i d p q lt alike one other none = alike.forth (course_ends (suc i) i d rules p q lt one other none)
-
-pub alike_last : (rules : List Rule) (i : ℕ) (p q : Point) → drop i rules ≡ [] → GoOnAlike rules i p q → course rules p ≡ course rules q
-alike_last rules i p q none alike =
-    alike.forth (ap (λ (rs : List Rule). course_from (suc i) rs p) none ∙ sym (ap (λ (rs : List Rule). course_from (suc i) rs q) none))
-
-pub alike_apart : (rules : List Rule) (i : ℕ) (d : Rule) (p q : Point) → i < length rules → GoOnAlike rules i p q
-    → (holds_at (get_or rules i d) p ≡ holds_at (get_or rules i d) q → ⊥)
-    → course rules p ≡ course rules q
-    → ⊥
-alike_apart rules i d p q lt alike differ same = course_apart (suc i) i d rules p q lt differ (alike.back same)

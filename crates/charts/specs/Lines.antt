@@ -3,7 +3,7 @@ use Rattle.std.specs.Prelude.{◌≡◌, ◌≤◌, ◌&&◌, ◌||◌, ◌++◌
 use Rattle.policy_table.specs.declared.rules.Quota.{Quota}
 use Rattle.policy_table.specs.declared.rules.Rule.{Rule}
 use Rattle.regions.specs.ByteSets.{are_same_bytes}
-use Rattle.regions.specs.Questions.{HoldsAll, IsFound}
+use Rattle.regions.specs.Questions.{HoldsAll}
 use Rattle.regions.specs.Regions.{are_same_kinds, lies_in}
 use Rattle.regions.specs.declared.cutting.Cell.{Cell}
 use Rattle.regions.specs.declared.points.Point.{Point}
@@ -77,10 +77,6 @@ abbrev pub IsToldRightly : (told : Bool) → (old new : List Rule) → List Line
 IsToldRightly true old new lines p = IsToldOnce old new lines p
 IsToldRightly false old new lines p = lines_of [] lines p ≡ []
 
--- a point is not told rightly
-abbrev pub IsToldWrongly : (told : Bool) → (old new : List Rule) → List Line → Point → Type 0
-IsToldWrongly told old new lines p = ¬ (IsToldRightly told old new lines p)
-
 -- whether a point is told: each, or where two tables decide differently
 abbrev pub is_told : (all : Bool) → (old new : List Rule) → Point → Bool
 is_told all old new p = all || not (alike_said (held p old) (held p new))
@@ -97,19 +93,6 @@ IsMap rules lines = IsChart true rules [] lines
 -- there, and each other in none
 abbrev pub IsComparison : (old new : List Rule) → List Line → Type 0
 IsComparison old new lines = IsChart false old new lines
-
--- some point that a command has is not told rightly
-pub record IsNoChart (all : Bool) (old new : List Rule) (lines : List Line) : Type 0 where
-  pub point : Point
-  pub found : IsFound (λ p. IsToldWrongly (is_told all old new p) old new lines p) point
-
--- some point that a command has lies in no line or in several, or the table has another course there
-abbrev pub IsNoMap : List Rule → List Line → Type 0
-IsNoMap rules lines = IsNoChart true rules [] lines
-
--- the same of a point at which two tables decide differently, or another lies in some line
-abbrev pub IsNoComparison : (old new : List Rule) → List Line → Type 0
-IsNoComparison old new lines = IsNoChart false old new lines
 
 -- the tests by which it is settled whether a point is told rightly
 abbrev pub tests_with : (old new : List Rule) → List Line → List (Point → Bool)

@@ -1,6 +1,6 @@
 //! Which rules a table asks at a point.
 
-ghost use Rattle.std.specs.Prelude.{◌≡◌, ◌≢◌, false, true};
+ghost use Rattle.std.specs.Prelude.{◌≡◌, true};
 ghost use Rattle.charts.specs.Lines.{course};
 
 use crate::decisions::holds_at;
@@ -9,8 +9,7 @@ use regions::Point;
 
 /// Whether a table asks the same rules at two points.
 pub(crate) fn has_same_course(rules: &[Rule], one: &Point, other: &Point) -> bool
-    ensures same { result ≡ true → course rules.now one.now ≡ course rules.now other.now }
-    ensures other { result ≡ false → course rules.now one.now ≢ course rules.now other.now }
+    ensures { result ≡ true → course rules.now one.now ≡ course rules.now other.now }
 {
     for rule in rules {
         let holds = holds_at(rule, one);

@@ -7,4 +7,3 @@ mod Nodes
 mod Handing
 mod Ending
 mod Running
-mod Growing

@@ -1,4 +1,3 @@
 pub mod Values
 pub mod Faults
 mod Found
-mod Unread

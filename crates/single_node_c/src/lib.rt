@@ -14,7 +14,6 @@ mod memory;
 mod numbers;
 mod opening;
 mod parts;
-mod scrubbing;
 mod serving;
 mod unfit;
 mod version;

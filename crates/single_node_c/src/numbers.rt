@@ -72,15 +72,6 @@ pub struct JournalNumbers {
     pub loaded: u32,
 }
 
-/// What a scrub found, a bit a slot, and whether the slot of the boot window was given the program that was lent.
-#[repr(C)]
-#[derive(Clone, Copy)]
-pub struct ScrubbedNumbers {
-    pub mended: u8,
-    pub withdrawn: u8,
-    pub restored: u8,
-}
-
 /// The kind of a packet that is no command.
 pub const DISCARDED: u8 = 0;
 

@@ -1,3 +1,0 @@
-mod Seeing
-mod Four
-mod Serving

@@ -1,4 +1,0 @@
-pub mod Numbers
-pub mod Sums
-pub mod Kept
-pub mod Guarded
