@@ -11,7 +11,7 @@ use Rattle.annals.specs.declared.deed.Link.{Link}
 use Rattle.annals.specs.Chains.{asked_in, chain_of, next_of, with_asked, IsHome, AreHome, AreAsked, AreChained, IsDue, Draws, Begins, Adds, Looks, link, IsAdded, IsFirst, word_of}
 use Rattle.annals.specs.Banks.{memory_after, after_link, after_deed, zeros, entries_of, entries_in, with_entry}
 use Rattle.std.specs.Prelude.{fold}
-use Rattle.annals.proofs.Fronts.{prefix_trans, prefix_length, prefix_whole}
+use Rattle.lemmas.proofs.Prefixes.{prefix_trans, prefix_length, prefix_whole}
 use Rattle.annals.proofs.Dues.{LeavesNone, between_same, chain_prefix, chain_snoc, none_asked, own_snoc, still_asked}
 
 abbrev pub shown : List Link → List Link

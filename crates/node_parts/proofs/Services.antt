@@ -19,7 +19,8 @@ use Rattle.node_parts.specs.Served.{PartsValue, IsServed, IsAnswered, IsDone, Is
 use Rattle.node_parts.specs.Steps.{IsJudgement}
 use Rattle.node_parts.specs.Pairs.{ArePaired, IsPaired}
 use Rattle.node_parts.specs.Keeping.{AnsweredAreServed, LeavesAllPaired}
-use Rattle.node_parts.proofs.Pairings.{own_stays_paired, others_stay_paired, pair_set, at_written, at_other, judged_paired, judged_fits, staged_paired, loaded_paired}
+use Rattle.node_parts.proofs.Pairings.{own_stays_paired, others_stay_paired, pair_set, judged_paired, judged_fits, staged_paired, loaded_paired}
+use Rattle.lemmas.proofs.Places.{at_written, at_other}
 
 -- the command was applied
 done_applied : (old new : PartsValue) (h after : PassValue) (p : Cargo) (result : Applied) (reply : List ℕ) → IsPaired old.banks h → (done : IsDone IsEnded old new h after p result reply) → IsApplied done.before done.behind (share_of done.between done.judged.place) done.between after done.judged result reply
