@@ -1,4 +1,4 @@
-mod Banks
+pub mod Banks
 mod Continuing
 mod Loaded
 mod Simulating

@@ -1,4 +1,3 @@
 mod Histories
 mod LinesInTurn
-mod Signs
 mod Striding
