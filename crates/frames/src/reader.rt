@@ -1,7 +1,7 @@
 //! A reader of frames.
 
 ghost use Rattle.std.specs.Prelude.{◌≡◌, ◌≢◌, ◌<◌, ◌≤◌, [], length, min, take, IfErr, IfOk, OnErr, OnOk};
-ghost use Rattle.frames.specs.Streams.{after, behind_path, came_in, keep_all, onto};
+ghost use Rattle.frames.specs.Streams.{after, came_in, keep_all, onto};
 ghost use Rattle.frames.specs.Runs.{EndsPacket, EndsUnpacked, IsRun, in_run};
 ghost use Rattle.spw.specs.declared.faults.LineFault.TheVariants.{Memory};
 ghost use Rattle.frames.specs.Reading.{behind_end, came_of, first_reading, in_head, is_between, is_cargo};
@@ -10,12 +10,9 @@ use crate::came::Came;
 use crate::flags::Flag;
 use crate::heads::{HEAD_LENGTH, Head};
 use arrayvec::ArrayVec;
-use spw::{Feed, LineFault};
+use spw::{Feed, LineFault, behind_path};
 use std::alloc::Global;
 use std::marker::Model;
-
-/// The first byte that is no path address (ECSS-E-ST-50-12C, addresses).
-const FIRST_LOGICAL: u8 = 32;
 
 /// Reads frames from bytes as they come, and gives the packets that they carry. It holds the head of a frame, and at most
 /// 4,200 bytes of a packet, however many a frame says that it has.
@@ -37,20 +34,6 @@ impl Model for FrameReader {
     ghost view = { λ r. record { head = r.head.items; flag = r.flag; left = r.left; held = r.held } };
 
     ghost invariant = { λ r. length r.head.items < HEAD_LENGTH };
-}
-
-/// The bytes behind the path address bytes that come first.
-fn behind_path(bytes: &[u8]) -> &[u8]
-    ensures { result.now ≡ behind_path bytes.now }
-{
-    let mut rest = bytes;
-    while let [first, others @ ..] = rest {
-        if *first >= FIRST_LOGICAL {
-            return rest;
-        }
-        rest = others;
-    }
-    rest
 }
 
 /// Puts bytes of a packet behind what is held of it. Path address bytes before the packet begins are dropped, and so is what
