@@ -1,7 +1,6 @@
 -- The weight of a program by costs: products and sums of which each step is saturated.
-use Rattle.std.proofs.Common.{◌≡◌, ℕ, zero, suc, ◌+◌, ◌*◌, ◌≤◌, ◌<◌, Bool, true, false, List, [], ◌∷◌, Option, None, refl, sym, ap, ◌∙◌, arith, drop, length, nat_le, add-one}
+use Rattle.std.proofs.Common.{◌≡◌, ℕ, zero, suc, ◌+◌, ◌*◌, ◌≤◌, ◌<◌, List, [], ◌∷◌, Option, None, refl, sym, ap, ◌∙◌, arith, drop, length, add-one}
 use Rattle.std.specs.Prelude.{slice_index_or}
-use Rattle.std.proofs.lemmas.Bool.Decides.{nat_tests}
 use Rattle.bpf_insn.specs.declared.insn.Insn.{Insn}
 use Rattle.bpf.specs.declared.loops.Loop.{Loop}
 use Rattle.bpf.specs.Weight.{saturated_weight, times_at}
@@ -14,13 +13,6 @@ drop_end [] zero h = refl
 drop_end [] (suc i) h = refl
 drop_end (x ∷ xs) zero h = absurd (omega arith)
 drop_end (x ∷ xs) (suc i) h = drop_end xs i (omega arith)
-
-    by_test : (b : Bool) → nat_le a 18446744073709551615 ≡ b → saturated_weight (saturated_weight a * r) ≡ saturated_weight (a * r)
-    by_test true e = let same : saturated_weight a ≡ a = grind (arith, nat_tests) in rw same refl
-    by_test false e =
-        let h : 18446744073709551615 < a = grind (arith, nat_tests) in
-        let same : saturated_weight a ≡ 18446744073709551615 = omega arith in
-        rw same (above r h)
 
 -- ---- the sum over the slots
 
