@@ -5,8 +5,8 @@ ghost use Rattle.charts.specs.Lines.{IsComparison, IsMap};
 
 use crate::boxes::address_parts;
 use crate::parts::{Part, Tables};
-use charts::{Line, comparison_cells, has_kind, is_comparison, is_map, map_cells};
-use policy_table::Rule;
+use charts::{Line, comparison_cells, is_comparison, is_map, map_cells};
+use policy_table::{Rule, has_kind};
 use regions::{ByteSet, Kinds, Point, Region};
 use rmap::Kind;
 use std::alloc::{AllocError, Global};

@@ -4,20 +4,7 @@ use Rattle.policy_table.specs.Words.{word_form, word_number}
 use Rattle.policy_table.specs.declared.faults.PolicyFault.{PolicyFault}
 use Rattle.policy_table.specs.declared.faults.PolicyFault.TheVariants as faults
 use Rattle.policy_table.specs.declared.statement_faults.StatementFault.{StatementFault}
-use Rattle.policy_table.specs.declared.statement_faults.StatementFault.TheVariants.{
-  Directive,
-  RangeCount,
-  RangeName,
-  RangeTwice,
-  RangeLow,
-  RangeHigh,
-  RuleCount,
-  Word,
-  Port,
-  RangeOrder,
-  RuleOrder,
-  NoCell,
-}
+use Rattle.policy_table.specs.declared.statement_faults.StatementFault.TheVariants.*
 use Rattle.policy_table.specs.declared.words.RuleWord.{RuleWord}
 use Rattle.policy_table.specs.declared.words.RuleWord.TheVariants.{Kind, Key, Initiator, Extended, Low, High, Quota, Verdict}
 
