@@ -46,7 +46,7 @@ way p slot next edge = way_of edge.insn slot next (flow_of edge.insn) refl edge.
 -- ---- a declared loop
 
 -- a back jump leads to the head
-to_head : (head back : ℕ) → head ≤ back → pos (back + 1) +ℤ negsuc (back - head) ≡ pos head
+pub to_head : (head back : ℕ) → head ≤ back → pos (back + 1) +ℤ negsuc (back - head) ≡ pos head
 to_head head back ordered = omega (arith, ints)
 
 -- so an instruction begins at the head, and none of two slots steps over it

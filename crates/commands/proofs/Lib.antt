@@ -1,4 +1,4 @@
 mod Apart
 mod Matching
 mod ShownLines
-mod Stopping
+pub mod Stopping

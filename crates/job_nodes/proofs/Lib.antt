@@ -1,4 +1,4 @@
 pub mod Banks
 mod Continuing
 mod Loaded
-mod Simulating
+pub mod Simulating

@@ -1,6 +1,5 @@
 -- A step that asks, and the lines of steps.
-use Rattle.std.proofs.Common.{◌≡◌, ◌<◌, ℕ, ◌+◌, ◌-◌, suc, refl, sym, ap, ap₂, ◌∙◌, subst, arith, add-one, List, [], ◌∷◌, ◌++◌, append_assoc, Option, Some, None, Bor}
-use Rattle.std.proofs.lemmas.List.{append-nil}
+use Rattle.std.proofs.Common.{◌≡◌, ◌<◌, ℕ, ◌+◌, ◌-◌, suc, refl, sym, ap, ap₂, ◌∙◌, subst, arith, add-one, List, ◌∷◌, ◌++◌, Option, Some, None, Bor}
 use Rattle.std.specs.Io.KnownBytes.{Appends}
 use Rattle.bpf_insn.specs.declared.insn.Insn.{Insn}
 use Rattle.machine.specs.Laws.{QuestionsGoOn}
@@ -15,24 +14,9 @@ use Rattle.job_trace.specs.Runs.{IsStrideBy, On, Strides, line_before, lines_at,
 use Rattle.job_trace.specs.declared.changes.Change.{Change}
 use Rattle.job_trace.specs.declared.changes.Change.TheVariants as changes
 use Rattle.stepper.proofs.Walking.{outcome_asks, choice}
+use Rattle.job_nodes.proofs.Simulating.{appends_both, appends_nothing}
 
 -- ---- what was printed
-
-regroup : (a b c : List ℕ) → (a ++ b) ++ c ≡ a ++ (b ++ c)
-regroup a b c = simp append_assoc
-
--- what was printed before and behind
-pub appends_both : (old mid new : Option (List ℕ)) (front back : List ℕ) → Appends old mid front → Appends mid new back → Appends old new (front ++ back)
-appends_both None mid new front back one two = tt
-appends_both (Some xs) None new front back one two = absurd one
-appends_both (Some xs) (Some ys) None front back one two = absurd two
-appends_both (Some xs) (Some ys) (Some zs) front back one two =
-    two ∙ ap (λ (l : List ℕ). l ++ back) one ∙ regroup xs front back
-
--- nothing was printed
-pub appends_nothing : (old : Option (List ℕ)) → Appends old old []
-appends_nothing None = tt
-appends_nothing (Some xs) = sym (append-nil xs)
 
 -- ---- a step that asks
 

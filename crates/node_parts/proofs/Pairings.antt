@@ -31,10 +31,7 @@ use Rattle.node_parts.specs.Applied.{share_of, with_share}
 use Rattle.node_parts.specs.Keeping.{AppliedSharesAgree}
 use Rattle.node_parts.specs.Pairs.{IsShareOf, IsPaired, MadeArePaired, PairedCommandsFit, OwnStaysPaired, OthersStayPaired}
 use Rattle.lemmas.proofs.Places.{at_written, at_other}
-
-both : (a b : Bool) → (a && b) ≡ true → (a ≡ true) × (b ≡ true)
-both true b e = (refl, e)
-both false b e = absurd cc
+use Rattle.bank.proofs.Banks.{both}
 
 -- a share whose number is the bank's count of its port
 next_at : (counts : List ℕ) (port number : ℕ) → port < length counts → number ≡ get_or counts port 0 → (ltb port (length counts) && eqb number (get_or counts port 0)) ≡ true

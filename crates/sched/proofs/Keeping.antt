@@ -9,7 +9,8 @@ use Rattle.machine.specs.Sizes.{Maps, IsInside}
 use Rattle.bank.specs.Records.{BankValue}
 use Rattle.sched.specs.Worlds.{RunValue, PortValue, WorldValue, IsSameRun, IsSameRunIfAny, IsRunUnder, IsRunUnderIfAny, IsPortIn, ArePortsIn, IsWorld}
 use Rattle.plain_cells.specs.Words.{AreCells, word_at, word_in, word_of}
-use Rattle.sched.proofs.Growth.{at_written, at_other}
+use Rattle.sched.proofs.Growth.{at_written}
+use Rattle.lemmas.proofs.Places.{at_other}
 use Rattle.plain_cells.proofs.Zeros.{cell_there}
 
 -- the same command is judged under the same windows

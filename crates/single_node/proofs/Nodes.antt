@@ -23,7 +23,7 @@ use Rattle.single_node.specs.Judging.{ServesAt}
 use Rattle.single_node.specs.Nodes.{IsInformed, IsSingleNode, SingleNodeValue, single_node}
 use Rattle.single_node.specs.Serving.{ServesTold}
 use Rattle.single_node.specs.declared.served.Told.{Told}
-use Rattle.single_node.proofs.Prefixes.{prefix_same}
+use Rattle.node_parts.proofs.Loadings.{prefix_same}
 use Rattle.single_node.proofs.Serving.{answered, by_last, cells, informed_grows, kept_or_longer, stays_informed, told}
 use Rattle.lemmas.proofs.Places.{at_written, at_other}
 

@@ -5,14 +5,7 @@ use Rattle.bpf_insn.specs.declared.insn.Insn.{Insn}
 use Rattle.bpf.specs.declared.loops.Loop.{Loop}
 use Rattle.bpf.specs.Weight.{saturated_weight, times_at}
 use Rattle.bver_form.specs.Costs.{cost_here, weight_by_from}
-use Rattle.bpf.proofs.Weighed.{saturated-add_both}
-
--- a list from a place on, where it has ended
-drop_end : {X : Type 0} (xs : List X) (i : ℕ) → length xs ≤ i → drop i xs ≡ []
-drop_end [] zero h = refl
-drop_end [] (suc i) h = refl
-drop_end (x ∷ xs) zero h = absurd (omega arith)
-drop_end (x ∷ xs) (suc i) h = drop_end xs i (omega arith)
+use Rattle.bpf.proofs.Weighed.{saturated-add_both, drop_end}
 
 -- ---- the sum over the slots
 
