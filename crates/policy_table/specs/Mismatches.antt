@@ -6,7 +6,7 @@ use Rattle.machine.specs.Memory.{Header}
 use Rattle.rmap.specs.Command.{CommandValue, key_of, initiator_of, extended_of, address_of, command_kind}
 use Rattle.policy_table.specs.Meaning.{fields_of, has_kind, last_address_of}
 use Rattle.policy_table.specs.declared.mismatches.Mismatch.{Mismatch}
-use Rattle.policy_table.specs.declared.mismatches.Mismatch.TheVariants.*
+use Rattle.policy_table.specs.declared.mismatches.Mismatch.TheVariants.{Kind, Key, Initiator, Extended, Low, High}
 use Rattle.policy_table.specs.declared.mismatches.OtherByte.{OtherByte}
 use Rattle.policy_table.specs.declared.mismatches.Passed.{Passed}
 use Rattle.policy_table.specs.declared.mismatches.Passed.TheVariants.{Unlike, Spent}

@@ -9,7 +9,11 @@ use Rattle.policy_table.specs.Ranges.{RangeText, is_name, range_named}
 use Rattle.policy_table.specs.Words.{AreWordsOf, IsFirstBad, LineWords, WritesNone, WritesSome, texts_of}
 use Rattle.policy_table.specs.declared.rules.Rule.{Rule}
 use Rattle.policy_table.specs.declared.statement_faults.StatementFault.{StatementFault}
-use Rattle.policy_table.specs.declared.statement_faults.StatementFault.TheVariants.*
+use Rattle.policy_table.specs.declared.statement_faults.StatementFault.TheVariants.{Directive, RangeCount}
+use Rattle.policy_table.specs.declared.statement_faults.StatementFault.TheVariants.{RangeName, RangeTwice, RangeLow}
+use Rattle.policy_table.specs.declared.statement_faults.StatementFault.TheVariants.{RangeHigh, RuleCount, Word}
+use Rattle.policy_table.specs.declared.statement_faults.StatementFault.TheVariants.{Port, RangeOrder, RuleOrder}
+use Rattle.policy_table.specs.declared.statement_faults.StatementFault.TheVariants.{NoCell}
 use Rattle.policy_table.specs.declared.statements.RuleParts.{RuleParts}
 use Rattle.policy_table.specs.declared.statements.Span.{Span}
 use Rattle.policy_table.specs.declared.words.RuleWord.{RuleWord}

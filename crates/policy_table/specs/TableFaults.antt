@@ -11,7 +11,8 @@ use Rattle.policy_table.specs.declared.faults.PolicyFault.{PolicyFault}
 use Rattle.policy_table.specs.declared.faults.PolicyFault.TheVariants as faults
 use Rattle.policy_table.specs.declared.rules.Rule.{Rule}
 use Rattle.policy_table.specs.declared.table_faults.TableFault.{TableFault}
-use Rattle.policy_table.specs.declared.table_faults.TableFault.TheVariants.*
+use Rattle.policy_table.specs.declared.table_faults.TableFault.TheVariants.{TooLong, BadRange, Memory, NoCell}
+use Rattle.policy_table.specs.declared.table_faults.TableFault.TheVariants.{BadCount, BadWord}
 use Rattle.policy_table.specs.declared.words.RuleWord.{RuleWord}
 
 -- ---- what is told
