@@ -2,17 +2,18 @@
  * @file sandbarstove.h
  * A SpaceWire RMAP target (ECSS-E-ST-50-52C) whose commands are judged by verified BPF programs.
  *
- * The library keeps no state of its own: all that a target has hangs on its ::sandbar_node, and two nodes know nothing
- * of each other. It starts no threads, takes no locks, reads no clock and opens no files; of the C library it calls
- * memcpy, memmove and memset, and of the program the heap of sandbarstove_heap.h, which link/heap.c is over malloc,
- * realloc and free. One node is for one call at a time: whoever shares a node between tasks puts a lock of his own round
- * each call. No call is for interrupt or signal handlers.
+ * The library keeps no state of its own. All that a target has is in its ::sandbar_node, and two nodes share nothing. The
+ * library starts no threads, takes no locks, reads no clock and opens no files. Of the C library it calls memcpy, memmove
+ * and memset. Of the program it calls the heap of sandbarstove_heap.h: link/heap.c has one over malloc, realloc and free.
+ * One node takes one call at a time. If tasks share a node, put a lock round each call. No call is for interrupt or signal
+ * handlers.
  *
- * Every function but ::sandbar_crc and ::sandbar_version, and ::sandbar_frames_head of sandbarstove_frames.h, returns a ::sandbar_code, that of the first test that fails, in
- * the order in which the function names them; sandbarstove_text.h has a text for each. At any code but ::SANDBAR_OK
- * nothing was done, and nothing was written but @c why where it is said. No pointer is null, also where it goes with a
- * length of 0; one that goes with a length names that many bytes or structs, and what is written to overlaps nothing else
- * that is passed to the same call.
+ * Each function returns a ::sandbar_code, except ::sandbar_crc, ::sandbar_version and ::sandbar_frames_head. The code is
+ * that of the first test that fails, in the order in which the function names them. sandbarstove_text.h has a text for
+ * each. At any code except ::SANDBAR_OK the call did nothing. It then wrote nothing, except @c why if the function says so.
+ *
+ * No pointer may be null, also if its length is 0. A pointer with a length must point to that many bytes or structs. What
+ * a call writes must not overlap anything else that is passed to it.
  */
 #ifndef SANDBARSTOVE_H
 #define SANDBARSTOVE_H
@@ -20,10 +21,10 @@
 #include <stddef.h>
 #include <stdint.h>
 
-/** The number of this header and of sandbarstove_frames.h: it rises with each change of a call, a struct or a number there. */
+/** The number of this header and of sandbarstove_frames.h. It rises with each change of a call, a struct or a number. */
 #define SANDBAR_VERSION 5
 
-/** What compilers that know of it are told of a call: its pointers are not null, and its code is looked at. */
+/** For compilers that know it: the pointers of a call are not null, and its code is looked at. */
 #ifndef SANDBAR_CALL
 #if defined(__GNUC__)
 #define SANDBAR_CALL __attribute__((nonnull, warn_unused_result))
@@ -32,7 +33,7 @@
 #endif
 #endif
 
-/** The same of a call whose code need not be looked at. */
+/** The same, for a call whose code need not be looked at. */
 #ifndef SANDBAR_LAST_CALL
 #if defined(__GNUC__)
 #define SANDBAR_LAST_CALL __attribute__((nonnull))
@@ -90,19 +91,19 @@ enum sandbar_command {
   SANDBAR_RMW = 3 /**< read-modify-write */
 };
 
-/** Where a command ended. */
+/** The place at which a command ended. */
 enum sandbar_place {
   SANDBAR_NOWHERE = 0,  /**< no program judged it */
   SANDBAR_AT_BANK = 1,  /**< at the bank of its extended address */
-  SANDBAR_AT_WINDOW = 2 /**< in the boot window, where programs are staged and loaded */
+  SANDBAR_AT_WINDOW = 2 /**< in the boot window, which stages and loads programs */
 };
 
 /**
- * One target. Zeros are a node that is not open. Only the library reads and writes its fields, and it is not copied
- * while it is open: of two copies that are closed the second frees what is free. 16 bytes.
+ * One target. Zeros are a node that is not open. Only the library reads and writes its fields. Do not copy an open node:
+ * if both copies are closed, the second close frees memory that is free. 16 bytes.
  */
 typedef struct sandbar_node {
-  uint64_t inside; /* where what it has is (at 0) */
+  uint64_t inside; /* the address of what it has (at 0) */
   uint32_t live;   /* at 8 */
   uint32_t unused; /* at 12; the C source has a check of `inside` here */
 } sandbar_node;
@@ -110,7 +111,7 @@ typedef struct sandbar_node {
 /** One bank of memory, which commands read and write. 12 bytes. */
 typedef struct sandbar_bank {
   uint32_t base; /**< the address of its first byte (at 0) */
-  uint32_t size; /**< its bytes: 1 to 1,048,576, none behind address FFFFFFFF (at 4) */
+  uint32_t size; /**< its bytes: 1 to 1,048,576, none after address FFFFFFFF (at 4) */
   uint32_t room; /**< how many entries its journal has room for: 1 to 65,536 (at 8) */
 } sandbar_bank;
 
@@ -120,19 +121,18 @@ typedef struct sandbar_map {
   uint16_t peak;  /**< 0: tickets are drawn from its cells; 1: a cell is the greatest number it was shown (at 2) */
 } sandbar_map;
 
-/** Why an image may not judge; the same numbers as `rmapctl verify` prints, of which docs/CODES.md tells. 4 bytes. */
+/** Why an image may not judge: the numbers that `rmapctl verify` prints, which docs/CODES.md explains. 4 bytes. */
 typedef struct sandbar_why {
   uint16_t code; /**< (at 0) */
   uint16_t slot; /**< (at 2) */
 } sandbar_why;
 
 /**
- * What became of a packet, and what it asked for: a command was carried out where @c kind is ::SANDBAR_JUDGED and
- * @c status is 0, and only then. What it asked for stands in its header; of a packet that is no command these are 0. 40
- * bytes.
+ * What became of a packet, and what it asked for. A command was carried out if @c kind is ::SANDBAR_JUDGED and @c status
+ * is 0, and only then. What it asked for is what its header says. For a packet that is no command these are 0. 40 bytes.
  */
 typedef struct sandbar_served {
-  uint64_t verdict;      /**< of the program that judged, 0 is yes; 0 where none did (at 0) */
+  uint64_t verdict;      /**< of the program that judged, 0 is yes; 0 if none did (at 0) */
   uint32_t generation;   /**< of that program: 0 for the first, then 1, 2 .. as they were loaded; 0 for none (at 8) */
   uint32_t reply_length; /**< how many bytes of @c reply are to be sent; 0: none (at 12) */
   uint32_t address;      /**< (at 16) */
@@ -152,7 +152,7 @@ typedef struct sandbar_scrubbed {
   uint8_t restored;  /**< 1: the image that was lent is now the program of slot 3, which was withdrawn; else 0 (at 2) */
 } sandbar_scrubbed;
 
-/** An entry of a bank's journal, but for the packet. 32 bytes. */
+/** An entry of a bank's journal, without its packet. 32 bytes. */
 typedef struct sandbar_entry {
   uint64_t number;        /**< counts the entries of its port at this bank: 0, 1, 2 .. over all its journals (at 0) */
   uint64_t verdict;       /**< (at 8) */
@@ -163,19 +163,19 @@ typedef struct sandbar_entry {
   uint8_t end;            /**< ::sandbar_end (at 26) */
 } sandbar_entry;
 
-/** How a bank's journal stands. 16 bytes. */
+/** The state of a bank's journal. 16 bytes. */
 typedef struct sandbar_journal {
   uint64_t entries; /**< how many it has (at 0) */
   uint32_t loaded;  /**< how many programs were loaded into the node (at 8) */
 } sandbar_journal;
 
 /**
- * Tells whether the program of @p image may judge in a node with these maps: ::SANDBAR_BAD_MAPS, ::SANDBAR_BAD_IMAGE,
- * ::SANDBAR_REFUSED; ::SANDBAR_NO_MEMORY where the image cannot be looked at. Writes @p why at all codes: zeros but at
- * ::SANDBAR_BAD_IMAGE and ::SANDBAR_REFUSED.
+ * Says whether the program of @p image may judge in a node with these maps. Codes: ::SANDBAR_BAD_MAPS,
+ * ::SANDBAR_BAD_IMAGE, ::SANDBAR_REFUSED, and ::SANDBAR_NO_MEMORY if memory to look at the image is refused. It writes
+ * @p why at all codes: zeros, except at ::SANDBAR_BAD_IMAGE and ::SANDBAR_REFUSED.
  *
- * Of the C source this and ::sandbar_open of a node that is not open begin with the memory of an instance: where that is
- * refused the code is ::SANDBAR_NO_MEMORY, whatever else is wrong.
+ * In the C source this call first takes the memory of an instance, as ::sandbar_open does for a node that is not open. If
+ * that memory is refused, the code is ::SANDBAR_NO_MEMORY, whatever else is wrong.
  */
 SANDBAR_CALL
 uint32_t sandbar_verify(const sandbar_map *maps, size_t map_count, const uint8_t *image, size_t image_length,
@@ -185,12 +185,12 @@ uint32_t sandbar_verify(const sandbar_map *maps, size_t map_count, const uint8_t
  * Opens a node: banks of zeros, and in each of the four slots the program of @p image. Codes: ::SANDBAR_IS_OPEN, those
  * of ::sandbar_verify, ::SANDBAR_BAD_CONFIG, ::SANDBAR_NO_MEMORY.
  *
- * This takes all memory that the node's banks, journals, ports and cells need. Writes @p why at all codes but
+ * This takes all memory that the node's banks, journals, ports and cells need. It writes @p why at all codes except
  * ::SANDBAR_IS_OPEN, as ::sandbar_verify does. A node that is open stays as it is.
  *
- * @param address the node's logical address
- * @param ports how many ports it has, 1 to 32
- * @param banks 1 to 8 of them; the extended address of a bank is its place in the array
+ * @param address the node's logical address.
+ * @param ports how many ports it has, 1 to 32.
+ * @param banks 1 to 8 of them. The extended address of a bank is its place in the array.
  */
 SANDBAR_CALL
 uint32_t sandbar_open(sandbar_node *node, uint8_t address, uint8_t ports, const sandbar_bank *banks, size_t bank_count,
@@ -202,21 +202,21 @@ SANDBAR_LAST_CALL
 uint32_t sandbar_close(sandbar_node *node);
 
 /**
- * Serves a packet, whole, as it came in at a port: what is to be sent is then in the first @c reply_length bytes of
- * @p reply, and the rest of @p reply is as before. Codes: ::SANDBAR_NO_NODE, ::SANDBAR_NO_PORT, ::SANDBAR_BAD_END,
+ * Serves a whole packet, as it came in at a port. What is to be sent is then in the first @c reply_length bytes of
+ * @p reply. The rest of @p reply is as before. Codes: ::SANDBAR_NO_NODE, ::SANDBAR_NO_PORT, ::SANDBAR_BAD_END,
  * ::SANDBAR_TOO_LONG, ::SANDBAR_NO_ROOM, ::SANDBAR_NO_MEMORY.
  *
- * It asks for memory once, for a copy of the packet, which the journal keeps; loads of programs ask for more. Where the
- * copy is refused the packet was not served; where a load is refused memory, its reply says so (status 1).
+ * It asks for memory once, for a copy of the packet, which the journal keeps. Loads of programs ask for more. If the copy
+ * is refused, the packet was not served. If a load is refused memory, its reply says so (status 1).
  *
- * @param packet its first byte is the target's logical address
- * @param reply room for ::SANDBAR_MAX_REPLY bytes
+ * @param packet its first byte is the target's logical address.
+ * @param reply room for ::SANDBAR_MAX_REPLY bytes.
  */
 SANDBAR_CALL
 uint32_t sandbar_serve(sandbar_node *node, uint8_t port, const uint8_t *packet, size_t packet_length, uint8_t end,
                        uint8_t *reply, size_t reply_room, sandbar_served *served);
 
-/** Tells how the journal of a bank stands. Codes: ::SANDBAR_NO_NODE, ::SANDBAR_NO_BANK. */
+/** Writes the state of a bank's journal. Codes: ::SANDBAR_NO_NODE, ::SANDBAR_NO_BANK. */
 SANDBAR_CALL
 uint32_t sandbar_journal_of(sandbar_node *node, uint8_t bank, sandbar_journal *journal);
 
@@ -229,37 +229,37 @@ uint32_t sandbar_entry_at(sandbar_node *node, uint8_t bank, uint32_t place, uint
                           sandbar_entry *entry);
 
 /**
- * Begins a new journal with that room at a bank: the entries of the old one are gone. Numbers go on. A bank whose journal
- * is full carries no command out (status 1), so this is called when ::sandbar_served tells of no more @c room. Codes:
- * ::SANDBAR_NO_NODE, ::SANDBAR_NO_BANK, ::SANDBAR_BAD_CONFIG, ::SANDBAR_NO_MEMORY.
+ * Begins a new journal with that room at a bank. The entries of the old one are gone, and their numbers go on. If the
+ * journal of a bank is full, the bank carries no command out (status 1). So call this when ::sandbar_served has no more
+ * @c room. Codes: ::SANDBAR_NO_NODE, ::SANDBAR_NO_BANK, ::SANDBAR_BAD_CONFIG, ::SANDBAR_NO_MEMORY.
  *
- * Where the room is at most that of the old journal it asks for no memory, so its code is never ::SANDBAR_NO_MEMORY, and it
- * gives back the packets of the entries. For more room it asks while the old journal is there still.
+ * If the room is at most that of the old journal, it asks for no memory. Its code is then never ::SANDBAR_NO_MEMORY, and
+ * it gives back the packets of the entries. For more room it asks while the old journal is still there.
  */
 SANDBAR_CALL
 uint32_t sandbar_rotate(sandbar_node *node, uint8_t bank, uint32_t room);
 
 /**
  * Reads bytes of a bank, as the instrument does beside all commands. Codes: ::SANDBAR_NO_NODE, ::SANDBAR_NO_BANK,
- * ::SANDBAR_NO_ROOM where one lies outside the bank, or the address of no bytes neither in it nor right behind it.
+ * ::SANDBAR_NO_ROOM if a byte lies outside the bank. A length of 0 wants an address in the bank, or the one after its
+ * last.
  */
 SANDBAR_CALL
 uint32_t sandbar_peek(sandbar_node *node, uint8_t bank, uint32_t address, uint8_t *bytes, size_t length);
 
 /**
- * Puts bytes at an address of a bank without a command, as the instrument does. No entry tells of it, so it begins a
- * new journal with that room: read the old entries first. Codes: ::SANDBAR_NO_NODE, ::SANDBAR_NO_BANK,
- * ::SANDBAR_NO_ROOM as of ::sandbar_peek, ::SANDBAR_BAD_CONFIG, ::SANDBAR_NO_MEMORY. It asks for memory only where
- * ::sandbar_rotate does.
+ * Puts bytes at an address of a bank without a command, as the instrument does. No entry says so, and the call begins a
+ * new journal with that room: read the old entries first. Codes: ::SANDBAR_NO_NODE, ::SANDBAR_NO_BANK, ::SANDBAR_NO_ROOM
+ * as ::sandbar_peek, ::SANDBAR_BAD_CONFIG, ::SANDBAR_NO_MEMORY. It asks for memory only if ::sandbar_rotate would.
  */
 SANDBAR_CALL
 uint32_t sandbar_poke(sandbar_node *node, uint8_t bank, uint32_t address, const uint8_t *bytes, size_t length,
                       uint32_t room);
 
 /**
- * Tells the word of a cell of a map, both counted from 0: how many tickets were drawn from it, modulo 2^64, or, of a peak
- * map, the greatest number that was shown to it; 0 in a fresh node. A quota has as many tickets left as its limit exceeds
- * this by. Codes: ::SANDBAR_NO_NODE, ::SANDBAR_NO_CELL.
+ * Writes the word of a cell of a map, both counted from 0. In a fresh node it is 0. It is how many tickets were drawn from
+ * the cell, modulo 2^64. In a peak map it is the greatest number that was shown to the cell. The tickets that a quota has
+ * left are its limit minus this word. Codes: ::SANDBAR_NO_NODE, ::SANDBAR_NO_CELL.
  */
 SANDBAR_CALL
 uint32_t sandbar_word(sandbar_node *node, uint8_t map, uint16_t cell, uint64_t *word);
@@ -285,7 +285,7 @@ uint32_t sandbar_scrub_each(sandbar_node *node, uint32_t each);
 SANDBAR_CALL
 uint8_t sandbar_crc(const uint8_t *bytes, size_t length);
 
-/** The ::SANDBAR_VERSION that the library was made with: where it is another than the header's, do not call it. */
+/** The ::SANDBAR_VERSION that the library was made with. If the header's number is another, do not call the library. */
 uint32_t sandbar_version(void);
 
 #ifdef __cplusplus

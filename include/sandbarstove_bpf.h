@@ -1,15 +1,15 @@
 /**
  * @file sandbarstove_bpf.h
- * Authorisers in C. A compiler for BPF makes an object of one, `tools/bpf` the text of a program; docs/POLICIES.md, "In C",
- * says how, and which C can be one. For the workstation the same file is a function that a test calls, and the helpers are the
- * test's.
+ * Programs in C that judge commands. A compiler for BPF makes an object of one. Of that `tools/bpf` makes the text of a
+ * program. The section "In C" of docs/POLICIES.md says how, and which C can be one. For the workstation the same file is a function that
+ * a test calls, and the helpers are the test's.
  *
- * An authoriser is
+ * Such a program is
  *
  *     uint64_t authorise(const struct front *front, const struct tail *tail, uint64_t port);
  *
- * where front and tail are the parts of a command's header (ECSS-E-ST-50-52C, 5.3 to 5.5) before and after the reply
- * address, and the port, 0 to 31, is where the command came in. What it gives is the verdict.
+ * The front and the tail are the parts of a command's header (ECSS-E-ST-50-52C, 5.3 to 5.5) before and after the reply
+ * address. The port, 0 to 31, is the one at which the command came in. What the function gives is the verdict.
  */
 #ifndef SANDBARSTOVE_BPF_H
 #define SANDBARSTOVE_BPF_H
@@ -39,7 +39,7 @@ struct front {
   uint8_t key;
 };
 
-/** Its last twelve bytes; of fields of several bytes the most significant is the first. */
+/** Its last twelve bytes. In fields of several bytes the most significant byte is the first. */
 struct tail {
   uint8_t initiator; /**< initiator logical address */
   uint8_t transaction[2];
@@ -57,8 +57,8 @@ struct map {
 };
 
 /**
- * A counter map, or a peak map, of a node. All that may judge at one node say the same of its maps, those that one of them does
- * not use included, and each number from 0 on is there once.
+ * A counter map, or a peak map, of a node. All programs of one node must name the same maps, also those that one of them
+ * does not use. Each number from 0 on is there once.
  */
 #define COUNTERS(number, name, cells) SANDBAR_MAP(number, name, cells, 0)
 #define PEAKS(number, name, cells) SANDBAR_MAP(number, name, cells, 1)
@@ -68,8 +68,8 @@ struct map {
 /*
  * The helpers. The key of a cell is its place in its map, from 0, and always below its cells.
  *
- * count: the cell's word. ticket: the same of a counter map, and adds 1 to it. peak: the greater of the cell of a peak map
- * and the number, to which it raises the cell.
+ * The helper count gives the cell's word. The helper ticket gives the word of a cell of a counter map, and adds 1 to it. The
+ * helper peak raises the cell of a peak map to the number if that is greater, and gives the greater of both.
  */
 #if defined(__bpf__)
 static uint64_t (*const count)(struct map *map, uint64_t key) = (uint64_t(*)(struct map *, uint64_t))1;
@@ -86,7 +86,7 @@ uint64_t ticket(struct map *map, uint64_t key);
 uint64_t peak(struct map *map, uint64_t key, uint64_t number);
 #endif
 
-/** Of a function beside the authoriser: a program here calls no function, so its body has to stand where it is called. */
+/** For each other function: a program here calls no function, so the compiler must put its body in place of the call. */
 #define always_inline static __inline__ __attribute__((__always_inline__))
 
 /**

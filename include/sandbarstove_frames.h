@@ -1,11 +1,12 @@
 /**
  * @file sandbarstove_frames.h
- * Packets in frames over a stream of bytes, as bridges between SpaceWire and Ethernet write them (SSDTP2): for a target behind a
- * serial line, a TCP connection or such a bridge. docs/LIVE.md (Frames) has the bytes of a frame.
+ * Packets in frames over a stream of bytes, as bridges between SpaceWire and Ethernet write them (SSDTP2). They are for a
+ * target that has a serial line, a TCP connection or such a bridge. docs/LIVE.md (Frames) has the bytes of a frame.
  *
- * A ::sandbar_frames takes the bytes of a stream, however they are cut, and gives the packets that the frames carry. It knows no
- * node: ::sandbar_serve stands between it and what is sent. Only ::sandbar_frames_open asks for memory. What sandbarstove.h says
- * of calls, codes, pointers and tasks is true of these too; for a node read a ::sandbar_frames.
+ * A ::sandbar_frames takes the bytes of a stream, however they are cut, and gives the packets that the frames carry. It
+ * knows no node: pass what it gives to ::sandbar_serve, and send what that gives. Only ::sandbar_frames_open asks for
+ * memory. What sandbarstove.h says of calls, codes, pointers and tasks is true of these calls too, with a ::sandbar_frames
+ * in place of a node.
  */
 #ifndef SANDBARSTOVE_FRAMES_H
 #define SANDBARSTOVE_FRAMES_H
@@ -27,11 +28,11 @@ enum sandbar_came_kind {
 };
 
 /**
- * A reader of frames. Zeros are one that is not open. Only the library reads and writes its fields, and it is not copied
- * while it is open: of two copies that are closed the second frees what is free. 16 bytes.
+ * A reader of frames. Zeros are one that is not open. Only the library reads and writes its fields. Do not copy an open
+ * reader: if both copies are closed, the second close frees memory that is free. 16 bytes.
  */
 typedef struct sandbar_frames {
-  uint64_t inside; /* where what it has is (at 0) */
+  uint64_t inside; /* the address of what it has (at 0) */
   uint32_t live;   /* at 8 */
   uint32_t unused; /* at 12; the C source has a check of `inside` here */
 } sandbar_frames;
@@ -54,14 +55,15 @@ SANDBAR_CALL
 uint32_t sandbar_frames_open(sandbar_frames *frames);
 
 /**
- * Takes bytes of the stream up to the first with which something came whole, or all of them if nothing did. A packet is then in
- * the first @c length bytes of @p packet, and the rest of @p packet is as before. Codes: ::SANDBAR_NO_NODE, ::SANDBAR_NO_ROOM.
+ * Takes bytes of the stream up to the first with which something came whole, or all of them if nothing did. A packet is
+ * then in the first @c length bytes of @p packet, and the rest of @p packet is as before. Codes: ::SANDBAR_NO_NODE,
+ * ::SANDBAR_NO_ROOM.
  *
- * Bytes below 32 in front of a packet are the path that a router took away, and are dropped. Of a packet with over
- * ::SANDBAR_MAX_PACKET bytes the first are given, by which each check of a target has its answer. However many bytes a frame says
- * that it has, they are read to their end.
+ * Bytes below 32 at the front of a packet are the path that a router takes away: the reader drops them. Of a packet with
+ * over ::SANDBAR_MAX_PACKET bytes it gives the first, and each check of a target answers by those as by all. It reads each
+ * frame to its end, however many bytes that has.
  *
- * @param packet room for ::SANDBAR_MAX_PACKET bytes
+ * @param packet room for ::SANDBAR_MAX_PACKET bytes.
  */
 SANDBAR_CALL
 uint32_t sandbar_frames_take(sandbar_frames *frames, const uint8_t *bytes, size_t length, uint8_t *packet,
@@ -72,8 +74,8 @@ SANDBAR_LAST_CALL
 uint32_t sandbar_frames_close(sandbar_frames *frames);
 
 /**
- * Writes the head of the frame of a reply, ::SANDBAR_FRAME_HEAD bytes: send these, and then the reply. They make a packet of so
- * many bytes that ends in EOP.
+ * Writes the head of the frame of a reply, ::SANDBAR_FRAME_HEAD bytes. Send these, and then the reply. The packet of that
+ * frame has @p reply_length bytes and ends in EOP.
  */
 SANDBAR_LAST_CALL
 void sandbar_frames_head(uint32_t reply_length, uint8_t *head);

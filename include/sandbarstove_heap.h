@@ -1,7 +1,8 @@
 /**
  * @file sandbarstove_heap.h
- * The heap of the library. The archive, and the C for other processors, ask a program for these three functions; over
- * malloc, realloc and free they are link/heap.c, and over an array link/pool.c. A program without a heap brings its own.
+ * The heap of the library. The archive, and the C for other processors, ask a program for these three functions.
+ * The file heap.c of link/ has them over malloc, realloc and free, and pool.c over an array. A program without a heap brings
+ * its own.
  */
 #ifndef SANDBARSTOVE_HEAP_H
 #define SANDBARSTOVE_HEAP_H
@@ -16,7 +17,7 @@ extern "C" {
 /** What a request comes to. */
 typedef struct rattle_block {
   bool ok;  /**< whether there is a block */
-  void *at; /**< the block; where there is none any pointer that is not null, and nothing is read or written there */
+  void *at; /**< the block; if there is none, any pointer that is not null: nothing is read or written there */
 } rattle_block;
 
 /**
@@ -27,10 +28,10 @@ typedef struct rattle_block {
 rattle_block rattle_alloc(size_t size, size_t align);
 
 /**
- * A block of @p size bytes that begins with the @p kept first bytes of @p block, as far as they fit; @p block is then given
- * back. At a refusal @p block stays as it was.
+ * A block of @p size bytes that begins with the @p kept first bytes of @p block, as far as they fit. It gives @p block
+ * back. If it refuses, @p block is as it was.
  *
- * @param kept how many bytes @p block has
+ * @param kept how many bytes @p block has.
  */
 rattle_block rattle_realloc(void *block, size_t kept, size_t size, size_t align);
 
