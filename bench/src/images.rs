@@ -58,6 +58,15 @@ fn image(slots: &[Slot]) -> Vec<u8> {
     image_with(slots.len() as u32, &[], slots)
 }
 
+/// The same image with a first instruction that may not stand there, a write to r10: it is read whole, and refused at slot 0.
+/// The condition is a first instruction of one slot.
+pub fn refused_at_once(image: &[u8]) -> Vec<u8> {
+    let mut bytes = image.to_vec();
+    let first = 16 + 8 * usize::from(bytes[5]);
+    bytes[first..first + 8].copy_from_slice(&insn(MOV, 10, 0, 0, 0));
+    bytes
+}
+
 /// Yes to every command.
 pub fn yes() -> Vec<u8> {
     image(&[insn(MOV, 0, 0, 0, 0), insn(EXIT, 0, 0, 0, 0)])

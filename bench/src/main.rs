@@ -18,6 +18,9 @@ const PACKETS: u32 = 65_536;
 /// The packets of one bank where they are long.
 const LONG_PACKETS: u32 = 8_192;
 
+/// How often an image is verified in a round.
+const IMAGES: u32 = 200;
+
 /// The packets that are judged by a program that takes all of the budget.
 const FULL_PACKETS: u32 = 40;
 
@@ -61,7 +64,7 @@ fn all() {
         ("verify of forty joins in version 2", images::joins(2, false)),
         ("verify of forty joins with a number on the stack before each", images::joins(2, true)),
     ] {
-        measure(name, "images", 200.0, || timed(|| node::verify(&image, 200)));
+        verify(name, &image);
     }
     run("run of 480 slots", "instructions", images::full_of_work());
     run("run of a loop of three slots", "instructions", images::full_of_counting());
@@ -143,6 +146,15 @@ fn each(name: &str, part: &str, calls: u32, parts: u32, round: impl FnMut() -> O
 fn run(name: &str, unit: &str, full: Full) {
     let amount = f64::from(full.parts) * f64::from(FULL_PACKETS);
     measure(name, unit, amount, || beside(&full.image, FULL_PACKETS));
+}
+
+/// Measures `sandbar_verify` of an image, and the same without what it takes to read the bytes of the image.
+fn verify(name: &str, image: &[u8]) {
+    let refused = images::refused_at_once(image);
+    let whole = rounds(|| timed(|| node::verify(image, IMAGES)));
+    let reading = rounds(|| timed(|| node::read(&refused, IMAGES)));
+    tell(&format!("{name}, beside its reading"), "images", f64::from(IMAGES), less(whole.clone(), reading));
+    tell(name, "images", f64::from(IMAGES), whole);
 }
 
 /// Measures `sandbar_serve` of so many packets on a fresh node: each is copied, judged, finished and kept in the journal.

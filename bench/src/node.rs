@@ -99,6 +99,18 @@ pub fn verify(image: &[u8], rounds: u32) -> u64 {
     u64::from(rounds)
 }
 
+/// Reads the image so often, and refuses it at slot 0 (`images::refused_at_once`).
+pub fn read(image: &[u8], rounds: u32) -> u64 {
+    let mut why = Why::default();
+    for _ in 0..rounds {
+        let code = unsafe { sandbar_verify(&MAP, 1, image.as_ptr(), image.len(), &mut why) };
+        if code == 0 || why.slot != 0 {
+            return REFUSED;
+        }
+    }
+    u64::from(rounds)
+}
+
 /// Opens a node of one port, with one bank and one map of one cell, and serves the packet so often, at most 65,536
 /// times; where it is not served at all the node is opened and closed alone. How many bytes the replies have.
 pub fn serve(image: &[u8], packet: &[u8], count: u32) -> u64 {

@@ -9,9 +9,10 @@ use crate::{node, packets};
 /// How many slots the straight image has.
 const SLOTS: usize = 512;
 
-/// A kind of work: what is verified, or by which program which packet is served; and how many parts one has.
+/// A kind of work: what is verified, or only read, or by which program which packet is served; and how many parts one has.
 enum Work {
     Verify(Vec<u8>, u32),
+    Read(Vec<u8>, u32),
     Serve(Vec<u8>, Vec<u8>, u32),
 }
 
@@ -21,6 +22,10 @@ fn run(full: Full) -> Work {
 
 fn packet(packet: Vec<u8>) -> Work {
     Work::Serve(images::yes(), packet, 1)
+}
+
+fn read(image: Vec<u8>, parts: u32) -> Work {
+    Work::Read(images::refused_at_once(&image), parts)
 }
 
 /// The work of that name.
@@ -34,6 +39,8 @@ fn named(work: &str) -> Work {
         "twelve" => Work::Serve(images::last_of_twelve(), packets::read(), 1),
         "quota" => Work::Serve(images::quota(), packets::read(), 1),
         "verify-straight" => Work::Verify(images::straight_of(SLOTS), SLOTS as u32),
+        "read-straight" => read(images::straight_of(SLOTS), SLOTS as u32),
+        "read-table" => read(images::largest_table(), 1),
         "verify-row" => Work::Verify(images::looping(), SLOTS as u32),
         "verify-nested" => Work::Verify(images::nested(), 1),
         "verify-joins" => Work::Verify(images::joins(2, true), 1),
@@ -55,6 +62,7 @@ pub fn once(work: &str, count: u32) {
     let start = Instant::now();
     let (sum, parts) = match &it {
         Work::Verify(image, parts) => (node::verify(image, count), parts),
+        Work::Read(image, parts) => (node::read(image, count), parts),
         Work::Serve(image, packet, parts) => (node::serve(image, packet, count), parts),
     };
     let time = start.elapsed();
