@@ -27,7 +27,11 @@ use Rattle.ports.specs.declared.worker.Worker.{Worker}
 use Rattle.job_nodes.specs.JobNode.{first_passes, own_bank}
 use Rattle.job_ports.specs.Arrivals.{ArriveAll}
 use Rattle.job_ports.specs.Queues.{AreBeginnings, AreFew, AreFilled, AreOfPorts, IsBeginning, ServeEach, new_worker}
-use Rattle.job_ports.specs.ServedFile.{BeginOneHistory, EndsSo, PortEnd, ServePackets, no_replies}
+use Rattle.cells.specs.Seats.{CellsValue}
+use Rattle.ports.specs.Laws.{WorkersSharesCount}
+use Rattle.job_ports.specs.Quotas.{AreSeated, QuotasAreKept}
+use Rattle.job_ports.specs.Ends.{PortEnd}
+use Rattle.job_ports.specs.ServedFile.{BeginOneHistory, EndsSo, ServePackets, no_replies}
 
 -- the packet in front of some items
 abbrev packet_first : Cargo → List Item → Cargo
@@ -171,6 +175,19 @@ module _ {J : Type 0} (program : AcceptedValue) (home : Gv) (ports : ℕ) (by_po
         served_all sent failed new (slice_index_or left k worker) (slice_index_or served.reports k report) (slice_index_or by_port k []) (put_of (slice_index_or puts k put))
         worked (fresh.filled.taken k [] serve low') (fresh.filled.put k [] put low') (begins k put worker (omega (arith, low, served.len, fresh_count)))
 
+    -- the seats are those of the fresh passes still
+    pub left_seated : WorkersSharesCount → (own : CellsValue) → own.sizes ≡ program.sizes → own.home ≡ home → AreSeated own left
+    left_seated law own sizes at = λ k worker low.
+        let inside : k < ports = omega (arith, low, served.len, fresh_count) in
+        let report : Report = record { discarded = 0; lost = 0 } in
+        let it = (served.each k worker report (omega (arith, inside, fresh_count))) in
+        let stays = law (standing_of (slice_index_or workers k worker)) (standing_of (slice_index_or left k worker)) it.packets it.served.deeds it.served.worked in
+        let first = fresh_at k worker.serve_pass worker inside in
+        record {
+          sizes = stays.sizes ∙ (ap (λ (w : Worker J SinkValue). w.pass.pass.seat.sizes) first ∙ sym sizes);
+          home = stays.home ∙ (ap (λ (w : Worker J SinkValue). w.pass.pass.seat.home) first ∙ sym at);
+        }
+
 -- an element of a list that has one
 some_of : {A : Type 0} (xs : List A) (k : ℕ) → k < length xs → A
 some_of [] k low = absurd (omega (arith, low))
@@ -189,9 +206,9 @@ ends_history {J} left reports many history = record {
 -- What became of each port.
 pub serve_each : {J : Type 0} (program : AcceptedValue) (home : Gv) (ports : ℕ) (by_port : List (List Cargo)) (queues : List Port) (puts : List PutPass) (serves : List ServePass) (workers left : List (Worker J SinkValue))
     (sinks : List SinkValue) (total : Report) → AreFresh program home ports by_port queues puts serves workers
-    → HaveServed (λ (s : SinkValue). s.sent) (λ (s : SinkValue). s.failed) 1 queues workers left total → AreBeginnings puts left
+    → (served : HaveServed (λ (s : SinkValue). s.sent) (λ (s : SinkValue). s.failed) 1 queues workers left total) → QuotasAreKept program.sizes (ends_of left served.reports) → AreBeginnings puts left
     → sinks ≡ map (λ (w : Worker J SinkValue). w.sink) left → ServeEach program ports by_port sinks total
-serve_each {J} program home ports by_port queues puts serves workers left sinks total fresh served begins is =
+serve_each {J} program home ports by_port queues puts serves workers left sinks total fresh served quotas begins is =
     let many : length served.reports ≡ length left = served.told ∙ sym served.len in
     let count : length left ≡ ports = served.len ∙ fresh_count program home ports by_port queues puts serves workers fresh in
     record {
@@ -205,6 +222,7 @@ serve_each {J} program home ports by_port queues puts serves workers left sinks 
           subst (λ (e : PortEnd). EndsSo program home k (slice_index_or by_port k []) e) (sym (end_at left served.reports k worker end.report end many low'))
           (served_at program home ports by_port queues puts serves workers fresh (λ (s : SinkValue). s.sent) (λ (s : SinkValue). s.failed) left total served begins k put worker.serve_pass worker end.report low);
       history = ends_history left served.reports many served.history;
+      quotas = quotas;
       sinks_are = is ∙ sym (ends_sinks left served.reports many);
       report_is = served.sum ∙ ap total_of (sym (ends_reports left served.reports many));
     }
@@ -223,4 +241,5 @@ by_packets program lines ports by_port sinks report all each = record {
   count = each.count;
   each = λ k end low. subst (λ (l : List Cargo). EndsSo program each.home k l (slice_index_or each.ends k end)) (all.sorted.each k low) (each.each k end low);
   history = each.history;
+  quotas = each.quotas;
 }

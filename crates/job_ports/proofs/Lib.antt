@@ -4,5 +4,6 @@ mod Filling
 mod NotServed
 mod PrintedLines
 mod Rejoining
+mod Seating
 mod Tables
 mod TakenIn

@@ -1,6 +1,7 @@
 -- Packets that wait in the queues of ports, and the workers that serve them.
-use Rattle.std.specs.Prelude.{◌≡◌, ◌<◌, ◌≤◌, ℕ, List, [], ◌∷◌, ◌++◌, length, map, slice_index_or, zip}
+use Rattle.std.specs.Prelude.{◌≡◌, ◌<◌, ◌≤◌, ◌-◌, ℕ, List, [], ◌∷◌, ◌++◌, length, map, slice_index_or, zip}
 use base.Stored.{Gv}
+use Rattle.cells.specs.Seats.{CellsValue, cells}
 use Rattle.bver.specs.Justified.{AcceptedValue}
 use Rattle.spw.specs.Cargo.{Cargo}
 use Rattle.ports.specs.Queue.{IsPutPassOf, IsServePassOf, put_of, taken_of}
@@ -14,7 +15,9 @@ use Rattle.ports.specs.declared.worker.Report.{Report}
 use Rattle.ports.specs.declared.worker.Worker.{Worker}
 use Rattle.target.specs.Passes.{PortPass, unasked}
 use Rattle.job_nodes.specs.JobNode.{first_passes}
-use Rattle.job_ports.specs.ServedFile.{BeginOneHistory, EndsSo, PortEnd, no_replies, report_of}
+use Rattle.job_ports.specs.Ends.{PortEnd}
+use Rattle.job_ports.specs.Quotas.{QuotasAreKept}
+use Rattle.job_ports.specs.ServedFile.{BeginOneHistory, EndsSo, no_replies, report_of}
 
 -- no port has over 1,023 packets
 abbrev pub AreFew : List (List Cargo) → Type 0
@@ -48,12 +51,14 @@ pub record AreFilled (by_port : List (List Cargo)) (ports : List Port) (put_pass
 abbrev pub new_worker : {J : Type 0} → PortPass × ServePass → Worker J SinkValue
 new_worker parts = record { pass = parts.0; front = []; serve_pass = parts.1; sink = no_replies }
 
--- a fresh node of one bank, whose ports hold these packets, what puts into them, and their workers
+-- a fresh node of one bank, the cells of its maps, ports that hold these packets, what puts into them, and their workers
 pub record IsDesk {J : Type 0} (program : AcceptedValue) (ports : ℕ) (by_port : List (List Cargo)) (banks : ℕ)
-    (queues : List Port) (puts : List PutPass) (workers : List (Worker J SinkValue)) : Type 0 where
+    (own : CellsValue) (queues : List Port) (puts : List PutPass) (workers : List (Worker J SinkValue)) : Type 0 where
   pub home : Gv
   pub serves : List ServePass
   pub one : banks ≡ 1
+  pub cells_are : own ≡ cells program.sizes home (256 - ports) []
+  pub few : ports ≤ 256
   pub count : length by_port ≡ ports
   pub filled : AreFilled by_port queues puts serves
   pub workers_are : workers ≡ map new_worker (zip (unasked (first_passes ports program home)) serves)
@@ -90,5 +95,6 @@ pub record ServeEach (program : AcceptedValue) (ports : ℕ) (by_port : List (Li
   pub each : (port : ℕ) (end : PortEnd) → port < ports
       → EndsSo program home port (slice_index_or by_port port []) (slice_index_or ends port end)
   pub history : BeginOneHistory ends
+  pub quotas : QuotasAreKept program.sizes ends
   pub sinks_are : sinks ≡ map (λ (end : PortEnd). end.sink) ends
   pub report_is : report ≡ report_of ends

@@ -22,15 +22,9 @@ use Rattle.job_parts.specs.declared.faults.Fault.TheVariants.{BadLine as AtLine}
 use Rattle.job_parts.specs.declared.lines.LinesArgs.{LinesArgs}
 use Rattle.job_nodes.specs.JobNode.{own_bank}
 use Rattle.job_ports.specs.Arrivals.{AreLines, BreaksAt, packets_at}
+use Rattle.job_ports.specs.Ends.{PortEnd}
+use Rattle.job_ports.specs.Quotas.{QuotasAreKept}
 use Rattle.job_ports.specs.ServeJob.{lines_from, report_line}
-
--- what became of a port: what it has of the node and asked for then, what it knows of the history of the node's banks, its replies, and the
--- report of its worker
-pub record PortEnd : Type 0 where
-  pub pass : PortPass
-  pub front : List Link
-  pub sink : SinkValue
-  pub report : Report
 
 -- a sink that has taken nothing
 abbrev pub no_replies : SinkValue
@@ -57,6 +51,7 @@ pub record ServePackets (program : AcceptedValue) (ports : ℕ) (packets : List 
   pub each : (port : ℕ) (end : PortEnd) → port < ports
       → EndsSo program home port (packets_at port packets) (slice_index_or ends port end)
   pub history : BeginOneHistory ends
+  pub quotas : QuotasAreKept program.sizes ends
 
 -- the replies of each port
 abbrev pub replies_of : List PortEnd → List (List (List ℕ))

@@ -5,7 +5,7 @@ use Rattle.ports.specs.Sinks.{SentReply, SinkValue}
 use Rattle.ports.specs.declared.port.Port.{Port}
 use Rattle.ports.specs.declared.worker.Report.{Report}
 use Rattle.job_ports.specs.Queues.{AreOfPorts}
-use Rattle.job_ports.proofs.Desking.{desk_ends, desk_left}
+use Rattle.job_ports.proofs.Desking.{desk_ends, desk_left, desk_seated}
 use Rattle.job_ports.proofs.queues.serve_arrivals.Goals as goal
 
 abbrev sent : SinkValue → List SentReply
@@ -14,17 +14,25 @@ sent s = s.sent
 abbrev failed : SinkValue → ℕ
 failed s = s.failed
 
-pub sinks_of-requires : goal.sinks_of-requires
-sinks_of-requires g c =
+pub sinks_of-requires-clause-ports : goal.sinks_of-requires-clause-ports
+sinks_of-requires-clause-ports g c =
     let told : HaveServed sent failed c.in_ok-made.made.node c.deref.result.now (vec_items c.in_ok-made.made.workers) (vec_items c.serve-workers.result.0) c.in-Ok.report
     = subst (λ r. IfOk r (λ (total : Report). HaveServed sent failed c.in_ok-made.made.node c.deref.result.now (vec_items c.in_ok-made.made.workers) (vec_items c.serve-workers.result.0) total)) c.in-Ok.is c.serve-workers.ensures.served in
     let here = subst (λ (ps : List Port). HaveServed sent failed c.in_ok-made.made.node ps (vec_items c.in_ok-made.made.workers) (vec_items c.serve-workers.result.0) c.in-Ok.report) c.deref.ensures.value told in
     subst (λ (ps : List Port). AreOfPorts ps (vec_items c.in_ok-made.made.put_passes) (vec_items c.serve-workers.result.0)) (sym c.deref-2.ensures.value)
     (desk_left c.in_ok-made.ensures.fresh here)
 
+pub sinks_of-requires-clause-seats : goal.sinks_of-requires-clause-seats
+sinks_of-requires-clause-seats g c =
+    let told : HaveServed sent failed c.in_ok-made.made.node c.deref.result.now (vec_items c.in_ok-made.made.workers) (vec_items c.serve-workers.result.0) c.in-Ok.report
+    = subst (λ r. IfOk r (λ (total : Report). HaveServed sent failed c.in_ok-made.made.node c.deref.result.now (vec_items c.in_ok-made.made.workers) (vec_items c.serve-workers.result.0) total)) c.in-Ok.is c.serve-workers.ensures.served in
+    let here = subst (λ (ps : List Port). HaveServed sent failed c.in_ok-made.made.node ps (vec_items c.in_ok-made.made.workers) (vec_items c.serve-workers.result.0) c.in-Ok.report) c.deref.ensures.value told in
+    desk_seated c.in_ok-made.ensures.fresh here c.workers_shares_count.ensures
+
 pub returns : goal.returns
 returns g c =
     let told : HaveServed sent failed c.in_ok-made.made.node c.deref.result.now (vec_items c.in_ok-made.made.workers) (vec_items c.serve-workers.result.0) c.in-Ok.report
     = subst (λ r. IfOk r (λ (total : Report). HaveServed sent failed c.in_ok-made.made.node c.deref.result.now (vec_items c.in_ok-made.made.workers) (vec_items c.serve-workers.result.0) total)) c.in-Ok.is c.serve-workers.ensures.served in
     let here = subst (λ (ps : List Port). HaveServed sent failed c.in_ok-made.made.node ps (vec_items c.in_ok-made.made.workers) (vec_items c.serve-workers.result.0) c.in-Ok.report) c.deref.ensures.value told in
-    desk_ends c.in_ok-made.ensures.fresh here _ c.in_ok-sinks.ensures.all c.in_ok-sinks.ensures.sinks
+    let back = c.in_ok-sinks.ensures.back in
+    desk_ends c.in_ok-made.ensures.fresh here c.quotas_hold_in_threads.ensures _ _ back c.tell_tickets.ensures.numbered c.in_ok-sinks.ensures.all c.in_ok-sinks.ensures.sinks
