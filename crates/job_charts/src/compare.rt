@@ -63,7 +63,7 @@ pub fn compare_command<'a>(alloc: Global) -> Result<Command<'a>, AllocError>
     let maps = maps_option(alloc);
     Command::new(alloc, "compare")
         .about(
-            "Tells where two policy tables decide differently, with a packet for each difference",
+            "Prints where two policy tables decide differently, with a packet for each difference",
         )
         .arg(old)?
         .arg(new)?

@@ -49,7 +49,7 @@ pub fn map_command<'a>(alloc: Global) -> Result<Command<'a>, AllocError>
     let table = file(alloc, "table", "TABLE", help);
     let maps = maps_option(alloc);
     Command::new(alloc, "map")
-        .about("Tells what a policy table decides, for each command one line")
+        .about("Prints what a policy table decides, for each command one line")
         .arg(table)?
         .arg(maps)
 }
