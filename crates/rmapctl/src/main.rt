@@ -8,7 +8,7 @@ use commands::{
     live_frames, own_source, perform_told, show_talk, told_node, told_option, told_wait,
 };
 use std::alloc::{AllocError, Global};
-use std::io::{BufReader, BufWriter, IsTerminal, Write};
+use std::io::{BufReader, BufWriter, IsTerminal, Stderr, Write};
 use std::process::ExitCode;
 use std::rt::{self, Env};
 use std::sync::Wait;
@@ -120,13 +120,15 @@ fn show_input<R: Input + Print + Eprint>(rt: &R, alloc: Global, words: &ShowWord
     end_talk(rt, done, talk.into_talk().into_talk().into_output().1)
 }
 
-/// Holds a talk in frames over standard input and standard output, and gives the exit status.
+/// Holds a talk in frames over standard input and standard output, and gives the exit status. What is told goes to standard
+/// error, each text at once: of a journal it is long.
 fn talk_frames<R: rt::Files + Input + Print + Eprint>(
     rt: &R,
+    errors: &Stderr,
     alloc: Global,
     node: &NodeSource,
 ) -> u8 {
-    let mut link = HostLink::new(rt, rt.reader(), io::writer(rt));
+    let mut link = HostLink::new(rt.reader(), io::writer(rt), io::writer(errors));
     let mut files = ToldFiles::new(rt, node.inputs());
     let mut place = None;
     let done = live_frames(alloc, node, &mut files, &mut link, &mut place);
@@ -142,6 +144,7 @@ fn talk_frames<R: rt::Files + Input + Print + Eprint>(
 /// Does the work that the words name, and gives the exit status.
 fn do_work<R: rt::Files + Input + Print + Eprint + Threads + Wait + Sync>(
     rt: &R,
+    errors: &Stderr,
     alloc: Global,
     work: &Work,
 ) -> u8 {
@@ -149,7 +152,7 @@ fn do_work<R: rt::Files + Input + Print + Eprint + Threads + Wait + Sync>(
         Course::Perform(job) => do_job(rt, alloc, job),
         Course::Show(words) => show_input(rt, alloc, words),
         Course::Lines(node) => talk_lines(rt, alloc, node),
-        Course::Frames(node) => talk_frames(rt, alloc, node),
+        Course::Frames(node) => talk_frames(rt, errors, alloc, node),
     }
 }
 
@@ -210,6 +213,7 @@ fn refuse_words<R: Print + Eprint>(
 /// for it.
 fn do_words<R: rt::Files + Input + Print + Eprint + Threads + Wait + Sync>(
     rt: &R,
+    errors: &Stderr,
     alloc: Global,
     texts: &[&str],
     waits: Waits,
@@ -224,7 +228,7 @@ fn do_words<R: rt::Files + Input + Print + Eprint + Threads + Wait + Sync>(
         }
     }
     match &found {
-        Asked::Named(work) => do_work(rt, alloc, work),
+        Asked::Named(work) => do_work(rt, errors, alloc, work),
         Asked::Told(text) => print(rt, text.as_str(), 0),
     }
 }
@@ -241,6 +245,7 @@ struct Waits {
 /// Does what the command line asks for, and gives the exit status.
 fn do_given<R: rt::Files + Input + Print + Eprint + Threads + Wait + Sync>(
     rt: &R,
+    errors: &Stderr,
     alloc: Global,
     given: &[String],
     is_terminal: bool,
@@ -250,17 +255,17 @@ fn do_given<R: rt::Files + Input + Print + Eprint + Threads + Wait + Sync>(
         without_words: given.is_empty(),
     };
     if given.is_empty() {
-        return Ok(do_words(rt, alloc, &WITHOUT_WORDS, waits));
+        return Ok(do_words(rt, errors, alloc, &WITHOUT_WORDS, waits));
     }
     let texts: Vec<&str> = given.iter().map(|word| word.as_str()).collect(alloc)?;
-    Ok(do_words(rt, alloc, texts.as_slice(), waits))
+    Ok(do_words(rt, errors, alloc, texts.as_slice(), waits))
 }
 
 fn main(rt: HostRuntime) -> ExitCode {
     let alloc = rt.alloc();
     let is_terminal = rt.stdin().is_terminal();
     let done = match words_given(&rt) {
-        Ok(given) => do_given(&rt, alloc, given.as_slice(), is_terminal),
+        Ok(given) => do_given(&rt, &rt.stderr(), alloc, given.as_slice(), is_terminal),
         Err(fault) => Err(fault),
     };
     ExitCode::from(match done {
