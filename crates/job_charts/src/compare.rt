@@ -62,9 +62,7 @@ pub fn compare_command<'a>(alloc: Global) -> Result<Command<'a>, AllocError>
     let new = file(alloc, "new", "NEW", help);
     let maps = maps_option(alloc);
     Command::new(alloc, "compare")
-        .about(
-            "Prints where two policy tables decide differently, with a packet for each difference",
-        )
+        .about("Prints how two policy tables decide differently, with a packet for each difference")
         .arg(old)?
         .arg(new)?
         .arg(maps)
