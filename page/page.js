@@ -202,9 +202,9 @@ function drawMap() {
 
 // The map as a table, a row for each line.
 function tabulate(bands) {
-  const heads = [...picture.FIELDS, 'Addresses', 'What the table asks'].map((head) => made('th', { scope: 'col', textContent: head }));
+  const heads = [...picture.FIELDS, 'Addresses', 'Port', 'What the table asks'].map((head) => made('th', { scope: 'col', textContent: head }));
   const rows = bands.flatMap((band) => band.lines.map((line) => made('tr', {},
-    ...[...band.fields, line.addresses, line.course].map((words) => made('td', { textContent: words })))));
+    ...[...band.fields, line.addresses, band.port, line.course].map((words) => made('td', { textContent: words })))));
   const caption = made('caption', { textContent: `What new.policy decides: ${rows.length} lines` });
   $('map-table').replaceChildren(made('table', {}, caption, made('thead', {}, made('tr', {}, ...heads)), made('tbody', {}, ...rows)));
 }
@@ -241,7 +241,7 @@ function showDifferences(all, most) {
 
 function differenceItem(one, room) {
   const what = made('p', { className: 'what' }, made('b', { textContent: `${one.sign} ` }),
-    made('code', { textContent: `${one.fields.join(' ')} ${one.addresses}` }), ` ${picture.SIGNS.get(one.sign)}`);
+    made('code', { textContent: picture.wordsOf(one) }), ` ${picture.SIGNS.get(one.sign)}`);
   const button = made('button', { type: 'button', className: 'plain', textContent: 'Ask this packet below' });
   button.addEventListener('click', () => askPacket(one.packet));
   return made('li', {}, what, made('div', { className: 'figure' }, picture.drawnDifference(one, room)),

@@ -2,3 +2,5 @@ mod Limits
 mod PacketBytes
 mod WitnessPoints
 mod Telling
+mod Ports
+mod Comments

@@ -1,5 +1,6 @@
 -- The lines that are told of a frame, by its number, which is counted from 1.
-use Rattle.std.specs.Prelude.{ℕ, List, [], ◌∷◌, ◌++◌, codes, decimal}
+use Rattle.std.specs.Prelude.{ℕ, ◌≡◌, ◌⊎◌, ◌+◌, ◌-◌, ◌^◌, List, [], ◌∷◌, ◌++◌, Option, codes, decimal, min}
+use Rattle.std.specs.Io.KnownBytes.{Appends}
 use Rattle.frames.specs.Faults.{frame_fault_code}
 use Rattle.frames.specs.declared.faults.FrameFault.{FrameFault}
 use Rattle.node_parts.specs.declared.served.Served.{Served}
@@ -28,3 +29,7 @@ served_text frame (Stopped (Answered status)) = []
 served_text frame Unread = []
 served_text frame (Done applied) = []
 served_text frame (Window status) = []
+
+-- a text is behind what was told before, or it is counted as one more that could not be told
+abbrev pub IsTold : (old new : Option (List ℕ)) → List ℕ → (before after : ℕ) → Type 0
+IsTold old new text before after = (Appends old new text × (after ≡ before)) ⊎ (after ≡ min (before + 1) (2 ^ 64 - 1))

@@ -1,67 +1,67 @@
 //! The link of this machine: standard input, standard output, and standard error.
 
-ghost use Rattle.std.specs.Prelude.{⊤, OnOk};
+ghost use Rattle.std.specs.Prelude.{◌≡◌, OnOk};
 ghost use Rattle.std.specs.Io.KnownBytes.{Appends};
 
 use linking::{Cannot, Link};
 use std::io::{self, Read, Write};
-use std::str;
 
-/// A link over a reader and a writer, beside which is told on standard error, of which no contract speaks. It asks the reader
-/// for what there is: a buffer that waits to be filled would hold a command back. A standard error that fails ends nothing:
-/// how many texts it did not take is counted.
+/// A link over a reader and a writer, and a writer for what is told, as standard error. It asks the reader for what there is: a
+/// buffer that waits to be filled would hold a command back. If what is told cannot be written, nothing ends: how many such
+/// texts there were is counted.
 #[derive(Drop)]
-pub struct HostLink<'r, R: Eprint, I: Read + Drop, W: Write + Drop> {
-    rt: &'r R,
+pub struct HostLink<I: Read + Drop, W: Write + Drop, E: Write + Drop> {
     input: I,
     output: W,
+    errors: E,
     lost: io::Result<()>,
     untold: u64,
 }
 
-impl<'r, R: Eprint, I: Read + Drop, W: Write + Drop> HostLink<'r, R, I, W> {
-    /// The link that reads from the one, and writes to the other.
-    pub fn new(rt: &'r R, input: I, output: W) -> HostLink<'r, R, I, W> {
+/// Writes all of the bytes, and holds none of them back.
+fn write_through<W: Write>(output: &mut W, bytes: &[u8]) -> io::Result<()>
+    ensures { OnOk result (Appends (W.contents output.old) (W.contents output.new) bytes.now) }
+{
+    output.write_all(bytes)?;
+    output.flush()
+}
+
+impl<I: Read + Drop, W: Write + Drop, E: Write + Drop> HostLink<I, W, E> {
+    /// The link that reads from the first, sends to the second, and tells the third.
+    pub fn new(input: I, output: W, errors: E) -> HostLink<I, W, E>
+        ensures input { result.input ≡ input }
+        ensures output { result.output ≡ output }
+        ensures errors { result.errors ≡ errors }
+        ensures untold { result.untold ≡ 0 }
+    {
         HostLink {
-            rt,
             input,
             output,
+            errors,
             lost: Ok(()),
             untold: 0,
         }
     }
 
-    /// How many texts standard error did not take.
-    pub fn untold(&self) -> u64 {
+    /// How many texts could not be told.
+    pub fn untold(&self) -> u64
+        ensures { result ≡ self.now.untold }
+    {
         self.untold
     }
 
     /// The writer, and why the last bytes could not be sent, if they could not.
-    pub fn into_output(self) -> (W, io::Result<()>) {
-        (self.output, self.lost)
-    }
-
-    /// Prints a text on standard error: whether it took it.
-    fn is_told(&self, text: &[u8]) -> bool {
-        match str::from_utf8(text) {
-            Ok(text) => self.rt.eprint(text).is_ok(),
-            Err(_) => false,
-        }
-    }
-
-    /// Writes all of the bytes, and holds none of them back.
-    fn write(&mut self, bytes: &[u8]) -> io::Result<()>
-        ensures { OnOk result
-            (Appends (W.contents self.old.output) (W.contents self.new.output) bytes.now) }
+    pub fn into_output(self) -> (W, io::Result<()>)
+        ensures { result ≡ (self.output, self.lost) }
     {
-        self.output.write_all(bytes)?;
-        self.output.flush()
+        (self.output, self.lost)
     }
 }
 
-impl<R: Eprint, I: Read + Drop, W: Write + Drop> Link for HostLink<'_, R, I, W> {
-    ghost use Rattle.std.specs.Prelude.{ℕ, List, Option};
+impl<I: Read + Drop, W: Write + Drop, E: Write + Drop> Link for HostLink<I, W, E> {
+    ghost use Rattle.std.specs.Prelude.{ℕ, List, Option, ⊤};
     ghost use Rattle.std.specs.Io.KnownBytes.{Appends, Consumes, Keeps};
+    ghost use Rattle.job_frames.specs.Told.{IsTold};
 
     ghost came = { λ before bytes after.
         Consumes (I.remaining before.input) (I.remaining after.input) bytes };
@@ -69,7 +69,8 @@ impl<R: Eprint, I: Read + Drop, W: Write + Drop> Link for HostLink<'_, R, I, W> 
     ghost sent = { λ before bytes after.
         Appends (W.contents before.output) (W.contents after.output) bytes };
 
-    ghost told = { λ _ _ _. ⊤ };
+    ghost told = { λ before text after.
+        IsTold (E.contents before.errors) (E.contents after.errors) text before.untold after.untold };
 
     ghost unread = { λ before after. Keeps (I.remaining before.input) (I.remaining after.input) };
 
@@ -82,7 +83,7 @@ impl<R: Eprint, I: Read + Drop, W: Write + Drop> Link for HostLink<'_, R, I, W> 
     }
 
     fn send(&mut self, bytes: &[u8]) -> Result<(), Cannot> {
-        self.lost = self.write(bytes);
+        self.lost = write_through(&mut self.output, bytes);
         match self.lost {
             Ok(()) => Ok(()),
             Err(_) => Err(Cannot),
@@ -90,9 +91,12 @@ impl<R: Eprint, I: Read + Drop, W: Write + Drop> Link for HostLink<'_, R, I, W> 
     }
 
     fn tell(&mut self, text: &[u8]) -> Result<(), Cannot> {
-        if !self.is_told(text) {
-            self.untold = self.untold.saturating_add(1);
+        match write_through(&mut self.errors, text) {
+            Ok(()) => Ok(()),
+            Err(_) => {
+                self.untold = self.untold.saturating_add(1);
+                Ok(())
+            }
         }
-        Ok(())
     }
 }

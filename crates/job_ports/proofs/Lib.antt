@@ -4,5 +4,6 @@ mod Filling
 mod NotServed
 mod PrintedLines
 mod Rejoining
+mod Starting
 mod Tables
 mod TakenIn

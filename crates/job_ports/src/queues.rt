@@ -1,18 +1,20 @@
 //! Packets that wait in the queues of a node's ports, and what its workers do with them.
 
-ghost use Rattle.std.specs.Prelude.{◌≡◌, ◌≤◌, IfOk, length, map, vec_len, zip};
-ghost use Rattle.job_ports.specs.Queues.{AreBeginnings, AreFew, AreFilled, AreOfPorts, IsDesk, IsFilled, ServeEach, new_worker};
+ghost use Rattle.std.specs.Prelude.{◌≡◌, ◌<◌, ◌≤◌, ℕ, IfOk, OnOk, length, map, slice_index_or, vec_len, zip};
+ghost use Rattle.job_ports.specs.Queues.{AreBeginnings, AreFew, AreFilled, AreOfPorts, IsFilled, IsOwnDesk, LoadsFirst, ServeOwn, new_worker};
 ghost use Rattle.ports.specs.Serves.{AreServed};
+ghost use Rattle.ports.specs.Sinks.{SinkValue};
 
 use crate::arrivals::Arrivals;
+use crate::starts::{load_all, set_all};
 use bver::Accepted;
-use job_nodes::node::node_config;
+use job_config::own_node::OwnNode;
 use ports::{MAX_CAPACITY, NoGate, Port, PutPass, Replies, Report, ServePass, Worker, serve};
 use spw::Packet;
 use std::alloc::{AllocError, Global};
 use std::sync::Wait;
 use std::thread::Threads;
-use target::{Family, Node, Opened, Pass};
+use target::{Family, Front, Node, Opened, Pass};
 
 /// A port whose queue holds these packets and then the end mark, what puts into it, and what takes from it.
 fn filled<R: Wait>(
@@ -37,7 +39,7 @@ fn filled<R: Wait>(
 
 /// A port for each list of packets, in order, whose queue holds them and then the end mark; what puts into each, and
 /// what takes from each.
-fn fill<R: Wait>(
+pub(crate) fn fill<R: Wait>(
     rt: &R,
     alloc: Global,
     arrivals: Arrivals,
@@ -57,15 +59,15 @@ fn fill<R: Wait>(
     Ok((ports, put_passes, serve_passes))
 }
 
-/// A worker for each port, in order, whose replies are kept in memory.
-fn workers_of<J: Family, R: Wait + Drop>(
+/// A worker for each port, in order, who knows so much of the history, and whose replies are kept in memory.
+fn workers_of<J: Family>(
     alloc: Global,
-    node: &Node<J, R>,
+    known: &Front<J>,
     passes: Vec<Pass<J>>,
     serve_passes: Vec<ServePass>,
 ) -> Result<Vec<Worker<J, Replies>>, AllocError>
     ensures { IfOk result
-        (λ workers. workers.items ≡ map new_worker (zip passes.items serve_passes.items)) }
+        (λ workers. workers.items ≡ map (new_worker known.now) (zip passes.items serve_passes.items)) }
 {
     passes
         .into_iter()
@@ -74,7 +76,7 @@ fn workers_of<J: Family, R: Wait + Drop>(
             let sink = Replies::new(alloc, pass.port());
             Worker {
                 pass,
-                front: node.front(),
+                front: known.again(),
                 serve_pass,
                 sink,
             }
@@ -110,7 +112,7 @@ fn sinks_of<J: Family>(
     Ok(sinks)
 }
 
-/// A fresh node whose ports hold packets, what puts into each port, and their workers.
+/// A node whose ports hold packets, what puts into each port, and their workers.
 #[derive(Drop)]
 struct Desks<J: Family, R: Wait + Drop> {
     node: Node<J, R>,
@@ -119,30 +121,66 @@ struct Desks<J: Family, R: Wait + Drop> {
     workers: Vec<Worker<J, Replies>>,
 }
 
-/// A fresh node with so many ports, at each of which the program judges, and which hold the packets that came to them.
-fn fresh_desks<'r, J: Family, R: Wait>(
+/// Lets the worker of port 0 serve the packets of what is loaded. The condition is that each worker has a share of each bank.
+fn load_first<R: Wait, J: Family, Q: Wait + Drop>(
+    rt: &R,
+    alloc: Global,
+    node: &Node<J, Q>,
+    workers: &mut Vec<Worker<J, Replies>>,
+    own: &OwnNode,
+) -> Result<(), AllocError>
+    requires { (k : ℕ) (worker : Worker J SinkValue) → k < length workers.old.items
+        → length (slice_index_or workers.old.items k worker).pass.pass.shares ≡ node.now }
+    ensures { OnOk result (LoadsFirst own.now.address own.now.loads node.now workers.old.items
+        workers.new.items) }
+{
+    // A node has a port.
+    if workers.is_empty() {
+        return Err(AllocError);
+    }
+    let first = &mut workers[0];
+    load_all(rt, alloc, node, first, own.address(), own.loads())
+}
+
+/// A node of that configuration, at each of whose ports the program judges at first, whose banks begin with their contents, at
+/// whose port 0 what is loaded was, and whose ports hold the packets that came to them.
+fn own_desks<'r, J: Family, R: Wait>(
     rt: &'r R,
     alloc: Global,
     opened: Opened,
-    ports: u8,
+    own: &OwnNode,
     program: Accepted,
     arrivals: Arrivals,
 ) -> Result<Desks<J, &'r R>, AllocError>
     requires room { opened ≡ J.book }
+    requires sizes { program.sizes ≡ own.now.sizes }
     requires few { AreFew arrivals }
-    requires count { length arrivals ≡ ports }
-    ensures fresh { IfOk result (λ made. IsDesk program ports arrivals made.node made.ports.items
+    requires count { length arrivals ≡ own.now.ports }
+    ensures own { IfOk result (λ made. IsOwnDesk own.now program arrivals made.node made.ports.items
         made.put_passes.items made.workers.items) }
     ensures served { IfOk result (λ made.
         AreServed made.node (vec_len made.workers) made.ports.items made.workers.items) }
 {
-    let config = node_config(ports, program.sizes());
-    // Memory alone can be refused to it: the command line gives no other number of ports than a node has.
-    let Ok((node, passes)) = Node::<J, _>::new(alloc, rt, opened, &config, program) else {
+    let config = own.config();
+    // Memory alone can be refused to it: a configuration has no other number of ports than a node has.
+    let Ok((node, _cells, passes, mut line)) = Node::<J, _>::with_cells(
+        alloc, rt, opened, &config, program,
+    ) else {
         return Err(AllocError);
     };
+    let mut known = node.front();
+    set_all(
+        rt,
+        alloc,
+        &node,
+        &mut line,
+        &mut known,
+        own.banks(),
+        own.contents(),
+    )?;
     let (ports, put_passes, serve_passes) = fill(rt, alloc, arrivals)?;
-    let workers = workers_of(alloc, &node, passes, serve_passes)?;
+    let mut workers = workers_of(alloc, &known, passes, serve_passes)?;
+    load_first(rt, alloc, &node, &mut workers, own)?;
     Ok(Desks {
         node,
         ports,
@@ -151,22 +189,23 @@ fn fresh_desks<'r, J: Family, R: Wait>(
     })
 }
 
-/// Serves the packets that came to the ports of a fresh node, each port in a thread of its own, to the end: the replies
-/// of each port, and the sum of the reports. The program judges.
+/// Serves the packets that came to the ports of the node of that configuration, each port in a thread of its own, to the end:
+/// the replies of each port, and the sum of the reports. The program judges in all slots at first.
 pub fn serve_arrivals<J: Family + Send + Sync + 'static, R: Threads + Wait + Sync>(
     rt: &R,
     alloc: Global,
     opened: Opened,
-    ports: u8,
+    own: &OwnNode,
     program: Accepted,
     arrivals: Arrivals,
 ) -> Result<(Vec<Replies>, Report), AllocError>
     requires room { opened ≡ J.book }
+    requires sizes { program.sizes ≡ own.now.sizes }
     requires few { AreFew arrivals }
-    requires count { length arrivals ≡ ports }
-    ensures { IfOk result (λ made. ServeEach program ports arrivals made.0.items made.1) }
+    requires count { length arrivals ≡ own.now.ports }
+    ensures { IfOk result (λ made. ServeOwn own.now program arrivals made.0.items made.1) }
 {
-    let made = fresh_desks::<J, _>(rt, alloc, opened, ports, program, arrivals)?;
+    let made = own_desks::<J, _>(rt, alloc, opened, own, program, arrivals)?;
     let Desks {
         node,
         ports,

@@ -4,8 +4,7 @@ use crate::tests::checks::same;
 use crate::tests::nodes::node_named;
 use commands::{HostLink, Status, WriteFault, live_frames};
 use std::alloc::Global;
-use std::fmt::Display;
-use std::io;
+use std::io::{self, Write};
 use std::test::Fail;
 use test_kit_jobs::{RECEIVED, Wire, folder_of};
 
@@ -74,15 +73,16 @@ const REPLIES: &str =
     "00000000000000000000000867012C00FE00017C00000000000000000000000F67010C00FE000200000002681122A3";
 
 /// A standard error that takes nothing.
+#[derive(Drop)]
 struct Deaf;
 
-impl Eprint for Deaf {
-    fn eprint<D: Display + Drop>(&self, _value: D) -> io::Result<()> {
+impl Write for Deaf {
+    fn write(&mut self, _bytes: &[u8]) -> io::Result<usize> {
         Err(io::Error::from(io::ErrorKind::BrokenPipe))
     }
 
-    fn eprintln<D: Display + Drop>(&self, _value: D) -> io::Result<()> {
-        Err(io::Error::from(io::ErrorKind::BrokenPipe))
+    fn flush(&mut self) -> io::Result<()> {
+        Ok(())
     }
 }
 
@@ -92,7 +92,7 @@ fn a_link_over_a_slice_and_a_vector(rt: HostRuntime) -> Result<(), Fail> {
     let input = bytes(alloc).ok_or("no bytes")?;
     let node = node_named(alloc, &["live", "--frames"]).ok_or("no link")?;
     let mut folder = folder_of(alloc, &[]).map_err(|_| "no folder")?;
-    let mut link = HostLink::new(&Deaf, input.as_slice(), Vec::new(alloc));
+    let mut link = HostLink::new(input.as_slice(), Vec::new(alloc), Deaf);
     let done = live_frames(alloc, &node, &mut folder, &mut link, &mut None);
     same(&rt, "the status", done, Ok(Status::Done));
     // A frame for a bridge, a packet that is none, and the journal.
