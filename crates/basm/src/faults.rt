@@ -11,13 +11,13 @@ use std::alloc::{AllocError, AllocFailed};
 use thiserror::Error;
 
 const BAD_WORD: &str = "\
-The line begins with a word that is no instruction and no directive, or something stands behind a label.
-Compare the word with docs/COMMANDS.md, \"The text of a program\"; a label stands on a line of its own.";
+The line begins with a word that is no instruction and no directive, or more follows a label.
+Compare the word with docs/COMMANDS.md, \"The text of a program\"; a label has a line of its own.";
 
 const BAD_OPERAND: &str = "\
 The instruction wants other operands, another number of them, or registers from r0 to r10.
-Compare the line with the forms of docs/COMMANDS.md, \"The text of a program\": operands stand between commas,
-addresses between brackets.";
+Compare the line with the forms of docs/COMMANDS.md, \"The text of a program\": commas are between operands,
+and brackets around addresses.";
 
 const BAD_NUMBER: &str = "\
 A number does not fit its field: decimals are from -2^31 to 2^31 - 1, and for `lddw` from -2^63 to 2^64 - 1; `0x`
@@ -29,7 +29,7 @@ The line jumps to a name that no line defines, or defines a name that another li
 Look for the name's other lines: upper and lower case differ.";
 
 const REACH: &str = "\
-The target is further away than its field tells: a jump reaches 32,768 slots back and 32,767 forward.
+The target is further away than its field can say: a jump reaches 32,768 slots back and 32,767 forward.
 Jump in two steps, or by `ja32`.";
 
 const TOO_MANY: &str = "\
@@ -42,7 +42,7 @@ that there is none.
 Put `.budget 65536` first; `rmapctl verify` then prints the weight, which is the least budget.";
 
 const BAD_LOOP: &str = "\
-A line `.loop HEAD, BACK, N, rK` has two slots or names of which BACK is behind HEAD, a bound N from 1 to 4,096
+A line `.loop HEAD, BACK, N, rK` has two slots or names of which BACK is after HEAD, a bound N from 1 to 4,096
 and a register from r0 to r9; no two loops have one head.
 Compare the fields with the slots of the text.";
 

@@ -18,10 +18,10 @@ Assemble the program's text anew.";
 
 const LENGTH: &str = "\
 The header declares how many loops and slots follow, 8 bytes each, and the file has fewer bytes or more.
-Look whether the file was cut off, or something was written behind it.";
+Look whether the file was cut off, or something was written after it.";
 
 const COUNT: &str = "\
-An image has at most 8 loops, 1 to 512 slots, and four zero bytes behind its budget.
+An image has at most 8 loops, 1 to 512 slots, and four zero bytes after its budget.
 Make the program shorter, or look at bytes 5 to 15 of the file.";
 
 const BUDGET: &str = "\
@@ -34,7 +34,7 @@ r0 to r9 and a zero byte; heads rise from loop to loop.
 Look at the 8 bytes of each loop, from byte 16 on, or assemble the program's text anew.";
 
 const INSN: &str = "\
-The 8 bytes of the slot that is told spell no instruction; `rmapctl explain insn1` to `insn4` tell the reasons.
+The 8 bytes of the slot that is printed spell no instruction; `rmapctl explain insn1` to `insn4` say why.
 Assemble the program's text anew, or compare the bytes with docs/BPF.md.";
 
 const MEMORY: &str = "\

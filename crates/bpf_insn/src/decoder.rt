@@ -27,11 +27,11 @@ divmul64. No others are read: its atomic and its packet instructions are refused
 Look whether the slot before it has two slots, or the file holds something else than instructions.";
 
 const REGISTER: &str = "\
-The second byte names two registers, and there are r0 to r10 alone.
+The second byte names two registers, and there are only r0 to r10.
 Compare the byte with the instruction: the destination is in its low four bits, the source in its high four.";
 
 const UNUSED: &str = "\
-A field that the instruction does not use has to be zero, as the offset of `add` and the source of a move of a
+A field that the instruction does not use must be zero, as the offset of `add` and the source of a move of a
 number.
 Clear the field.";
 

@@ -113,7 +113,7 @@ fn enters_at_head_from(facts: &SlotFacts, declared: &Loop, slot: u16) -> bool
     }
 }
 
-/// Whether no jump leads to the loop's back, and none from outside into it but to its head.
+/// Whether no jump leads to the loop's back, and none from outside into it except to its head.
 fn check_entry(image: &Image, facts: &[SlotFacts; SLOTS], declared: &Loop) -> bool
     requires { AreFacts image.now facts.now }
     ensures { IsTrue result ↔ IsEnteredAtHead image.now declared.now }

@@ -6,25 +6,25 @@ ghost use Rattle.bver_form.specs.Codes.{refusal_code, refusal_of_code};
 use thiserror::Error;
 
 const TARGET: &str = "\
-A jump has to land on the first slot of an instruction of the program. `lddw`, `ldmap` and `ldimm` have two
-slots, and a distance counts slots, from the one behind the jump.
+A jump must land on the first slot of an instruction of the program. `lddw`, `ldmap` and `ldimm` have two
+slots, and a distance counts slots, from the one after the jump.
 Give the target a name in the text, so that the assembler counts; a distance that was written by hand leads
 elsewhere.";
 
 const BACK_JUMP: &str = "\
-Every jump leads forward, but for the last instruction of a declared loop. A jump to its own slot leads backward
+Every jump leads forward, except the last instruction of a declared loop. A jump to its own slot leads backward
 too.
 Declare the loop by a line `.loop HEAD, BACK, N, rK`, or turn the branch round so that it leads forward.";
 
 const LOOP_SHAPE: &str = "\
 A declared loop ends in `add r, -1` and `jne r, 0, HEAD`, where r is its counter. Nothing else in it writes r,
-and a call writes r0 to r5. No jump leads to its end, and none from outside into it but to its head. Two loops
+and a call writes r0 to r5. No jump leads to its end, and none from outside into it except to its head. Two loops
 lie apart, or one inside the other.
 Take the counter from r6 to r9, let what skips the rest of a round jump to the `add`, and compare HEAD and BACK
 with the slots that `rmapctl dis --slots` prints.";
 
 const LOOP_ENTRY: &str = "\
-Where a run comes to a loop from outside, its counter must be a number from 1 to N, the bound in `.loop`,
+If a run comes to a loop from outside, its counter must be a number from 1 to N, the bound in `.loop`,
 whatever was done before.
 Set the counter to a number from 1 to N right before the head, or test it there.";
 
@@ -37,7 +37,7 @@ const KIND_MISMATCH: &str = "\
 Pointers and maps can be copied and pointers moved by a number; all else wants numbers, as arithmetic,
 comparisons, `exit` and the key in r2. What is a pointer on one way to a slot and a number on another is neither
 there.
-Use a register for one kind of value alone, and load through the pointer before you compute.";
+Use a register for only one kind of value, and load through the pointer before you compute.";
 
 const OUT_OF_REGION: &str = "\
 The front of the header has the 4 bytes from `[r1+0]`, its tail the 12 bytes from `[r2+0]`, and the stack the 512
@@ -50,7 +50,7 @@ whose offset may be one of several numbers sets none.
 Store the bytes before the branch, or on each way, and at an offset that is one number.";
 
 const HEADER_WRITE: &str = "\
-The front and the tail of the header are read alone; a program stores to its stack and to nothing else.
+The front and the tail of the header are only read; a program stores to its stack and to nothing else.
 Store to `[r10-N]`, and load it from there again.";
 
 const FRAME_WRITE: &str = "\
@@ -60,10 +60,10 @@ Copy it by `mov rK, r10`, and move the copy.";
 const POINTER_RANGE: &str = "\
 A pointer moves at most 65,536 bytes away from its region, and by a number of which it is known that it is not
 negative, or that it is.
-Test the number before it is added: behind `jgt rK, 100, ..` it is at most 100.";
+Test the number before it is added: after `jgt rK, 100, ..` it is at most 100.";
 
 const MAP_KEY: &str = "\
-The map of `ldmap` has to be one of `--maps`, which count from 0, and the key in r2 must be less than its number
+The map of `ldmap` must be one of `--maps`, which count from 0, and the key in r2 must be less than its number
 of cells.
 Give the node the map, or test r2 by `jlt` before the call.";
 
@@ -74,7 +74,7 @@ Call 1 or 2, or begin the text with `.version 2` and call 3: r1 is the map and r
 r0.";
 
 const FALL_OFF: &str = "\
-A run that does not jump comes to the end of the program, and the last instruction has to end it.
+A run that does not jump comes to the end of the program, and the last instruction must end it.
 End the program with `exit`.";
 
 const BUDGET: &str = "\
@@ -84,7 +84,7 @@ Raise `.budget` to the weight, at most 65,536, or make loops shorter.";
 
 const UNSUPPORTED: &str = "\
 This target runs no calls within a program, no calls by a BTF number and no addresses of `ldimm`. Its maps are
-reached by `ldmap` and the helpers alone.
+reached only by `ldmap` and the helpers.
 Write the program without them.";
 
 const MEMORY: &str = "\
@@ -92,8 +92,8 @@ The process was refused memory while the program was verified. It says nothing o
 Give the process more memory, and verify the program again.";
 
 const MAP_KIND: &str = "\
-Helper 1 may be asked of every map, helper 2 of counter maps alone, and helper 3 of peak maps alone. In `--maps` a
-size with a `p` behind it is a peak map.
+Helper 1 may be asked of every map, helper 2 only of counter maps, and helper 3 only of peak maps. In `--maps` a
+size with a `p` after it is a peak map.
 Call the helper that fits the map, or give the node a map of the other kind.";
 
 /// What a program does that is not allowed.

@@ -11,13 +11,13 @@ use std::alloc::{AllocError, Global};
 
 /// How a table is written.
 const TABLE_FORM: &str =
-    "lines end in a line feed alone; words are parted by spaces; there are no comments";
+    "lines end in only a line feed; words are parted by spaces; there are no comments";
 
 /// How a table of version 2 is written.
-const TEXT_FORM: &str = "lines end in a line feed alone; words are parted by spaces";
+const TEXT_FORM: &str = "lines end in only a line feed; words are parted by spaces";
 
 /// How the lines of a program's text end.
-const LINE_FORM: &str = "lines end in a line feed alone";
+const LINE_FORM: &str = "lines end in only a line feed";
 
 /// What is told of a table in place of the text of a program.
 const IS_TABLE: &str = "    this is a table of a policy\n";

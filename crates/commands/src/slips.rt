@@ -26,7 +26,7 @@ const MAPS: &str =
 const PORTS: &str = "a decimal number from 1 to 32";
 
 /// What `--ports` may be beside `--frames`.
-const ONE_PORT: &str = "1 where frames come";
+const ONE_PORT: &str = "1 if frames come";
 
 /// What may not be there beside `--any`.
 const ANY_ALONE: &str = "    --any is there: without --port, --initiator, --key and --slot\n";
@@ -36,7 +36,7 @@ const ANY_AT_NODE: &str =
     "    --any is there beside --node: without --node, loads are rehearsed at any node\n";
 
 /// What NEW may be where OLD is standard input.
-const ONE_INPUT: &str = "the name of a file where OLD is - too";
+const ONE_INPUT: &str = "the name of a file if OLD is - too";
 
 /// What `--ns` may be.
 const TIMES: &str =

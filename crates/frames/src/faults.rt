@@ -6,15 +6,15 @@ ghost use Rattle.frames.specs.Faults.{frame_fault_code, frame_fault_of_code};
 use thiserror::Error;
 
 const FOR_BRIDGE: &str = "\
-The first byte of a frame tells what it carries: 00, 01 and 02 are bytes of a packet, 30 and 31 a time code. Any
+The first byte of a frame says what it carries: 00, 01 and 02 are bytes of a packet, 30 and 31 a time code. Any
 other is for a bridge between the link and a network, as its link speed and its registers. There is no bridge
 here: the frame is read away by its length, and nothing is sent of it.
 Send only packets and time codes, or wait for no answer to such a frame.";
 
 const CUT_OFF: &str = "\
-The input ended before a frame had as many bytes as its head says, or behind pieces of a packet (02) before the
+The input ended before a frame had as many bytes as its head says, or after pieces of a packet (02) before the
 frame that ends it (00 or 01). Of such a packet nothing is served. Lines of text are this too: as a head they
-tell of a frame that is longer than any input.
+say that a frame is longer than any input.
 Send each frame whole, and end each packet, before the connection is closed; for lines leave `--frames` out.";
 
 /// What is wrong with a frame.

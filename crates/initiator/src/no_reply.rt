@@ -31,7 +31,7 @@ pub enum NoReply {
         right: u8,
     },
     /// Not as many bytes follow the header as it announces: none in write form, else its data length and a CRC.
-    #[error("the data have another length than the header tells")]
+    #[error("the data have another length than the header says")]
     Length {
         /// How many follow it.
         found: usize,

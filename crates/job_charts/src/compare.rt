@@ -71,7 +71,7 @@ pub fn compare_command<'a>(alloc: Global) -> Result<Command<'a>, AllocError>
     let markdown = flag(alloc, "markdown", help);
     Command::new(alloc, "compare")
         .about(
-            "Tells where two policy tables decide differently, with a packet for each difference",
+            "Prints where two policy tables decide differently, with a packet for each difference",
         )
         .arg(old)?
         .arg(new)?

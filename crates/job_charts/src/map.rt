@@ -54,7 +54,7 @@ pub fn map_command<'a>(alloc: Global) -> Result<Command<'a>, AllocError>
     let help = "Print a table in markdown, with the comments of the rules";
     let markdown = flag(alloc, "markdown", help);
     Command::new(alloc, "map")
-        .about("Tells what a policy table decides, for each command one line")
+        .about("Prints what a policy table decides, for each command one line")
         .arg(table)?
         .arg(maps)?
         .arg(markdown)

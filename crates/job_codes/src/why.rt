@@ -36,7 +36,7 @@ pub fn why_command<'a>(alloc: Global) -> Result<Command<'a>, AllocError>
     ensures shape { IfOk result (λ c. app_of c ≡ why_app) }
     ensures local { IfOk result (λ c. (fields_of c).has_globals ≡ false) }
 {
-    let about = "Tells what verify tells of a BPF image, and explains why it is refused";
+    let about = "Prints what verify prints of a BPF image, and explains why it is refused";
     verifying_command(alloc, "why", about)
 }
 

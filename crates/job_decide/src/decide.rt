@@ -66,7 +66,7 @@ pub fn decide_command<'a>(alloc: Global) -> Result<Command<'a>, AllocError>
     let help = "How many ports the node has, 1 to 32; without it one";
     let ports = option(alloc, "ports", "N", help);
     Command::new(alloc, "decide")
-        .about("Tells which rule of a policy table decides on each packet, and why no rule before")
+        .about("Prints which rule of a policy table decides on each packet, and why no rule before")
         .arg(lines)?
         .arg(table)?
         .arg(maps)?

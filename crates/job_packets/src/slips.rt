@@ -122,14 +122,14 @@ impl PacketWord {
     /// What has such a word, where not all that is made has one.
     fn owner(self) -> &'static str {
         match self {
-            PacketWord::Mask => "an rmw alone has one, and DATA is one word",
-            PacketWord::Slot => "a load alone has one",
-            PacketWord::Final => "a load alone has it",
-            PacketWord::Verify | PacketWord::NoReply => "a write alone has it",
-            PacketWord::NoIncrement => "a read or a write alone has it",
+            PacketWord::Mask => "only an rmw has one, and DATA is one word",
+            PacketWord::Slot => "only a load has one",
+            PacketWord::Final => "only a load has it",
+            PacketWord::Verify | PacketWord::NoReply => "only a write has it",
+            PacketWord::NoIncrement => "only a read or a write has it",
             PacketWord::Extended => "a load has none, and goes to FF",
             PacketWord::Length | PacketWord::Data | PacketWord::Masked => {
-                "a load has none behind its file"
+                "a load has none after its file"
             }
             PacketWord::Kind
             | PacketWord::Address

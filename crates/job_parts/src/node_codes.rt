@@ -6,12 +6,12 @@ ghost use Rattle.job_parts.specs.NodeCodes.{node_code, node_code_of};
 use thiserror::Error;
 
 const TEXT: &str = "\
-The node's file is no TOML: its line, and what stands there that TOML has not, are printed on standard error.
-Keys of the node stand before the first `[[bank]]`, `[[map]]` or `[[load]]`; a name of a file stands in quotes.";
+The node's file is no TOML: its line, and what is there that TOML does not have, are printed on standard error.
+Keys of the node are before the first `[[bank]]`, `[[map]]` or `[[load]]`; a name of a file is in quotes.";
 
 const KEY: &str = "\
 The node's file has a key that a node has not: of the node, of a bank, of a map or of a load. The first by its
-bytes is told. A node has address, ports, program, bank, map and load; a bank base, size, journal and contents;
+bytes is printed. A node has address, ports, program, bank, map and load; a bank base, size, journal and contents;
 a map cells and peak; a load slot and image.";
 
 const ADDRESS: &str = "\
@@ -38,7 +38,7 @@ Its name is beside the node's file. Give a shorter file, or a larger bank.";
 
 const PROGRAM: &str = "\
 The program of a node's file cannot be read, is no image, or may not judge on the node's maps; or program is no
-name in quotes. Its name is beside the node's file. `rmapctl why FILE --maps LIST` tells why an image is
+name in quotes. Its name is beside the node's file. `rmapctl why FILE --maps LIST` prints why an image is
 refused.";
 
 const LOAD: &str = "\

@@ -47,10 +47,10 @@ pub fn show_command<'a>(alloc: Global) -> Result<Command<'a>, AllocError>
     ensures shape { IfOk result (λ c. app_of c ≡ show_app) }
     ensures local { IfOk result (λ c. (fields_of c).has_globals ≡ false) }
 {
-    let about = "Tells in words what packet lines are, commands or replies";
+    let about = "Prints in words what packet lines are, commands or replies";
     let help = "The file of packet lines, or - for standard input";
     let lines = file(alloc, "lines", "LINES", help);
-    let help = "Each line is the bytes of a packet alone, as in a dump: without port and marker";
+    let help = "Each line is only the bytes of a packet, as in a dump: without port and marker";
     let raw = flag(alloc, "raw", help);
     Command::new(alloc, "show")
         .about(about)

@@ -46,7 +46,7 @@ pub fn dis_command<'a>(alloc: Global) -> Result<Command<'a>, AllocError>
     ensures shape { IfOk result (λ c. app_of c ≡ dis_app) }
     ensures local { IfOk result (λ c. (fields_of c).has_globals ≡ false) }
 {
-    let help = "Prints each instruction behind its slot, which asm does not read again";
+    let help = "Prints each instruction after its slot, which asm does not read again";
     let slots = flag(alloc, "slots", help);
     image_command(alloc, "dis", "Prints the text of a BPF image")?.arg(slots)
 }

@@ -25,7 +25,7 @@ pub fn verify_command<'a>(alloc: Global) -> Result<Command<'a>, AllocError>
     ensures shape { IfOk result (λ c. app_of c ≡ verify_app) }
     ensures local { IfOk result (λ c. (fields_of c).has_globals ≡ false) }
 {
-    let about = "Tells whether a BPF image may judge, or why it is refused";
+    let about = "Prints whether a BPF image may judge, or why it is refused";
     verifying_command(alloc, "verify", about)
 }
 

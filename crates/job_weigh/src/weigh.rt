@@ -50,7 +50,7 @@ pub fn weigh_command<'a>(alloc: Global) -> Result<Command<'a>, AllocError>
     ensures shape { IfOk result (λ c. app_of c ≡ weigh_app) }
     ensures local { IfOk result (λ c. (fields_of c).has_globals ≡ false) }
 {
-    let about = "Tells how many instructions of each class a run of a BPF image takes at most";
+    let about = "Prints how many instructions of each class a run of a BPF image takes at most";
     let maps = maps_option(alloc);
     let help =
         "How many nanoseconds a division, a call, a conditional jump and any other instruction take, as 13.5,14,6,2";

@@ -28,7 +28,7 @@ Give the maps that the node has by `--maps`, and count cells from 0.";
 const BAD_LINE: &str = "\
 A line is `KIND KEY INITIATOR EXTENDED LOW HIGH QUOTA VERDICT`, with spaces between the words. If the first line
 is `.version 2`, comments, empty lines, names of ranges and `port P` after VERDICT are allowed, and else not.
-Compare the line with the table in docs/POLICIES.md; `rmapctl decide LINES TABLE` tells its number and its word.";
+Compare the line with the table in docs/POLICIES.md; `rmapctl decide LINES TABLE` prints its number and its word.";
 
 /// Why a policy table is refused.
 #[derive(Clone, Copy, Debug, PartialEq, Eq, Error)]

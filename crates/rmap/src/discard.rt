@@ -12,11 +12,11 @@ use thiserror::Error;
 
 const SHORT: &str = "\
 The packet ends before its header does: 16 bytes without a reply address, and 4 more for each 4 bytes of one.
-Look at the two lowest bits of the instruction, which tell how long the reply address is.";
+Look at the two lowest bits of the instruction, which say how long the reply address is.";
 
 const PROTOCOL: &str = "\
 The second byte is the protocol identifier, and 01 is that of RMAP. Packets of other protocols are for others.
-Put 01 behind the target's logical address.";
+Put 01 after the target's logical address.";
 
 const REPLY: &str = "\
 Bits 7 and 6 of the instruction are clear, and so the packet is a reply. The types 10 and 11 are reserved:

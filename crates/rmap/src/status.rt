@@ -13,7 +13,7 @@ const GENERAL_ERROR: &str = "\
 There is no room for the command in the journal of its bank, or a load was refused, or the port was given no
 program.
 A journal has room for 1,024 commands at a node of rmapctl, where `live` hands a full one out and no other job
-does; a C program hands it out by `sandbar_rotate`. Of a load read the load result, whose first byte tells why.";
+does; a C program hands it out by `sandbar_rotate`. Of a load read the load result, whose first byte says why.";
 
 const UNUSED_CODE: &str = "\
 The packet type is reserved, or the four bits of command codes are none of a read, a write or a read-modify-
@@ -25,15 +25,15 @@ The program that judges wants another key: its verdict is 3.
 Send the key that the program asks for.";
 
 const INVALID_DATA_CRC: &str = "\
-The CRC behind the data is not that of the data. Nothing was written.
-Compute it over the data alone.";
+The CRC after the data is not that of the data. Nothing was written.
+Compute it over only the data.";
 
 const EARLY_END_OF_PACKET: &str = "\
 The packet ends before the data that its header announces, or before their CRC.
 Compare the data length with the bytes that were sent.";
 
 const TOO_MUCH_DATA: &str = "\
-Bytes follow behind the data and their CRC, or behind the header of a read.
+Bytes follow the data and their CRC, or the header of a read.
 Compare the data length with the bytes that were sent.";
 
 const ERROR_END_OF_PACKET: &str = "\
@@ -47,12 +47,12 @@ Write fewer bytes at once, or without verification.";
 const NOT_AUTHORISED: &str = "\
 The program says no, or the target does not do this: there is no such place, or not with this length or without
 increment.
-Compare address, length and increment with what the target has, then the program's rules: `rmapctl decide` tells
+Compare address, length and increment with what the target has, then the program's rules: `rmapctl decide` prints
 the rule of a table, and `rmapctl trace` the steps of a program.";
 
 const RMW_DATA_LENGTH: &str = "\
 A read-modify-write has as many bytes of data as of mask: a length of 0, 2, 4, 6 or 8 in all.
-Send the data first and a mask of the same length behind them.";
+Send the data first and a mask of the same length after them.";
 
 const INVALID_LOGICAL_ADDRESS: &str = "\
 The packet came to a node with another logical address, or the program's verdict is 12.

@@ -11,17 +11,17 @@ use thiserror::Error;
 const NO_PORT: &str = "\
 A line begins with the number of its port, 0 to 31 in decimal digits, without a sign. In `live` a line of over
 16,384 bytes that begins with no port and no `set` is this too.
-Put the port before the bytes, with a space behind it.";
+Put the port before the bytes, with a space after it.";
 
 const BAD_HEX: &str = "\
 Each word between the port and the marker is an even number of hexadecimal digits, two a byte, without `0x`.
-In `live` the words behind `set` are two digits, eight digits, and digits two a byte.
+In `live` the words after `set` are two digits, eight digits, and digits two a byte.
 Look for a byte that is written with one digit, or for a sign that is no digit.";
 
 const BAD_MARKER: &str = "\
-A line ends in `EOP`, `EEP` or, where the packet goes on with a later line, `PART`, in capitals. A carriage
+A line ends in `EOP`, `EEP` or, if the packet goes on with a later line, `PART`, in capitals. A carriage
 return belongs to the word before it, so lines that end in CR LF have no marker.
-End the line with a marker, and the lines of the file by a line feed alone.";
+End the line with a marker, and the lines of the file only by a line feed.";
 
 const TOO_LONG: &str = "\
 A packet has at most 4,200 bytes, also one that comes in pieces; in `live` a line has at most 16,384.
