@@ -1,8 +1,20 @@
 -- The hexadecimal text of bytes, byte by byte and in parts.
-use Rattle.std.proofs.Common.{◌≡◌, ◌<◌, ◌≤◌, ◌+◌, ◌*◌, ℕ, List, [], ◌∷◌, ◌++◌, length, take, get_or, refl, sym, ap, ◌∙◌, arith}
+use Rattle.std.proofs.Common.{◌≡◌, ◌<◌, ◌≤◌, ◌+◌, ◌-◌, ◌*◌, ℕ, true, eqb, List, [], ◌∷◌, ◌++◌, length, take, get_or, refl, sym, ap, subst, ◌∙◌, arith}
 use Rattle.std.specs.Prelude.{◌/◌, ◌%◌, slice_index, slice_set}
+use Rattle.std.proofs.lemmas.Bool.{agree_below_at, eqb-true}
 use Rattle.std.proofs.lemmas.List.{append_assoc, length-set, take_more, take_more_set}
 use Rattle.hex.specs.Hex.{encode_upper, encode_with, upper_digits}
+
+-- The digit of a number below 10.
+pub low_digit : (n : ℕ) → n < 10 → 48 + n ≡ slice_index upper_digits n
+low_digit n below = eqb-true _ _ (agree_below_at (λ k. eqb (48 + k) (slice_index upper_digits k)) (λ _. true) 10 n refl below)
+
+-- That of one from 10 on.
+pub high_digit : (n : ℕ) → 10 ≤ n → n < 16 → 65 + (n - 10) ≡ slice_index upper_digits n
+high_digit n from below =
+    let k = n - 10 in
+    let here : 65 + k ≡ slice_index upper_digits (10 + k) = eqb-true _ _ (agree_below_at (λ j. eqb (65 + j) (slice_index upper_digits (10 + j))) (λ _. true) 6 k refl (omega (arith, from, below))) in
+    subst (λ (m : ℕ). 65 + k ≡ slice_index upper_digits m) (omega (arith, from)) here
 
 -- The text of no bytes.
 pub no_digits : encode_upper [] ≡ []

@@ -1,19 +1,30 @@
 //! The lines of replies.
 
-ghost use Rattle.std.specs.Prelude.{◌≡◌, ◌≤◌, ◌*◌, OnOk, length, take};
-ghost use Rattle.hex.specs.Hex.{encode_upper};
+ghost use Rattle.std.specs.Prelude.{◌≡◌, ◌≤◌, ◌<◌, ◌*◌, OnOk, length, slice_index, take};
+ghost use Rattle.hex.specs.Hex.{encode_upper, upper_digits};
 ghost use Rattle.job_parts.specs.Replies.{reply_line, reply_text};
 ghost use Rattle.job_parts.specs.Printed.{Prints};
 
 use std::io::{self, Write};
 
-/// The digits of hexadecimal numbers, with upper case letters.
-const DIGITS: [u8; 16] = *b"0123456789ABCDEF";
-
 /// How many bytes are printed at once.
-const CHUNK: usize = 32;
+const CHUNK: usize = 128;
 
-/// The digits of at most 32 bytes, two a byte, in upper case, with zeros behind them.
+/// The digit of a number below 16, in upper case. It is computed, and not looked up, so that a processor does many at once.
+#[inline(always)]
+#[tactic(auto, using(crate::proofs::HexText::low_digit, crate::proofs::HexText::high_digit))]
+fn digit(number: u8) -> u8
+    requires { number < 16 }
+    ensures { result ≡ slice_index upper_digits number }
+{
+    if number < 10 {
+        b'0' + number
+    } else {
+        b'A' + (number - 10)
+    }
+}
+
+/// The digits of at most 128 bytes, two a byte, in upper case, with zeros behind them.
 fn digits_of(bytes: &[u8]) -> [u8; 2 * CHUNK]
     requires { length bytes.now ≤ CHUNK }
     ensures { take (2 * length bytes.now) result ≡ encode_upper bytes.now }
@@ -21,8 +32,8 @@ fn digits_of(bytes: &[u8]) -> [u8; 2 * CHUNK]
     let mut digits = [0; 2 * CHUNK];
     let mut place = 0;
     for byte in bytes {
-        digits[place] = DIGITS[usize::from(byte / 16)];
-        digits[place + 1] = DIGITS[usize::from(byte % 16)];
+        digits[place] = digit(byte / 16);
+        digits[place + 1] = digit(byte % 16);
         place += 2;
     }
     digits

@@ -1,7 +1,5 @@
 use Rattle.std.proofs.Common.{◌≡◌, ◌<◌, ◌+◌, ◌*◌, ℕ, length, get_or, refl, sym, ap, ◌∙◌, arith, rules}
-use Rattle.std.specs.Prelude.{slice_index}
 use Rattle.std.proofs.lemmas.List.{length-set}
-use Rattle.hex.specs.Hex.{upper_digits}
 use Rattle.job_parts.proofs.HexText.{digits_more, no_digits}
 use Rattle.job_parts.proofs.replies.digits_of.Goals as goal
 
@@ -20,5 +18,5 @@ loop-byte-preserved c =
     let room : place + 1 < length digits = omega (arith, at, long, below, c.requires) in (
       omega (arith, at),
       length-set _ (place + 1) _ ∙ length-set digits place _ ∙ long,
-      digits_more bytes digits k place (get_or bytes k 0) _ _ below refl at room (ap (λ (i : ℕ). slice_index upper_digits i) c.from.ensures) (ap (λ (i : ℕ). slice_index upper_digits i) c.from-in-loop-byte.ensures) c.loop-byte.invariant.2,
+      digits_more bytes digits k place (get_or bytes k 0) _ _ below refl at room c.digit.ensures c.digit-in-loop-byte.ensures c.loop-byte.invariant.2,
     )
