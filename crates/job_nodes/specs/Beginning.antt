@@ -170,7 +170,7 @@ AreEmpty contents = All (λ (bytes : List ℕ). bytes ≡ []) contents
 pub record IsBegun (begins : Node → History → Type 0) (world : WorldValue) : Type 0 where
   pub node : Node
   pub begun : History
-  pub begins : begins node begun
+  pub is_begun : begins node begun
   pub lawful : IsLawfulWorld node begun world
 
 module _ {S : Type 0} (reads : Reads S) where
