@@ -70,7 +70,7 @@ pub enum Job {
     Show(ShowWords),
     /// Prints which rule of a policy table decides on each packet, and why no rule before.
     Decide(DecideWords),
-    /// Prints where two policy tables decide differently, or that they are the same.
+    /// Prints how two policy tables decide differently, or that they are the same.
     Compare(CompareWords),
     /// Prints what a policy table decides of all commands, and which of its rules never match.
     Map(MapWords),

@@ -32,8 +32,7 @@ const ONE_PORT: &str = "1 if frames come";
 const ANY_ALONE: &str = "    --any is there: without --port, --initiator, --key and --slot\n";
 
 /// What may not be there beside `--any` of the node.
-const ANY_AT_NODE: &str =
-    "    --any is there beside --node: without --node, loads are rehearsed at any node\n";
+const ANY_AT_NODE: &str = "    --any is there beside --node: give the maps by --maps\n";
 
 /// What NEW may be where OLD is standard input.
 const ONE_INPUT: &str = "the name of a file if OLD is - too";

@@ -70,9 +70,7 @@ pub fn compare_command<'a>(alloc: Global) -> Result<Command<'a>, AllocError>
     let help = "Print a table in markdown";
     let markdown = flag(alloc, "markdown", help);
     Command::new(alloc, "compare")
-        .about(
-            "Prints where two policy tables decide differently, with a packet for each difference",
-        )
+        .about("Prints how two policy tables decide differently, with a packet for each difference")
         .arg(old)?
         .arg(new)?
         .arg(maps)?

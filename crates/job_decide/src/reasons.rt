@@ -114,7 +114,10 @@ fn add_no_place(text: &mut String, miss: NoPlace) -> Result<(), AllocError> {
         }
         NoPlace::BehindBank { address, length } => {
             let last = (u64::from(address) + u64::from(length)).saturating_sub(1);
-            writeln!(text, "the last address {last:08X} is behind the bank")
+            writeln!(
+                text,
+                "the last address {last:08X} is after the end of the bank"
+            )
         }
         NoPlace::OtherAtRegister { .. } => {
             let (register, read, write) = (LOAD_REGISTER, LOAD_RESULT_SIZE, CONTROL_SIZE);
