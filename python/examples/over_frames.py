@@ -1,4 +1,4 @@
-"""A talk in frames, with this target or another behind a bridge."""
+"""A talk in frames, with this target or another after a bridge."""
 from sandbarstove import Frames, command, reply
 
 target = Frames()

@@ -1,4 +1,4 @@
-"""A talk in lines with `tools/share`, or `rmapctl live` behind `socat`."""
+"""A talk in lines with `tools/share`, or with `rmapctl live` by way of `socat`."""
 from sandbarstove import Lines, command, reply
 
 target = Lines()

@@ -6,7 +6,7 @@
 
 `Node` is the proved library, `libsandbarstove.so`, which SANDBAR_LIBRARY may name. `Lines` and `Frames` are clients of
 `rmapctl live` and `tools/share`. `command`, `reply` and `load` are by the rules of `rmapctl packet` and `rmapctl show`.
-The module stands on Python's standard library alone, 3.11 or later.
+The module needs only Python's standard library: 3.9 or later, and 3.11 or later for `Node.from_file`.
 """
 from .files import NodeFileFault
 from .library import LibraryFault

@@ -147,7 +147,7 @@ class Lines:
 
 
 class Frames:
-    """A talk in frames, with `rmapctl live --frames`, `tools/share --frames`, or another target behind a bridge."""
+    """A talk in frames, with `rmapctl live --frames`, `tools/share --frames`, or another target after a bridge."""
 
     def __init__(self, host: str = "127.0.0.1", port: int = 10030, timeout: float = 20):
         self._socket = _connected(host, port, timeout)
@@ -161,7 +161,7 @@ class Frames:
             raise LinkFault(error.strerror or str(error)) from None
 
     def receive(self, wait: Optional[float] = None) -> Optional[tuple[bytes, str]]:
-        """The next packet with its end, or None if none comes in so many seconds."""
+        """The next packet with its end, or None if none comes in that many seconds."""
         end = time.monotonic() + (self._timeout if wait is None else wait)
         while True:
             while (frame := self._frame()) is not None:

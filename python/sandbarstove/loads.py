@@ -22,7 +22,7 @@ class LoadFault(Exception):
     def __init__(self, slot: int, told: Optional[Reply], code: int = 0, place: int = 0, stands: bool = False):
         self.slot, self.reply, self.code, self.place, self.stands = slot, told, code, place, stands
         why = "no reply" if told is None else f"load result {code} place {place}" if code else f"status {told.status} {told.meaning}"
-        super().__init__(f"slot {slot}: {why}" + (", of the read of the result: the load stands" if stands else ""))
+        super().__init__(f"slot {slot}: {why}" + (", of the read of the result: the load is done" if stands else ""))
 
 
 def _asked(target: Target, packet: bytes, port: int, slot: int, stands: bool = False) -> Reply:

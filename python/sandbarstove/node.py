@@ -85,7 +85,7 @@ def _array(kind: type, rows: Sequence[tuple]):
 
 
 def verify(image: bytes, maps: Sequence[Map] = ()) -> None:
-    """Tells whether a program may judge in a node with these maps: if not, it raises NodeFault."""
+    """Verifies that a program may judge in a node with these maps. If it may not, this raises NodeFault."""
     why = c.Why()
     rows = _array(c.MapConfig, [(row.cells, row.peak) for row in maps])
     code = c.library().sandbar_verify(rows, len(maps), image, len(image), byref(why))
@@ -185,7 +185,7 @@ class Node:
         return bytes(room[:length])
 
     def poke(self, address: int, data: bytes, bank: int = 0) -> list[Entry]:
-        """Puts bytes into a bank, as the instrument does. No entry tells of it, so the bank gets a new journal; the
+        """Puts bytes into a bank, as the instrument does. No entry has it, so the bank gets a new journal; the
         entries of the old one come back."""
         entries = self.journal(bank)
         self._done(self._c.sandbar_poke(byref(self._node), bank, _word("address", address), bytes(data), len(data),
