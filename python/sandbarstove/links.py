@@ -61,10 +61,10 @@ class Lines:
         self.damaged = 0
 
     def _keep(self, line: str) -> None:
-        """Adds the entry of a line."""
+        """Adds the entry of a line of a journal, if it has one."""
         if line == "journal damaged":
             self.damaged += 1
-        else:
+        elif line.startswith("journal ") and not line.endswith(" entries"):
             self.entries.append(entry_of(line))
 
     def send(self, line: str) -> None:
@@ -87,9 +87,8 @@ class Lines:
     def ask_line(self, line: str) -> str:
         """The answer to a line that has one, as a packet line has that ends in EOP or EEP."""
         self.send(line)
-        while (answer := self.receive()).startswith("journal "):
-            if not answer.endswith(" entries"):
-                self._keep(answer)
+        while (answer := self.receive()).startswith(("journal ", "bank ")):
+            self._keep(answer)
         words = answer.split()
         if words[0] == "line":
             raise BadLine(line, int(words[-1]))
@@ -103,9 +102,11 @@ class Lines:
         return bytes.fromhex(words[1]) if len(words) == 3 else None
 
     def journal(self) -> list[Entry]:
-        """Has the journal handed out: these entries, and those that came by themselves before, are gone from the target."""
+        """Has the journal of each bank handed out: these entries, and those that came by themselves before, are gone from the target.
+        What comes of `cells` is after all of them."""
         self.send("journal")
-        while not (answer := self.receive()).endswith(" entries"):
+        self.send("cells")
+        while not (answer := self.receive()).endswith(" maps"):
             self._keep(answer)
         entries, self.entries = self.entries, []
         return entries

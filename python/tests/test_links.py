@@ -32,6 +32,20 @@ class AtTheProgram(unittest.TestCase):
             target.set(0xA0000000, b"\0")
             self.assertEqual(target.entries, [Entry(0, 2, 0, 0, 0, READ)])
 
+    def test_banks(self):
+        with tempfile.TemporaryDirectory() as folder:
+            node = Path(folder, "node.toml")
+            node.write_text("[[bank]]\nbase = 0xA0000000\nsize = 256\njournal = 2\n[[bank]]\nbase = 0\nsize = 16\njournal = 1\n")
+            with kit.Shared("--node", str(node)) as shared, Lines(port=shared.lines) as target:
+                other = command("write", 0, b"z", extended=1)
+                for packet in (READ, other, READ, READ, other):
+                    self.assertEqual(reply(target.ask(packet)).status, 0)
+                target.set(0, b"\1\2", 1)
+                self.assertEqual(reply(target.ask(command("read", 0, 2, extended=1))).data, b"\1\2")
+                self.assertEqual([entry.number for entry in target.entries], [1])
+                self.assertEqual([entry.number for entry in target.journal()], [1, 2, 2])
+                self.assertEqual((target.journal(), target.cells()), ([], []))
+
     def test_loads(self):
         with kit.Shared("--ports", "2") as shared, Lines(port=shared.lines) as target, Frames(port=shared.frames) as frames:
             self.assertEqual(load(target, kit.DENY, 0, 1), [1])
