@@ -2,8 +2,7 @@
 use Rattle.std.proofs.Common.{◌≡◌, ◌<◌, ◌≤◌, ◌+◌, ◌∙◌, ℕ, suc, List, [], ◌∷◌, ◌++◌, Option, Some, None, length, take, drop, get_or, refl, sym, ap, subst, arith}
 use Rattle.std.specs.Prelude.{slice_get}
 use Rattle.std.proofs.lemmas.List.{take_more}
-use Rattle.std.proofs.lemmas.Option.{none-some}
-use mathlib.Core.Option.{some-injective}
+use Rattle.std.proofs.lemmas.Option.{none-some, same_Some}
 use Rattle.bver.specs.Justified.{AcceptedValue}
 use Rattle.rmap.specs.declared.status.Status.{Status}
 use Rattle.spw.specs.Line.{lines_of}
@@ -13,7 +12,7 @@ use Rattle.sched.specs.Looking.{Node, published}
 use Rattle.sched.specs.Worlds.{AreProgramsOf, IsLawfulWorld, IsWorldOf, WorldValue, generation_in, node_of, staging_in}
 use Rattle.job_config.specs.OwnNodes.{IsConfigOf, LoadValue, OwnNodeValue}
 use Rattle.job_parts.specs.Turns.{AreTaken}
-use Rattle.job_nodes.specs.Beginning.{AreLoaded, AreSettled, IsLoaded, IsUnloadedWorld, LeavesWorld, LoadsWorld, LoadsWorlds, StopsWorlds, TriesWorld, generation, own_schedule}
+use Rattle.job_nodes.specs.Beginning.{AreLoaded, AreSettled, IsLoaded, IsOwnWorld, IsUnloadedWorld, LeavesWorld, LoadsWorld, LoadsWorlds, StopsWorlds, TriesWorld, generation, own_schedule}
 use Rattle.job_nodes.specs.JobNode.{reason_of}
 use Rattle.job_nodes.specs.Making.{AreLoadLines, told_refusal}
 use Rattle.job_nodes.specs.Settled.{SettlesLine}
@@ -61,7 +60,7 @@ tries_world address load text shown a b old new are same none all n h lawful =
 shown_is : (n : Node) (h : History) (w : WorldValue) (slot count : ℕ) (shown : Option (AcceptedValue × ℕ)) → AreProgramsOf n (published n h) w.programs
     → slice_get w.programs slot ≡ shown → Some count ≡ generation_in shown → count ≡ generation n h slot
 shown_is n h w slot count None are is told = absurd (none-some _ (sym told))
-shown_is n h w slot count (Some shown) are is told = some-injective count shown.1 told ∙ (are slot shown is).generation
+shown_is n h w slot count (Some shown) are is told = same_Some count shown.1 told ∙ (are slot shown is).generation
 
 -- the generation that a world tells
 told_is : (n : Node) (h : History) (w : WorldValue) (slot count : ℕ) → IsLawfulWorld n h w → Some count ≡ generation_in (slice_get w.programs slot) → count ≡ generation n h slot
@@ -141,3 +140,15 @@ pub own_start : (own : OwnNodeValue) (config : NodeConfig) (program : AcceptedVa
 own_start own config program world is start =
     let same : node_of config program.program ≡ own_schedule own program.program = rw (is.address, is.ports_are, is.banks_are, is.sizes_are) refl in
     subst (λ (n : Node). IsWorldOf n Start world) same start
+
+-- the world of that configuration, behind what is loaded
+pub own_world : (own : OwnNodeValue) (program : AcceptedValue) (address : ℕ) (loads : List LoadValue) (first world : WorldValue) → address ≡ own.address
+    → loads ≡ own.loads → IsWorldOf (own_schedule own program.program) Start first → LoadsWorlds address loads first world → IsOwnWorld own program world
+own_world own program address loads first world is are start all =
+    let n = own_schedule own program.program in
+    let done = all n Start (record { lawful = tt; world = start }) in
+    record {
+      begun = done.0;
+      lawful = done.1;
+      loaded = subst (λ (a : ℕ). AreLoaded n a own.loads Start done.0) is (subst (λ (l : List LoadValue). AreLoaded n address l Start done.0) are done.2);
+    }

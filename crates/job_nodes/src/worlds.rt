@@ -108,7 +108,6 @@ fn load_reason(world: &World) -> u8
 }
 
 /// Loads an image at the world of that logical address, as the load of that number.
-#[tactic(auto, using(crate::proofs::FirstWorlds::loads_world, crate::proofs::FirstWorlds::leaves_world))]
 fn load_world(
     alloc: Global,
     loading: &mut WorldLoading,

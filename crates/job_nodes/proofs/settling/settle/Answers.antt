@@ -6,8 +6,8 @@ loop-step-init c = follows_first c.args.event _ c.args.world.now _ c.in_ok-last.
 
 pub loop-step-preserved : goal.loop-step-preserved
 loop-step-preserved c =
-    follows_more c.args.event _ c.port-port.result _ _ c.args.world.now _ _ c.port-port.ensures c.loop-step.invariant c.in-Some.ensures c.in_ok-happens-2.ensures
+    follows_more c.args.event _ c.port-port.result _ _ c.args.world.now _ _ c.port-port.ensures c.loop-step.invariant c.in-Some.ensures.step c.in_ok-last-2.ensures
 
-pub loop-step-in_default-returns : goal.loop-step-in_default-returns
-loop-step-in_default-returns c =
-    settles c.args.event c.port-port.result _ c.args.world.now _ c.port-port.ensures c.requires c.loop-step.invariant c.in_default.ensures
+pub returns-in_default : goal.returns-in_default
+returns-in_default c =
+    settles c.args.event c.port-port.result _ c.args.world.now _ c.port-port.ensures c.requires c.loop-step.invariant c.in_default.ensures.free
