@@ -8,10 +8,16 @@ function engine(port) {
   const encoder = new TextEncoder(), decoder = new TextDecoder();
   let module = null;
 
+  // The files by their paths and by their names. A node's file names those beside it by their paths; standard input has none.
+  // Of two files of one name the later one is read.
+  function named(files) {
+    return [...files.filter(([name]) => name !== '-').map(([name, bytes]) => [`./${name}`, bytes]), ...files];
+  }
+
   // The words and files as bytes: a number, so many words, and name and bytes of each file. Before each is its length.
   function packed(words, files) {
     const pieces = words.map((word) => encoder.encode(word));
-    for (const [name, bytes] of files) pieces.push(encoder.encode(name), bytes);
+    for (const [name, bytes] of named(files)) pieces.push(encoder.encode(name), bytes);
     const given = new Uint8Array(4 + pieces.reduce((sum, piece) => sum + 4 + piece.length, 0));
     const view = new DataView(given.buffer);
     view.setUint32(0, words.length, true);
