@@ -188,7 +188,7 @@ function showMap(map) {
 
 function drawMap() {
   if (!shown) return;
-  const { svg, bands } = picture.drawnMap(shown.text, roomOf('map'), shown.differences.slice(0, MOST_MARKS), shown.bands);
+  const { svg, lines, bands } = picture.drawnMap(shown.text, roomOf('map'), shown.differences.slice(0, MOST_MARKS), shown.bands);
   $('map').replaceChildren(svg);
   if (bands.length > shown.bands) {
     const button = made('button', { type: 'button', className: 'plain', textContent: `Draw the other ${bands.length - shown.bands} of ${bands.length} bands` });
@@ -196,15 +196,15 @@ function drawMap() {
     $('map').append(button);
   }
   if (shown.differences.length > MOST_MARKS) $('map').append(made('p', { className: 'small', textContent: `The first ${MOST_MARKS} differences are outlined.` }));
-  if ($('map-lines').open) tabulate(bands);
+  if ($('map-lines').open) tabulate(lines);
   else $('map-table').replaceChildren();
 }
 
 // The map as a table, a row for each line.
-function tabulate(bands) {
+function tabulate(lines) {
   const heads = [...picture.FIELDS, 'Addresses', 'Port', 'What the table asks'].map((head) => made('th', { scope: 'col', textContent: head }));
-  const rows = bands.flatMap((band) => band.lines.map((line) => made('tr', {},
-    ...[...band.fields, line.addresses, band.port, line.course].map((words) => made('td', { textContent: words })))));
+  const rows = lines.map((line) => made('tr', {},
+    ...[...line.fields, line.addresses, line.port, line.course].map((words) => made('td', { textContent: words }))));
   const caption = made('caption', { textContent: `What new.policy decides: ${rows.length} lines` });
   $('map-table').replaceChildren(made('table', {}, caption, made('thead', {}, made('tr', {}, ...heads)), made('tbody', {}, ...rows)));
 }
@@ -359,7 +359,8 @@ function cell(name, block, head) {
 }
 
 function packetRow(packet, block, which, answer, words) {
-  const row = made('tr', {}, made('td', { className: 'n', textContent: packet.numbers.join(', ') }), cell('s', block, 'What it is'));
+  const port = cell('p', [/^\d*/.exec(block[0])[0]], 'Port');
+  const row = made('tr', {}, made('td', { className: 'n', textContent: packet.numbers.join(', ') }), port, cell('s', block, 'What it is'));
   const verdict = /verdict (\d+)/.exec(which?.[0] ?? '');
   if (verdict) row.className = `v${verdict[1]}`;
   row.append(cell('d', which ?? ['the table has a fault'], 'Which rule'));
@@ -473,7 +474,7 @@ async function typed(event) {
 async function addPacket(event) {
   event.preventDefault();
   const is_rmw = $('kind').value === 'rmw';
-  const options = ['key', 'initiator', 'extended', 'transaction'].flatMap((id) => [`--${id}`, $(id).value]);
+  const options = ['port', 'key', 'initiator', 'extended', 'transaction'].flatMap((id) => [`--${id}`, $(id).value]);
   const done = await perform(['packet', $('kind').value, $('address').value, $('data').value, ...(is_rmw ? [$('mask').value] : []), ...options]);
   $('said-make').textContent = done.status === 0 ? '' : (done.text + done.told).trimEnd();
   $('said-make').className = 'said bad';

@@ -39,17 +39,47 @@ const picture = (() => {
   // The numbers of the rules of a course.
   const rulesOf = (course) => steps(course).flatMap(({ rule }) => (rule === 'no rule' ? [] : [Number(rule.slice(5))]));
 
+  // The ports that a word says, and the word for ports, as rmapctl has it.
+  const ALL_PORTS = [...Array(32).keys()];
+  function portsIn(word) {
+    if (word === '*') return ALL_PORTS;
+    const own = word.replace('!', '').split(',').map(Number);
+    return word.startsWith('!') ? ALL_PORTS.filter((port) => !own.includes(port)) : own;
+  }
+  function portWord(ports) {
+    if (ports.length === ALL_PORTS.length) return '*';
+    return ports.length <= ALL_PORTS.length / 2 ? ports.join(',') : `!${ALL_PORTS.filter((port) => !ports.includes(port)).join(',')}`;
+  }
+
+  // The bands of lines: those of one port with the same four words, since `else` has the addresses of none of the others there.
+  // Ports with the same lines have one band, so a line of several ports may be in several.
+  function bandsOf(lines) {
+    const groups = new Map();
+    for (const line of lines) {
+      const own = line.fields.join(' ');
+      if (!groups.has(own)) groups.set(own, []);
+      groups.get(own).push(line);
+    }
+    return [...groups.values()].flatMap((group) => {
+      const [{ fields }] = group, found = new Map();
+      if (group.every(({ port }) => port === '*')) return [{ fields, port: '*', lines: group }];
+      for (const port of ALL_PORTS) {
+        const own = group.filter((line) => portsIn(line.port).includes(port)), name = own.map(({ text }) => text).join('\n');
+        if (own.length) found.set(name, { ports: [...(found.get(name)?.ports ?? []), port], own });
+      }
+      return [...found.values()].map(({ ports, own }) => ({ fields, port: portWord(ports), lines: own }));
+    });
+  }
+
   function readMap(text) {
-    const bands = [], notes = [];
+    const lines = [], notes = [];
     for (const line of text.trimEnd().split('\n')) {
       if (line.startsWith('rule ')) { notes.push(line); continue; }
       const [words, course] = line.split(' : ');
       const [kind, key, init, ext, addresses, , port = '*'] = words.split(' ');
-      const fields = [kind, key, init, ext], own = [...fields, port].join(' ');
-      if (bands.length === 0 || bands[bands.length - 1].own !== own) bands.push({ own, fields, port, lines: [] });
-      bands[bands.length - 1].lines.push({ addresses, course, ranges: ranges(addresses), text: line });
+      lines.push({ fields: [kind, key, init, ext], addresses, port, course, ranges: ranges(addresses), text: line });
     }
-    return { bands, notes };
+    return { lines, bands: bandsOf(lines), notes };
   }
 
   function readCompare(text) {
@@ -287,7 +317,7 @@ const picture = (() => {
 
   // What the table decides, in at most so many bands, with the differences outlined; and what is told of rules that never match.
   function drawnMap(text, room, differences, most) {
-    const { bands: all, notes } = readMap(text), bands = all.slice(0, most);
+    const { lines, bands: all, notes } = readMap(text), bands = all.slice(0, most);
     const drawing = new Drawing('What the policy table decides', '');
     const heads = bands.some((band) => band.port !== '*') ? [...FIELDS, 'PORT'] : FIELDS;
     const wordsIn = (band) => [...band.fields, band.port].slice(0, heads.length);
@@ -314,7 +344,7 @@ const picture = (() => {
     }
     const courses = bands.flatMap((band) => band.lines.map((line) => line.course));
     legend(drawing, left, y + 6, courses, [...new Set(differences.map((one) => one.sign))]);
-    return { svg: drawing.done(), notes, bands: all };
+    return { svg: drawing.done(), notes, lines, bands: all };
   }
 
   // One difference: what is asked under the old table, and under the new one.
