@@ -435,8 +435,8 @@ async function makeLink() {
   }
   window.history.replaceState(null, '', fragment);
   const link = location.href;
-  let where = 'It stands in the address.';
-  try { await navigator.clipboard.writeText(link); where = 'It was copied, and stands in the address.'; } catch (refused) { /* the address has it */ }
+  let where = 'It is in the address.';
+  try { await navigator.clipboard.writeText(link); where = 'It was copied, and is in the address.'; } catch (refused) { /* the address has it */ }
   $('said-link').textContent = `The link has the tables, the packets and the maps, and no other file: ${link.length.toLocaleString('en')} characters. ${where}`;
 }
 

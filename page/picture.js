@@ -258,7 +258,7 @@ const picture = (() => {
   function legend(drawing, x, y, courses, signs) {
     const used = [...VERDICTS.keys()].filter((verdict) => courses.some((course) => steps(course).some((step) => step.verdict === verdict)));
     const items = used.map((verdict) => [VERDICTS.get(verdict)[0], `${VERDICTS.get(verdict)[1]}: ${VERDICTS.get(verdict)[2]}`]);
-    if (courses.some((course) => course.includes(' else '))) items.push(['quota', '0:0 < 3: where the ticket of cell 0 of map 0 is below 3']);
+    if (courses.some((course) => course.includes(' else '))) items.push(['quota', '0:0 < 3: if the ticket of cell 0 of map 0 is below 3']);
     for (const sign of signs) items.push(['changed', `${sign} the new table ${SIGNS.get(sign)}`]);
     for (const [name, words] of items) {
       drawing.rect(x, y, 16, 12, name === 'changed' ? name : `${name} framed`);
