@@ -447,7 +447,7 @@ function say(text, name) {
   if (text) $('screen').append(made('span', { className: name, textContent: text }));
 }
 
-const INTRODUCTION = `The words of docs/COMMANDS.md work over the files above. ls, cat FILE, hex FILE, rm FILE and clear are the page's own.
+const INTRODUCTION = `The words of docs/COMMANDS.md work over the files above, also those that a node's file names. ls, cat FILE, hex FILE, rm FILE and clear are the page's own.
 A | goes to the next command's -, and > FILE keeps what is printed. serve and live --frames are left out: no thread can start here, and there is no link.
 `;
 
