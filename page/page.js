@@ -359,7 +359,8 @@ function cell(name, block, head) {
 }
 
 function packetRow(packet, block, which, answer, words) {
-  const port = cell('p', [/^\d*/.exec(block[0])[0]], 'Port');
+  const port = made('td', { className: 'p', textContent: /^\d*/.exec(block[0])[0] });
+  port.dataset.head = 'Port';
   const row = made('tr', {}, made('td', { className: 'n', textContent: packet.numbers.join(', ') }), port, cell('s', block, 'What it is'));
   const verdict = /verdict (\d+)/.exec(which?.[0] ?? '');
   if (verdict) row.className = `v${verdict[1]}`;
