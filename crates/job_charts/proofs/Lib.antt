@@ -2,5 +2,5 @@ mod Limits
 mod PacketBytes
 mod WitnessPoints
 mod Telling
-mod Ports
+mod Charted
 mod Comments

@@ -109,7 +109,7 @@ module _ {J : Type 0} {starts : ℕ → Standing} {ports : ℕ} {by_port : List 
   old_at serve = subst (λ (w : Worker J SinkValue). IsDeskWorker (starts 0) banks (slice_index_or desk.serves 0 serve) w) (loaded.old_is loaded.old) (desk.each 0 loaded.old serve first_below)
 
   pub started : ServesLoads address loads (starts 0) (standing_of loaded.new)
-  started = subst (λ (s : Standing). ServesLoads address loads s (standing_of loaded.new)) (old_at loaded.old.serve_pass).stands loaded.loads
+  started = subst (λ (s : Standing). ServesLoads address loads s (standing_of loaded.new)) (old_at loaded.old.serve_pass).stands loaded.served
 
   each_behind : (k : ℕ) (worker : Worker J SinkValue) (serve : ServePass) → k < ports
       → IsDeskWorker (with_first (standing_of loaded.new) starts k) banks (slice_index_or desk.serves k serve) (slice_index_or (slice_set workers 0 loaded.new) k worker)

@@ -92,7 +92,7 @@ pub record LoadsFirst {J : Type 0} (address : ℕ) (loads : List LoadValue) (ban
   pub some : 0 < length before
   pub old_is : (worker : Worker J SinkValue) → slice_index_or before 0 worker ≡ old
   pub after_is : after ≡ slice_set before 0 new
-  pub loads : ServesLoads address loads (standing_of old) (standing_of new)
+  pub served : ServesLoads address loads (standing_of old) (standing_of new)
   pub keeps : KeepsDesk banks old new
 
 -- the first list is a beginning of the second

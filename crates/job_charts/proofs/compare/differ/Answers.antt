@@ -1,6 +1,6 @@
 use Rattle.std.proofs.Common.{◌≡◌, ◌<◌, ℕ, arith, subst}
 use Rattle.job_charts.specs.ComparedFile.{AreSameIfCharted}
-use Rattle.job_charts.proofs.Ports.{same_at_all, same_more}
+use Rattle.job_charts.proofs.Charted.{same_at_all, same_more}
 use Rattle.job_charts.proofs.compare.differ.Goals as goal
 
 pub loop-port-preserved : goal.loop-port-preserved
