@@ -34,8 +34,8 @@ returns-in-Ok-clause-stops g c =
     )) halt stops)
     c.ask_any.ensures.stops
 
-pub returns-in-Err-clause-done : goal.returns-in-Err-clause-done
-returns-in-Err-clause-done g c =
+pub returns-clause-done : goal.returns-clause-done
+returns-clause-done g c =
     let none = subst (λ (m : Maps). HoldsNotAsked g.F.Files.reads c.args.words.now m c.place_in.new.files c.asked_in.new.files c.in-Err.none) c.sizes.ensures c.in-Err.ensures.none in
     IfOk-weaker c.tell_none.result _ _
     (λ status told. record {
@@ -46,8 +46,8 @@ returns-in-Err-clause-done g c =
     })
     c.tell_none.ensures.told
 
-pub returns-in-Err-clause-stops : goal.returns-in-Err-clause-stops
-returns-in-Err-clause-stops g c =
+pub returns-clause-stops : goal.returns-clause-stops
+returns-clause-stops g c =
     let holds : NoPolicy → Type 0 = HoldsNotAsked g.F.Files.reads c.args.words.now (sizes_at c.in_ok-place.place) c.place_in.new.files c.asked_in.new.files in
     let none = subst (λ (m : Maps). HoldsNotAsked g.F.Files.reads c.args.words.now m c.place_in.new.files c.asked_in.new.files c.in-Err.none) c.sizes.ensures c.in-Err.ensures.none in
     IfErr-weaker c.tell_none.result _ _

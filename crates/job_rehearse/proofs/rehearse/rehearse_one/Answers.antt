@@ -1,4 +1,4 @@
-use Rattle.std.proofs.Common.{inl, inr}
+use Rattle.std.proofs.Common.{◌∙◌, inl, inr, sym}
 use Rattle.std.proofs.lemmas.Result.{IfErr-weaker, IfOk-weaker}
 use Rattle.job_rehearse.proofs.Stopping.{stops_more}
 use Rattle.job_rehearse.proofs.rehearse.rehearse_one.Goals as goal
@@ -6,7 +6,7 @@ use Rattle.job_rehearse.proofs.rehearse.rehearse_one.Goals as goal
 pub returns-clause-done : goal.returns-clause-done
 returns-clause-done g c =
     IfOk-weaker c.rehearse_at.result _ _
-    (λ status does. inl (record { place = c.in_ok-place.place; between = c.place_in.new.files; placed = c.in_ok-place.ensures.place; port = c.not.is; does = does }))
+    (λ status does. inl (record { place = c.in_ok-place.place; between = c.place_in.new.files; placed = c.in_ok-place.ensures.place; port = sym c.has_port.ensures ∙ c.if-not-has_port.false; does = does }))
     c.rehearse_at.ensures.done
 
 pub returns-clause-stops : goal.returns-clause-stops

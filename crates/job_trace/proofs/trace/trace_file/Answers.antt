@@ -3,7 +3,7 @@ use Rattle.std.proofs.lemmas.Result.{err_from_is_err_and}
 use Rattle.spw.specs.Line.{lines_of}
 use Rattle.sched.specs.Worlds.{IsLawfulWorld, WorldValue}
 use Rattle.job_config.specs.declared.node_lines.NodeLines.{NodeLines}
-use Rattle.job_nodes.specs.Beginning.{GivesSchedule}
+use Rattle.job_nodes.specs.Beginning.{GivesSchedule, HoldsWorld}
 use Rattle.job_parts.specs.Files.{Reads}
 use Rattle.job_parts.specs.Stops.{StopsBy}
 use Rattle.job_parts.specs.Turns.{AreTaken, StopsIn}
@@ -19,7 +19,7 @@ use Rattle.job_trace.proofs.trace.trace_file.Goals as goal
 
 module _ {S : Type 0} (reads : Reads S) (args : NodeLines) (before after : S) (old new : Option (List ℕ)) (text : List ℕ) (made : Option WorldValue) (world : WorldValue)
     (gives : GivesSchedule reads args before text made after) (is : made ≡ Some world) where
-  abbrev held : _
+  abbrev held : HoldsWorld reads args.node gives.between world after
   held = world_in reads args before text made after world gives is
 
   -- the lines of the text that was read
