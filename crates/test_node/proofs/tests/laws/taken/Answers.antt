@@ -4,7 +4,7 @@ use Rattle.std.specs.Prelude.{[]}
 use Rattle.test_node.proofs.tests.laws.taken.Goals as goal
 
 pub returns : goal.returns
-returns g c =
+returns c =
     let second = c.serve-served.ensures.serves in record {
       between = _;
       serves = second;
