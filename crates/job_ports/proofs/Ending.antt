@@ -52,11 +52,11 @@ served_all sent failed old new report all put worked none put_is begins =
     subst (λ (packets : List Cargo). HasServed sent failed (standing_of old) (standing_of new) old.sink new.sink packets report) (sym same) worked.served
 
 -- what became of a port, by its worker and the report
-abbrev end_of : {J : Type 0} → Worker J SinkValue → Report → PortEnd
+abbrev pub end_of : {J : Type 0} → Worker J SinkValue → Report → PortEnd
 end_of worker report = record { pass = worker.pass; front = worker.front; sink = worker.sink; report = report }
 
 -- what became of each port
-abbrev ends_of : {J : Type 0} → List (Worker J SinkValue) → List Report → List PortEnd
+abbrev pub ends_of : {J : Type 0} → List (Worker J SinkValue) → List Report → List PortEnd
 ends_of [] reports = []
 ends_of (worker ∷ workers) [] = []
 ends_of (worker ∷ workers) (report ∷ reports) = end_of worker report ∷ ends_of workers reports

@@ -8,13 +8,13 @@ use Rattle.job_ports.proofs.queues.own_desks.Goals as goal
 
 pub load_first-requires : goal.load_first-requires
 load_first-requires g c =
-    fresh_shares c.config-config.ensures c.requires.count c.in-Ok.ensures.banks c.in_ok-ports.ensures c.in-Ok.ensures.passes c.in_ok-workers.ensures
+    fresh_shares _ _ _ c.config-config.ensures c.requires.count c.in-Ok.ensures.banks c.in_ok-ports.ensures c.in-Ok.ensures.passes c.in_ok-workers.ensures
 
 pub returns-clause-own : goal.returns-clause-own
 returns-clause-own g c =
     own_desk c.args.own.now c.args.program _ c.in-Ok.cells _ c.args.arrivals _ _ _ _ _ c.workers_shares_count.ensures c.requires.sizes (search rules) c.in-Ok.ensures.cells
     c.config-config.ensures c.in_ok-set_all.ensures
-    (desk_fresh c.config-config.ensures c.requires.count c.in-Ok.ensures.banks c.in_ok-ports.ensures c.in-Ok.ensures.passes c.in_ok-workers.ensures)
+    (desk_fresh _ _ _ c.config-config.ensures c.requires.count c.in-Ok.ensures.banks c.in_ok-ports.ensures c.in-Ok.ensures.passes c.in_ok-workers.ensures)
     c.in_ok-load_first.ensures
 
 pub returns-clause-served : goal.returns-clause-served

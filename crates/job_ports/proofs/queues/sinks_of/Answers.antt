@@ -36,7 +36,8 @@ loop-worker-preserved g c =
 pub loop-worker-init : goal.loop-worker-init
 loop-worker-init g c = (
   search rules,
-  none_rejoined c.args.ports.now (vec_items c.args.put_passes) (vec_items c.args.workers) c.requires.ports,
+  subst (λ l. AreRejoined c.args.ports.now (vec_items c.args.put_passes) (vec_items c.args.put_passes) [] l) (search rules)
+      (none_rejoined c.args.ports.now (vec_items c.args.put_passes) (vec_items c.args.workers) c.requires.ports),
   none_back c.args.cells.now,
   subst (λ ws. AreSeated c.args.cells.now ws) (sym c.into_iter-worker-iterator.ensures.into_iter_gives.0) c.requires.seats,
 )
