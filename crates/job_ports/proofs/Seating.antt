@@ -23,7 +23,7 @@ use Rattle.job_config.specs.OwnNodes.{OwnNodeValue}
 use Rattle.job_ports.specs.Ends.{PortEnd}
 use Rattle.job_ports.specs.Queues.{IsOwnDesk}
 use Rattle.job_ports.specs.Quotas.{AreAllNumbered, AreTakenBack, IsTakenBack, QuotasAreKept}
-use Rattle.job_ports.proofs.Ending.{ends_of}
+use Rattle.job_ports.proofs.Ending.{end_of, ends_of}
 
 -- the calls of the seats of those workers
 abbrev asked_of : {J : Type 0} → List (Worker J SinkValue) → List Call
@@ -64,7 +64,7 @@ calls_by_workers : {J : Type 0} (workers : List (Worker J SinkValue)) (reports :
 calls_by_workers [] reports many = refl
 calls_by_workers (w ∷ workers) [] many = absurd (omega (arith, many))
 calls_by_workers {J} (w ∷ workers) (r ∷ reports) many =
-    flat_map-cons (λ (e : PortEnd). e.pass.pass.seat.asked) _ (ends_of workers reports)
+    flat_map-cons (λ (e : PortEnd). e.pass.pass.seat.asked) (end_of w r) (ends_of workers reports)
     ∙ (ap (λ (l : List Call). w.pass.pass.seat.asked ++ l) (calls_by_workers workers reports (omega (arith, many)))
     ∙ sym (flat_map-cons (λ (x : Worker J SinkValue). x.pass.pass.seat.asked) w workers))
 

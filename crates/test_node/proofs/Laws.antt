@@ -4,7 +4,6 @@ use Rattle.std.specs.Prelude.{Option, None, Some, option_map, slice_get}
 use Rattle.bpf.specs.Program.{Program}
 use Rattle.bver.specs.Justified.{AcceptedValue}
 use Rattle.node_programs.specs.Published.{judging_program}
-use Rattle.node_programs.specs.declared.publishes.Publish.{Publish}
 use Rattle.sched.specs.Agreement.{PublishedAgrees, program_and_generation}
 use Rattle.sched.specs.History.{History}
 use Rattle.sched.specs.Looking.{Node, published}

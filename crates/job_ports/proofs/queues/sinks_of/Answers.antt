@@ -34,13 +34,14 @@ loop-worker-preserved g c =
     )
 
 pub loop-worker-init : goal.loop-worker-init
-loop-worker-init g c = (
-  search rules,
-  subst (λ l. AreRejoined c.args.ports.now (vec_items c.args.put_passes) (vec_items c.args.put_passes) [] l) (search rules)
-      (none_rejoined c.args.ports.now (vec_items c.args.put_passes) (vec_items c.args.workers) c.requires.ports),
-  none_back c.args.cells.now,
-  subst (λ ws. AreSeated c.args.cells.now ws) (sym c.into_iter-worker-iterator.ensures.into_iter_gives.0) c.requires.seats,
-)
+loop-worker-init g c =
+    let none : vec_items c.in_ok-sinks.sinks ≡ [] = search rules in (
+      search rules,
+      subst (λ l. AreRejoined c.args.ports.now (vec_items c.args.put_passes) (vec_items c.args.put_passes) [] l) (sym none)
+          (none_rejoined c.args.ports.now (vec_items c.args.put_passes) (vec_items c.args.workers) c.requires.ports),
+      none_back c.args.cells.now,
+      subst (λ ws. AreSeated c.args.cells.now ws) (sym c.into_iter-worker-iterator.ensures.into_iter_gives.0) c.requires.seats,
+    )
 
 pub give_back-requires : goal.give_back-requires
 give_back-requires g c =

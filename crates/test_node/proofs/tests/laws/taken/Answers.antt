@@ -1,4 +1,3 @@
-use mathlib.Core.List.{IsPrefix}
 use Rattle.std.proofs.lemmas.List.{append-nil}
 use Rattle.std.specs.Prelude.{[]}
 use Rattle.test_node.proofs.tests.laws.taken.Goals as goal
