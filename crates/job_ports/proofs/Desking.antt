@@ -95,6 +95,11 @@ module _ {J : Type 0} {own : OwnNodeValue} (program : AcceptedValue) {config : N
   pub fresh_shares : (k : ℕ) (worker : Worker J SinkValue) → k < length workers → length (slice_index_or workers k worker).pass.pass.shares ≡ banks
   fresh_shares k worker low = (desk_fresh.each k worker worker.serve_pass (omega (arith, low, fresh_count))).shares
 
+-- An element that was found at the first place is there.
+pub first_is : {X : Type 0} (xs : List X) (x d : X) → 0 < length xs → x ≡ slice_index_or xs 0 x → slice_index_or xs 0 d ≡ x
+first_is [] x d some is = absurd (omega (arith, some))
+first_is (y ∷ xs) x d some is = sym is
+
 -- what the first port starts with, and what the others do
 abbrev pub with_first : Standing → (ℕ → Standing) → ℕ → Standing
 with_first start starts zero = start
