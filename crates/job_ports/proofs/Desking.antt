@@ -40,7 +40,7 @@ workers_count J known [] (s ∷ serves) same = absurd (omega (arith, same))
 workers_count J known (p ∷ passes) [] same = absurd (omega (arith, same))
 workers_count J known (p ∷ passes) (s ∷ serves) same = ap (λ n. suc n) (workers_count J known passes serves (omega (arith, same)))
 
-module _ {J : Type 0} {own : OwnNodeValue} {program : AcceptedValue} {config : NodeConfig} {home : Gv} {known : List Link} {by_port : List (List Cargo)} {banks : ℕ} {queues : List Port} {puts : List PutPass}
+module _ {J : Type 0} {own : OwnNodeValue} (program : AcceptedValue) {config : NodeConfig} (home : Gv) (known : List Link) {by_port : List (List Cargo)} {banks : ℕ} {queues : List Port} {puts : List PutPass}
     {serves : List ServePass} {passes : List PortPass} {workers : List (Worker J SinkValue)} (is_config : IsConfigOf own config) (count : length by_port ≡ own.ports) (many : banks ≡ length config.banks.now)
     (filled : AreFilled by_port queues puts serves) (passes_are : passes ≡ unasked (first_passes config program home)) (workers_are : workers ≡ map (new_worker known) (zip passes serves)) where
   abbrev firsts : List PassValue
@@ -95,8 +95,13 @@ module _ {J : Type 0} {own : OwnNodeValue} {program : AcceptedValue} {config : N
   pub fresh_shares : (k : ℕ) (worker : Worker J SinkValue) → k < length workers → length (slice_index_or workers k worker).pass.pass.shares ≡ banks
   fresh_shares k worker low = (desk_fresh.each k worker worker.serve_pass (omega (arith, low, fresh_count))).shares
 
+-- An element that was found at the first place is there.
+pub first_is : {X : Type 0} (xs : List X) (x d : X) → 0 < length xs → x ≡ slice_index_or xs 0 x → slice_index_or xs 0 d ≡ x
+first_is [] x d some is = absurd (omega (arith, some))
+first_is (y ∷ xs) x d some is = sym is
+
 -- what the first port starts with, and what the others do
-with_first : Standing → (ℕ → Standing) → ℕ → Standing
+abbrev pub with_first : Standing → (ℕ → Standing) → ℕ → Standing
 with_first start starts zero = start
 with_first start starts (suc port) = starts (suc port)
 
@@ -150,8 +155,8 @@ loads_leave_seat law it address (load ∷ loads) before after served was =
 -- each port has a seat at its cells
 all_seated : (it : CellsValue) (start : Standing) (starts : ℕ → Standing) → IsSeated it start.pass.seat → ((port : ℕ) → IsSeated it (starts port).pass.seat)
     → (port : ℕ) → IsSeated it (with_first start starts port).pass.seat
-all_seated it start starts first others zero = first
-all_seated it start starts first others (suc port) = others (suc port)
+all_seated it start starts at_first others zero = at_first
+all_seated it start starts at_first others (suc port) = others (suc port)
 
 -- The node of the configuration, behind what it loads.
 pub own_desk : {J : Type 0} (own : OwnNodeValue) (program : AcceptedValue) (config : NodeConfig) (it : CellsValue) (known : List Link) (by_port : List (List Cargo)) (banks : ℕ) (queues : List Port) (puts : List PutPass)

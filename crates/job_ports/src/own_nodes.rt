@@ -5,7 +5,7 @@ ghost use Rattle.job_config.specs.Reads.{ReadsNode};
 ghost use Rattle.job_nodes.specs.Sources.{HoldsNoNode, IsNoFileNode, IsNoPlainNode};
 ghost use Rattle.job_ports.specs.OwnNodes.{HoldsOwn, IsPlainOwn, IsRefusedLoad};
 
-use bver::{Accepted, verify};
+use bver::Accepted;
 use job_config::own_node::OwnNode;
 use job_config::reading::{ReadNode, node_in};
 use job_config::sources::NodeSource;
@@ -15,7 +15,7 @@ use job_parts::factory::judging_program;
 use job_parts::faults::Fault;
 use job_parts::options::NodeWords;
 use job_parts::storage::Files;
-use std::alloc::{AllocError, Global};
+use std::alloc::Global;
 
 /// The node of these words, and the program of its image file, or the factory program.
 fn plain_own<'a, F: Files>(
@@ -34,19 +34,6 @@ fn plain_own<'a, F: Files>(
     Ok(ReadNode { node, program })
 }
 
-/// The same program once more.
-fn again(alloc: Global, program: &Accepted) -> Result<Accepted, AllocError>
-    ensures program { IfOk result (λ again. again.program ≡ program.now.program) }
-    ensures sizes { IfOk result (λ again. again.sizes ≡ program.now.sizes) }
-{
-    let image = program.image().copy()?;
-    // Memory alone can be refused to it: the program was accepted.
-    match verify(alloc, image, &program.sizes()) {
-        Ok(again) => Ok(again),
-        Err(_) => Err(AllocError),
-    }
-}
-
 /// Finds out whether the loads of the node's file of this name are carried out: at a node of one thread, before any thread is
 /// started.
 fn try_loads<'a>(
@@ -61,11 +48,11 @@ fn try_loads<'a>(
     if own.loads().is_empty() {
         return Ok(());
     }
-    let again = again(alloc, program)?;
-    match JobNode::of(alloc, own, again) {
-        Ok(_) => Ok(()),
-        Err(why) => Err(unmade(alloc, name, why)),
-    }
+    let again = program.copy()?;
+    let Err(why) = JobNode::of(alloc, own, again) else {
+        return Ok(());
+    };
+    Err(unmade(alloc, name, why))
 }
 
 /// The node of the node's file of this name, whose loads are carried out.

@@ -208,7 +208,8 @@ fn load_first<R: Wait, J: Family, Q: Wait + Drop>(
         return Err(AllocError);
     }
     let first = &mut workers[0];
-    load_all(rt, alloc, node, first, own.address(), own.loads())
+    load_all(rt, alloc, node, first, own.address(), own.loads())?;
+    Ok(())
 }
 
 /// A node of that configuration, at each of whose ports the program judges at first, whose banks begin with their contents, at
