@@ -1,5 +1,5 @@
 -- One place more that is told.
-use Rattle.std.proofs.Common.{◌≡◌, inl, ◌<◌, ◌+◌, ◌++◌, ◌∷◌, [], ℕ, suc, List, false, true, length, subst, take, arith}
+use Rattle.std.proofs.Common.{◌≡◌, inl, ◌<◌, ◌+◌, ◌++◌, ◌∷◌, [], ℕ, suc, Bool, List, false, true, length, subst, take, arith}
 use Rattle.std.specs.Prelude.{get_or}
 use Rattle.charts.specs.Lines.{IsComparison, IsMap, has_point}
 use Rattle.charts.specs.Plain.{LinesArePlain}

@@ -31,8 +31,7 @@ impl Row {
     /// A row: the port, the text before the ports, the text behind them, and a packet without its port behind that, or none
     /// where it is empty.
     pub fn new(port: u8, front: String, back: String, packet: String) -> Row
-        ensures { result ≡ row_of port (string_bytes front.entry) (string_bytes back.entry)
-            (string_bytes packet.entry) }
+        ensures { result ≡ row_of port (string_bytes front) (string_bytes back) (string_bytes packet) }
     {
         Row {
             port,
