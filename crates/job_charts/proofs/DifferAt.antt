@@ -7,10 +7,11 @@ use Rattle.policy_table.specs.declared.rules.Rule.{Rule}
 use Rattle.job_charts.specs.AskedTables.{AskedValue, asked_at}
 use Rattle.job_charts.specs.ComparedFile.{AreSameIfCharted, DifferAt, HaveDifference}
 
--- the second of two facts, where the first is not so
-pub second_fact : {P Q : Type 0} (is : Bool) → is ≡ false → MatchBool is P Q → Q
-second_fact true e known = absurd (cc)
-second_fact false e known = known
+-- where they do not differ
+pub not_apart : (one other : PolicyValue) (port : ℕ) (is : Bool) → is ≡ false → MatchBool is (DifferAt one other port) (AreSameIfCharted one other port)
+    → AreSameIfCharted one other port
+not_apart one other port true e known = absurd (cc)
+not_apart one other port false e known = known
 
 by_rules : (one other : PolicyValue) (port : ℕ) (is : Bool) → port < 32
     → MatchBool is (HaveDifference (rules_at port one.rules) (rules_at port other.rules)) (AreSame (rules_at port one.rules) (rules_at port other.rules))
