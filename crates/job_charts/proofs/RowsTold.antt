@@ -27,7 +27,7 @@ pub rows_more : (markdown : Bool) (named : ℕ → Bool) (all : List RowValue) (
     → with_rows markdown named all before (drop place all) ≡ told → with_rows markdown named all after (drop (place + 1) all) ≡ told
 rows_more markdown named all place row d before after told there own new known =
     let next : drop place all ≡ row ∷ drop (place + 1) all =
-        drop_more all place d there ∙ ap (λ (r : RowValue). r ∷ drop (place + 1) all) own in
+    drop_more all place d there ∙ ap (λ (r : RowValue). r ∷ drop (place + 1) all) own in
     ap (λ text. with_rows markdown named all text (drop (place + 1) all)) new
     ∙ sym (ap (λ rows. with_rows markdown named all before rows) next)
     ∙ known

@@ -9,8 +9,8 @@ use Rattle.job_charts.proofs.mapped.map_text.Goals as goal
 pub returns : goal.returns
 returns c =
     let lines : string_bytes c.add_rows.new.text ≡ with_rows c.is_markdown-markdown.result (λ port. is_named port c.args.policy.now.rules) c.in_ok-lines.lines.items (head_of c.is_markdown-markdown.result) c.in_ok-lines.lines.items =
-        rows_told c.is_markdown-markdown.result (λ port. is_named port c.args.policy.now.rules) c.as_slice.result.now c.in_ok-lines.lines.items (string_bytes c.in_ok-text.text) (head_of c.is_markdown-markdown.result) (string_bytes c.add_rows.new.text)
-        c.in_ok-add_rows.ensures c.as_slice.ensures.value c.in_ok-text.ensures in
+    rows_told c.is_markdown-markdown.result (λ port. is_named port c.args.policy.now.rules) c.as_slice.result.now c.in_ok-lines.lines.items (string_bytes c.in_ok-text.text) (head_of c.is_markdown-markdown.result) (string_bytes c.add_rows.new.text)
+    c.in_ok-add_rows.ensures c.as_slice.ensures.value c.in_ok-text.ensures in
     record {
       lines = c.in_ok-lines.lines.items;
       lines_told = c.in_ok-lines.ensures;
