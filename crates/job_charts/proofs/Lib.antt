@@ -4,3 +4,5 @@ mod WitnessPoints
 mod Telling
 mod Charted
 mod Comments
+mod RowsTold
+mod DifferAt
