@@ -2,6 +2,7 @@ mod Desking
 mod Ending
 mod Filling
 mod NotServed
+mod Numbering
 mod PrintedLines
 mod Rejoining
 mod Seating

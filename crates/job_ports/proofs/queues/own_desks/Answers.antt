@@ -13,14 +13,14 @@ set_all-requires-clause-contents g c =
 
 pub load_first-requires : goal.load_first-requires
 load_first-requires g c =
-    fresh_shares _ _ _ c.config-config.ensures c.requires.count c.in-Ok.ensures.banks c.in_ok-ports.ensures c.in-Ok.ensures.passes c.in_ok-workers.ensures
+    fresh_shares c.args.program c.in-Ok.cells.home c.set_all.new.known c.config-config.ensures c.requires.count c.in-Ok.ensures.banks c.in_ok-ports.ensures c.in-Ok.ensures.passes c.in_ok-workers.ensures
 
 pub returns-clause-own : goal.returns-clause-own
 returns-clause-own g c =
     let small : c.config-config.result.ports < 256 = search rules in
-    own_desk c.args.own.now c.args.program _ c.in-Ok.cells _ c.args.arrivals _ _ _ _ _ c.workers_shares_count.ensures c.requires.sizes (omega (arith, small, c.config-config.ensures.ports_are)) c.in-Ok.ensures.cells
+    own_desk c.args.own.now c.args.program c.config-config.result c.in-Ok.cells c.set_all.new.known c.args.arrivals _ _ _ _ _ c.workers_shares_count.ensures c.requires.sizes (omega (arith, small, c.config-config.ensures.ports_are)) c.in-Ok.ensures.cells
     c.config-config.ensures (sets_own _ _ _ _ _ _ c.banks.ensures.banks c.contents.ensures.contents c.front-known.ensures c.in_ok-set_all.ensures)
-    (desk_fresh _ _ _ c.config-config.ensures c.requires.count c.in-Ok.ensures.banks c.in_ok-ports.ensures c.in-Ok.ensures.passes c.in_ok-workers.ensures)
+    (desk_fresh c.args.program c.in-Ok.cells.home c.set_all.new.known c.config-config.ensures c.requires.count c.in-Ok.ensures.banks c.in_ok-ports.ensures c.in-Ok.ensures.passes c.in_ok-workers.ensures)
     c.in_ok-load_first.ensures
 
 pub returns-clause-served : goal.returns-clause-served
