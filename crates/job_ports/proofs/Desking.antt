@@ -1,17 +1,20 @@
 -- Workers of a node, before and behind what is loaded.
-use Rattle.std.proofs.Common.{◌≡◌, ◌<◌, ◌∙◌, ℕ, zero, suc, List, [], ◌∷◌, length, map, refl, ap, subst, sym, arith}
+use Rattle.std.proofs.Common.{◌≡◌, ◌<◌, ◌≤◌, ◌-◌, ◌∙◌, ℕ, zero, suc, List, [], ◌∷◌, length, map, refl, ap, ap₂, subst, sym, arith}
 use Rattle.std.specs.Prelude.{slice_index_or, slice_set, zip}
 use Rattle.std.proofs.lemmas.List.{get_or-map, get_or-set_other, get_or-set_same, length-map, length-replicate, length-set}
 use Rattle.std.proofs.lemmas.List.FromFn.{get_or-map-range_with_len, length-map-range_with_len}
 use base.Stored.{Gv}
 use Rattle.annals.specs.declared.deed.Link.{Link}
 use Rattle.bver.specs.Justified.{AcceptedValue}
+use Rattle.cells.specs.Seats.{CellsValue, cells}
+use Rattle.machine.specs.Sizes.{Maps}
 use Rattle.spw.specs.Cargo.{Cargo}
 use Rattle.bank.specs.Records.{first_share}
 use Rattle.node_parts.specs.Nodes.{first_pass, first_passes}
 use Rattle.node_parts.specs.Passes.{PassValue}
 use Rattle.node_parts.specs.declared.config.NodeConfig.{NodeConfig}
 use Rattle.ports.specs.Due.{Standing}
+use Rattle.ports.specs.Laws.{WorkersSharesCount}
 use Rattle.ports.specs.Sinks.{SinkValue}
 use Rattle.ports.specs.Worked.{standing_of}
 use Rattle.ports.specs.declared.port.Port.{Port}
@@ -21,7 +24,8 @@ use Rattle.ports.specs.declared.worker.Worker.{Worker}
 use Rattle.target.specs.Passes.{PortPass, port_pass, unasked}
 use Rattle.job_config.specs.OwnNodes.{IsConfigOf, LoadValue, OwnNodeValue}
 use Rattle.job_ports.specs.Queues.{AreFilled, IsDesk, IsDeskWorker, IsOwnDesk, LoadsFirst, new_worker}
-use Rattle.job_ports.specs.Starts.{ServesLoads, SetsAll, first_standing}
+use Rattle.job_ports.specs.Quotas.{IsSeated}
+use Rattle.job_ports.specs.Starts.{ServesLoad, ServesLoads, SetsAll, first_standing}
 
 worker_at : {J : Type 0} (known : List Link) (passes : List PortPass) (serves : List ServePass) (k : ℕ) (pass : PortPass) (serve : ServePass) (worker : Worker J SinkValue) → k < length passes → k < length serves
     → slice_index_or (map (new_worker known) (zip passes serves)) k worker ≡ new_worker known (slice_index_or passes k pass, slice_index_or serves k serve)
@@ -134,21 +138,45 @@ module _ {J : Type 0} {starts : ℕ → Standing} {ports : ℕ} {by_port : List 
       } in
       subst (λ (ws : List (Worker J SinkValue)). IsDesk (with_first (standing_of loaded.new) starts) ports by_port banks queues puts ws) (sym loaded.after_is) here
 
+-- loads leave the seat of a port at its cells
+loads_leave_seat : WorkersSharesCount → (it : CellsValue) (address : ℕ) (loads : List LoadValue) (before after : Standing) → ServesLoads address loads before after
+    → IsSeated it before.pass.seat → IsSeated it after.pass.seat
+loads_leave_seat law it address [] before after same was = subst (λ (s : Standing). IsSeated it s.pass.seat) (sym same) was
+loads_leave_seat law it address (load ∷ loads) before after served was =
+    let one : ServesLoad address load before served.0 = served.1 in
+    let stays = law before served.0 one.packets one.done.0 one.done.1 in
+    loads_leave_seat law it address loads served.0 after served.2 (record { sizes = stays.sizes ∙ was.sizes; home = stays.home ∙ was.home })
+
+-- each port has a seat at its cells
+all_seated : (it : CellsValue) (start : Standing) (starts : ℕ → Standing) → IsSeated it start.pass.seat → ((port : ℕ) → IsSeated it (starts port).pass.seat)
+    → (port : ℕ) → IsSeated it (with_first start starts port).pass.seat
+all_seated it start starts first others zero = first
+all_seated it start starts first others (suc port) = others (suc port)
+
 -- The node of the configuration, behind what it loads.
-pub own_desk : {J : Type 0} (own : OwnNodeValue) (program : AcceptedValue) (config : NodeConfig) (home : Gv) (known : List Link) (by_port : List (List Cargo)) (banks : ℕ) (queues : List Port) (puts : List PutPass)
-    (workers after : List (Worker J SinkValue)) → IsConfigOf own config → SetsAll own.banks own.contents (length own.banks) [] known
-    → IsDesk (first_standing config program home known) own.ports by_port banks queues puts workers → LoadsFirst own.address own.loads banks workers after
-    → IsOwnDesk own program by_port banks queues puts after
-own_desk own program config home known by_port banks queues puts workers after is_config sets desk loaded = record {
-  starts = with_first (standing_of loaded.new) (first_standing config program home known);
-  are_starts = record {
-    config = config;
-    home = home;
-    known = known;
-    is_config = is_config;
-    sets = sets;
-    loads = started desk loaded;
-    others = λ port. refl;
-  };
-  desk = desk_behind desk loaded;
-}
+pub own_desk : {J : Type 0} (own : OwnNodeValue) (program : AcceptedValue) (config : NodeConfig) (it : CellsValue) (known : List Link) (by_port : List (List Cargo)) (banks : ℕ) (queues : List Port) (puts : List PutPass)
+    (workers after : List (Worker J SinkValue)) → WorkersSharesCount → program.sizes ≡ own.sizes → own.ports ≤ 256 → it ≡ cells config.sizes it.home (256 - config.ports) []
+    → IsConfigOf own config → SetsAll own.banks own.contents (length own.banks) [] known
+    → IsDesk (first_standing config program it.home known) own.ports by_port banks queues puts workers → LoadsFirst own.address own.loads banks workers after
+    → IsOwnDesk own program by_port banks it queues puts after
+own_desk own program config it known by_port banks queues puts workers after law sizes few cells_are is_config sets desk loaded =
+    let start : Standing = standing_of loaded.new in
+    let firsts : ℕ → Standing = first_standing config program it.home known in
+    let own_cells : it ≡ cells own.sizes it.home (256 - own.ports) [] = cells_are ∙ ap₂ (λ (maps : Maps) (n : ℕ). cells maps it.home (256 - n) []) is_config.sizes_are is_config.ports_are in
+    let at_first : (port : ℕ) → IsSeated it (firsts port).pass.seat = λ port. record { sizes = sizes ∙ sym (ap (λ (c : CellsValue). c.sizes) own_cells); home = refl } in
+    record {
+      starts = with_first start firsts;
+      are_starts = record {
+        config = config;
+        home = it.home;
+        known = known;
+        is_config = is_config;
+        sets = sets;
+        loads = started desk loaded;
+        others = λ port. refl;
+      };
+      few = few;
+      cells_are = own_cells;
+      seats = all_seated it start firsts (loads_leave_seat law it own.address own.loads (firsts 0) start (started desk loaded) (at_first 0)) at_first;
+      desk = desk_behind desk loaded;
+    }

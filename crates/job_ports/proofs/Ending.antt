@@ -2,7 +2,9 @@
 use Rattle.std.proofs.Common.{◌≡◌, ◌<◌, ◌+◌, ℕ, zero, suc, List, [], ◌∷◌, ◌++◌, length, map, refl, sym, ap, ap₂, subst, arith, ◌∙◌}
 use Rattle.std.specs.Prelude.{slice_index_or}
 use mathlib.Core.List.{IsPrefix}
+use Rattle.cells.specs.Seats.{CellsValue}
 use Rattle.spw.specs.Cargo.{Cargo}
+use Rattle.ports.specs.Laws.{WorkersSharesCount}
 use Rattle.ports.specs.Queue.{IsServePassOf, put_of, taken_of}
 use Rattle.ports.specs.Serves.{AreServed, HaveServed, IsWorkerOf, ShareOneHistory, total_of}
 use Rattle.ports.specs.Sinks.{SentReply, SinkValue}
@@ -16,8 +18,10 @@ use Rattle.ports.specs.declared.port.ServePass.{ServePass}
 use Rattle.ports.specs.declared.worker.Report.{Report}
 use Rattle.ports.specs.declared.worker.Worker.{Worker}
 use Rattle.job_ports.specs.Arrivals.{ArriveAll}
+use Rattle.job_ports.specs.Ends.{PortEnd}
 use Rattle.job_ports.specs.Queues.{AreBeginnings, AreFew, AreOfPorts, IsBeginning, IsDesk, ServeEach}
-use Rattle.job_ports.specs.ServedFile.{BeginOneHistory, EndsSo, PortEnd, ServePackets, no_replies}
+use Rattle.job_ports.specs.Quotas.{AreSeated, IsSeated}
+use Rattle.job_ports.specs.ServedFile.{BeginOneHistory, EndsSo, ServePackets, no_replies}
 
 -- the packet in front of some items
 abbrev packet_first : Cargo → List Item → Cargo
@@ -126,6 +130,19 @@ module _ {J : Type 0} {starts : ℕ → Standing} {ports : ℕ} {by_port : List 
         worked none (desk.filled.put k [] put low') (begins k put worker (omega (arith, low, served.len, desk.workers_count))) in
         subst (λ (start : Standing). HasServed sent failed start (standing_of new) no_replies new.sink packets done) own.stands
         (subst (λ (sink : SinkValue). HasServed sent failed (standing_of old) (standing_of new) sink new.sink packets done) own.silent all)
+
+    -- The seats are still those of the ports' passes at first.
+    pub left_seated : WorkersSharesCount → (it : CellsValue) → ((port : ℕ) → IsSeated it (starts port).pass.seat) → AreSeated it left
+    left_seated law it seats = λ k worker low.
+        let inside : k < length workers = omega (arith, low, served.len) in
+        let old : Worker J SinkValue = slice_index_or workers k worker in
+        let new : Worker J SinkValue = slice_index_or left k worker in
+        let report : Report = record { discarded = 0; lost = 0 } in
+        let worked : IsWorked sent failed old new (slice_index_or served.reports k report) = served.each k worker report inside in
+        let stays = law (standing_of old) (standing_of new) worked.packets worked.served.deeds worked.served.worked in
+        let own = desk.each k worker worker.serve_pass (omega (arith, inside, desk.workers_count)) in
+        let first : IsSeated it (standing_of old).pass.seat = subst (λ (start : Standing). IsSeated it start.pass.seat) (sym own.stands) (seats k) in
+        record { sizes = stays.sizes ∙ first.sizes; home = stays.home ∙ first.home }
 
 -- an element of a list that has one
 some_of : {A : Type 0} (xs : List A) (k : ℕ) → k < length xs → A

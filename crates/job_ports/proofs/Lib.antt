@@ -4,6 +4,7 @@ mod Filling
 mod NotServed
 mod PrintedLines
 mod Rejoining
+mod Seating
 mod Starting
 mod Tables
 mod TakenIn

@@ -1,7 +1,8 @@
 -- Packets that wait in the queues of ports, and the workers that serve them.
-use Rattle.std.specs.Prelude.{◌≡◌, ◌<◌, ◌≤◌, ℕ, List, [], ◌∷◌, ◌++◌, length, map, slice_index_or, slice_set}
+use Rattle.std.specs.Prelude.{◌≡◌, ◌<◌, ◌≤◌, ◌-◌, ℕ, List, [], ◌∷◌, ◌++◌, length, map, slice_index_or, slice_set}
 use Rattle.annals.specs.declared.deed.Link.{Link}
 use Rattle.bver.specs.Justified.{AcceptedValue}
+use Rattle.cells.specs.Seats.{CellsValue, cells}
 use Rattle.spw.specs.Cargo.{Cargo}
 use Rattle.ports.specs.Queue.{IsPutPassOf, IsServePassOf, put_of, taken_of}
 use Rattle.ports.specs.Sinks.{SinkValue}
@@ -16,7 +17,9 @@ use Rattle.ports.specs.Due.{Standing}
 use Rattle.ports.specs.Worked.{standing_of}
 use Rattle.target.specs.Passes.{PortPass}
 use Rattle.job_config.specs.OwnNodes.{LoadValue, OwnNodeValue}
-use Rattle.job_ports.specs.ServedFile.{BeginOneHistory, EndsSo, PortEnd, no_replies, report_of}
+use Rattle.job_ports.specs.Ends.{PortEnd}
+use Rattle.job_ports.specs.Quotas.{IsSeated, QuotasAreKept}
+use Rattle.job_ports.specs.ServedFile.{BeginOneHistory, EndsSo, no_replies, report_of}
 use Rattle.job_ports.specs.Starts.{AreStarts, KeepsDesk, ServesLoads}
 
 -- no port has over 1,023 packets
@@ -70,11 +73,15 @@ pub record IsDesk {J : Type 0} (starts : ℕ → Standing) (ports : ℕ) (by_por
   pub each : (k : ℕ) (worker : Worker J SinkValue) (serve_pass : ServePass) → k < ports
       → IsDeskWorker (starts k) banks (slice_index_or serves k serve_pass) (slice_index_or workers k worker)
 
--- the same, where each port starts as the node of the configuration has it before the first packet
+-- the same, where each port starts as the node of the configuration has it before the first packet, with a seat at the cells of
+-- the node's maps, to which no seat came back yet
 pub record IsOwnDesk {J : Type 0} (own : OwnNodeValue) (program : AcceptedValue) (by_port : List (List Cargo)) (banks : ℕ)
-    (queues : List Port) (puts : List PutPass) (workers : List (Worker J SinkValue)) : Type 0 where
+    (own_cells : CellsValue) (queues : List Port) (puts : List PutPass) (workers : List (Worker J SinkValue)) : Type 0 where
   pub starts : ℕ → Standing
   pub are_starts : AreStarts own program starts
+  pub few : own.ports ≤ 256
+  pub cells_are : own_cells ≡ cells own.sizes own_cells.home (256 - own.ports) []
+  pub seats : (port : ℕ) → IsSeated own_cells (starts port).pass.seat
   pub desk : IsDesk starts own.ports by_port banks queues puts workers
 
 -- the first worker served the packets of what is loaded, and stands at its own queue; the others are as they were
@@ -122,9 +129,10 @@ pub record ServeEach (starts : ℕ → Standing) (ports : ℕ) (by_port : List (
   pub sinks_are : sinks ≡ map (λ (end : PortEnd). end.sink) ends
   pub report_is : report ≡ report_of ends
 
--- the same at the node of a configuration
+-- the same at the node of a configuration, and quotas were kept
 pub record ServeOwn (own : OwnNodeValue) (program : AcceptedValue) (by_port : List (List Cargo)) (sinks : List SinkValue)
     (report : Report) : Type 0 where
   pub starts : ℕ → Standing
   pub are_starts : AreStarts own program starts
   pub served : ServeEach starts own.ports by_port sinks report
+  pub quotas : QuotasAreKept own.sizes served.ends

@@ -7,7 +7,6 @@ use Rattle.annals.specs.declared.deed.Link.{Link}
 use Rattle.bver.specs.Justified.{AcceptedValue}
 use Rattle.spw.specs.Cargo.{Cargo}
 use Rattle.spw.specs.Line.{lines_of}
-use Rattle.target.specs.Passes.{PortPass}
 use Rattle.ports.specs.Due.{Standing, standing}
 use Rattle.ports.specs.Serves.{total_of}
 use Rattle.ports.specs.Sinks.{SinkValue, replies_in}
@@ -21,17 +20,11 @@ use Rattle.job_config.specs.OwnNodes.{OwnNodeValue}
 use Rattle.job_config.specs.declared.node_lines.NodeLines.{NodeLines}
 use Rattle.job_nodes.specs.Judged.{IsNotReady}
 use Rattle.job_ports.specs.Arrivals.{AreLines, BreaksAt, packets_at}
+use Rattle.job_ports.specs.Ends.{PortEnd}
 use Rattle.job_ports.specs.OwnNodes.{HoldsOwn}
+use Rattle.job_ports.specs.Quotas.{QuotasAreKept}
 use Rattle.job_ports.specs.ServeJob.{lines_from, report_line}
 use Rattle.job_ports.specs.Starts.{AreStarts}
-
--- what became of a port: what it has of the node and asked for then, what it knows of the history of the node's banks, its replies, and the
--- report of its worker
-pub record PortEnd : Type 0 where
-  pub pass : PortPass
-  pub front : List Link
-  pub sink : SinkValue
-  pub report : Report
 
 -- a sink that has taken nothing
 abbrev pub no_replies : SinkValue
@@ -78,8 +71,8 @@ module _ {S : Type 0} (reads : Reads S) (args : NodeLines) where
     pub utf8 : IsUtf8 text
     pub holds : HoldsOwn reads args.node between own program after
 
-  -- the lines of the file write packets, each port of the node served its own from what it starts with on, and those are the
-  -- replies and what the workers reported
+  -- the lines of the file write packets, each port of the node served its own from what it starts with on, quotas were kept, and
+  -- those are the replies and what the workers reported
   pub record ServesWords (before after : S) (sinks : List SinkValue) (report : Report) : Type 0 where
     pub text : List ℕ
     pub own : OwnNodeValue
@@ -91,6 +84,7 @@ module _ {S : Type 0} (reads : Reads S) (args : NodeLines) where
     pub lines : AreLines (lines_of text) own.ports packets
     pub are_starts : AreStarts own program starts
     pub served : ServePackets starts own.ports packets ends
+    pub quotas : QuotasAreKept own.sizes ends
     pub sinks_are : sinks ≡ map (λ (end : PortEnd). end.sink) ends
     pub report_is : report ≡ report_of ends
 
@@ -106,6 +100,7 @@ module _ {S : Type 0} (reads : Reads S) (args : NodeLines) where
     pub lines : AreLines (lines_of text) own.ports packets
     pub are_starts : AreStarts own program starts
     pub served : ServePackets starts own.ports packets ends
+    pub quotas : QuotasAreKept own.sizes ends
     pub printed : Appends old new (served_text ends)
 
   -- lines and node were read, and a line is bad

@@ -1,15 +1,25 @@
 //! Packets that wait in the queues of a node's ports, and what its workers do with them.
 
-ghost use Rattle.std.specs.Prelude.{◌≡◌, ◌<◌, ◌≤◌, ℕ, IfOk, OnOk, length, map, slice_index_or, vec_len, zip};
+ghost use Rattle.std.specs.Prelude.{◌≡◌, ◌<◌, ◌≤◌, ℕ, IfOk, OnOk, false, length, map, slice_index_or, true, vec_len, zip};
+ghost use Rattle.cells.specs.Seats.{IsWhole};
+ghost use Rattle.machine.specs.Sizes.{kind_of_map};
+ghost use Rattle.machine.specs.declared.kinds.MapKind.TheVariants.{Counter};
 ghost use Rattle.job_ports.specs.Queues.{AreBeginnings, AreFew, AreFilled, AreOfPorts, IsFilled, IsOwnDesk, LoadsFirst, ServeOwn, new_worker};
+ghost use Rattle.job_ports.specs.Quotas.{AreAllNumbered, AreNumberedIn, AreSeated, AreTakenBack, IsNumberedAt, IsSeated, IsTakenBack};
 ghost use Rattle.ports.specs.Serves.{AreServed};
 ghost use Rattle.ports.specs.Sinks.{SinkValue};
 
 use crate::arrivals::Arrivals;
 use crate::starts::{load_all, set_all};
-use bver::Accepted;
+use bver::{Accepted, MapSizes};
+use cells::Cells;
 use job_config::own_node::OwnNode;
-use ports::{MAX_CAPACITY, NoGate, Port, PutPass, Replies, Report, ServePass, Worker, serve};
+use machine::MapKind;
+use ports::{
+    MAX_CAPACITY, NoGate, Port, PutPass, Replies, Report, ServePass, Worker, serve,
+    workers_shares_count,
+};
+use quotas::quotas_hold_in_threads;
 use spw::Packet;
 use std::alloc::{AllocError, Global};
 use std::sync::Wait;
@@ -84,15 +94,26 @@ fn workers_of<J: Family>(
         .collect(alloc)
 }
 
+/// Gives the seat of a port back to the cells of its node.
+fn give_back<J: Family>(cells: &mut Cells, pass: Pass<J>)
+    requires { IsSeated cells.old pass.pass.seat }
+    ensures { IsTakenBack cells.old cells.new pass.pass.seat }
+{
+    cells.take_back(pass.into_seat());
+}
+
 /// The sink of each worker. What the workers took is taken back into what puts, so that it is known to be all that was
-/// put.
+/// put, and their seats into the cells.
 fn sinks_of<J: Family>(
     alloc: Global,
     ports: &[Port],
     mut put_passes: Vec<PutPass>,
+    cells: &mut Cells,
     workers: Vec<Worker<J, Replies>>,
 ) -> Result<Vec<Replies>, AllocError>
-    requires { AreOfPorts ports.now put_passes.items workers.items }
+    requires ports { AreOfPorts ports.now put_passes.items workers.items }
+    requires seats { AreSeated cells.old workers.items }
+    ensures back { IfOk result (λ _. AreTakenBack cells.old cells.new workers.items) }
     ensures sinks { IfOk result (λ sinks. sinks.items ≡ map (λ w. w.sink) workers.items) }
     ensures all { IfOk result (λ _. AreBeginnings put_passes.items workers.items) }
 {
@@ -101,21 +122,71 @@ fn sinks_of<J: Family>(
         let place = sinks.len();
         let put_pass = &mut put_passes[place];
         let Worker {
-            pass: _,
+            pass,
             front: _,
             serve_pass,
             sink,
         } = worker;
+        give_back(cells, pass);
         ports[place].rejoin(put_pass, serve_pass);
         sinks.push(sink)?;
     }
     Ok(sinks)
 }
 
-/// A node whose ports hold packets, what puts into each port, and their workers.
+/// Whether the cells of a map count.
+fn counts(sizes: &MapSizes, map: u8) -> bool
+    ensures yes { result ≡ true → kind_of_map sizes.now map ≡ Counter }
+    ensures no { result ≡ false → map < length sizes.now.cells
+        → kind_of_map sizes.now map ≡ Counter → ⊥ }
+{
+    match sizes.kind(map) {
+        Some(MapKind::Counter) => true,
+        Some(MapKind::Peak) | None => false,
+    }
+}
+
+/// How many tickets were drawn from a cell that counts.
+fn tell_cell(cells: &mut Cells, sizes: &MapSizes, map: u8, key: u16)
+    requires { sizes.now ≡ cells.old.sizes }
+    ensures same { cells.new ≡ cells.old }
+    ensures numbered { IsWhole cells.old → IsNumberedAt cells.old map key }
+{
+    if sizes.contains(map, key) && counts(sizes, map) {
+        cells.drawn(map, key);
+    }
+}
+
+/// How many tickets were drawn from each cell of a map that counts.
+fn tell_map(cells: &mut Cells, sizes: &MapSizes, map: u8)
+    requires { sizes.now ≡ cells.old.sizes }
+    ensures same { cells.new ≡ cells.old }
+    ensures numbered { IsWhole cells.old → AreNumberedIn cells.old map }
+{
+    let Some(count) = sizes.cells(map) else {
+        return;
+    };
+    for key in 0..count {
+        tell_cell(cells, sizes, map, key);
+    }
+}
+
+/// How many tickets were drawn from each cell that counts. If every seat came back, their tickets are numbered.
+fn tell_tickets(cells: &mut Cells, sizes: &MapSizes)
+    requires { sizes.now ≡ cells.old.sizes }
+    ensures same { cells.new ≡ cells.old }
+    ensures numbered { IsWhole cells.old → AreAllNumbered cells.old }
+{
+    for map in 0..sizes.maps() {
+        tell_map(cells, sizes, map);
+    }
+}
+
+/// A node whose ports hold packets, the cells of its maps, what puts into each port, and their workers.
 #[derive(Drop)]
 struct Desks<J: Family, R: Wait + Drop> {
     node: Node<J, R>,
+    cells: Cells,
     ports: Vec<Port>,
     put_passes: Vec<PutPass>,
     workers: Vec<Worker<J, Replies>>,
@@ -156,14 +227,15 @@ fn own_desks<'r, J: Family, R: Wait>(
     requires sizes { program.sizes ≡ own.now.sizes }
     requires few { AreFew arrivals }
     requires count { length arrivals ≡ own.now.ports }
-    ensures own { IfOk result (λ made. IsOwnDesk own.now program arrivals made.node made.ports.items
-        made.put_passes.items made.workers.items) }
+    ensures own { IfOk result (λ made. IsOwnDesk own.now program arrivals made.node made.cells
+        made.ports.items made.put_passes.items made.workers.items) }
     ensures served { IfOk result (λ made.
         AreServed made.node (vec_len made.workers) made.ports.items made.workers.items) }
 {
+    workers_shares_count();
     let config = own.config();
     // Memory alone can be refused to it: a configuration has no other number of ports than a node has.
-    let Ok((node, _cells, passes, mut line)) = Node::<J, _>::with_cells(
+    let Ok((node, cells, passes, mut line)) = Node::<J, _>::with_cells(
         alloc, rt, opened, &config, program,
     ) else {
         return Err(AllocError);
@@ -183,6 +255,7 @@ fn own_desks<'r, J: Family, R: Wait>(
     load_first(rt, alloc, &node, &mut workers, own)?;
     Ok(Desks {
         node,
+        cells,
         ports,
         put_passes,
         workers,
@@ -190,7 +263,8 @@ fn own_desks<'r, J: Family, R: Wait>(
 }
 
 /// Serves the packets that came to the ports of the node of that configuration, each port in a thread of its own, to the end:
-/// the replies of each port, and the sum of the reports. The program judges in all slots at first.
+/// the replies of each port, and the sum of the reports. The program judges in all slots at first. After it each seat is taken
+/// back to the cells.
 pub fn serve_arrivals<J: Family + Send + Sync + 'static, R: Threads + Wait + Sync>(
     rt: &R,
     alloc: Global,
@@ -205,9 +279,13 @@ pub fn serve_arrivals<J: Family + Send + Sync + 'static, R: Threads + Wait + Syn
     requires count { length arrivals ≡ own.now.ports }
     ensures { IfOk result (λ made. ServeOwn own.now program arrivals made.0.items made.1) }
 {
+    quotas_hold_in_threads();
+    workers_shares_count();
+    let sizes = program.sizes();
     let made = own_desks::<J, _>(rt, alloc, opened, own, program, arrivals)?;
     let Desks {
         node,
+        mut cells,
         ports,
         put_passes,
         workers,
@@ -217,6 +295,7 @@ pub fn serve_arrivals<J: Family + Send + Sync + 'static, R: Threads + Wait + Syn
     let Ok(report) = report else {
         return Err(AllocError);
     };
-    let sinks = sinks_of(alloc, &ports, put_passes, workers)?;
+    let sinks = sinks_of(alloc, &ports, put_passes, &mut cells, workers)?;
+    tell_tickets(&mut cells, &sizes);
     Ok((sinks, report))
 }

@@ -1,4 +1,4 @@
-use Rattle.std.proofs.Common.{◌∙◌, subst, sym}
+use Rattle.std.proofs.Common.{◌∙◌, subst, sym, rules}
 use Rattle.std.specs.Prelude.{vec_items}
 use Rattle.ports.specs.Serves.{AreServed}
 use Rattle.job_ports.specs.Queues.{IsOwnDesk}
@@ -12,12 +12,13 @@ load_first-requires g c =
 
 pub returns-clause-own : goal.returns-clause-own
 returns-clause-own g c =
-    own_desk c.args.own.now c.args.program _ _ _ c.args.arrivals _ _ _ _ _ c.config-config.ensures c.in_ok-set_all.ensures
+    own_desk c.args.own.now c.args.program _ c.in-Ok.cells _ c.args.arrivals _ _ _ _ _ c.workers_shares_count.ensures c.requires.sizes (search rules) c.in-Ok.ensures.cells
+    c.config-config.ensures c.in_ok-set_all.ensures
     (desk_fresh c.config-config.ensures c.requires.count c.in-Ok.ensures.banks c.in_ok-ports.ensures c.in-Ok.ensures.passes c.in_ok-workers.ensures)
     c.in_ok-load_first.ensures
 
 pub returns-clause-served : goal.returns-clause-served
 returns-clause-served g c =
-    let own : IsOwnDesk c.args.own.now c.args.program c.args.arrivals c.in-Ok.node (vec_items c.in_ok-ports.ports) (vec_items c.in_ok-ports.put_passes) (vec_items c.load_first.new.workers)
+    let own : IsOwnDesk c.args.own.now c.args.program c.args.arrivals c.in-Ok.node c.in-Ok.cells (vec_items c.in_ok-ports.ports) (vec_items c.in_ok-ports.put_passes) (vec_items c.load_first.new.workers)
     = returns-clause-own g c in
     subst (λ n. AreServed c.in-Ok.node n (vec_items c.in_ok-ports.ports) (vec_items c.load_first.new.workers)) (sym (c.load_first.new.workers.ok.0 ∙ own.desk.workers_count)) (desk_served own.desk)

@@ -34,6 +34,7 @@ returns-clause-done g c =
         lines = h.lines;
         are_starts = h.are_starts;
         served = h.served;
+        quotas = h.quotas;
         printed = Appends-trans old mid new _ _ one two;
       },
     )

@@ -4,7 +4,7 @@ use Rattle.std.proofs.lemmas.List.{length-map}
 use Rattle.std.proofs.lemmas.Result.{err_from_is_err_and}
 use Rattle.job_ports.specs.Arrivals.{ArriveAll}
 use Rattle.spw.specs.Line.{lines_of}
-use Rattle.job_ports.specs.ServedFile.{PortEnd}
+use Rattle.job_ports.specs.Ends.{PortEnd}
 use Rattle.job_ports.proofs.Ending.{by_packets, few_each}
 use Rattle.job_ports.proofs.NotServed.{no_memory, halt_of}
 use Rattle.job_ports.proofs.serve.serve_words.Goals as goal
@@ -33,6 +33,7 @@ returns-clause-served g c =
       lines = all.lines_are;
       are_starts = each.are_starts;
       served = by_packets _ _ _ _ _ _ all each.served;
+      quotas = each.quotas;
       sinks_are = each.served.sinks_are;
       report_is = each.served.report_is;
     }
