@@ -1,6 +1,6 @@
 //! Packets that wait in the queues of a node's ports, and what its workers do with them.
 
-ghost use Rattle.std.specs.Prelude.{◌≡◌, ◌<◌, ◌≤◌, ℕ, IfOk, OnOk, false, length, map, slice_index_or, true, vec_len, zip};
+ghost use Rattle.std.specs.Prelude.{◌≡◌, ◌<◌, ◌≤◌, ◌↔◌, ℕ, IfOk, IsTrue, OnOk, length, map, slice_index_or, vec_len, zip};
 ghost use Rattle.cells.specs.Seats.{IsWhole};
 ghost use Rattle.machine.specs.Sizes.{kind_of_map};
 ghost use Rattle.machine.specs.declared.kinds.MapKind.TheVariants.{Counter};
@@ -134,15 +134,13 @@ fn sinks_of<J: Family>(
     Ok(sinks)
 }
 
-/// Whether the cells of a map count.
+/// Whether the cells of a map count tickets.
 fn counts(sizes: &MapSizes, map: u8) -> bool
-    ensures yes { result ≡ true → kind_of_map sizes.now map ≡ Counter }
-    ensures no { result ≡ false → map < length sizes.now.cells
-        → kind_of_map sizes.now map ≡ Counter → ⊥ }
+    ensures { IsTrue result ↔ (kind_of_map sizes.now map ≡ Counter) }
 {
     match sizes.kind(map) {
-        Some(MapKind::Counter) => true,
-        Some(MapKind::Peak) | None => false,
+        Some(MapKind::Counter) | None => true,
+        Some(MapKind::Peak) => false,
     }
 }
 

@@ -31,7 +31,7 @@ sinks_of-requires-clause-seats g c =
     left_seated c.in_ok-made.ensures.own.desk sent failed _ _ here c.workers_shares_count.ensures _ c.in_ok-made.ensures.own.seats
 
 pub tell_tickets-requires : goal.tell_tickets-requires
-tell_tickets-requires g c = c.sizes.ensures ∙ (c.requires.sizes ∙ sym (cells_sizes c.in_ok-made.ensures.own c.in_ok-sinks.ensures.back))
+tell_tickets-requires g c = c.sizes-sizes.ensures ∙ (c.requires.sizes ∙ sym (cells_sizes c.in_ok-made.ensures.own c.in_ok-sinks.ensures.back))
 
 pub returns : goal.returns
 returns g c =
