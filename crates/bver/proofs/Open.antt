@@ -109,6 +109,10 @@ head_alone p l = record {
   words = λ keeps stores w. refl;
 }
 
+no_words : (r : ℕ) (k : AbsKind) → AreAllWhole (alone r k).ranges
+unfolding alone
+no_words r k w = refl
+
 -- ---- the pair
 
 pub pair_is_closed : ApplyLeaves → CallLeaves → RefineShrinks → BelowIsReflexive → (p : Program) → IsProgram p → IsFormed p → IsClosed p (λ slot. Some nothing) (λ slot. Some (stands_at p.loops slot))
@@ -124,16 +128,12 @@ pair_is_closed leaves calls shrinks reflexive p limits form = record {
       let l = slice_index_or p.loops k d in
       subst (λ (s : StateValue). IsBelowBut l.register a s) (sym (at_head _ 0 p.loops k d limits.loops low)) (but_alone a l.register (Num (1, l.bound)) (words_below a covered));
   heads = λ k d low. subst (λ (s : StateValue). IsHead p (slice_index_or p.loops k d) s) (sym (at_head _ 0 p.loops k d limits.loops low)) (head_alone p (slice_index_or p.loops k d));
-  words = λ k d low. subst (λ (s : StateValue). HasStore p (slice_index_or p.loops k d) → AreAllWhole s.ranges) (sym (at_head _ 0 p.loops k d limits.loops low)) (no_words (slice_index_or p.loops k d));
+  words = λ k d low. subst (λ (s : StateValue). HasStore p (slice_index_or p.loops k d) → AreAllWhole s.ranges) (sym (at_head _ 0 p.loops k d limits.loops low)) (λ stores. no_words (slice_index_or p.loops k d).register (Num (1, (slice_index_or p.loops k d).bound)));
   leads = λ slot insn begins a whole covered.
       let v : VisitValue = record { program = p; maps = record { cells = []; kinds = [] }; slot = slot } in
       leads_by leaves calls shrinks reflexive v (λ k. Some nothing) a insn form (has_next v insn limits form begins) begins (λ k b edge some left. covers insn a whole b left);
 }
   where
-    no_words : (l : Loop) → HasStore p l → AreAllWhole (alone l.register (Num (1, l.bound))).ranges
-    unfolding alone
-    no_words l stores w = refl
-
     covers : (insn : Insn) (a : StateValue) → IsWhole a → (b : StateValue) → IsLeftBy insn a b ⊎ IsBelow b a → IsBelow b nothing
     covers insn a whole b (inl left) = below_nothing b (λ w. record { above = omega arith; below = omega (arith, (left.proper whole w).words) })
     covers insn a whole b (inr below) = below_nothing b (ranges_less b.ranges a.ranges [] below.ranges (words_of a whole))
