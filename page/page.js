@@ -188,7 +188,7 @@ function showMap(map) {
 
 function drawMap() {
   if (!shown) return;
-  const { svg, bands } = picture.drawnMap(shown.text, roomOf('map'), shown.differences.slice(0, MOST_MARKS), shown.bands);
+  const { svg, lines, bands } = picture.drawnMap(shown.text, roomOf('map'), shown.differences.slice(0, MOST_MARKS), shown.bands);
   $('map').replaceChildren(svg);
   if (bands.length > shown.bands) {
     const button = made('button', { type: 'button', className: 'plain', textContent: `Draw the other ${bands.length - shown.bands} of ${bands.length} bands` });
@@ -196,15 +196,15 @@ function drawMap() {
     $('map').append(button);
   }
   if (shown.differences.length > MOST_MARKS) $('map').append(made('p', { className: 'small', textContent: `The first ${MOST_MARKS} differences are outlined.` }));
-  if ($('map-lines').open) tabulate(bands);
+  if ($('map-lines').open) tabulate(lines);
   else $('map-table').replaceChildren();
 }
 
 // The map as a table, a row for each line.
-function tabulate(bands) {
-  const heads = [...picture.FIELDS, 'Addresses', 'What the table asks'].map((head) => made('th', { scope: 'col', textContent: head }));
-  const rows = bands.flatMap((band) => band.lines.map((line) => made('tr', {},
-    ...[...band.fields, line.addresses, line.course].map((words) => made('td', { textContent: words })))));
+function tabulate(lines) {
+  const heads = [...picture.FIELDS, 'Addresses', 'Port', 'What the table asks'].map((head) => made('th', { scope: 'col', textContent: head }));
+  const rows = lines.map((line) => made('tr', {},
+    ...[...line.fields, line.addresses, line.port, line.course].map((words) => made('td', { textContent: words }))));
   const caption = made('caption', { textContent: `What new.policy decides: ${rows.length} lines` });
   $('map-table').replaceChildren(made('table', {}, caption, made('thead', {}, made('tr', {}, ...heads)), made('tbody', {}, ...rows)));
 }
@@ -241,7 +241,7 @@ function showDifferences(all, most) {
 
 function differenceItem(one, room) {
   const what = made('p', { className: 'what' }, made('b', { textContent: `${one.sign} ` }),
-    made('code', { textContent: `${one.fields.join(' ')} ${one.addresses}` }), ` ${picture.SIGNS.get(one.sign)}`);
+    made('code', { textContent: picture.wordsOf(one) }), ` ${picture.SIGNS.get(one.sign)}`);
   const button = made('button', { type: 'button', className: 'plain', textContent: 'Ask this packet below' });
   button.addEventListener('click', () => askPacket(one.packet));
   return made('li', {}, what, made('div', { className: 'figure' }, picture.drawnDifference(one, room)),
@@ -359,7 +359,9 @@ function cell(name, block, head) {
 }
 
 function packetRow(packet, block, which, answer, words) {
-  const row = made('tr', {}, made('td', { className: 'n', textContent: packet.numbers.join(', ') }), cell('s', block, 'What it is'));
+  const port = made('td', { className: 'p', textContent: /^\d*/.exec(block[0])[0] });
+  port.dataset.head = 'Port';
+  const row = made('tr', {}, made('td', { className: 'n', textContent: packet.numbers.join(', ') }), port, cell('s', block, 'What it is'));
   const verdict = /verdict (\d+)/.exec(which?.[0] ?? '');
   if (verdict) row.className = `v${verdict[1]}`;
   row.append(cell('d', which ?? ['the table has a fault'], 'Which rule'));
@@ -434,8 +436,8 @@ async function makeLink() {
   }
   window.history.replaceState(null, '', fragment);
   const link = location.href;
-  let where = 'It stands in the address.';
-  try { await navigator.clipboard.writeText(link); where = 'It was copied, and stands in the address.'; } catch (refused) { /* the address has it */ }
+  let where = 'It is in the address.';
+  try { await navigator.clipboard.writeText(link); where = 'It was copied, and is in the address.'; } catch (refused) { /* the address has it */ }
   $('said-link').textContent = `The link has the tables, the packets and the maps, and no other file: ${link.length.toLocaleString('en')} characters. ${where}`;
 }
 
@@ -446,7 +448,7 @@ function say(text, name) {
   if (text) $('screen').append(made('span', { className: name, textContent: text }));
 }
 
-const INTRODUCTION = `The words of docs/COMMANDS.md work over the files above. ls, cat FILE, hex FILE, rm FILE and clear are the page's own.
+const INTRODUCTION = `The words of docs/COMMANDS.md work over the files above, also those that a node's file names. ls, cat FILE, hex FILE, rm FILE and clear are the page's own.
 A | goes to the next command's -, and > FILE keeps what is printed. serve and live --frames are left out: no thread can start here, and there is no link.
 `;
 
@@ -473,7 +475,7 @@ async function typed(event) {
 async function addPacket(event) {
   event.preventDefault();
   const is_rmw = $('kind').value === 'rmw';
-  const options = ['key', 'initiator', 'extended', 'transaction'].flatMap((id) => [`--${id}`, $(id).value]);
+  const options = ['port', 'key', 'initiator', 'extended', 'transaction'].flatMap((id) => [`--${id}`, $(id).value]);
   const done = await perform(['packet', $('kind').value, $('address').value, $('data').value, ...(is_rmw ? [$('mask').value] : []), ...options]);
   $('said-make').textContent = done.status === 0 ? '' : (done.text + done.told).trimEnd();
   $('said-make').className = 'said bad';

@@ -39,24 +39,54 @@ const picture = (() => {
   // The numbers of the rules of a course.
   const rulesOf = (course) => steps(course).flatMap(({ rule }) => (rule === 'no rule' ? [] : [Number(rule.slice(5))]));
 
+  // The ports that a word says, and the word for ports, as rmapctl has it.
+  const ALL_PORTS = [...Array(32).keys()];
+  function portsIn(word) {
+    if (word === '*') return ALL_PORTS;
+    const own = word.replace('!', '').split(',').map(Number);
+    return word.startsWith('!') ? ALL_PORTS.filter((port) => !own.includes(port)) : own;
+  }
+  function portWord(ports) {
+    if (ports.length === ALL_PORTS.length) return '*';
+    return ports.length <= ALL_PORTS.length / 2 ? ports.join(',') : `!${ALL_PORTS.filter((port) => !ports.includes(port)).join(',')}`;
+  }
+
+  // The bands of lines: those of one port with the same four words, since `else` has the addresses of none of the others there.
+  // Ports with the same lines have one band, so a line of several ports may be in several.
+  function bandsOf(lines) {
+    const groups = new Map();
+    for (const line of lines) {
+      const own = line.fields.join(' ');
+      if (!groups.has(own)) groups.set(own, []);
+      groups.get(own).push(line);
+    }
+    return [...groups.values()].flatMap((group) => {
+      const [{ fields }] = group, found = new Map();
+      if (group.every(({ port }) => port === '*')) return [{ fields, port: '*', lines: group }];
+      for (const port of ALL_PORTS) {
+        const own = group.filter((line) => portsIn(line.port).includes(port)), name = own.map(({ text }) => text).join('\n');
+        if (own.length) found.set(name, { ports: [...(found.get(name)?.ports ?? []), port], own });
+      }
+      return [...found.values()].map(({ ports, own }) => ({ fields, port: portWord(ports), lines: own }));
+    });
+  }
+
   function readMap(text) {
-    const bands = [], notes = [];
+    const lines = [], notes = [];
     for (const line of text.trimEnd().split('\n')) {
       if (line.startsWith('rule ')) { notes.push(line); continue; }
       const [words, course] = line.split(' : ');
-      const [kind, key, init, ext, addresses] = words.split(' ');
-      const fields = [kind, key, init, ext], own = fields.join(' ');
-      if (bands.length === 0 || bands[bands.length - 1].own !== own) bands.push({ own, fields, lines: [] });
-      bands[bands.length - 1].lines.push({ addresses, course, ranges: ranges(addresses), text: line });
+      const [kind, key, init, ext, addresses, , port = '*'] = words.split(' ');
+      lines.push({ fields: [kind, key, init, ext], addresses, port, course, ranges: ranges(addresses), text: line });
     }
-    return { bands, notes };
+    return { lines, bands: bandsOf(lines), notes };
   }
 
   function readCompare(text) {
     const lines = text.trimEnd().split('\n'), found = [];
     for (let k = 0; k + 3 < lines.length; k += 4) {
-      const [sign, kind, key, init, ext, addresses] = lines[k].split(' ');
-      found.push({ sign, fields: [kind, key, init, ext], addresses, ranges: ranges(addresses),
+      const [sign, kind, key, init, ext, addresses, , port = '*'] = lines[k].split(' ');
+      found.push({ sign, fields: [kind, key, init, ext], addresses, port, ranges: ranges(addresses),
         old: lines[k + 1].replace(/^ *old /, ''), new: lines[k + 2].replace(/^ *new /, ''), packet: lines[k + 3].trim() });
     }
     return found;
@@ -84,6 +114,11 @@ const picture = (() => {
     return one === 'any' || other === 'any' || one.split(',').some((kind) => other.split(',').includes(kind));
   }
   const fieldsMeet = (one, other) => kindsMeet(one[0], other[0]) && [1, 2, 3].every((k) => meet(one[k], other[k]));
+  // Ports are numbers in decimal, of which each is one of the bytes with these digits.
+  const bandMeets = (one, band) => fieldsMeet(one.fields, band.fields) && meet(one.port, band.port);
+
+  // The words of a difference, with its ports if they are not all.
+  const wordsOf = (one) => [...one.fields, one.addresses, ...(one.port === '*' ? [] : [`port ${one.port}`])].join(' ');
 
   // Whether commands of a difference may lie in a line of the map: its first address there, and its last.
   const overlap = ([a, b], [c, d]) => a < d && c < b;
@@ -223,7 +258,7 @@ const picture = (() => {
   function legend(drawing, x, y, courses, signs) {
     const used = [...VERDICTS.keys()].filter((verdict) => courses.some((course) => steps(course).some((step) => step.verdict === verdict)));
     const items = used.map((verdict) => [VERDICTS.get(verdict)[0], `${VERDICTS.get(verdict)[1]}: ${VERDICTS.get(verdict)[2]}`]);
-    if (courses.some((course) => course.includes(' else '))) items.push(['quota', '0:0 < 3: where the ticket of cell 0 of map 0 is below 3']);
+    if (courses.some((course) => course.includes(' else '))) items.push(['quota', '0:0 < 3: if the ticket of cell 0 of map 0 is below 3']);
     for (const sign of signs) items.push(['changed', `${sign} the new table ${SIGNS.get(sign)}`]);
     for (const [name, words] of items) {
       drawing.rect(x, y, 16, 12, name === 'changed' ? name : `${name} framed`);
@@ -242,7 +277,7 @@ const picture = (() => {
 
   // Outlines a difference in a row: its last addresses, and its first ones thinner where they are others.
   function outline(drawing, x, axis, y, height, one) {
-    const own = one.ranges, told = `${one.sign} ${one.fields.join(' ')} ${one.addresses}`;
+    const own = one.ranges, told = `${one.sign} ${wordsOf(one)}`;
     const [from, to] = own.length ? own[own.length - 1].map((edge) => axis.place.get(edge)) : [0, axis.width];
     drawing.rect(x + from + 1.5, y + 1.5, to - from - 3, height - 3, 'changed').dataset.told = told;
     if (own.length < 2 || own[0][0] >= own[1][0]) return;
@@ -259,7 +294,7 @@ const picture = (() => {
       const at = own ? [from, to] : freeStretch(axis, alone);
       courseBox(drawing, left + from, y, to - from, height, line.course, at.map((n) => left + n), line.text);
     }
-    const own = differences.filter((one) => fieldsMeet(one.fields, band.fields));
+    const own = differences.filter((one) => bandMeets(one, band));
     const here = own.filter((one) => alone.some((line) => addressesMeet(one.ranges, line.ranges.length ? [line.ranges[0], line.ranges[0]] : [])));
     let bottom = y + height;
     const rows = [];
@@ -282,37 +317,39 @@ const picture = (() => {
 
   // What the table decides, in at most so many bands, with the differences outlined; and what is told of rules that never match.
   function drawnMap(text, room, differences, most) {
-    const { bands: all, notes } = readMap(text), bands = all.slice(0, most);
+    const { lines, bands: all, notes } = readMap(text), bands = all.slice(0, most);
     const drawing = new Drawing('What the policy table decides', '');
-    const columns = FIELDS.map((head, k) => Math.max(wide(head), ...bands.map((band) => wide(band.fields[k]))) + 12);
+    const heads = bands.some((band) => band.port !== '*') ? [...FIELDS, 'PORT'] : FIELDS;
+    const wordsIn = (band) => [...band.fields, band.port].slice(0, heads.length);
+    const columns = heads.map((head, k) => Math.max(wide(head), ...bands.map((band) => wide(wordsIn(band)[k]))) + 12);
     const mark = differences.length ? 30 : 0, left = 8 + mark + columns.reduce((a, b) => a + b, 0);
     const told = bands.flatMap((band) => band.lines.flatMap((line) => line.ranges)).concat(differences.flatMap((one) => one.ranges));
     const axis = axisOf(told, Math.max(300, room - left - 12));
     const top = 34;
     let x = 4 + mark;
-    FIELDS.forEach((head, k) => { drawing.text(x, top, head, 'head'); x += columns[k]; });
+    heads.forEach((head, k) => { drawing.text(x, top, head, 'head'); x += columns[k]; });
     drawAxis(drawing, axis, left, top);
     let y = top + 10, before = [];
     for (const band of bands) {
       if (band.fields[0] !== before[0]) { drawing.line([[4, y - 2], [left + axis.width, y - 2]]); y += 2; }
       x = 4 + mark;
       let same = true;
-      band.fields.forEach((word, k) => {
+      wordsIn(band).forEach((word, k) => {
         same = same && before[k] === word;
         drawing.text(x, y + 15, same ? '·' : word, same ? 'faint' : 'word');
         x += columns[k];
       });
-      before = band.fields;
+      before = wordsIn(band);
       y = drawBand(drawing, band, axis, left, y, differences) + 5;
     }
     const courses = bands.flatMap((band) => band.lines.map((line) => line.course));
     legend(drawing, left, y + 6, courses, [...new Set(differences.map((one) => one.sign))]);
-    return { svg: drawing.done(), notes, bands: all };
+    return { svg: drawing.done(), notes, lines, bands: all };
   }
 
   // One difference: what is asked under the old table, and under the new one.
   function drawnDifference(one, room) {
-    const drawing = new Drawing(`${one.sign} ${one.fields.join(' ')} ${one.addresses}`, `old ${one.old}, new ${one.new}`), left = 40;
+    const drawing = new Drawing(`${one.sign} ${wordsOf(one)}`, `old ${one.old}, new ${one.new}`), left = 40;
     const axis = axisOf(one.ranges, Math.max(220, room - left - 12));
     drawAxis(drawing, axis, left, 32);
     let y = 42;
@@ -328,5 +365,5 @@ const picture = (() => {
     return drawing.done();
   }
 
-  return { drawnMap, drawnDifference, readCompare, readMap, rulesOf, SIGNS, FIELDS };
+  return { drawnMap, drawnDifference, readCompare, readMap, rulesOf, wordsOf, SIGNS, FIELDS };
 })();

@@ -1,6 +1,7 @@
 #!/usr/bin/env python3
-"""Random nodes of a file: 1 to 8 banks, ports, maps, a program, contents, and images that are loaded before the first packet. `judge` and
-`live` print what a node prints that was written from the pages alone; a load that a program refuses is the fault of the file."""
+"""Random nodes of a file: 1 to 8 banks, ports, maps, a program, contents, and images that are loaded before the first packet. `judge`,
+`serve`, `trace` and `live` print what a node prints that was written from the pages alone; a load that a program refuses is the fault of
+the file, and `trace` takes no contents."""
 from __future__ import annotations
 
 import sys
@@ -23,7 +24,10 @@ NODES, PACKETS = 60, 40
 
 # What the runs have to come to, and how often.
 KINDS = {"banks": 150, "loads": 20, "loads refused": 3, "full journals": 20, "bytes set": 50, "contents": 20, "replies": 600,
-         "nodes of more than one port": 15, "commands at a bank behind the first": 300}
+         "nodes of more than one port": 15, "commands at a bank behind the first": 300, "served": 5, "traced": 5, "untraced": 5}
+
+# What is told of contents that a schedule does not take.
+UNTRACED = "bad option\n    contents is there in the node's file: the banks of a schedule begin with zeros\n"
 
 # Programs that need no map, and those that draw tickets or ask for the greatest of a cell.
 PLAIN = [
@@ -62,6 +66,7 @@ class File:
         self.random, self.room, self.seen = random, room, seen
         self.lines: list[str] = []
         self.tables: list[str] = []
+        self.begins_with_bytes = False
         address = random.choice([0xFE, 0x42, random.randrange(256)])
         ports = random.choice([1, 1, 1, 2, 3, random.randrange(1, 33)])
         if address != 0xFE or random.randrange(2):
@@ -99,6 +104,7 @@ class File:
             memory[:len(data)] = data
             self.tables.append(f'contents = "{self.put(f"contents{place}", data)}"')
             self.seen["contents"] += 1
+            self.begins_with_bytes |= bool(data)
         return Bank(base, size, room, memory)
 
     def map(self) -> Map:
@@ -150,6 +156,30 @@ def judged(random: Random, file: File, seen: Counter[str]) -> None:
         seen["commands at a bank behind the first"] += packet.discard() is None and 0 < packet.extended < len(node.banks)
     file.room.put("lines", "\n".join(lines) + "\n")
     same_lines("judge", file.room.printed("judge", "lines", "--node", "node.toml"), wanted)
+    traced(file, wanted, seen)
+    if len(node.staging) == 1:
+        served(file, wanted, seen)
+
+
+def traced(file: File, wanted: list[str], seen: Counter[str]) -> None:
+    """The same packets at `trace`, without the steps of the programs."""
+    if file.begins_with_bytes:
+        seen["untraced"] += 1
+        done = file.room.job("trace", "lines", "--node", "node.toml", joined=True)
+        if (done.out.decode(), done.status) != (UNTRACED, 2):
+            raise Differs(f"status {done.status}: {done.out.decode()}wanted: {UNTRACED}")
+        return
+    seen["traced"] += 1
+    printed = file.room.printed("trace", "lines", "--node", "node.toml").splitlines()
+    same_lines("trace", [line for line in printed if not line.startswith("    ") and " taken slot " not in line], wanted)
+
+
+def served(file: File, wanted: list[str], seen: Counter[str]) -> None:
+    """The same packets at `serve`, which has only one order if there is one port."""
+    seen["served"] += 1
+    replies = [line for line in wanted if line.endswith("EOP")]
+    discarded = sum(" discard " in line for line in wanted)
+    same_lines("serve", file.room.printed("serve", "lines", "--node", "node.toml"), [*replies, f"discarded {discarded} lost 0"])
 
 
 def talked(random: Random, file: File, seen: Counter[str]) -> None:
@@ -189,11 +219,13 @@ def talked(random: Random, file: File, seen: Counter[str]) -> None:
 def refused(file: File, fault: Refused) -> None:
     """What is told where a load is not carried out."""
     file.room.put("lines", "")
-    done = file.room.job("judge", "lines", "--node", "node.toml", joined=True)
     number, status, code = fault.args
     wanted = f"node fault 9\n    node.toml load {number}: status {status}, load fault {code}\n"
-    if (done.out.decode(), done.status) != (wanted, 1):
-        raise Differs(f"status {done.status}: {done.out.decode()}wanted: {wanted}")
+    for word in ("judge", "serve", "sim"):
+        done = file.room.job(word, "lines", "--node", "node.toml", joined=True)
+        told = (UNTRACED, 2) if word == "sim" and file.begins_with_bytes else (wanted, 1)
+        if (done.out.decode(), done.status) != told:
+            raise Differs(f"{word}: status {done.status}: {done.out.decode()}wanted: {told[0]}")
 
 
 def check(random: Random, room: Room, seen: Counter[str]) -> None:

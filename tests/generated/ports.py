@@ -7,7 +7,6 @@ from __future__ import annotations
 import sys
 from collections import Counter
 from collections.abc import Iterator
-from dataclasses import replace
 from itertools import combinations
 from pathlib import Path
 from random import Random
@@ -17,7 +16,7 @@ sys.dont_write_bytecode = True
 sys.path.insert(0, str(Path(__file__).resolve().parent.parent))
 from generator import main, same_lines
 from models.images import Image, parsed
-from models.policies import CELLS, ENDS, MAPS, command, rule
+from models.policies import CELLS, MAPS, command, port_table, rule
 from models.runs import words_of
 from models.tables import PortRule, decide, rules_at
 from models.world import World
@@ -53,33 +52,6 @@ SPOILT_LINES = {2: (CAMERA[1][2:], "ends after word 6, and a rule after VERDICT"
                 7: (CAMERA[6].replace("frames", "frame"), "word 5: NAME is of no range above"),
                 8: (CAMERA[7].replace("0:0:2", "0:0"), "word 6: QUOTA is - or MAP:CELL:LIMIT in decimal, with LIMIT at most 2147483647"),
                 9: (CAMERA[8].replace("port 1 ", "port 32 "), "word 9: after VERDICT stands nothing, or port P with P from 0 to 31")}
-
-
-def comment(random: Random) -> str:
-    return random.choice(["", "", ";", " ; port 3", " ;; any * * *", "   "])
-
-
-def table(random: Random, count: int) -> tuple[list[PortRule], str]:
-    """Rules, and a text of them."""
-    names: dict[str, tuple[int, int]] = {}
-    rules, lines = [], [f".version 2{comment(random)}\n"]
-    for _ in range(count):
-        while random.randrange(3) == 0:
-            lines.append(random.choice(["\n", "  \n", "; read 20 * 00\n", ";\n"]))
-        if random.randrange(3) == 0:
-            name = random.choice(["a", "B_2", "frames", "abcdefg1", "deadbeef_", "port"]) + str(len(names))
-            low, high = sorted(random.choices(ENDS, k=2))
-            names[name] = (low, high)
-            lines.append(f" .range  {name} {low:08x} {high:08X}{comment(random)}\n")
-        own = rule(random)
-        chosen = random.choice(list(names)) if names and random.randrange(2) else None
-        if chosen is not None:
-            own = replace(own, low=names[chosen][0], high=names[chosen][1])
-        port = random.choice([None, None, *range(PORTS), 31])
-        rules.append(PortRule(own, port, chosen))
-        lines.append(rules[-1].text(comment(random)))
-    text = "".join(lines)
-    return rules, text[:-1] if random.randrange(4) == 0 else text
 
 
 class ByTable(World):
@@ -131,7 +103,7 @@ def spoil(random: Random, room: Room, text: str) -> None:
 
 
 def check(random: Random, room: Room, seen: Counter[str]) -> None:
-    rules, text = table(random, random.randrange(23))
+    rules, text = port_table(random, random.randrange(23), [*range(PORTS), 31])
     room.put("table", text)
     room.printed("policy", "table", "image", "--maps", ",".join(map(str, CELLS)))
     image = parsed(room.content("image") or b"")

@@ -23,7 +23,7 @@ from rmapctl import TOP, Differs, Done, Room
 from sessions import frames_as_lines
 
 # How many runs the gate does, and which request none has.
-RUNS, MOST = 100, 320
+RUNS, MOST = 100, 440
 
 # The line that tools/refuse.c writes at the end.
 COUNTS = re.compile(rb"marks 0 requests (\d+) bytes \d+\n")
@@ -43,6 +43,18 @@ journal = 2
 contents = "begin"
 [[load]]
 slot = 3
+image = "yes.img"
+"""
+
+# A node of two ports whose bank begins with zeros, into which that program is loaded.
+ZEROS = """\
+ports = 2
+[[bank]]
+base = 0xA0000000
+size = 4096
+journal = 4
+[[load]]
+slot = 2
 image = "yes.img"
 """
 
@@ -121,6 +133,8 @@ SERVED = [(REPLY, ""), (REPLY.replace("0", "1", 1), ""), ("discarded 0 lost 0\n"
 JOBS = [
     Job("judge lines", [(REPLY,)], {"lines": READ}),
     Job("judge lines --node own.toml", [(REPLY,)], {"lines": READ, "own.toml": OWN, "begin": b"\0\0", "yes.img": YES}),
+    Job("decide lines table --node own.toml", [("0 rule 1 verdict 0\n",)],
+        {"lines": READ, "own.toml": OWN, "table": "read * * * 00000000 FFFFFFFF - 0\n"}),
     Job("judge pieces", [(REPLY,)], {"pieces": READ.replace("EOP", "PART") + "0 EOP\n"}, ahead=2),
     Job("policy table out --maps 1", [("slots 30\n",)], {"table": "write * * * 00000000 FFFFFFFF 0:0:5 0\n"}, writes="out"),
     Job("dis draws", [(".budget 4\nldmap r1, 0\nmov r2, 0\ncall 2\nexit\n; maps 1\n",)], {"draws": DRAWS}),
@@ -130,6 +144,10 @@ JOBS = [
     Job("why unset", WHY, {"unset": UNSET}, status=1),
     Job("sim events", OUTCOMES, {"events": EVENTS}),
     Job("trace lines --ports 2", TRACED, {"lines": AT_ONE}),
+    Job("serve lines --node own.toml", [(REPLY, ""), ("discarded 0 lost 0\n", "discarded 0 lost 1\n")],
+        {"lines": READ, "own.toml": OWN, "begin": b"\0\0", "yes.img": YES}),
+    Job("sim events --node zeros.toml", OUTCOMES, {"events": EVENTS, "zeros.toml": ZEROS, "yes.img": YES}),
+    Job("trace lines --node zeros.toml", TRACED, {"lines": AT_ONE, "zeros.toml": ZEROS, "yes.img": YES}),
     Job("serve lines --ports 2", SERVED, {"lines": READ + READ.replace("0", "1", 1)}, ahead=2),
     Job("live", ANSWERS, given=TALK, status=1),
     Job("live --frames", DUE, given=FRAMES),

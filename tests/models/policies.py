@@ -1,9 +1,10 @@
-"""Random rules of policy tables, and commands that they are asked of."""
+"""Random rules and texts of policy tables, and commands that they are asked of."""
 from __future__ import annotations
 
+from dataclasses import replace
 from random import Random
 
-from models.tables import Rule
+from models.tables import PortRule, Rule
 from models.world import Packet
 from packets import crc, header
 
@@ -23,6 +24,33 @@ def rule(random: Random) -> Rule:
     index = random.randrange(3)
     quota = (index, random.randrange(CELLS[index]), random.choice([0, 1, 3, 6, 0x7FFFFFFF])) if random.randrange(2) else None
     return Rule(random.choice(["read", "write", "rmw", "any", "any"]), fields, low, high, quota, random.choice([0, 3, 10, 12]))
+
+
+def comment(random: Random) -> str:
+    return random.choice(["", "", ";", " ; port 3", " ;; any * * *", "   "])
+
+
+def port_table(random: Random, count: int, ports: list[int]) -> tuple[list[PortRule], str]:
+    """Rules of which some ask one of these ports, and a text of them of version 2."""
+    names: dict[str, tuple[int, int]] = {}
+    rules, lines = [], [f".version 2{comment(random)}\n"]
+    for _ in range(count):
+        while random.randrange(3) == 0:
+            lines.append(random.choice(["\n", "  \n", "; read 20 * 00\n", ";\n"]))
+        if random.randrange(3) == 0:
+            name = random.choice(["a", "B_2", "frames", "abcdefg1", "deadbeef_", "port"]) + str(len(names))
+            low, high = sorted(random.choices(ENDS, k=2))
+            names[name] = (low, high)
+            lines.append(f" .range  {name} {low:08x} {high:08X}{comment(random)}\n")
+        own = rule(random)
+        chosen = random.choice(list(names)) if names and random.randrange(2) else None
+        if chosen is not None:
+            own = replace(own, low=names[chosen][0], high=names[chosen][1])
+        port = random.choice([None, None, *ports])
+        rules.append(PortRule(own, port, chosen))
+        lines.append(rules[-1].text(comment(random)))
+    text = "".join(lines)
+    return rules, text[:-1] if random.randrange(4) == 0 else text
 
 
 def command(random: Random) -> Packet:

@@ -1,4 +1,5 @@
 mod Apart
 mod Matching
+mod Placing
 mod ShownLines
 mod Stopping

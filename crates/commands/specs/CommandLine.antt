@@ -1,5 +1,5 @@
 -- The command line of rmapctl, as clap reads it, and what its matches name: a job over files, or a talk.
-use Rattle.std.specs.Prelude.{◌≡◌, ◌≢◌, ◌⊎◌, List, [], Option, Some, None, true, codes}
+use Rattle.std.specs.Prelude.{◌≡◌, ◌≢◌, ◌⊎◌, List, [], Option, Some, None, true, false, codes, string_bytes}
 use Rattle.clap.specs.Walk.{Row, Text, first_of}
 use Rattle.clap.specs.Simple.{App, Shape, new_app, on_top, with_subcommand, subcommand_of}
 use Rattle.clap.specs.Faults.{fault_of}
@@ -8,11 +8,11 @@ use Rattle.clap.specs.declared.error.kind.ErrorKind.TheVariants.{OutOfMemory}
 use Rattle.job_charts.specs.CompareJob.{compare_app, NamesCompare, SpoilsCompare}
 use Rattle.job_charts.specs.MapJob.{map_app, NamesMap, SpoilsMap}
 use Rattle.job_config.specs.NodeLines.{NamesNodeLines, SpoilsNodeLines}
+use Rattle.job_config.specs.Sources.{lacks}
 use Rattle.job_decide.specs.DecideJob.{decide_app, NamesDecide, SpoilsDecide}
 use Rattle.job_live.specs.Words.{live_app, NamesLive, SpoilsLive}
 use Rattle.job_node_file.specs.NodeFileJob.{NamesNodeFile, node_file_app}
 use Rattle.job_rehearse.specs.RehearseJob.{rehearse_app, NamesRehearse, SpoilsRehearse}
-use Rattle.job_parts.specs.Lines.{NamesLines, SpoilsLines}
 use Rattle.job_texts.specs.AsmJob.{asm_app, NamesAsm}
 use Rattle.job_texts.specs.DisJob.{dis_app, NamesDis}
 use Rattle.job_codes.specs.ExplainJob.{explain_app, NamesExplain, SpoilsExplain}
@@ -29,6 +29,7 @@ use Rattle.job_trace.specs.TraceJob.{trace_app}
 use Rattle.job_weigh.specs.WeighJob.{weigh_app, NamesWeigh, SpoilsWeigh}
 use Rattle.commands.specs.declared.asked.Asked.{Asked}
 use Rattle.commands.specs.declared.asked.Asked.TheVariants.{Named, Told}
+use Rattle.commands.specs.declared.jobs.Job.{Job}
 use Rattle.commands.specs.declared.jobs.Job.TheVariants.{
   Assemble,
   Disassemble,
@@ -49,11 +50,12 @@ use Rattle.commands.specs.declared.jobs.Job.TheVariants.{
   Map,
   Rehearse,
 }
+use Rattle.commands.specs.OnNodes.{are_left, own_file, with_node}
 use Rattle.commands.specs.Words.{name_of}
 use Rattle.commands.specs.declared.word.Word.{Word}
 use Rattle.commands.specs.declared.word.Word.TheVariants as word
 use Rattle.commands.specs.declared.work.Work.{Work}
-use Rattle.commands.specs.declared.work.Work.TheVariants.{Once, Live}
+use Rattle.commands.specs.declared.work.Work.TheVariants.{Once, OnNode, Live}
 use Rattle.job_parts.specs.declared.usage.UsageFault.{UsageFault}
 use Rattle.job_parts.specs.declared.usage.UsageFault.TheVariants.{Parse, BadOption, Memory}
 
@@ -70,18 +72,21 @@ rmapctl_shape s = record s {
 abbrev pub with_first_jobs : App → App
 with_first_jobs app =
     with_subcommand (with_subcommand
-    (with_subcommand (with_subcommand (with_subcommand app asm_app.top) dis_app.top) verify_app.top) judge_app.top)
-    policy_app.top
+    (with_subcommand (with_subcommand (with_subcommand app asm_app.top) dis_app.top) (with_node verify_app).top)
+    judge_app.top) (with_node policy_app).top
 
 -- a command with the jobs that tell more of packet lines, and the one on the rules of a table, behind others
 abbrev pub with_packet_jobs : App → App
 with_packet_jobs app =
-    with_subcommand (with_subcommand (with_subcommand (with_subcommand app packet_app.top) show_app.top) decide_app.top)
+    with_subcommand (with_subcommand
+    (with_subcommand (with_subcommand app (with_node packet_app).top) show_app.top) (with_node decide_app).top)
     trace_app.top
 
 -- a command with the jobs before a load, behind others
 abbrev pub with_chart_jobs : App → App
-with_chart_jobs app = with_subcommand (with_subcommand (with_subcommand app compare_app.top) map_app.top) rehearse_app.top
+with_chart_jobs app =
+    with_subcommand (with_subcommand
+    (with_subcommand app (with_node compare_app).top) (with_node map_app).top) rehearse_app.top
 
 -- `rmapctl` with its subcommands
 unfoldable pub rmapctl_app : App
@@ -90,34 +95,49 @@ rmapctl_app =
     (with_packet_jobs
     (with_subcommand (with_subcommand (with_subcommand (with_subcommand (with_subcommand
     (with_subcommand (with_subcommand (with_first_jobs (on_top rmapctl_shape (new_app (codes "rmapctl"))))
-    serve_app.top) sim_app.top) live_app.top) explain_app.top) why_app.top) weigh_app.top) node_file_app.top))
+    serve_app.top) sim_app.top) live_app.top) explain_app.top) (with_node why_app).top) (with_node weigh_app).top)
+    node_file_app.top))
 
 -- the subcommand that clap finds in the words, with its matches
 abbrev pub subcommand_in : List Text → Option (Text × List Row)
 subcommand_in words = subcommand_of rmapctl_app words
 
+-- the job or the talk is that of the subcommand with its matches, whether they name a node's file or not
+abbrev pub NamesPlain : Text × List Row → Work → Type 0
+NamesPlain found (Once (Assemble words)) = (found.0 ≡ codes "asm") × NamesAsm found.1 words
+NamesPlain found (Once (Disassemble words)) = (found.0 ≡ codes "dis") × NamesDis found.1 words
+NamesPlain found (Once (Verify args)) = (found.0 ≡ codes "verify") × NamesImage found.1 args
+NamesPlain found (Once (Judge args)) = (found.0 ≡ codes "judge") × NamesNodeLines found.1 args
+NamesPlain found (Once (Policy words)) = (found.0 ≡ codes "policy") × NamesPolicy found.1 words
+NamesPlain found (Once (Serve args)) = (found.0 ≡ codes "serve") × NamesNodeLines found.1 args
+NamesPlain found (Once (Simulate args)) = (found.0 ≡ codes "sim") × NamesNodeLines found.1 args
+NamesPlain found (Once (Explain words)) = (found.0 ≡ codes "explain") × NamesExplain found.1 words
+NamesPlain found (Once (Why args)) = (found.0 ≡ codes "why") × NamesImage found.1 args
+NamesPlain found (Once (Weigh words)) = (found.0 ≡ codes "weigh") × NamesWeigh found.1 words
+NamesPlain found (Once (Node words)) = (found.0 ≡ codes "node") × NamesNodeFile found.1 words
+NamesPlain found (Once (Packet words)) = (found.0 ≡ codes "packet") × NamesPacket found.1 words
+NamesPlain found (Once (Show words)) = (found.0 ≡ codes "show") × NamesShow found.1 words
+NamesPlain found (Once (Decide words)) = (found.0 ≡ codes "decide") × NamesDecide found.1 words
+NamesPlain found (Once (Trace args)) = (found.0 ≡ codes "trace") × NamesNodeLines found.1 args
+NamesPlain found (Once (Compare words)) = (found.0 ≡ codes "compare") × NamesCompare found.1 words
+NamesPlain found (Once (Map words)) = (found.0 ≡ codes "map") × NamesMap found.1 words
+NamesPlain found (Once (Rehearse words)) = (found.0 ≡ codes "rehearse") × NamesRehearse found.1 words
+NamesPlain found (OnNode own) = ⊥
+NamesPlain found (Live words) = (found.0 ≡ codes "live") × NamesLive found.1 words
+
+-- the work is the job, or the job for the node of the file that its matches name, to which they leave what it says
+abbrev pub IsPlacedBy : Job → List Row → Work → Type 0
+IsPlacedBy job rows (Once own) = (own ≡ job) × (own_file job rows ≡ None)
+IsPlacedBy job rows (OnNode own) =
+    (own.job ≡ job) × (own_file job rows ≡ Some (string_bytes own.node)) × (are_left rows ≡ true)
+IsPlacedBy job rows (Live words) = ⊥
+
 -- the work is that of the subcommand with its matches
 abbrev pub Names : Option (Text × List Row) → Work → Type 0
 Names None work = ⊥
-Names (Some found) (Once (Assemble words)) = (found.0 ≡ codes "asm") × NamesAsm found.1 words
-Names (Some found) (Once (Disassemble words)) = (found.0 ≡ codes "dis") × NamesDis found.1 words
-Names (Some found) (Once (Verify args)) = (found.0 ≡ codes "verify") × NamesImage found.1 args
-Names (Some found) (Once (Judge args)) = (found.0 ≡ codes "judge") × NamesNodeLines found.1 args
-Names (Some found) (Once (Policy words)) = (found.0 ≡ codes "policy") × NamesPolicy found.1 words
-Names (Some found) (Once (Serve args)) = (found.0 ≡ codes "serve") × NamesLines found.1 args
-Names (Some found) (Once (Simulate args)) = (found.0 ≡ codes "sim") × NamesLines found.1 args
-Names (Some found) (Live words) = (found.0 ≡ codes "live") × NamesLive found.1 words
-Names (Some found) (Once (Explain words)) = (found.0 ≡ codes "explain") × NamesExplain found.1 words
-Names (Some found) (Once (Why args)) = (found.0 ≡ codes "why") × NamesImage found.1 args
-Names (Some found) (Once (Weigh words)) = (found.0 ≡ codes "weigh") × NamesWeigh found.1 words
-Names (Some found) (Once (Node words)) = (found.0 ≡ codes "node") × NamesNodeFile found.1 words
-Names (Some found) (Once (Packet words)) = (found.0 ≡ codes "packet") × NamesPacket found.1 words
-Names (Some found) (Once (Show words)) = (found.0 ≡ codes "show") × NamesShow found.1 words
-Names (Some found) (Once (Decide words)) = (found.0 ≡ codes "decide") × NamesDecide found.1 words
-Names (Some found) (Once (Trace args)) = (found.0 ≡ codes "trace") × NamesLines found.1 args
-Names (Some found) (Once (Compare words)) = (found.0 ≡ codes "compare") × NamesCompare found.1 words
-Names (Some found) (Once (Map words)) = (found.0 ≡ codes "map") × NamesMap found.1 words
-Names (Some found) (Once (Rehearse words)) = (found.0 ≡ codes "rehearse") × NamesRehearse found.1 words
+Names (Some found) (Once job) = NamesPlain found (Once job) × IsPlacedBy job found.1 (Once job)
+Names (Some found) (OnNode own) = NamesPlain found (Once own.job) × IsPlacedBy own.job found.1 (OnNode own)
+Names (Some found) (Live words) = NamesPlain found (Live words)
 
 -- what the user is told of a refusal by clap of this kind
 abbrev pub TellsRefusal : ErrorKind → UsageFault → Type 0
@@ -127,26 +147,34 @@ TellsRefusal kind (Parse text) = kind ≢ OutOfMemory
 
 -- the subcommand of this word lacks a file that has to be given, has an option or a code with a value that it may not have,
 -- or has words of no packet
+abbrev pub SpoilsPlain : Word → List Row → Type 0
+SpoilsPlain word.Asm rows = (first_of (codes "text") rows ≡ None) ⊎ (first_of (codes "image") rows ≡ None)
+SpoilsPlain word.Dis rows = first_of (codes "image") rows ≡ None
+SpoilsPlain word.Verify rows = SpoilsImage rows
+SpoilsPlain word.Judge rows = SpoilsNodeLines rows
+SpoilsPlain word.Policy rows = SpoilsPolicy rows
+SpoilsPlain word.Serve rows = SpoilsNodeLines rows
+SpoilsPlain word.Sim rows = SpoilsNodeLines rows
+SpoilsPlain word.Live rows = SpoilsLive rows
+SpoilsPlain word.Explain rows = SpoilsExplain rows
+SpoilsPlain word.Why rows = SpoilsImage rows
+SpoilsPlain word.Weigh rows = SpoilsWeigh rows
+SpoilsPlain word.Node rows = first_of (codes "node") rows ≡ None
+SpoilsPlain word.Packet rows = SpoilsPacket rows
+SpoilsPlain word.Show rows = first_of (codes "lines") rows ≡ None
+SpoilsPlain word.Decide rows = SpoilsDecide rows
+SpoilsPlain word.Trace rows = SpoilsNodeLines rows
+SpoilsPlain word.Compare rows = SpoilsCompare rows
+SpoilsPlain word.Map rows = SpoilsMap rows
+SpoilsPlain word.Rehearse rows = SpoilsRehearse rows
+
+-- a node's file is named, beside an option that says what it says
+abbrev pub SpoilsPlace : List Row → Type 0
+SpoilsPlace rows = (lacks (codes "node") rows ≡ false) × (are_left rows ≡ false)
+
+-- the one or the other
 abbrev pub Spoils : Word → List Row → Type 0
-Spoils word.Asm rows = (first_of (codes "text") rows ≡ None) ⊎ (first_of (codes "image") rows ≡ None)
-Spoils word.Dis rows = first_of (codes "image") rows ≡ None
-Spoils word.Verify rows = SpoilsImage rows
-Spoils word.Judge rows = SpoilsNodeLines rows
-Spoils word.Policy rows = SpoilsPolicy rows
-Spoils word.Serve rows = SpoilsLines rows
-Spoils word.Sim rows = SpoilsLines rows
-Spoils word.Live rows = SpoilsLive rows
-Spoils word.Explain rows = SpoilsExplain rows
-Spoils word.Why rows = SpoilsImage rows
-Spoils word.Weigh rows = SpoilsWeigh rows
-Spoils word.Node rows = first_of (codes "node") rows ≡ None
-Spoils word.Packet rows = SpoilsPacket rows
-Spoils word.Show rows = first_of (codes "lines") rows ≡ None
-Spoils word.Decide rows = SpoilsDecide rows
-Spoils word.Trace rows = SpoilsLines rows
-Spoils word.Compare rows = SpoilsCompare rows
-Spoils word.Map rows = SpoilsMap rows
-Spoils word.Rehearse rows = SpoilsRehearse rows
+Spoils named rows = SpoilsPlain named rows ⊎ SpoilsPlace rows
 
 -- so does the subcommand with its matches
 abbrev pub IsSpoiled : Text × List Row → Type 0
@@ -156,6 +184,18 @@ IsSpoiled found = (named : Word) → found.0 ≡ name_of named → Spoils named 
 abbrev pub IsIncomplete : Option (Text × List Row) → Type 0
 IsIncomplete None = Unit {0}
 IsIncomplete (Some found) = IsSpoiled found
+
+-- the matches of the subcommand of this word name no job and no talk, or memory was refused
+abbrev pub RefusesPlain : Word → List Row → UsageFault → Type 0
+RefusesPlain named rows Memory = Unit {0}
+RefusesPlain named rows BadOption = SpoilsPlain named rows
+RefusesPlain named rows (Parse text) = ⊥
+
+-- the matches name no node's file alone, or memory was refused
+abbrev pub RefusesPlace : List Row → UsageFault → Type 0
+RefusesPlace rows Memory = Unit {0}
+RefusesPlace rows BadOption = SpoilsPlace rows
+RefusesPlace rows (Parse text) = ⊥
 
 -- the matches of the subcommand of this word name no work, or memory was refused
 abbrev pub Refuses : Word → List Row → UsageFault → Type 0

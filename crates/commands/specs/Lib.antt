@@ -1,5 +1,6 @@
 pub mod CommandLine
 pub mod Notes
+pub mod OnNodes
 pub mod Performed
 pub mod ShownTalk
 pub mod Words

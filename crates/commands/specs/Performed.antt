@@ -16,11 +16,11 @@ use Rattle.job_parts.specs.Printed.{fault_line}
 use Rattle.job_parts.specs.Reading.{IsNoProgram, IsUnread}
 use Rattle.job_parts.specs.Statuses.{IsDoneWith}
 use Rattle.job_ports.specs.ServedFile.{IsNotServed, ServesFile}
-use Rattle.job_nodes.specs.Simulated.{IsNotSimulated, SimulatesFile}
+use Rattle.job_nodes.specs.Simulated.{DoesSim, IsNotSimulated}
 use Rattle.job_packets.specs.MadePackets.{IsNotMade, MakesFile}
 use Rattle.job_show.specs.Shown.{IsNotShown, ShowsFile}
 use Rattle.job_texts.specs.Verified.{Verifies}
-use Rattle.job_trace.specs.Traced.{IsNotTraced, TracesFile}
+use Rattle.job_trace.specs.Traced.{DoesTrace, IsNotTraced}
 use Rattle.job_weigh.specs.Weighed.{Weighs}
 use Rattle.job_node_file.specs.Printed.{IsNotTold, PrintsNodeFile}
 use Rattle.job_parts.specs.declared.faults.Fault.{Fault}
@@ -64,7 +64,7 @@ module _ {S : Type 0} (reads : Reads S) (writes : Writes S) where
       (CompilesTable reads writes before (string_bytes words.table) (string_bytes words.image) words.sizes after old new)
       status
   IsDone (Serve args) before after old new status = IsDoneWith (ServesFile reads args before after old new) status
-  IsDone (Simulate args) before after old new status = IsDoneWith (SimulatesFile reads args before after old new) status
+  IsDone (Simulate args) before after old new status = DoesSim reads args before after old new status
   IsDone (Explain words) before after old new status = (after ≡ before) × IsDoneWith (Explains old new) status
   IsDone (Why args) before after old new status = ExplainsFile reads args before after old new status
   IsDone (Weigh words) before after old new status = IsDoneWith (Weighs reads words before after old new) status
@@ -73,7 +73,7 @@ module _ {S : Type 0} (reads : Reads S) (writes : Writes S) where
   IsDone (Show words) before after old new status =
       IsDoneWith (ShowsFile reads before (string_bytes words.lines) after old new) status
   IsDone (Decide words) before after old new status = Decides reads words before after old new status
-  IsDone (Trace args) before after old new status = IsDoneWith (TracesFile reads args before after old new) status
+  IsDone (Trace args) before after old new status = DoesTrace reads args before after old new status
   IsDone (Compare words) before after old new status = ComparesFile reads words before after old new status
   IsDone (Map words) before after old new status = MapsFile reads words before after old new status
   IsDone (Rehearse words) before after old new status = RehearsesFile reads words before after old new status

@@ -5,7 +5,7 @@ use crate::hints::told_fault;
 use crate::jobs::{Job, JobEnd};
 use crate::line_paths::LinePaths;
 use crate::noted::{Cause, Noted};
-use crate::shut_doors::told_shut;
+use crate::shut_doors::{told_loaders, told_shut};
 use crate::slips::{told_misuse, told_output};
 use job_codes::forms::form_line;
 use job_config::sources::NodeSource;
@@ -85,7 +85,7 @@ fn add_failed(
         Some(Fault::BadNode { place, .. }) => add_place(text, place.as_str()),
         Some(Fault::BadImage(_)) => add_form(text, alloc, noted.last()),
         Some(Fault::BadText(_) | Fault::BadTable(_)) | None => match noted.text() {
-            Some(read) => text.push_str(told_fault(alloc, job, read)?.as_str()),
+            Some(read) => text.push_str(told_fault(alloc, job, read, noted.is_on_node())?.as_str()),
             None => Ok(()),
         },
         Some(Fault::Refused(_) | Fault::NoMemory) => Ok(()),
@@ -143,8 +143,8 @@ fn add_load(
     }
 }
 
-/// Adds what is told of a job that is done: of `policy`, that its table lets nobody load another, unless that is meant; of loads,
-/// what [`add_load`] adds.
+/// Adds what is told of a job that is done: of `policy`, that its table lets nobody load another, unless that is meant; of `map`,
+/// whose loads pass; of loads, what [`add_load`] adds.
 fn add_done(
     text: &mut String,
     alloc: Global,
@@ -158,6 +158,7 @@ fn add_done(
         (Job::Policy(words), Some(table)) if !words.is_final => {
             text.push_str(told_shut(alloc, table)?)
         }
+        (Job::Map(_), Some(table)) => text.push_str(told_loaders(alloc, table)?.as_str()),
         _ => Ok(()),
     }
 }

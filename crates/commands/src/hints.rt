@@ -131,12 +131,31 @@ fn add_cells(text: &mut String, sizes: &MapSizes) -> Result<(), AllocError> {
     text.push('\n')
 }
 
+/// What says the maps.
+fn teller(is_on_node: bool) -> &'static str {
+    if is_on_node {
+        "the node's file"
+    } else {
+        "--maps"
+    }
+}
+
+/// That there are no maps.
+fn no_maps(is_on_node: bool) -> &'static str {
+    if is_on_node {
+        "the node's file has no maps"
+    } else {
+        "without --maps there are no maps"
+    }
+}
+
 /// Adds the quota of a line, and which cells the maps have.
 fn add_quota(
     text: &mut String,
     alloc: Global,
     line: &str,
     sizes: &MapSizes,
+    is_on_node: bool,
 ) -> Result<(), AllocError> {
     let words = words_of(alloc, line)?;
     let place = usize::from(RuleWord::Quota.number()).saturating_sub(1);
@@ -145,14 +164,13 @@ fn add_quota(
     };
     let spelled = written.escape_debug();
     if sizes.maps() == 0 {
-        return write!(
-            text,
-            "    QUOTA is {spelled}: without --maps there are no maps\n"
-        );
+        let none = no_maps(is_on_node);
+        return write!(text, "    QUOTA is {spelled}: {none}\n");
     }
     write!(text, "    QUOTA is {spelled}, of the maps ")?;
     add_list(text, sizes)?;
-    text.push_str(", as --maps says")?;
+    let teller = teller(is_on_node);
+    write!(text, ", as {teller} says")?;
     add_cells(text, sizes)
 }
 
@@ -162,6 +180,7 @@ fn add_plain(
     alloc: Global,
     table: &str,
     sizes: &MapSizes,
+    is_on_node: bool,
     fault: TableFault,
 ) -> Result<(), AllocError> {
     let line = match line_of(fault) {
@@ -174,7 +193,7 @@ fn add_plain(
             line: number,
             words,
         } => add_count(text, line, number, words),
-        TableFault::NoCell(_) => add_quota(text, alloc, line, sizes),
+        TableFault::NoCell(_) => add_quota(text, alloc, line, sizes, is_on_node),
         TableFault::TooLong(_) | TableFault::BadRange(_) | TableFault::Memory => Ok(()),
     }
 }
@@ -184,6 +203,7 @@ fn add_line(
     text: &mut String,
     line: &str,
     sizes: &MapSizes,
+    is_on_node: bool,
     fault: StatementFault,
 ) -> Result<(), AllocError> {
     let spelled = line.escape_debug();
@@ -196,26 +216,33 @@ fn add_line(
         return Ok(());
     };
     if sizes.maps() == 0 {
-        return text.push_str("    without --maps there are no maps\n");
+        let none = no_maps(is_on_node);
+        return write!(text, "    {none}\n");
     }
-    text.push_str("    --maps says ")?;
+    let teller = teller(is_on_node);
+    write!(text, "    {teller} says ")?;
     add_list(text, sizes)?;
     add_cells(text, sizes)
 }
 
 /// What more is told of the first fault of a table, for a node with maps of these sizes, and where each further fault is.
-fn told_table(alloc: Global, table: &str, sizes: &MapSizes) -> Result<String, AllocError> {
+fn told_table(
+    alloc: Global,
+    table: &str,
+    sizes: &MapSizes,
+    is_on_node: bool,
+) -> Result<String, AllocError> {
     let mut text = String::new(alloc);
     let Err(fault) = Policy::read_for(alloc, table, sizes) else {
         return Ok(text);
     };
     let first = match fault {
         TextFault::Plain(fault) => {
-            add_plain(&mut text, alloc, table, sizes, fault)?;
+            add_plain(&mut text, alloc, table, sizes, is_on_node, fault)?;
             line_of(fault)
         }
         TextFault::Line { line, fault } => {
-            add_line(&mut text, line_at(table, line), sizes, fault)?;
+            add_line(&mut text, line_at(table, line), sizes, is_on_node, fault)?;
             Some(line)
         }
         TextFault::TooLong(_) => None,
@@ -225,11 +252,16 @@ fn told_table(alloc: Global, table: &str, sizes: &MapSizes) -> Result<String, Al
 }
 
 /// The same of a job that told the fault's number alone: where it is, too, and first.
-fn told_placed(alloc: Global, table: &str, sizes: &MapSizes) -> Result<String, AllocError> {
+fn told_placed(
+    alloc: Global,
+    table: &str,
+    sizes: &MapSizes,
+    is_on_node: bool,
+) -> Result<String, AllocError> {
     let Err(fault) = Policy::read_for(alloc, table, sizes) else {
         return Ok(String::new(alloc));
     };
-    let more = told_table(alloc, table, sizes)?;
+    let more = told_table(alloc, table, sizes, is_on_node)?;
     format!(in alloc; "    {fault}\n{more}")
 }
 
@@ -315,7 +347,7 @@ fn table_sizes(job: &Job) -> Option<&MapSizes> {
         Job::Decide(words) => Some(&words.sizes),
         Job::Compare(words) => Some(&words.sizes),
         Job::Map(words) => Some(&words.sizes),
-        Job::Rehearse(words) => Some(&words.sizes),
+        Job::Rehearse(words) => words.sizes(),
         _ => None,
     }
 }
@@ -330,12 +362,17 @@ fn is_table(alloc: Global, text: &str) -> bool {
 
 /// What more is told of a job that failed, of the last text that it read, if it is one of a program or a table: what the line of
 /// its fault holds, of `policy` where the fault is, and that it is a table where the text of a program is wanted, or the other
-/// way. It is empty where that text has no fault.
+/// way. It is empty where that text has no fault. Of maps it is told whether a node's file says them.
 ///
 /// # Errors
 ///
 /// Where memory was refused.
-pub fn told_fault(alloc: Global, job: &Job, text: &str) -> Result<String, AllocError> {
+pub fn told_fault(
+    alloc: Global,
+    job: &Job,
+    text: &str,
+    is_on_node: bool,
+) -> Result<String, AllocError> {
     let Some(sizes) = table_sizes(job) else {
         return match job {
             Job::Assemble(_) if is_table(alloc, text) => String::from_str(alloc, IS_TABLE),
@@ -347,7 +384,7 @@ pub fn told_fault(alloc: Global, job: &Job, text: &str) -> Result<String, AllocE
         return String::from_str(alloc, IS_PROGRAM);
     }
     match job {
-        Job::Policy(_) => told_placed(alloc, text, sizes),
-        _ => told_table(alloc, text, sizes),
+        Job::Policy(_) => told_placed(alloc, text, sizes, is_on_node),
+        _ => told_table(alloc, text, sizes, is_on_node),
     }
 }

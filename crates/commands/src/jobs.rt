@@ -17,7 +17,6 @@ use job_packets::made_packets::packet_file;
 use job_packets::packet::PacketWords;
 use job_parts::faults::Fault;
 use job_parts::inputs::Inputs;
-use job_parts::lines::LinesArgs;
 use job_parts::status::Status;
 use job_parts::stops::{Halt, WriteFault};
 use job_parts::storage::Files;
@@ -44,11 +43,11 @@ pub enum Job {
     /// Judges each packet line of a file, and prints what comes of it.
     Judge(NodeLines),
     /// Serves the packet lines of a file on all ports at once, and prints the replies by port.
-    Serve(LinesArgs),
+    Serve(NodeLines),
     /// Steps through the events of a file, and prints what each comes to.
-    Simulate(LinesArgs),
+    Simulate(NodeLines),
     /// Judges each packet line of a file, and prints the steps of its program and what comes of it.
-    Trace(LinesArgs),
+    Trace(NodeLines),
     /// Assembles a text, and writes the image.
     Assemble(AsmWords),
     /// Prints the text of a BPF image, with or without slots, and the maps that it needs.
@@ -83,8 +82,8 @@ impl Job {
     /// What the job reads and writes.
     pub fn inputs(&self) -> Inputs<'_> {
         match self {
-            Job::Judge(args) => args.inputs(),
-            Job::Serve(args) | Job::Simulate(args) | Job::Trace(args) => args.inputs(),
+            Job::Judge(args) | Job::Serve(args) | Job::Simulate(args) | Job::Trace(args) =>
+                args.inputs(),
             Job::Assemble(words) => words.inputs(),
             Job::Disassemble(words) => words.inputs(),
             Job::Verify(args) => args.inputs(),
@@ -193,7 +192,7 @@ fn perform_opened<
 }
 
 /// Does a job over any files and any writer, and gives how it ended, with the exit status: `Failed` where an image was refused, two tables differ,
-/// a load or its way back is closed or a fault was printed, `Misused` where there are no packets such as `packet` was to make, else `Done`. What the writer holds back is
+/// a load or its way back is closed or a fault was printed, `Misused` where there are no packets such as `packet` was to make, or a bank begins with bytes, which no schedule does, else `Done`. What the writer holds back is
 /// not flushed. It may wait: `serve` has a node, whose end does, and starts threads and waits for them.
 ///
 /// `WriteFault` where the writer failed; nothing is written after that.

@@ -39,6 +39,7 @@ pub enum Cause {
 pub struct Noted<'a> {
     inputs: Inputs<'a>,
     is_dump: bool,
+    is_on_node: bool,
     cause: Option<Cause>,
     lines: Option<String>,
     last: Option<Vec<u8>>,
@@ -119,19 +120,27 @@ impl<'a> Noted<'a> {
         Noted {
             inputs,
             is_dump: false,
+            is_on_node: false,
             cause: None,
             lines: None,
             last: None,
         }
     }
 
-    /// Nothing yet, of the files that the job reads. The lines of a dump are given as its packet lines.
-    pub fn of_job(job: &'a Job) -> Noted<'a>
+    /// Nothing yet, of the files that the job reads; whether a node's file says its maps. The lines of a dump are given as its
+    /// packet lines.
+    pub fn of_job(job: &'a Job, is_on_node: bool) -> Noted<'a>
         ensures { reads_dump result ≡ is_dump job.now }
     {
         let mut noted = Noted::new(job.inputs());
         noted.is_dump = shows_dump(job);
+        noted.is_on_node = is_on_node;
         noted
+    }
+
+    /// Whether a node's file says the maps of the job.
+    pub fn is_on_node(&self) -> bool {
+        self.is_on_node
     }
 
     /// Why the last file could not be read or written, if it could not.

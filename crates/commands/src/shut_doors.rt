@@ -1,4 +1,4 @@
-//! Tables that let nobody load another.
+//! Who may load another table under one, and tables that let nobody.
 
 use policy::{Policy, PortRule};
 use rmap::Verdict;
@@ -10,6 +10,9 @@ const SHUT: &str =
     this line lets initiator 67 load: any * 67 FF 00000000 FFFFFFFF - 0
     --final says that it is meant, and then nothing is said
 ";
+
+/// How many ports there are.
+const PORTS: u8 = 32;
 
 /// The extended address of the boot window.
 const WINDOW: u8 = 0xFF;
@@ -94,6 +97,11 @@ fn named(own: &PortRule, field: Field) -> Option<u8> {
     }
 }
 
+/// Whether some rule names a value of that word.
+fn is_named(rules: &[PortRule], field: Field, value: u8) -> bool {
+    rules.iter().any(|own| named(own, field) == Some(value))
+}
+
 /// The values below a bound that some rule names, and the first that none names, which stands for all others.
 fn values(
     alloc: Global,
@@ -105,7 +113,7 @@ fn values(
     let mut other = false;
     for value in 0..bound {
         let value = (value % 256) as u8;
-        let is_named = rules.iter().any(|own| named(own, field) == Some(value));
+        let is_named = is_named(rules, field, value);
         if is_named || !other {
             values.push(value)?;
         }
@@ -150,4 +158,89 @@ pub fn told_shut(alloc: Global, table: &str) -> Result<&'static str, AllocError>
     } else {
         Ok(SHUT)
     }
+}
+
+/// Adds that word of a writer: its value, or `*` if it stands for all that no rule names.
+fn add_value(
+    text: &mut String,
+    rules: &[PortRule],
+    field: Field,
+    value: u8,
+) -> Result<(), AllocError> {
+    if is_named(rules, field, value) {
+        write!(text, "{value:02X}")
+    } else {
+        text.push('*')
+    }
+}
+
+/// Adds a line for a run of ports at which loads of an initiator with a key pass.
+fn add_run(
+    text: &mut String,
+    rules: &[PortRule],
+    first: u8,
+    writer: Writer,
+) -> Result<(), AllocError> {
+    let last = writer.port;
+    write!(text, "    loads by port {first}-{last} initiator ")?;
+    add_value(text, rules, Field::Initiator, writer.initiator)?;
+    text.push_str(" key ")?;
+    add_value(text, rules, Field::Key, writer.key)?;
+    text.push('\n')
+}
+
+/// Adds a line for each run of ports at which loads of an initiator with a key pass.
+fn add_runs(
+    text: &mut String,
+    rules: &[PortRule],
+    initiator: u8,
+    key: u8,
+) -> Result<(), AllocError> {
+    let mut first: u8 = 0;
+    let mut is_open = false;
+    for port in 0..PORTS {
+        let writer = Writer {
+            port,
+            initiator,
+            key,
+        };
+        let passes = may_load(rules, writer);
+        if passes && !is_open {
+            first = port;
+        }
+        is_open = passes;
+        let next = Writer {
+            port: port.saturating_add(1),
+            ..writer
+        };
+        if passes && (next.port == PORTS || !may_load(rules, next)) {
+            add_run(text, rules, first, writer)?;
+        }
+    }
+    Ok(())
+}
+
+/// What is told of a table: by which ports, initiators and keys loads pass under it in slot 3, as `rehearse --any` prints them, or
+/// that they do so by nobody.
+///
+/// # Errors
+///
+/// Where memory was refused.
+pub fn told_loaders(alloc: Global, table: &str) -> Result<String, AllocError> {
+    let mut text = String::new(alloc);
+    let Ok(policy) = Policy::read(alloc, table) else {
+        return Ok(text);
+    };
+    let rules = policy.rules();
+    let initiators = values(alloc, rules, 256, Field::Initiator)?;
+    let keys = values(alloc, rules, 256, Field::Key)?;
+    for initiator in initiators.as_slice() {
+        for key in keys.as_slice() {
+            add_runs(&mut text, rules, *initiator, *key)?;
+        }
+    }
+    if text.is_empty() {
+        text.push_str("    loads by nobody\n")?;
+    }
+    Ok(text)
 }

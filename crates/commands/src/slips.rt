@@ -1,6 +1,7 @@
 //! What more is told of words that name no work, and of a job that failed, behind the line that tells so.
 
 use crate::jobs::Job;
+use crate::node_jobs::beside_file;
 use crate::usage::command_line;
 use clap::ArgMatches;
 use clap::error::ErrorKind;
@@ -30,6 +31,9 @@ const ONE_PORT: &str = "1 if frames come";
 /// What may not be there beside `--any`.
 const ANY_ALONE: &str = "    --any is there: without --port, --initiator, --key and --slot\n";
 
+/// What may not be there beside `--any` of the node.
+const ANY_AT_NODE: &str = "    --any is there beside --node: give the maps by --maps\n";
+
 /// What NEW may be where OLD is standard input.
 const ONE_INPUT: &str = "the name of a file if OLD is - too";
 
@@ -40,8 +44,20 @@ const TIMES: &str =
 /// What is told of an OUT that is the file that is read.
 pub const OWN_SOURCE: &str = "    this is the file that is read\n";
 
+/// The words of the jobs that may be left to a node's file.
+const LEFT: [&str; 8] = [
+    "verify", "why", "weigh", "policy", "packet", "decide", "compare", "map",
+];
+
 /// What CODE may be.
 const CODE: &str = "one of the codes that explain lists without CODE, as V5 or load12";
+
+/// What is told of a node's file whose banks do not begin with zeros, of a job that steps through a schedule.
+const CONTENTS: &str =
+    "    contents is there in the node's file: the banks of a schedule begin with zeros\n";
+
+/// What is told of a loader at a port that the node of a file does not have.
+const FEW_PORTS: &str = "    --port is there: the node of the file has fewer ports\n";
 
 /// The line that tells what a word stands for, how it was written, and what is wanted.
 fn line_of(
@@ -71,13 +87,16 @@ fn slip_line(alloc: Global, found: &ArgMatches, slip: Slip) -> Result<String, Al
 }
 
 /// The line of words of which each is one that it may be, but not beside the other: `--frames` and `--ports`, `--any` and options
-/// of loads that are done, or OLD and NEW.
+/// of loads that are done or the file of a node, or OLD and NEW.
 fn pair_line(alloc: Global, found: &ArgMatches) -> Result<String, AllocError> {
     if is_set(found, "frames") {
         return line_of(alloc, "--ports", text_of(found, "ports"), ONE_PORT);
     }
     if is_any_beside(found) {
         return String::from_str(alloc, ANY_ALONE);
+    }
+    if is_set(found, "any") && text_of(found, "node").is_some() {
+        return String::from_str(alloc, ANY_AT_NODE);
     }
     match text_of(found, "new") {
         Some(new) => line_of(alloc, "NEW", Some(new), ONE_INPUT),
@@ -102,11 +121,25 @@ fn beside_line(alloc: Global, name: &str) -> Result<String, AllocError> {
     format!(in alloc; "    --{name} is there beside --node: the node's file says it\n")
 }
 
+/// The option that says what the node's file says that the subcommand of this name has, if it has both.
+fn beside(name: &str, found: &ArgMatches) -> Option<&'static str> {
+    if !LEFT.iter().any(|word| *word == name) {
+        return beside_node(found);
+    }
+    text_of(found, "node")?;
+    beside_file(found)
+}
+
+/// The line of words that order no packet.
+fn packet_line(alloc: Global, found: &ArgMatches) -> Result<String, AllocError> {
+    match packet_words(alloc, found) {
+        Err(PacketFault::Words(slip)) => slip_line(alloc, found, slip),
+        Err(PacketFault::Memory) | Ok(_) => Ok(String::new(alloc)),
+    }
+}
+
 /// The line of an option that words of any other job have.
 fn option_line(alloc: Global, found: &ArgMatches) -> Result<String, AllocError> {
-    if let Some(name) = beside_node(found) {
-        return beside_line(alloc, name);
-    }
     if let Err(UsageFault::BadOption) = sizes_of(alloc, found) {
         return line_of(alloc, "--maps", text_of(found, "maps"), MAPS);
     }
@@ -138,15 +171,15 @@ pub fn told_option(alloc: Global, words: &[&str]) -> Result<String, AllocError> 
     let Ok(found) = command_line(alloc)?.try_get_matches_from(words) else {
         return Ok(String::new(alloc));
     };
-    if let Some(packet) = found.subcommand_matches("packet") {
-        return match packet_words(alloc, packet) {
-            Err(PacketFault::Words(slip)) => slip_line(alloc, packet, slip),
-            Err(PacketFault::Memory) | Ok(_) => Ok(String::new(alloc)),
-        };
+    let Some((name, found)) = found.subcommand() else {
+        return Ok(String::new(alloc));
+    };
+    if let Some(option) = beside(name, found) {
+        return beside_line(alloc, option);
     }
-    match found.subcommand() {
-        Some((_, found)) => option_line(alloc, found),
-        None => Ok(String::new(alloc)),
+    match name {
+        "packet" => packet_line(alloc, found),
+        _ => option_line(alloc, found),
     }
 }
 
@@ -170,9 +203,11 @@ pub(crate) fn help(alloc: Global, words: &[&str]) -> Result<String, UsageFault> 
     }
 }
 
-/// The line behind `bad option` of a job that was begun: what of a packet is too long.
+/// The line behind `bad option` of a job that was begun: what of a packet is too long, or what the node's file may not say.
 pub(crate) fn told_misuse(job: &Job) -> &'static str {
     match job {
+        Job::Simulate(_) | Job::Trace(_) => CONTENTS,
+        Job::Rehearse(_) => FEW_PORTS,
         Job::Packet(words) => match &words.order {
             Order::Load { .. } => "    IMAGE is too long: the staging has 16,384 bytes\n",
             Order::Read { .. } | Order::Write { .. } | Order::Rmw { .. } => {

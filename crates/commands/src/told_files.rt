@@ -81,11 +81,11 @@ impl<'a, R: rt::Files + Input> ToldFiles<'a, R> {
         }
     }
 
-    /// The files that the job reads. The lines of a dump are given as its packet lines.
-    pub fn of_job(rt: &'a R, job: &'a Job) -> ToldFiles<'a, R> {
+    /// The files that the job reads; whether a node's file says its maps. The lines of a dump are given as its packet lines.
+    pub fn of_job(rt: &'a R, job: &'a Job, is_on_node: bool) -> ToldFiles<'a, R> {
         ToldFiles {
             rt,
-            noted: Noted::of_job(job),
+            noted: Noted::of_job(job, is_on_node),
         }
     }
 

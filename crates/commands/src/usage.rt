@@ -5,10 +5,11 @@ ghost use Rattle.clap.specs.Simple.{app_of, subcommand_rows_of};
 ghost use Rattle.clap.specs.Values.{kind_of};
 ghost use Rattle.clap.specs.Walk.{rows_of, texts};
 ghost use Rattle.clap.specs.Matches.{found_of};
-ghost use Rattle.commands.specs.CommandLine.{rmapctl_app, with_chart_jobs, with_first_jobs, with_packet_jobs, Names, NamesWork, NamesNone, LacksWork, Refuses, TellsRefusal};
+ghost use Rattle.commands.specs.CommandLine.{rmapctl_app, with_chart_jobs, with_first_jobs, with_packet_jobs, IsPlacedBy, Names, NamesPlain, NamesWork, NamesNone, LacksWork, Refuses, RefusesPlace, RefusesPlain, TellsRefusal};
 ghost use Rattle.commands.specs.Words.{name_of};
 
 use crate::jobs::Job;
+use crate::node_jobs::{NodeJob, beside_file, own_file, with_node};
 use crate::word::Word;
 use crate::work::Work;
 use clap::error::ErrorKind;
@@ -24,7 +25,6 @@ use job_node_file::node_file::{node_file_command, node_file_job};
 use job_nodes::judge::judge_command;
 use job_nodes::sim::sim_command;
 use job_packets::packet::{packet_command, packet_job};
-use job_parts::lines::lines_args;
 use job_parts::usage::UsageFault;
 use job_ports::serve::serve_command;
 use job_rehearse::rehearse::{rehearse_command, rehearse_job};
@@ -47,9 +47,9 @@ fn with_first_jobs<'a>(alloc: Global, rmapctl: Command<'a>) -> Result<Command<'a
 {
     let asm = asm_command(alloc)?;
     let dis = dis_command(alloc)?;
-    let verify = verify_command(alloc)?;
+    let verify = with_node(alloc, verify_command(alloc)?)?;
     let judge = judge_command(alloc)?;
-    let policy = policy_command(alloc)?;
+    let policy = with_node(alloc, policy_command(alloc)?)?;
     rmapctl
         .subcommand(asm)?
         .subcommand(dis)?
@@ -62,9 +62,9 @@ fn with_first_jobs<'a>(alloc: Global, rmapctl: Command<'a>) -> Result<Command<'a
 fn with_packet_jobs<'a>(alloc: Global, rmapctl: Command<'a>) -> Result<Command<'a>, AllocError>
     ensures { IfOk result (λ c. app_of c ≡ with_packet_jobs (app_of rmapctl.entry)) }
 {
-    let packet = packet_command(alloc)?;
+    let packet = with_node(alloc, packet_command(alloc)?)?;
     let show = show_command(alloc)?;
-    let decide = decide_command(alloc)?;
+    let decide = with_node(alloc, decide_command(alloc)?)?;
     let trace = trace_command(alloc)?;
     rmapctl
         .subcommand(packet)?
@@ -77,8 +77,8 @@ fn with_packet_jobs<'a>(alloc: Global, rmapctl: Command<'a>) -> Result<Command<'
 fn with_chart_jobs<'a>(alloc: Global, rmapctl: Command<'a>) -> Result<Command<'a>, AllocError>
     ensures { IfOk result (λ c. app_of c ≡ with_chart_jobs (app_of rmapctl.entry)) }
 {
-    let compare = compare_command(alloc)?;
-    let map = map_command(alloc)?;
+    let compare = with_node(alloc, compare_command(alloc)?)?;
+    let map = with_node(alloc, map_command(alloc)?)?;
     let rehearse = rehearse_command(alloc)?;
     rmapctl
         .subcommand(compare)?
@@ -94,8 +94,8 @@ pub(crate) fn command_line<'a>(alloc: Global) -> Result<Command<'a>, AllocError>
     let sim = sim_command(alloc)?;
     let live = live_command(alloc)?;
     let explain = explain_command(alloc)?;
-    let why = why_command(alloc)?;
-    let weigh = weigh_command(alloc)?;
+    let why = with_node(alloc, why_command(alloc)?)?;
+    let weigh = with_node(alloc, weigh_command(alloc)?)?;
     let node = node_file_command(alloc)?;
     let rmapctl = Command::new(alloc, "rmapctl").bin_name("rmapctl")?;
     let about = "An RMAP target whose commands are judged by BPF programs";
@@ -130,10 +130,10 @@ fn told(alloc: Global, refusal: &Error) -> UsageFault
     }
 }
 
-/// What the subcommand of this word names, with its matches.
-fn work_named(alloc: Global, word: Word, rows: &ArgMatches) -> Result<Work, UsageFault>
-    ensures ok { IfOk result (Names (Some (name_of word, rows_of (found_of rows.now)))) }
-    ensures err { IfErr result (Refuses word (rows_of (found_of rows.now))) }
+/// What the subcommand of this word names with its matches, whether they name a node's file or not: a job, or a talk.
+fn plain_named(alloc: Global, word: Word, rows: &ArgMatches) -> Result<Work, UsageFault>
+    ensures ok { IfOk result (NamesPlain (name_of word, rows_of (found_of rows.now))) }
+    ensures err { IfErr result (RefusesPlain word (rows_of (found_of rows.now))) }
 {
     let job = match word {
         Word::Live => return Ok(Work::Live(live_job(alloc, rows)?)),
@@ -142,8 +142,8 @@ fn work_named(alloc: Global, word: Word, rows: &ArgMatches) -> Result<Work, Usag
         Word::Verify => Job::Verify(image_args(alloc, rows)?),
         Word::Judge => Job::Judge(node_lines(alloc, rows)?),
         Word::Policy => Job::Policy(policy_job(alloc, rows)?),
-        Word::Serve => Job::Serve(lines_args(alloc, rows)?),
-        Word::Sim => Job::Simulate(lines_args(alloc, rows)?),
+        Word::Serve => Job::Serve(node_lines(alloc, rows)?),
+        Word::Sim => Job::Simulate(node_lines(alloc, rows)?),
         Word::Explain => Job::Explain(explain_job(alloc, rows)?),
         Word::Why => Job::Why(image_args(alloc, rows)?),
         Word::Weigh => Job::Weigh(weigh_job(alloc, rows)?),
@@ -151,12 +151,43 @@ fn work_named(alloc: Global, word: Word, rows: &ArgMatches) -> Result<Work, Usag
         Word::Packet => Job::Packet(packet_job(alloc, rows)?),
         Word::Show => Job::Show(show_job(alloc, rows)?),
         Word::Decide => Job::Decide(decide_job(alloc, rows)?),
-        Word::Trace => Job::Trace(lines_args(alloc, rows)?),
+        Word::Trace => Job::Trace(node_lines(alloc, rows)?),
         Word::Compare => Job::Compare(compare_job(alloc, rows)?),
         Word::Map => Job::Map(map_job(alloc, rows)?),
         Word::Rehearse => Job::Rehearse(rehearse_job(alloc, rows)?),
     };
     Ok(Work::Once(job))
+}
+
+/// The job of these matches, or the job for the node of the file that they name.
+#[tactic(auto, using(crate::proofs::Placing::spoils_place))]
+fn placed_by(alloc: Global, job: Job, rows: &ArgMatches) -> Result<Work, UsageFault>
+    ensures ok { IfOk result (IsPlacedBy job (rows_of (found_of rows.now))) }
+    ensures err { IfErr result (RefusesPlace (rows_of (found_of rows.now))) }
+{
+    let Some(name) = own_file(&job, rows) else {
+        return Ok(Work::Once(job));
+    };
+    match beside_file(rows) {
+        Some(_) => Err(UsageFault::BadOption),
+        None => {
+            let node = String::from_str(alloc, name)?;
+            Ok(Work::OnNode(NodeJob { job, node }))
+        }
+    }
+}
+
+/// What the subcommand of this word names, with its matches.
+#[tactic(auto, using(crate::proofs::Placing::places, crate::proofs::Placing::names_talk, crate::proofs::Placing::is_unplaced, crate::proofs::Placing::refuses_plain, crate::proofs::Placing::refuses_place))]
+fn work_named(alloc: Global, word: Word, rows: &ArgMatches) -> Result<Work, UsageFault>
+    ensures ok { IfOk result (Names (Some (name_of word, rows_of (found_of rows.now)))) }
+    ensures err { IfErr result (Refuses word (rows_of (found_of rows.now))) }
+{
+    match plain_named(alloc, word, rows)? {
+        Work::Once(job) => placed_by(alloc, job, rows),
+        Work::OnNode(_) => unreachable!(),
+        Work::Live(words) => Ok(Work::Live(words)),
+    }
 }
 
 /// The name of the subcommand that was found, and its matches.

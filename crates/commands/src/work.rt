@@ -1,6 +1,7 @@
 //! What a command line names.
 
 use crate::jobs::Job;
+use crate::node_jobs::NodeJob;
 use job_config::sources::NodeSource;
 use job_live::words::LiveWords;
 use job_show::show::ShowWords;
@@ -13,33 +14,47 @@ const STANDARD_INPUT: &str = "-";
 pub enum Work {
     /// A job over files, which is done once: [`perform`](crate::perform) does it.
     Once(Job),
+    /// A job for the node of a file: [`Job::placed`] gives the job by the configuration that the file says.
+    OnNode(NodeJob),
     /// A talk on a node: [`live`](crate::live) holds it in lines, and [`live_frames`](crate::live_frames) in frames.
     Live(LiveWords),
 }
 
 /// How a work is done.
-#[derive(Clone, Copy, Debug)]
-pub enum Course<'a> {
+#[derive(Debug, Drop)]
+pub enum Course {
     /// The job is performed, over files.
-    Perform(&'a Job),
+    Perform(Job),
+    /// The node's file is read first, and then the job is performed.
+    OnNode(NodeJob),
     /// What lines of standard input are is told as they come ([`show_talk`](crate::show_talk)).
-    Show(&'a ShowWords),
+    Show(ShowWords),
     /// A talk is held in lines.
-    Lines(&'a NodeSource),
+    Lines(NodeSource),
     /// A talk is held in frames.
-    Frames(&'a NodeSource),
+    Frames(NodeSource),
 }
 
 impl Work {
     /// How it is done: all that takes lines of standard input as they come is a talk.
-    pub fn course(&self) -> Course<'_> {
+    pub fn course(self) -> Course {
         match self {
-            Work::Once(Job::Show(words)) if words.lines.as_str() == STANDARD_INPUT => {
-                Course::Show(words)
+            Work::Once(Job::Show(words)) => {
+                if words.lines.as_str() == STANDARD_INPUT {
+                    Course::Show(words)
+                } else {
+                    Course::Perform(Job::Show(words))
+                }
             }
             Work::Once(job) => Course::Perform(job),
-            Work::Live(words) if words.frames => Course::Frames(&words.node),
-            Work::Live(words) => Course::Lines(&words.node),
+            Work::OnNode(own) => Course::OnNode(own),
+            Work::Live(LiveWords { node, frames }) => {
+                if frames {
+                    Course::Frames(node)
+                } else {
+                    Course::Lines(node)
+                }
+            }
         }
     }
 }

@@ -1,7 +1,9 @@
 -- What the words of a command line come to over the files of a folder.
 use Rattle.std.specs.Prelude.{◌≡◌, ◌⊎◌, ℕ, List, [], ◌∷◌, Some, string_bytes, codes, true, false}
+use Rattle.std.specs.Borrow.{Bor}
 use Rattle.commands.specs.CommandLine.{NamesWork}
 use Rattle.commands.specs.Notes.{is_dump, reads_dump}
+use Rattle.commands.specs.OnNodes.{placed}
 use Rattle.commands.specs.Performed.{Performs}
 use Rattle.commands.specs.ShownTalk.{ShowsTalk}
 use Rattle.commands.specs.declared.jobs.Job.{Job}
@@ -25,13 +27,21 @@ use Rattle.commands.specs.declared.jobs.Job.TheVariants.{
   Map,
   Rehearse,
 }
+use Rattle.commands.specs.declared.node_jobs.NodeJob.{NodeJob}
 use Rattle.commands.specs.declared.work.Work.{Work}
-use Rattle.commands.specs.declared.work.Work.TheVariants.{Once, Live}
+use Rattle.commands.specs.declared.work.Work.TheVariants.{Once, OnNode, Live}
 use Rattle.folders.specs.Folders.{FolderValue}
+use Rattle.job_config.specs.Configured.{numbers_in}
+use Rattle.job_config.specs.Reads.{ReadsConfiguration, ReadsNoConfiguration}
+use Rattle.job_config.specs.declared.configuration.Configuration.{Configuration}
 use Rattle.job_live.specs.LiveJob.{Lives}
 use Rattle.job_live.specs.declared.words.LiveWords.{LiveWords}
+use Rattle.job_parts.specs.Printed.{fault_line}
 use Rattle.job_parts.specs.Statuses.{status_code}
+use Rattle.job_parts.specs.declared.faults.Fault.{Fault}
+use Rattle.job_parts.specs.declared.faults.Fault.TheVariants.{CannotWrite}
 use Rattle.job_parts.specs.declared.status.Status.{Status}
+use Rattle.job_parts.specs.declared.status.Status.TheVariants.{Failed}
 use Rattle.clap.specs.Walk.{Text}
 use Rattle.doing.specs.Desks.{DeskReads, DeskWrites}
 use Rattle.doing.specs.Speeches.{SpeechHears, SpeechLoses, SpeechMisses, SpeechSends}
@@ -108,10 +118,51 @@ DoesOnce (Compare words) before left = DoesJob (Compare words) before left
 DoesOnce (Map words) before left = DoesJob (Map words) before left
 DoesOnce (Rehearse words) before left = DoesJob (Rehearse words) before left
 
--- what a work comes to: a talk in frames is left out, and one in lines is held
+-- the line of a fault was printed, and no file is another
+pub record TellsFault (fault : Fault) (before : FolderValue) (left : Left) : Type 0 where
+  pub printed : left.done.out.items ≡ fault_line fault
+  pub folder : left.folder ≡ before
+  pub code : left.done.status ≡ status_code Failed
+
+-- the node's file of a job says a configuration, and the job was done for that node
+pub record DoesPlaced (own : NodeJob) (before : FolderValue) (left : Left) : Type 0 where
+  pub start : Desk
+  pub stop : Desk
+  pub configuration : Configuration
+  pub begun : start.folder ≡ before
+  pub dump : reads_dump start.noted ≡ false
+  pub read : ReadsConfiguration DeskReads (string_bytes own.node) start configuration stop
+  pub done : DoesOnce (placed own.job (numbers_in configuration)) stop.folder left
+
+-- the node's file of a job says none, which was told, and nothing was done
+pub record TellsNode (own : NodeJob) (before : FolderValue) (left : Left) : Type 0 where
+  pub start : Desk
+  pub stop : Desk
+  pub fault : Fault
+  pub begun : start.folder ≡ before
+  pub dump : reads_dump start.noted ≡ false
+  pub read : ReadsNoConfiguration DeskReads (string_bytes own.node) start fault stop
+  pub told : TellsFault fault stop.folder left
+
+-- a job would write to the node's file of this name, which was told, and nothing was done
+abbrev pub RefusesOutput : (node : List ℕ) → (before : FolderValue) → Left → Type 0
+RefusesOutput node before left = (file : Bor (List ℕ)) × (file.now ≡ node) × TellsFault (CannotWrite file) before left
+
+-- what a job for the node of a file comes to
+abbrev pub DoesOnNode : NodeJob → (before : FolderValue) → Left → Type 0
+DoesOnNode own before left =
+    DoesPlaced own before left ⊎ TellsNode own before left ⊎ RefusesOutput (string_bytes own.node) before left
+
+-- what a talk comes to: one in frames is left out, and one in lines is held
+abbrev pub DoesLive : LiveWords → (before : FolderValue) → Left → Type 0
+DoesLive words before left =
+    ((words.frames ≡ true) × IsLeftOut before left) ⊎ ((words.frames ≡ false) × HoldsLines words before left)
+
+-- what a work comes to
 abbrev pub DoesWork : Work → (before : FolderValue) → Left → Type 0
 DoesWork (Once job) before left = DoesOnce job before left
-DoesWork (Live words) before left = ((words.frames ≡ true) × IsLeftOut before left) ⊎ ((words.frames ≡ false) × HoldsLines words before left)
+DoesWork (OnNode own) before left = DoesOnNode own before left
+DoesWork (Live words) before left = DoesLive words before left
 
 -- the words name a work, which was done
 pub record DoesNamed (words : List Text) (before : FolderValue) (left : Left) : Type 0 where

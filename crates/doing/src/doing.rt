@@ -3,15 +3,17 @@
 ghost use Rattle.std.specs.Prelude.{◌≡◌, IfOk};
 ghost use Rattle.clap.specs.Walk.{texts};
 ghost use Rattle.doing.specs.Alone.{IsAlone};
-ghost use Rattle.doing.specs.Doings.{DoesJob, DoesOnce, DoesWords, DoesWork, HoldsLines, IsQuiet, ShowsInput, words_given};
+ghost use Rattle.doing.specs.Doings.{DoesJob, DoesLive, DoesOnNode, DoesOnce, DoesWords, DoesWork, HoldsLines, IsQuiet, RefusesOutput, ShowsInput, TellsFault, words_given};
+ghost use Rattle.job_parts.specs.Printed.{fault_line};
 
 use crate::alone::perform_alone;
 use crate::desk::Desk;
 use crate::slate::Slate;
 use crate::talks::Speech;
 use commands::{
-    Asked, Job, LiveWords, Noted, ShowWords, UsageFault, WITHOUT_WORDS, Work, asked_of, live,
-    show_talk, told_end, told_node, told_option,
+    Asked, Fault, Job, JobEnd, LiveWords, NodeJob, Noted, OWN_SOURCE, ShowWords, Status,
+    UsageFault, WITHOUT_WORDS, Work, asked_of, configuration_in, live, node_inputs, show_talk,
+    told_end, told_node, told_option,
 };
 use folders::Folder;
 use std::alloc::{AllocError, Global};
@@ -66,12 +68,17 @@ fn told<'a>(
     Ok(Left { done, folder })
 }
 
-/// Does a job over the files of a folder.
-fn do_job<'a>(alloc: Global, job: &Job, folder: Folder<'a>) -> Result<Left<'a>, AllocError>
+/// Does a job over the files of a folder, where a node's file may say its maps.
+fn do_job<'a>(
+    alloc: Global,
+    job: &Job,
+    is_on_node: bool,
+    folder: Folder<'a>,
+) -> Result<Left<'a>, AllocError>
     requires { IsAlone job.now }
     ensures { IfOk result (DoesJob job.now folder.entry) }
 {
-    let mut desk = Desk::new(folder, Noted::of_job(job));
+    let mut desk = Desk::new(folder, Noted::of_job(job, is_on_node));
     let mut out = Vec::new(alloc);
     let Ok(end) = perform_alone(alloc, job, &mut desk, &mut out) else {
         return Err(AllocError);
@@ -150,8 +157,14 @@ fn show_input<'a>(
     Ok(Left { done, folder })
 }
 
-/// Does a job: `show -` as a talk, `serve` not at all, and each other over the files of the folder.
-fn do_once<'a>(alloc: Global, job: &Job, folder: Folder<'a>) -> Result<Left<'a>, AllocError>
+/// Does a job: `show -` as a talk, `serve` not at all, and each other over the files of the folder, where a node's file may say
+/// its maps.
+fn do_once<'a>(
+    alloc: Global,
+    job: &Job,
+    is_on_node: bool,
+    folder: Folder<'a>,
+) -> Result<Left<'a>, AllocError>
     ensures { IfOk result (DoesOnce job.now folder.entry) }
 {
     match job {
@@ -159,18 +172,104 @@ fn do_once<'a>(alloc: Global, job: &Job, folder: Folder<'a>) -> Result<Left<'a>,
         Job::Show(words) if words.lines.as_str() == STANDARD_INPUT => {
             show_input(alloc, words, folder)
         }
-        _ => do_job(alloc, job, folder),
+        _ => do_job(alloc, job, is_on_node, folder),
+    }
+}
+
+/// The line of a fault.
+fn fault_line(alloc: Global, fault: &Fault<'_>) -> Result<Vec<u8>, AllocError>
+    ensures { IfOk result (λ line. line.items ≡ fault_line fault.now) }
+{
+    let mut line = Vec::new(alloc);
+    match writeln!(line, "{fault}") {
+        Ok(()) => Ok(line),
+        Err(_) => Err(AllocError),
+    }
+}
+
+/// Prints the fault of a job's node, where nothing was done.
+fn refuse_node<'a>(
+    alloc: Global,
+    job: &Job,
+    fault: Fault<'_>,
+    desk: Desk<'a, '_>,
+) -> Result<Left<'a>, AllocError>
+    ensures { IfOk result (TellsFault fault.entry desk.entry.folder) }
+{
+    let out = fault_line(alloc, &fault)?;
+    let end = JobEnd {
+        status: Status::Failed,
+        fault: Some(fault),
+        full: None,
+    };
+    let told = told_end(alloc, job, &end, desk.noted())?;
+    let done = Done {
+        status: Status::Failed.code(),
+        out,
+        told,
+    };
+    Ok(Left {
+        done,
+        folder: desk.into_folder(),
+    })
+}
+
+/// Refuses a job that would write over the node's file of this name.
+fn refuse_output<'a>(alloc: Global, node: &str, folder: Folder<'a>) -> Result<Left<'a>, AllocError>
+    ensures { IfOk result (RefusesOutput node.now folder.entry) }
+{
+    let fault = Fault::CannotWrite(node);
+    let done = Done {
+        status: Status::Failed.code(),
+        out: fault_line(alloc, &fault)?,
+        told: String::from_str(alloc, OWN_SOURCE)?,
+    };
+    Ok(Left { done, folder })
+}
+
+/// Whether a job would write to the file of this name.
+fn is_output(job: &Job, name: &str) -> bool {
+    match job.inputs().output {
+        Some(output) => output == name,
+        None => false,
+    }
+}
+
+/// Does a job for the node of a file.
+fn do_on_node<'a>(alloc: Global, own: NodeJob, folder: Folder<'a>) -> Result<Left<'a>, AllocError>
+    ensures { IfOk result (DoesOnNode own folder.entry) }
+{
+    let NodeJob { job, node } = own;
+    let name = node.as_str();
+    if is_output(&job, name) {
+        return refuse_output(alloc, name, folder);
+    }
+    let mut desk = Desk::new(folder, Noted::new(node_inputs(name)));
+    match configuration_in(alloc, &mut desk, name) {
+        Ok(configuration) => do_once(alloc, &job.placed(&configuration), true, desk.into_folder()),
+        Err(fault) => refuse_node(alloc, &job, fault, desk),
+    }
+}
+
+/// Holds a talk, unless it is one in frames.
+fn do_live<'a>(alloc: Global, words: &LiveWords, folder: Folder<'a>) -> Result<Left<'a>, AllocError>
+    ensures { IfOk result (DoesLive words.now folder.entry) }
+{
+    if words.frames {
+        told(alloc, folder, LEFT_OUT, FRAMES_LEFT_OUT)
+    } else {
+        talk_lines(alloc, words, folder)
     }
 }
 
 /// Does the work that words name.
-fn do_work<'a>(alloc: Global, work: &Work, folder: Folder<'a>) -> Result<Left<'a>, AllocError>
-    ensures { IfOk result (DoesWork work.now folder.entry) }
+fn do_work<'a>(alloc: Global, work: Work, folder: Folder<'a>) -> Result<Left<'a>, AllocError>
+    ensures { IfOk result (DoesWork work folder.entry) }
 {
     match work {
-        Work::Once(job) => do_once(alloc, job, folder),
-        Work::Live(words) if words.frames => told(alloc, folder, LEFT_OUT, FRAMES_LEFT_OUT),
-        Work::Live(words) => talk_lines(alloc, words, folder),
+        Work::Once(job) => do_once(alloc, &job, false, folder),
+        Work::OnNode(own) => do_on_node(alloc, own, folder),
+        Work::Live(words) => do_live(alloc, &words, folder),
     }
 }
 
@@ -200,7 +299,7 @@ fn do_given<'a>(alloc: Global, given: &[&str], folder: Folder<'a>) -> Result<Lef
     ensures { IfOk result (DoesWords (texts given.now) folder.entry) }
 {
     match asked_of(alloc, given) {
-        Ok(Asked::Named(work)) => do_work(alloc, &work, folder),
+        Ok(Asked::Named(work)) => do_work(alloc, work, folder),
         Ok(Asked::Told(text)) => {
             let done = Done {
                 status: 0,

@@ -2,3 +2,7 @@ mod Limits
 mod PacketBytes
 mod WitnessPoints
 mod Telling
+mod Charted
+mod Comments
+mod RowsTold
+mod DifferAt

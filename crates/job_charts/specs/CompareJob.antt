@@ -3,18 +3,19 @@ use Rattle.std.specs.Prelude.{◌≡◌, ◌⊎◌, ◌&&◌, ℕ, Bool, false, 
 use Rattle.std.specs.Str.{bytes_eq}
 use Rattle.clap.specs.Walk.{Row, first_of}
 use Rattle.clap.specs.Simple.{App, new_app, with_rule}
-use Rattle.job_parts.specs.Arguments.{file_rule, option_rule}
+use Rattle.job_parts.specs.Arguments.{file_rule, flag_rule, is_set, option_rule}
 use Rattle.job_parts.specs.Options.{GivesSizes, IsBadList}
 use Rattle.job_parts.specs.declared.usage.UsageFault.{UsageFault}
 use Rattle.job_parts.specs.declared.usage.UsageFault.TheVariants.{Parse, BadOption, Memory}
 use Rattle.job_charts.specs.declared.compare.CompareWords.{CompareWords}
 
--- `compare OLD NEW [--maps LIST]`
+-- `compare OLD NEW [--maps LIST] [--markdown]`
 abbrev pub compare_app : App
 compare_app =
     with_rule
+    (with_rule
     (with_rule (with_rule (new_app (codes "compare")) (file_rule (codes "old"))) (file_rule (codes "new")))
-    (option_rule (codes "maps"))
+    (option_rule (codes "maps"))) (flag_rule (codes "markdown"))
 
 -- both names are that of standard input, which one read ends
 abbrev pub are_one_input : (old new : List ℕ) → Bool
@@ -26,6 +27,7 @@ pub record NamesCompare (rows : List Row) (words : CompareWords) : Type 0 where
   pub new : first_of (codes "new") rows ≡ Some (string_bytes words.new)
   pub apart : are_one_input (string_bytes words.old) (string_bytes words.new) ≡ false
   pub sizes : GivesSizes (first_of (codes "maps") rows) words.sizes
+  pub markdown : words.markdown ≡ is_set (codes "markdown") rows
 
 -- matches that name standard input for both files
 pub record NamesOneInput (rows : List Row) : Type 0 where

@@ -1,12 +1,14 @@
 -- What the job `compare` reads and prints.
-use Rattle.std.specs.Prelude.{◌≡◌, ◌⊎◌, ℕ, List, [], ◌∷◌, ◌++◌, Option, codes, string_bytes}
+use Rattle.std.specs.Prelude.{◌≡◌, ◌⊎◌, ◌<◌, Bool, true, ℕ, List, [], ◌∷◌, ◌++◌, Option, codes, string_bytes}
 use Rattle.std.specs.Io.KnownBytes.{Appends}
 use Rattle.charts.specs.Points.{IsDifference}
 use Rattle.charts.specs.Same.{AreSame}
 use Rattle.machine.specs.Sizes.{Maps}
-use Rattle.policy_table.specs.TableFaults.{policy_fault_of, table_fault_text}
+use Rattle.policy_table.specs.Policies.{PolicyValue}
+use Rattle.policy_table.specs.Ports.{rules_at}
+use Rattle.policy_table.specs.TextFaults.{text_fault_of, text_fault_text}
 use Rattle.policy_table.specs.declared.rules.Rule.{Rule}
-use Rattle.policy_table.specs.declared.table_faults.TableFault.{TableFault}
+use Rattle.policy_table.specs.declared.text_faults.TextFault.{TextFault}
 use Rattle.regions.specs.declared.points.Point.{Point}
 use Rattle.job_decide.specs.Tables.{HoldsBadTable, HoldsTable}
 use Rattle.job_parts.specs.Files.{Reads}
@@ -16,37 +18,66 @@ use Rattle.job_parts.specs.declared.faults.Fault.{Fault}
 use Rattle.job_parts.specs.declared.faults.Fault.TheVariants.{BadTable as IsBadTable, NoMemory}
 use Rattle.job_parts.specs.declared.status.Status.{Status}
 use Rattle.job_parts.specs.declared.status.Status.TheVariants.{Done, Failed, Misused}
-use Rattle.job_charts.specs.Compared.{TellsComparison}
+use Rattle.job_charts.specs.Compared.{TellsComparison, is_named_by}
+use Rattle.job_charts.specs.Rows.{is_charted}
 use Rattle.job_charts.specs.declared.compare.CompareWords.{CompareWords}
 use Rattle.job_charts.specs.declared.compare.NoPair.{NoPair}
 use Rattle.job_charts.specs.declared.compare.NoPair.TheVariants.{BadTable, Ended}
 
 -- the line of a table's fault was printed, and behind it a line with the name of its file and the place
-pub record TellsNamedFault (name : List ℕ) (fault : TableFault) (old new : Option (List ℕ)) : Type 0 where
+pub record TellsNamedFault (name : List ℕ) (fault : TextFault) (old new : Option (List ℕ)) : Type 0 where
   pub told : Option (List ℕ)
   pub named : Option (List ℕ)
-  pub line : Appends old told (fault_line (IsBadTable (policy_fault_of fault)))
+  pub line : Appends old told (fault_line (IsBadTable (text_fault_of fault)))
   pub file : Appends told named (codes "    " ++ name ++ codes " ")
-  pub place : Appends named new (table_fault_text fault ++ 10 ∷ [])
+  pub place : Appends named new (text_fault_text fault ++ 10 ∷ [])
 
--- two tables differ, and where they do was printed
-pub record TellsDifferent (one other : List Rule) (old new : Option (List ℕ)) : Type 0 where
-  pub point : Point
-  pub differ : IsDifference one other point
+-- ---- where tables differ
+
+-- two tables of a port decide the command of a point differently
+abbrev pub HaveDifference : (one other : List Rule) → Type 0
+HaveDifference one other = (point : Point) × IsDifference one other point
+
+-- two tables do so at a port
+pub record DifferAt (one other : PolicyValue) (port : ℕ) : Type 0 where
+  pub is_port : port < 32
+  pub differ : HaveDifference (rules_at port one.rules) (rules_at port other.rules)
+
+-- at some port
+abbrev pub DifferSomewhere : (one other : PolicyValue) → Type 0
+DifferSomewhere one other = (port : ℕ) × DifferAt one other port
+
+-- two tables decide all commands alike at a port
+abbrev pub AreSameAt : (one other : PolicyValue) → (port : ℕ) → Type 0
+AreSameAt one other port = AreSame (rules_at port one.rules) (rules_at port other.rules)
+
+-- at a port, if a chart of it is made
+abbrev pub AreSameIfCharted : (one other : PolicyValue) → (port : ℕ) → Type 0
+AreSameIfCharted one other port = is_charted (λ own. is_named_by one other own) port ≡ true → AreSameAt one other port
+
+-- at each port
+abbrev pub AreSameAtAll : (one other : PolicyValue) → Type 0
+AreSameAtAll one other = (port : ℕ) → port < 32 → AreSameAt one other port
+
+-- ---- what is printed
+
+-- two tables differ at some port, and where they do was printed
+pub record TellsDifferent (markdown : Bool) (one other : PolicyValue) (old new : Option (List ℕ)) : Type 0 where
+  pub differ : DifferSomewhere one other
   pub text : List ℕ
-  pub told : TellsComparison one other text
+  pub told : TellsComparison markdown one other text
   pub printed : Appends old new text
 
--- two tables decide all commands alike, which was printed
-pub record TellsSame (one other : List Rule) (old new : Option (List ℕ)) : Type 0 where
-  pub same : AreSame one other
+-- two tables decide all commands alike at each port, which was printed
+pub record TellsSame (one other : PolicyValue) (old new : Option (List ℕ)) : Type 0 where
+  pub same : AreSameAtAll one other
   pub line : Appends old new (codes "same" ++ 10 ∷ [])
 
 -- what is printed of two tables, by the exit status
-abbrev pub TellsTables : (one other : List Rule) → (old new : Option (List ℕ)) → Status → Type 0
-TellsTables one other old new Done = TellsSame one other old new
-TellsTables one other old new Failed = TellsDifferent one other old new
-TellsTables one other old new Misused = ⊥
+abbrev pub TellsTables : (markdown : Bool) → (one other : PolicyValue) → (old new : Option (List ℕ)) → Status → Type 0
+TellsTables markdown one other old new Done = TellsSame one other old new
+TellsTables markdown one other old new Failed = TellsDifferent markdown one other old new
+TellsTables markdown one other old new Misused = ⊥
 
 -- why there is no table in the file of this name: it cannot be read, or the table has a fault, and the file's name is told with it
 abbrev pub IsNoNamed : {S : Type 0} → (reads : Reads S) → (name : List ℕ) → Maps → (before after : S) → NoPair → Type 0
@@ -56,11 +87,11 @@ IsNoNamed reads name sizes before after (BadTable own fault) =
 
 module _ {S : Type 0} (reads : Reads S) (words : CompareWords) where
   -- the file of the old table has a table without a fault for these maps
-  abbrev pub HoldsOld : (before : S) → List Rule → (after : S) → Type 0
-  HoldsOld before rules after = HoldsTable reads before (string_bytes words.old) words.sizes rules after
+  abbrev pub HoldsOld : (before : S) → PolicyValue → (after : S) → Type 0
+  HoldsOld before policy after = HoldsTable reads before (string_bytes words.old) words.sizes policy after
 
   -- the files were read in this order, and have such tables
-  pub record AreTables (before : S) (one other : List Rule) (after : S) : Type 0 where
+  pub record AreTables (before : S) (one other : PolicyValue) (after : S) : Type 0 where
     pub between : S
     pub first : HoldsOld before one between
     pub second : HoldsTable reads between (string_bytes words.new) words.sizes other after
@@ -68,15 +99,15 @@ module _ {S : Type 0} (reads : Reads S) (words : CompareWords) where
   -- the new table cannot be read, behind the old one
   pub record NewUnread (before after : S) (fault : Fault) : Type 0 where
     pub between : S
-    pub rules : List Rule
-    pub first : HoldsOld before rules between
+    pub policy : PolicyValue
+    pub first : HoldsOld before policy between
     pub unread : TextUnread reads between (string_bytes words.new) after fault
 
   -- the new table has this first fault, behind the old one, which has none
-  pub record NewIsBad (before after : S) (fault : TableFault) : Type 0 where
+  pub record NewIsBad (before after : S) (fault : TextFault) : Type 0 where
     pub between : S
-    pub rules : List Rule
-    pub first : HoldsOld before rules between
+    pub policy : PolicyValue
+    pub first : HoldsOld before policy between
     pub held : HoldsBadTable reads between (string_bytes words.new) words.sizes fault after
 
   -- a file cannot be read
@@ -85,7 +116,7 @@ module _ {S : Type 0} (reads : Reads S) (words : CompareWords) where
       TextUnread reads before (string_bytes words.old) after fault ⊎ NewUnread before after fault
 
   -- the table in the file of this name has this first fault
-  abbrev pub IsBad : (before after : S) → (name : List ℕ) → TableFault → Type 0
+  abbrev pub IsBad : (before after : S) → (name : List ℕ) → TextFault → Type 0
   IsBad before after name fault =
       ((name ≡ string_bytes words.old) × HoldsBadTable reads before (string_bytes words.old) words.sizes fault after)
       ⊎ ((name ≡ string_bytes words.new) × NewIsBad before after fault)
@@ -97,15 +128,15 @@ module _ {S : Type 0} (reads : Reads S) (words : CompareWords) where
 
   -- two tables were read, and what is to be said of them was printed
   pub record ComparesTables (before after : S) (old new : Option (List ℕ)) (status : Status) : Type 0 where
-    pub one : List Rule
-    pub other : List Rule
+    pub one : PolicyValue
+    pub other : PolicyValue
     pub tables : AreTables before one other after
-    pub told : TellsTables one other old new status
+    pub told : TellsTables words.markdown one other old new status
 
   -- a table has a fault, which was told with the name of its file and its place
   pub record TellsBad (before after : S) (old new : Option (List ℕ)) (status : Status) : Type 0 where
     pub name : List ℕ
-    pub fault : TableFault
+    pub fault : TextFault
     pub bad : IsBad before after name fault
     pub told : TellsNamedFault name fault old new
     pub failed : status ≡ Failed
@@ -118,8 +149,8 @@ module _ {S : Type 0} (reads : Reads S) (words : CompareWords) where
 
   -- memory was refused behind the reads
   pub record LacksMemory (before after : S) (fault : Fault) : Type 0 where
-    pub one : List Rule
-    pub other : List Rule
+    pub one : PolicyValue
+    pub other : PolicyValue
     pub tables : AreTables before one other after
     pub is_fault : fault ≡ NoMemory
 

@@ -2,11 +2,12 @@
 use Rattle.std.specs.Prelude.{ℕ, List, [], ◌∷◌, ◌++◌, codes, decimal, Option, Some, None}
 use Rattle.rmap.specs.Verdict.{verdict_number}
 use Rattle.policy_table.specs.declared.rules.Quota.{Quota}
+use Rattle.job_decide.specs.Tables.{line_of}
 use Rattle.differences.specs.declared.courses.Step.{Step}
 
--- the verdict of a rule
-abbrev pub verdict_text : (verdict number : ℕ) → List ℕ
-verdict_text verdict number = codes "verdict " ++ decimal verdict ++ codes " rule " ++ decimal number
+-- the verdict of the rule of a line
+abbrev pub verdict_text : (verdict line : ℕ) → List ℕ
+verdict_text verdict line = codes "verdict " ++ decimal verdict ++ codes " rule " ++ decimal line
 
 -- a quota, and a space
 abbrev pub quota_text : Quota → List ℕ
@@ -15,13 +16,15 @@ quota_text quota =
 
 -- a rule that a table asks, behind a text: without quota the table ends with it, and with one it draws, and what is behind
 -- decides where the ticket is not below the limit
-abbrev pub with_step : Option Quota → (verdict number : ℕ) → (before : List ℕ) → (behind : List ℕ → List ℕ) → List ℕ
-with_step None verdict number before behind = before ++ verdict_text verdict number
-with_step (Some quota) verdict number before behind =
-    behind (before ++ quota_text quota ++ verdict_text verdict number ++ codes " else ")
+abbrev pub with_step : Option Quota → (verdict line : ℕ) → (before : List ℕ) → (behind : List ℕ → List ℕ) → List ℕ
+with_step None verdict line before behind = before ++ verdict_text verdict line
+with_step (Some quota) verdict line before behind =
+    behind (before ++ quota_text quota ++ verdict_text verdict line ++ codes " else ")
 
--- the course of a table behind a text: the rules that it asks, in order, and its verdict where none of them matches
-abbrev pub with_course : (before : List ℕ) → List Step → List ℕ
-with_course before [] = before ++ codes "verdict 10 no rule"
-with_course before (step ∷ steps) =
-    with_step step.rule.quota (verdict_number step.rule.verdict) step.number before (λ more. with_course more steps)
+-- the course of a table whose rules stand in these lines, behind a text: the rules that it asks, in order, and its verdict where
+-- none of them matches
+abbrev pub with_course : (lines : List ℕ) → (before : List ℕ) → List Step → List ℕ
+with_course lines before [] = before ++ codes "verdict 10 no rule"
+with_course lines before (step ∷ steps) =
+    with_step step.rule.quota (verdict_number step.rule.verdict) (line_of lines step.number) before
+    (λ more. with_course lines more steps)

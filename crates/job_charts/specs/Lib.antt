@@ -3,7 +3,11 @@ pub mod Courses
 pub mod Packets
 pub mod Witnesses
 pub mod Telling
+pub mod Rows
+pub mod AskedTables
 pub mod Compared
+pub mod Markdown
+pub mod Styles
 pub mod Mapped
 pub mod CompareJob
 pub mod ComparedFile

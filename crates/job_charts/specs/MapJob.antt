@@ -2,20 +2,22 @@
 use Rattle.std.specs.Prelude.{◌≡◌, ◌⊎◌, List, Some, None, codes, string_bytes}
 use Rattle.clap.specs.Walk.{Row, first_of}
 use Rattle.clap.specs.Simple.{App, new_app, with_rule}
-use Rattle.job_parts.specs.Arguments.{file_rule, option_rule}
+use Rattle.job_parts.specs.Arguments.{file_rule, flag_rule, is_set, option_rule}
 use Rattle.job_parts.specs.Options.{GivesSizes, IsBadList}
 use Rattle.job_parts.specs.declared.usage.UsageFault.{UsageFault}
 use Rattle.job_parts.specs.declared.usage.UsageFault.TheVariants.{Parse, BadOption, Memory}
 use Rattle.job_charts.specs.declared.map.MapWords.{MapWords}
 
--- `map TABLE [--maps LIST]`
+-- `map TABLE [--maps LIST] [--markdown]`
 abbrev pub map_app : App
-map_app = with_rule (with_rule (new_app (codes "map")) (file_rule (codes "table"))) (option_rule (codes "maps"))
+map_app =
+    with_rule (with_rule (with_rule (new_app (codes "map")) (file_rule (codes "table"))) (option_rule (codes "maps")))
+    (flag_rule (codes "markdown"))
 
 -- the words are those of map with these matches
 abbrev pub NamesMap : List Row → MapWords → Type 0
 NamesMap rows words = (first_of (codes "table") rows ≡ Some (string_bytes words.table))
-    × GivesSizes (first_of (codes "maps") rows) words.sizes
+    × GivesSizes (first_of (codes "maps") rows) words.sizes × (words.markdown ≡ is_set (codes "markdown") rows)
 
 -- matches without the file, or with a list of maps that is none
 abbrev pub SpoilsMap : List Row → Type 0

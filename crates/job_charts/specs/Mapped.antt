@@ -10,34 +10,60 @@ use Rattle.policy_table.specs.declared.rules.Quota.{Quota}
 use Rattle.policy_table.specs.declared.rules.Rule.{Rule}
 use Rattle.regions.specs.declared.points.Point.{Point}
 use Rattle.differences.specs.Steps.{steps_at}
+use Rattle.job_decide.specs.Tables.{line_of}
+use Rattle.policy_table.specs.Policies.{PolicyValue}
+use Rattle.policy_table.specs.PortTables.{is_named}
+use Rattle.job_charts.specs.AskedTables.{AskedValue, asked_at}
 use Rattle.job_charts.specs.Courses.{with_course}
+use Rattle.job_charts.specs.Markdown.{map_back, map_front, map_head}
+use Rattle.job_charts.specs.Rows.{RowValue, TellsPort, row_of, with_rows}
+use Rattle.job_charts.specs.Styles.{StyleValue}
 use Rattle.job_charts.specs.Telling.{TellsFirst}
 use Rattle.job_charts.specs.Witnesses.{HasNoCommand, IsWitness}
 use Rattle.job_charts.specs.Words.{with_words}
 
--- a line of a map, behind a text: its words, and what the table asks at a point
-abbrev pub with_line : (before : List ℕ) → List Rule → Line → Point → List ℕ
-with_line before rules line p = with_course (with_words before line ++ codes " : ") (steps_at rules p) ++ 10 ∷ []
+-- the row of a line of a map at a port: its words, and what the table asks at a point
+abbrev pub plain_row : AskedValue → Line → Point → RowValue
+plain_row at line p =
+    row_of at.port (with_words [] line) (with_course at.lines (codes " : ") (steps_at at.rules p) ++ 10 ∷ []) []
+
+-- the same in markdown, with comments
+abbrev pub markdown_row : (comments : List (List ℕ)) → AskedValue → Line → Point → RowValue
+markdown_row comments at line p = row_of at.port (map_front line) (map_back at.lines comments (steps_at at.rules p)) []
+
+-- the row of a line in a style
+abbrev pub line_row : StyleValue → AskedValue → Line → Point → RowValue
+line_row how at line p = if how.markdown then markdown_row how.comments at line p else plain_row at line p
 
 -- the line of a place was told, with what the table asks at one of its points; it is plain
-pub record TellsPoint (rules : List Rule) (lines : List Line) (place : ℕ) (before after : List ℕ) : Type 0 where
+pub record TellsPoint (how : StyleValue) (at : AskedValue) (lines : List Line) (place : ℕ) (before after : List RowValue) : Type 0 where
   pub line : Line
   pub own : (d : Line) → get_or lines place d ≡ line
   pub point : Point
   pub witness : IsWitness lines place point
   pub plain : IsPlain lines line point
-  pub text : after ≡ with_line before rules line point
+  pub row : after ≡ before ++ line_row how at line point ∷ []
 
 -- the line of a place was told, or no command has a point of it
-abbrev pub TellsLine : List Rule → List Line → (place : ℕ) → (before after : List ℕ) → Type 0
-TellsLine rules lines place before after =
-    TellsPoint rules lines place before after ⊎ (HasNoCommand lines place × (after ≡ before))
+abbrev pub TellsLine : StyleValue → AskedValue → List Line → (place : ℕ) → (before after : List RowValue) → Type 0
+TellsLine how at lines place before after =
+    TellsPoint how at lines place before after ⊎ (HasNoCommand lines place × (after ≡ before))
+
+-- each line of a map of the table was told that some command has, in its order
+pub record TellsLines (how : StyleValue) (at : AskedValue) (before after : List RowValue) : Type 0 where
+  pub chart : List Line
+  pub is_map : IsMap at.rules chart
+  pub told : TellsFirst (TellsLine how at chart) (length chart) before after
 
 -- ---- rules that never match
 
--- the beginning of the line of a rule that never matches
-abbrev pub note_text : (number : ℕ) → List ℕ
-note_text number = codes "rule " ++ decimal number ++ codes " never matches: "
+-- what is before a paragraph in markdown: an empty line
+abbrev pub paragraph_text : (markdown : Bool) → List ℕ
+paragraph_text markdown = if markdown then codes "\n" else []
+
+-- the beginning of what is told of the rule of a line that never matches: in markdown it is a paragraph
+abbrev pub note_text : (markdown : Bool) → (line : ℕ) → List ℕ
+note_text markdown line = paragraph_text markdown ++ codes "rule " ++ decimal line
 
 -- the number of a rule behind others, if it is the first without quota at some point at which the rule of the place holds
 abbrev pub AddsStop : List Rule → (place stop : ℕ) → (before numbers : List ℕ) → Type 0
@@ -49,20 +75,21 @@ abbrev pub AreStops : List Rule → (place count : ℕ) → (numbers : List ℕ)
 AreStops rules place zero numbers = numbers ≡ []
 AreStops rules place (suc stop) numbers = (before : List ℕ) × AreStops rules place stop before × AddsStop rules place stop before numbers
 
--- a number behind a comma
-abbrev pub comma_number : ℕ → List ℕ
-comma_number number = codes ", " ++ decimal number
+-- the line of a rule behind a comma
+abbrev pub comma_line : (lines : List ℕ) → (number : ℕ) → List ℕ
+comma_line lines number = codes ", " ++ decimal (line_of lines number)
 
--- that one rule is before it
-abbrev pub stop_text : (number : ℕ) → List ℕ
-stop_text number = codes "rule " ++ decimal number ++ codes " is before it wherever it agrees"
+-- that the rule of one line is before it
+abbrev pub stop_text : (line : ℕ) → List ℕ
+stop_text line = codes "rule " ++ decimal line ++ codes " is before it wherever it agrees"
 
--- the reason behind a text where these rules are before it, or no command has its words
-abbrev pub with_stops : (before numbers : List ℕ) → List ℕ
-with_stops before [] = before ++ codes "no command has its words"
-with_stops before (number ∷ rest) =
-    if length rest == 0 then before ++ stop_text number
-    else before ++ (codes "rules " ++ decimal number) ++ flat_map comma_number rest ++ codes " are before it wherever it agrees"
+-- the reason where these rules, in these lines, are before it, or no command has its words
+abbrev pub stops_text : (lines numbers : List ℕ) → List ℕ
+stops_text lines [] = codes "no command has its words"
+stops_text lines (number ∷ rest) =
+    if length rest == 0 then stop_text (line_of lines number)
+    else codes "rules " ++ decimal (line_of lines number) ++ flat_map (comma_line lines) rest
+    ++ codes " are before it wherever it agrees"
 
 -- whether a rule has a quota whose limit is 0
 abbrev pub has_no_ticket : Option Quota → Bool
@@ -74,41 +101,62 @@ abbrev pub draws_text : Option Quota → List ℕ
 draws_text quota =
     if has_no_ticket quota then codes "its limit is 0" else codes "draws before it leave no ticket below its limit"
 
--- why the rule of a place never matches, where it is asked at some point, was told behind a text
-pub record IsAskedReason (rules : List Rule) (place : ℕ) (before after : List ℕ) : Type 0 where
+-- why the rule of a place never matches, where it is asked at some point
+pub record IsAskedReason (rules : List Rule) (place : ℕ) (text : List ℕ) : Type 0 where
   pub asked : Meet place false place rules
   pub rule : Rule
   pub own : (d : Rule) → get_or rules place d ≡ rule
-  pub text : after ≡ before ++ draws_text rule.quota
+  pub is : text ≡ draws_text rule.quota
 
--- why it never matches, where it is asked at none, was told
-pub record IsStoppedReason (rules : List Rule) (place : ℕ) (before after : List ℕ) : Type 0 where
+-- why it never matches, where it is asked at none
+pub record IsStoppedReason (rules : List Rule) (lines : List ℕ) (place : ℕ) (text : List ℕ) : Type 0 where
   pub never : NeverMeet place false place rules
   pub numbers : List ℕ
   pub stops : AreStops rules place place numbers
-  pub text : after ≡ with_stops before numbers
+  pub is : text ≡ stops_text lines numbers
 
--- why it never matches was told
-abbrev pub IsReason : List Rule → (place : ℕ) → (before after : List ℕ) → Type 0
-IsReason rules place before after = IsAskedReason rules place before after ⊎ IsStoppedReason rules place before after
+-- why it never matches
+abbrev pub IsReason : List Rule → (lines : List ℕ) → (place : ℕ) → (text : List ℕ) → Type 0
+IsReason rules lines place text = IsAskedReason rules place text ⊎ IsStoppedReason rules lines place text
 
--- the rule of a place never matches, which was told in a line with the reason
-pub record TellsNever (rules : List Rule) (place : ℕ) (before after : List ℕ) : Type 0 where
-  pub never : NeverMatches rules place
-  pub told : List ℕ
-  pub reason : IsReason rules place (before ++ note_text (place + 1)) told
-  pub text : after ≡ told ++ 10 ∷ []
+-- the row of the rule of a line that never matches at a port, with the reason
+abbrev pub note_row : (markdown : Bool) → (port line : ℕ) → (reason : List ℕ) → RowValue
+note_row markdown port line reason = row_of port (note_text markdown line) (codes " never matches: " ++ reason ++ 10 ∷ []) []
+
+-- the rule of a place never matches, which was told with the reason
+pub record TellsNever (markdown : Bool) (at : AskedValue) (place : ℕ) (before after : List RowValue) : Type 0 where
+  pub never : NeverMatches at.rules place
+  pub reason : List ℕ
+  pub is_reason : IsReason at.rules at.lines place reason
+  pub row : after ≡ before ++ note_row markdown at.port (line_of at.lines (place + 1)) reason ∷ []
 
 -- nothing was told of the rule of a place, which matches somewhere; or that it never matches
-abbrev pub TellsNote : List Rule → (place : ℕ) → (before after : List ℕ) → Type 0
-TellsNote rules place before after =
-    (Matches rules place × (after ≡ before)) ⊎ TellsNever rules place before after
+abbrev pub TellsNote : (markdown : Bool) → AskedValue → (place : ℕ) → (before after : List RowValue) → Type 0
+TellsNote markdown at place before after =
+    (Matches at.rules place × (after ≡ before)) ⊎ TellsNever markdown at place before after
 
--- each line of a map of the table that some command has was told, in its order, and behind them of each rule whether it never
--- matches
-pub record TellsMap (rules : List Rule) (text : List ℕ) : Type 0 where
-  pub lines : List Line
-  pub is_map : IsMap rules lines
-  pub told : List ℕ
-  pub lines_told : TellsFirst (TellsLine rules lines) (length lines) [] told
-  pub notes : TellsFirst (TellsNote rules) (length rules) told text
+-- of each rule of the table it was told whether it never matches
+abbrev pub TellsNotes : (markdown : Bool) → AskedValue → (before after : List RowValue) → Type 0
+TellsNotes markdown at before after = TellsFirst (TellsNote markdown at) (length at.rules) before after
+
+-- ---- tables with ports
+
+-- what is told of each port of which a chart is made, of these ports
+abbrev pub TellsPorts : PolicyValue → (tells : AskedValue → (before after : List RowValue) → Type 0) → (count : ℕ)
+    → (before after : List RowValue) → Type 0
+TellsPorts policy tells count before after =
+    TellsFirst (TellsPort (λ port. is_named port policy.rules) (λ port. tells (asked_at policy port))) count before after
+
+-- what is before all rows: in markdown the headings
+abbrev pub head_of : (markdown : Bool) → List ℕ
+head_of markdown = if markdown then map_head else []
+
+-- each line of a map of the table at each port, and behind them at each port the rules that never match; what is the same at
+-- several ports once, with these ports
+pub record TellsMap (how : StyleValue) (policy : PolicyValue) (text : List ℕ) : Type 0 where
+  pub lines : List RowValue
+  pub lines_told : TellsPorts policy (TellsLines how) 32 [] lines
+  pub notes : List RowValue
+  pub notes_told : TellsPorts policy (TellsNotes how.markdown) 32 [] notes
+  pub is : text ≡ with_rows false (λ port. is_named port policy.rules) notes
+      (with_rows how.markdown (λ port. is_named port policy.rules) lines (head_of how.markdown) lines) notes

@@ -1,9 +1,9 @@
 -- What the job `map` reads and prints.
 use Rattle.std.specs.Prelude.{◌≡◌, ◌⊎◌, ℕ, List, Option, string_bytes}
 use Rattle.std.specs.Io.KnownBytes.{Appends}
-use Rattle.policy_table.specs.declared.rules.Rule.{Rule}
-use Rattle.policy_table.specs.declared.table_faults.TableFault.{TableFault}
-use Rattle.job_decide.specs.Tables.{HoldsBadTable, HoldsTable, TellsTableFault}
+use Rattle.policy_table.specs.Policies.{PolicyValue}
+use Rattle.policy_table.specs.declared.text_faults.TextFault.{TextFault}
+use Rattle.job_decide.specs.Tables.{HoldsBadTable, HoldsText, TellsTableFault}
 use Rattle.job_parts.specs.Files.{Reads}
 use Rattle.job_parts.specs.Reading.{TextUnread}
 use Rattle.job_parts.specs.declared.faults.Fault.{Fault}
@@ -11,24 +11,28 @@ use Rattle.job_parts.specs.declared.faults.Fault.TheVariants.{NoMemory}
 use Rattle.job_parts.specs.declared.status.Status.{Status}
 use Rattle.job_parts.specs.declared.status.Status.TheVariants.{Done, Failed, Misused}
 use Rattle.job_charts.specs.Mapped.{TellsMap}
+use Rattle.job_charts.specs.Markdown.{comments_of}
+use Rattle.job_charts.specs.Styles.{style}
 use Rattle.job_charts.specs.declared.map.MapWords.{MapWords}
+use Rattle.spw.specs.Line.{lines_of}
 
 module _ {S : Type 0} (reads : Reads S) (words : MapWords) where
-  -- the file has a table without a fault for these maps
-  abbrev pub IsGiven : (before : S) → List Rule → (after : S) → Type 0
-  IsGiven before rules after = HoldsTable reads before (string_bytes words.table) words.sizes rules after
+  -- the file has this text, which is a table without a fault for these maps
+  abbrev pub IsGiven : (before : S) → (written : List ℕ) → PolicyValue → (after : S) → Type 0
+  IsGiven before written policy after = HoldsText reads before (string_bytes words.table) words.sizes written policy after
 
   -- what the table decides was printed
   pub record MapsTable (before after : S) (old new : Option (List ℕ)) : Type 0 where
-    pub rules : List Rule
-    pub given : IsGiven before rules after
+    pub written : List ℕ
+    pub policy : PolicyValue
+    pub given : IsGiven before written policy after
     pub text : List ℕ
-    pub told : TellsMap rules text
+    pub told : TellsMap (style words.markdown (comments_of (lines_of written))) policy text
     pub printed : Appends old new text
 
   -- the table has a fault, which was told with its place
   pub record TellsTable (before after : S) (old new : Option (List ℕ)) : Type 0 where
-    pub fault : TableFault
+    pub fault : TextFault
     pub held : HoldsBadTable reads before (string_bytes words.table) words.sizes fault after
     pub told : TellsTableFault fault old new
 
@@ -41,8 +45,9 @@ module _ {S : Type 0} (reads : Reads S) (words : MapWords) where
 
   -- memory was refused behind the read
   pub record LacksMemory (before after : S) (fault : Fault) : Type 0 where
-    pub rules : List Rule
-    pub given : IsGiven before rules after
+    pub written : List ℕ
+    pub policy : PolicyValue
+    pub given : IsGiven before written policy after
     pub is_fault : fault ≡ NoMemory
 
   -- the file cannot be read, or memory was refused behind the read; nothing was printed

@@ -52,9 +52,9 @@ command_at p = command_with (fields_at p) (body_for p.kind (count_at p))
 unfoldable pub packet_at : Point → Cargo
 packet_at p = record { bytes = bytes_of (command_at p); end = Eop }
 
--- the line of a whole packet at port 0, without its end
+-- the line of a whole packet behind its port, without its end
 abbrev pub packet_text : Cargo → List ℕ
-packet_text p = codes "0 " ++ encode_upper p.bytes ++ codes " EOP"
+packet_text p = codes " " ++ encode_upper p.bytes ++ codes " EOP"
 
 -- whether a packet that is no command for that reason, or a command, is brought to the table of the node of the jobs
 abbrev pub is_brought_by : Option Discard → Cargo → Bool

@@ -1,21 +1,24 @@
 //! The job `compare`.
 
-ghost use Rattle.std.specs.Prelude.{◌≡◌, IfErr, IfOk, OnOk, false};
+ghost use Rattle.std.specs.Prelude.{◌≡◌, ◌<◌, IfErr, IfOk, MatchBool, OnOk, false};
 ghost use Rattle.clap.specs.Simple.{app_of};
 ghost use Rattle.clap.specs.declared.builder.command.Command.TheViews.{out-Command as fields_of};
 ghost use Rattle.clap.specs.Walk.{rows_of};
 ghost use Rattle.clap.specs.Matches.{found_of};
 ghost use Rattle.job_parts.specs.Stops.{StopsBy};
+ghost use Rattle.charts.specs.Same.{AreSame};
 ghost use Rattle.job_charts.specs.CompareJob.{NamesCompare, RefusesCompare, are_one_input, compare_app};
-ghost use Rattle.job_charts.specs.ComparedFile.{AreTables, ComparesFile, IsNoNamed, IsNoPair, IsNotCompared, TellsNamedFault, TellsTables};
+ghost use Rattle.job_charts.specs.ComparedFile.{AreTables, AreSameAtAll, AreSameIfCharted, ComparesFile, DifferAt, DifferSomewhere, HaveDifference, IsNoNamed, IsNoPair, IsNotCompared, TellsNamedFault, TellsTables};
 ghost use Rattle.job_decide.specs.Tables.{HoldsTable};
 ghost use Rattle.job_parts.specs.declared.faults.Fault.TheVariants.{NoMemory};
 
+use crate::asked::Asked;
 use crate::compared::comparison_text;
+use crate::ports::{PORTS, Tables};
 use charts::first_difference;
 use clap::{ArgMatches, Command};
 use job_decide::tables::{NoTable, table_in};
-use job_parts::arguments::{file, name_of};
+use job_parts::arguments::{file, flag, is_set, name_of};
 use job_parts::faults::Fault;
 use job_parts::inputs::{Content, InputFile, Inputs};
 use job_parts::options::{maps_option, sizes_of};
@@ -25,7 +28,8 @@ use job_parts::stops::Halt;
 use job_parts::storage::Files;
 use job_parts::usage::UsageFault;
 use machine::MapSizes;
-use policy_table::{Table, TableFault};
+use policy::{Policy, TextFault};
+use policy_table::unnamed_ports_are_alike;
 use std::alloc::{AllocError, Global};
 use std::io::{self, Write};
 
@@ -41,6 +45,8 @@ pub struct CompareWords {
     pub new: String,
     /// How many cells each map of the node has, and of which kind it is.
     pub sizes: MapSizes,
+    /// Whether the differences are printed in markdown.
+    pub markdown: bool,
 }
 
 impl CompareWords {
@@ -51,7 +57,7 @@ impl CompareWords {
     }
 }
 
-/// `compare OLD NEW [--maps LIST]`.
+/// `compare OLD NEW [--maps LIST] [--markdown]`.
 pub fn compare_command<'a>(alloc: Global) -> Result<Command<'a>, AllocError>
     ensures shape { IfOk result (λ c. app_of c ≡ compare_app) }
     ensures local { IfOk result (λ c. (fields_of c).has_globals ≡ false) }
@@ -61,11 +67,14 @@ pub fn compare_command<'a>(alloc: Global) -> Result<Command<'a>, AllocError>
     let help = "The file of the new policy table, or - for standard input";
     let new = file(alloc, "new", "NEW", help);
     let maps = maps_option(alloc);
+    let help = "Print a table in markdown";
+    let markdown = flag(alloc, "markdown", help);
     Command::new(alloc, "compare")
         .about("Prints how two policy tables decide differently, with a packet for each difference")
         .arg(old)?
         .arg(new)?
-        .arg(maps)
+        .arg(maps)?
+        .arg(markdown)
 }
 
 /// Whether both tables would be read of standard input, which one read ends.
@@ -86,7 +95,13 @@ pub fn compare_job(alloc: Global, found: &ArgMatches) -> Result<CompareWords, Us
         return Err(UsageFault::BadOption);
     }
     let sizes = sizes_of(alloc, found)?;
-    Ok(CompareWords { old, new, sizes })
+    let markdown = is_set(found, "markdown");
+    Ok(CompareWords {
+        old,
+        new,
+        sizes,
+        markdown,
+    })
 }
 
 /// Why there are no two tables.
@@ -95,7 +110,7 @@ enum NoPair<'a> {
     /// The fault ends the job.
     Ended(Fault<'a>),
     /// The table in the file of this name has a fault.
-    BadTable(&'a str, TableFault),
+    BadTable(&'a str, TextFault),
 }
 
 /// The table in the file of this name.
@@ -104,7 +119,7 @@ fn named_table<'a, F: Files>(
     files: &mut F,
     name: &'a str,
     sizes: &MapSizes,
-) -> Result<Table, NoPair<'a>>
+) -> Result<Policy, NoPair<'a>>
     ensures table { IfOk result (λ table.
         HoldsTable F.reads files.old name.now sizes.now table files.new) }
     ensures none { IfErr result
@@ -122,7 +137,7 @@ fn tables<'a, F: Files>(
     alloc: Global,
     words: &'a CompareWords,
     files: &mut F,
-) -> Result<(Table, Table), NoPair<'a>>
+) -> Result<(Policy, Policy), NoPair<'a>>
     ensures tables { IfOk result (λ made.
         AreTables F.reads words.now files.old made.0 made.1 files.new) }
     ensures none { IfErr result (IsNoPair F.reads words.now files.old files.new) }
@@ -133,7 +148,7 @@ fn tables<'a, F: Files>(
 }
 
 /// Prints the fault of a table: its line, and a line with the name of its file and the place.
-fn print_named_fault<W: Write>(out: &mut W, name: &str, fault: &TableFault) -> io::Result<()>
+fn print_named_fault<W: Write>(out: &mut W, name: &str, fault: &TextFault) -> io::Result<()>
     ensures { OnOk result
         (TellsNamedFault name.now fault.now (W.contents out.old) (W.contents out.new)) }
 {
@@ -143,31 +158,69 @@ fn print_named_fault<W: Write>(out: &mut W, name: &str, fault: &TableFault) -> i
     writeln!(out, "{fault}")
 }
 
+/// Whether two tables decide a command differently, by what they ask at a port.
+fn are_apart(old: &Asked, new: &Asked) -> bool
+    ensures { MatchBool result (HaveDifference old.now.rules new.now.rules)
+        (AreSame old.now.rules new.now.rules) }
+{
+    match first_difference(old.rules(), new.rules()) {
+        Some(_point) => true,
+        None => false,
+    }
+}
+
+/// Whether two tables decide a command differently at a port of which a chart is made.
+fn differ_at(alloc: Global, old: &Policy, new: &Policy, port: u8) -> Result<bool, AllocError>
+    requires { port < 32 }
+    ensures { IfOk result (λ differ. MatchBool differ
+        (DifferAt old.now new.now port) (AreSameIfCharted old.now new.now port)) }
+{
+    if !Tables::Two(old, new).chart_port(port) {
+        return Ok(false);
+    }
+    let old = Asked::at(alloc, old, port)?;
+    let new = Asked::at(alloc, new, port)?;
+    Ok(are_apart(&old, &new))
+}
+
+/// Whether two tables decide a command differently at some port.
+fn differ(alloc: Global, old: &Policy, new: &Policy) -> Result<bool, AllocError>
+    ensures { IfOk result (λ differ. MatchBool differ
+        (DifferSomewhere old.now new.now) (AreSameAtAll old.now new.now)) }
+{
+    unnamed_ports_are_alike();
+    for port in 0..PORTS {
+        if differ_at(alloc, old, new, port)? {
+            return Ok(true);
+        }
+    }
+    Ok(false)
+}
+
 /// Prints that two tables are the same, or where they differ.
-#[tactic(auto, using(crate::proofs::Limits::limited))]
 fn print_comparison<'a, W: Write>(
     alloc: Global,
-    old: &Table,
-    new: &Table,
+    markdown: bool,
+    old: &Policy,
+    new: &Policy,
     out: &mut W,
 ) -> Result<Status, Halt<'a>>
     ensures done { IfOk result
-        (TellsTables old.now new.now (W.contents out.old) (W.contents out.new)) }
+        (TellsTables markdown old.now new.now (W.contents out.old) (W.contents out.new)) }
     ensures stops { IfErr result (StopsBy (λ fault. fault ≡ NoMemory)) }
     ensures quiet { IfErr result (StopsBy (λ _. W.contents out.new ≡ W.contents out.old)) }
 {
-    let (old, new) = (old.rules(), new.rules());
-    if first_difference(old, new).is_none() {
+    if !differ(alloc, old, new)? {
         writeln!(out, "same")?;
         return Ok(Status::Done);
     }
-    let text = comparison_text(alloc, old, new)?;
+    let text = comparison_text(alloc, markdown, old, new)?;
     print_text(out, text.as_str())?;
     Ok(Status::Failed)
 }
 
-/// Prints `same` where the tables of two files decide all commands alike, and else where they differ. Where a table has a fault
-/// that is printed, with the name of its file and the place, and the job failed.
+/// Prints `same` where the tables of two files decide all commands alike at each port, and else where they differ: with `--markdown`
+/// as a table in markdown. Where a table has a fault that is printed, with the name of its file and the place, and the job failed.
 ///
 /// Faults are found in this order: the file of the old table (`CannotRead`, also where it is not UTF-8), that table, the file
 /// of the new one, and that table.
@@ -183,7 +236,7 @@ pub fn compare_file<'a, F: Files, W: Write>(
     ensures quiet { IfErr result (StopsBy (λ _. W.contents out.new ≡ W.contents out.old)) }
 {
     match tables(alloc, words, files) {
-        Ok((old, new)) => print_comparison(alloc, &old, &new, out),
+        Ok((old, new)) => print_comparison(alloc, words.markdown, &old, &new, out),
         Err(NoPair::Ended(fault)) => Err(Halt::Ended(fault)),
         Err(NoPair::BadTable(name, fault)) => {
             print_named_fault(out, name, &fault)?;

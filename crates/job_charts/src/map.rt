@@ -10,9 +10,10 @@ ghost use Rattle.job_charts.specs.MapJob.{NamesMap, RefusesMap, map_app};
 ghost use Rattle.job_charts.specs.MappedFile.{IsNotMapped, MapsFile};
 
 use crate::mapped::map_text;
+use crate::styles::Style;
 use clap::{ArgMatches, Command};
-use job_decide::tables::{NoTable, print_table_fault, table_in};
-use job_parts::arguments::{file, name_of};
+use job_decide::tables::{NoTable, print_table_fault, text_and_table};
+use job_parts::arguments::{file, flag, is_set, name_of};
 use job_parts::inputs::{Content, InputFile, Inputs};
 use job_parts::options::{maps_option, sizes_of};
 use job_parts::printing::print_text;
@@ -31,6 +32,8 @@ pub struct MapWords {
     pub table: String,
     /// How many cells each map of the node has, and of which kind it is.
     pub sizes: MapSizes,
+    /// Whether the map is printed in markdown.
+    pub markdown: bool,
 }
 
 impl MapWords {
@@ -40,7 +43,7 @@ impl MapWords {
     }
 }
 
-/// `map TABLE [--maps LIST]`.
+/// `map TABLE [--maps LIST] [--markdown]`.
 pub fn map_command<'a>(alloc: Global) -> Result<Command<'a>, AllocError>
     ensures shape { IfOk result (λ c. app_of c ≡ map_app) }
     ensures local { IfOk result (λ c. (fields_of c).has_globals ≡ false) }
@@ -48,10 +51,13 @@ pub fn map_command<'a>(alloc: Global) -> Result<Command<'a>, AllocError>
     let help = "The file of the policy table, or - for standard input";
     let table = file(alloc, "table", "TABLE", help);
     let maps = maps_option(alloc);
+    let help = "Print a table in markdown, with the comments of the rules";
+    let markdown = flag(alloc, "markdown", help);
     Command::new(alloc, "map")
         .about("Prints what a policy table decides, for each command one line")
         .arg(table)?
-        .arg(maps)
+        .arg(maps)?
+        .arg(markdown)
 }
 
 /// The words of `map` with these matches.
@@ -61,14 +67,19 @@ pub fn map_job(alloc: Global, found: &ArgMatches) -> Result<MapWords, UsageFault
 {
     let table = name_of(alloc, found, "table")?;
     let sizes = sizes_of(alloc, found)?;
-    Ok(MapWords { table, sizes })
+    let markdown = is_set(found, "markdown");
+    Ok(MapWords {
+        table,
+        sizes,
+        markdown,
+    })
 }
 
-/// Prints what the table of a file decides: each command lies in one line alone, with the rules that the table asks there; and
-/// behind these the rules that never match. Where the table has a fault that is printed, with its place, and the job failed.
+/// Prints what the table of a file decides: at each port each command lies in one line alone, with the rules that the table asks
+/// there; and behind these the rules that never match. With `--markdown` the lines are a table in markdown, with the comments of the
+/// rules. Where the table has a fault that is printed, with its place, and the job failed.
 ///
 /// Faults are found in this order: the file (`CannotRead`, also where it is not UTF-8), and the table.
-#[tactic(auto, using(crate::proofs::Limits::limited))]
 pub fn map_file<'a, F: Files, W: Write>(
     alloc: Global,
     words: &'a MapWords,
@@ -80,9 +91,10 @@ pub fn map_file<'a, F: Files, W: Write>(
     ensures stops { IfErr result (StopsBy (IsNotMapped F.reads words.now files.old files.new)) }
     ensures quiet { IfErr result (StopsBy (λ _. W.contents out.new ≡ W.contents out.old)) }
 {
-    match table_in(alloc, files, words.table.as_str(), &words.sizes) {
-        Ok(table) => {
-            let text = map_text(alloc, table.rules())?;
+    match text_and_table(alloc, files, words.table.as_str(), &words.sizes) {
+        Ok((written, policy)) => {
+            let how = Style::of(alloc, words.markdown, written.as_str())?;
+            let text = map_text(alloc, &how, &policy)?;
             print_text(out, text.as_str())?;
             Ok(Status::Done)
         }

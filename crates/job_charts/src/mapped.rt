@@ -1,78 +1,166 @@
 //! What is printed of a table.
 
-ghost use Rattle.std.specs.Prelude.{◌≡◌, ◌<◌, ◌++◌, ◌+◌, ◌-◌, ◌^◌, All, IfOk, OnOk, length, string_bytes};
+ghost use Rattle.std.specs.Prelude.{◌≡◌, ◌<◌, ◌++◌, ◌∷◌, ◌+◌, ◌-◌, ◌^◌, [], IfOk, OnOk, codes, length, string_bytes};
 ghost use Rattle.std.specs.List.{flat_map};
-ghost use Rattle.charts.specs.Alike.{HasLimit};
+ghost use Rattle.job_charts.specs.Markdown.{texts};
 ghost use Rattle.charts.specs.Deciders.{NeverMatches};
 ghost use Rattle.charts.specs.Lines.{IsMap};
+ghost use Rattle.differences.specs.Steps.{steps_at};
+ghost use Rattle.policy_table.specs.PortTables.{is_named};
+ghost use Rattle.job_charts.specs.AskedTables.{asked_at};
 ghost use Rattle.job_charts.specs.Courses.{with_course};
-ghost use Rattle.job_charts.specs.Mapped.{AddsStop, AreStops, IsReason, TellsLine, TellsMap, TellsNever, TellsNote, comma_number, draws_text, has_no_ticket, note_text, with_line, with_stops};
+ghost use Rattle.job_charts.specs.Mapped.{AddsStop, AreStops, IsReason, TellsLine, TellsLines, TellsMap, TellsNever, TellsNote, TellsNotes, TellsPorts, comma_line, draws_text, has_no_ticket, head_of, line_row, markdown_row, note_row, note_text, paragraph_text, plain_row, stops_text};
+ghost use Rattle.job_charts.specs.Markdown.{map_back};
+ghost use Rattle.job_charts.specs.Rows.{TellsPort};
 ghost use Rattle.job_charts.specs.Telling.{TellsFirst};
+ghost use Rattle.job_charts.specs.Words.{with_words};
 
+use crate::asked::Asked;
 use crate::courses::add_course;
+use crate::markdown::{map_back, map_front, map_head};
+use crate::ports::{PORTS, Tables};
+use crate::rows::{Row, add_rows};
+use crate::styles::Style;
 use crate::witnesses::{line_at, some_point};
 use crate::words::add_words;
 use chart_lines::map_of;
 use charts::{Line, charts_are_read, is_asked, is_stopped_by, never_matches};
 use differences::course;
+use job_decide::tables::line_of;
+use policy::Policy;
 use policy_table::{Quota, Rule};
 use regions::Point;
 use std::alloc::{AllocError, Global};
 
-/// Adds a line: its words, and what the table asks at a point.
-fn add_line(
-    text: &mut String,
+/// The words of a line.
+fn line_words(alloc: Global, line: &Line) -> Result<String, AllocError>
+    ensures { IfOk result (λ text. string_bytes text ≡ with_words [] line.now) }
+{
+    let mut text = String::new(alloc);
+    add_words(&mut text, alloc, line.rest, &line.region)?;
+    Ok(text)
+}
+
+/// What is printed behind the words of a line: what the table asks at a point.
+fn line_course(alloc: Global, at: &Asked, point: &Point) -> Result<String, AllocError>
+    ensures { IfOk result (λ text. string_bytes text
+        ≡ with_course at.now.lines (codes " : ") (steps_at at.now.rules point.now) ++ 10 ∷ []) }
+{
+    let steps = course(alloc, at.rules(), point)?;
+    let mut text = String::from_str(alloc, " : ")?;
+    add_course(&mut text, at.lines(), steps.as_slice())?;
+    text.push_str("\n")?;
+    Ok(text)
+}
+
+/// The row of a line: its words, and what the table asks at a point.
+fn plain_row(alloc: Global, at: &Asked, line: &Line, point: &Point) -> Result<Row, AllocError>
+    ensures { IfOk result (λ row. row ≡ plain_row at.now line.now point.now) }
+{
+    let front = line_words(alloc, line)?;
+    let back = line_course(alloc, at, point)?;
+    Ok(Row::new(at.port(), front, back, String::new(alloc)))
+}
+
+/// The cells of a row after its ports: what the table asks at a point, with comments.
+fn course_cells(
     alloc: Global,
-    rules: &[Rule],
+    comments: &[&str],
+    at: &Asked,
+    point: &Point,
+) -> Result<String, AllocError>
+    ensures { IfOk result (λ text. string_bytes text
+        ≡ map_back at.now.lines (texts comments.now) (steps_at at.now.rules point.now)) }
+{
+    let steps = course(alloc, at.rules(), point)?;
+    map_back(alloc, at.lines(), comments, steps.as_slice())
+}
+
+/// The row of a line in markdown.
+fn markdown_row(
+    alloc: Global,
+    comments: &[&str],
+    at: &Asked,
     line: &Line,
     point: &Point,
-) -> Result<(), AllocError>
-    ensures { OnOk result
-        (string_bytes text.new ≡ with_line (string_bytes text.old) rules.now line.now point.now) }
+) -> Result<Row, AllocError>
+    ensures { IfOk result (λ row.
+        row ≡ markdown_row (texts comments.now) at.now line.now point.now) }
 {
-    let steps = course(alloc, rules, point)?;
-    add_words(text, alloc, line.rest, &line.region)?;
-    text.push_str(" : ")?;
-    add_course(text, steps.as_slice())?;
-    text.push_str("\n")
+    let front = map_front(alloc, line)?;
+    let back = course_cells(alloc, comments, at, point)?;
+    Ok(Row::new(at.port(), front, back, String::new(alloc)))
 }
 
-/// Adds the line of a place; nothing, where it has no command.
-fn add_line_at(
-    text: &mut String,
+/// The row of a line.
+fn line_row(
     alloc: Global,
-    rules: &[Rule],
-    lines: &[Line],
+    how: &Style<'_>,
+    at: &Asked,
+    line: &Line,
+    point: &Point,
+) -> Result<Row, AllocError>
+    ensures { IfOk result (λ row. row ≡ line_row how.now at.now line.now point.now) }
+{
+    if how.is_markdown() {
+        markdown_row(alloc, how.comments(), at, line, point)
+    } else {
+        plain_row(alloc, at, line, point)
+    }
+}
+
+/// Adds the row of the line of a place; nothing, where it has no command.
+fn push_line(
+    rows: &mut Vec<Row>,
+    alloc: Global,
+    how: &Style<'_>,
+    at: &Asked,
+    chart: &[Line],
     place: usize,
 ) -> Result<(), AllocError>
-    requires place { place < length lines.now }
-    requires map { IsMap rules.now lines.now }
-    ensures { OnOk result (TellsLine rules.now lines.now place
-        (string_bytes text.old) (string_bytes text.new)) }
+    requires place { place < length chart.now }
+    requires map { IsMap at.now.rules chart.now }
+    ensures { OnOk result (TellsLine how.now at.now chart.now place rows.old.items rows.new.items) }
 {
     charts_are_read();
-    let Some(point) = some_point(lines, place) else {
+    let Some(point) = some_point(chart, place) else {
         return Ok(());
     };
-    let line = line_at(lines, place);
-    add_line(text, alloc, rules, &line, &point)
+    let line = line_at(chart, place);
+    let row = line_row(alloc, how, at, &line, &point)?;
+    rows.push(row)?;
+    Ok(())
 }
 
-/// Adds each line of a map.
-fn add_lines(
-    text: &mut String,
+/// Adds the row of each line of a chart.
+fn push_chart(
+    rows: &mut Vec<Row>,
     alloc: Global,
-    rules: &[Rule],
-    lines: &[Line],
+    how: &Style<'_>,
+    at: &Asked,
+    chart: &[Line],
 ) -> Result<(), AllocError>
-    requires { IsMap rules.now lines.now }
-    ensures { OnOk result (TellsFirst (TellsLine rules.now lines.now) (length lines.now)
-        (string_bytes text.old) (string_bytes text.new)) }
+    requires { IsMap at.now.rules chart.now }
+    ensures { OnOk result (TellsFirst (TellsLine how.now at.now chart.now) (length chart.now)
+        rows.old.items rows.new.items) }
 {
-    for place in 0..lines.len() {
-        add_line_at(text, alloc, rules, lines, place)?;
+    for place in 0..chart.len() {
+        push_line(rows, alloc, how, at, chart, place)?;
     }
     Ok(())
+}
+
+/// Adds the row of each line of a map of the table.
+fn push_lines(
+    rows: &mut Vec<Row>,
+    alloc: Global,
+    how: &Style<'_>,
+    at: &Asked,
+) -> Result<(), AllocError>
+    ensures { OnOk result (TellsLines how.now at.now rows.old.items rows.new.items) }
+{
+    let chart = map_of(alloc, at.rules())?;
+    push_chart(rows, alloc, how, at, chart.as_slice())
 }
 
 /// Adds the number of a rule, if it decides without quota somewhere where the rule of a place holds.
@@ -103,37 +191,40 @@ fn stops_before(alloc: Global, rules: &[Rule], place: usize) -> Result<Vec<usize
     Ok(numbers)
 }
 
-/// Adds a number behind a comma.
-fn add_comma_number(text: &mut String, number: usize) -> Result<(), AllocError>
-    ensures { OnOk result (string_bytes text.new ≡ string_bytes text.old ++ comma_number number) }
+/// Adds the line of a rule behind a comma.
+fn add_comma_line(text: &mut String, lines: &[usize], number: usize) -> Result<(), AllocError>
+    ensures { OnOk result
+        (string_bytes text.new ≡ string_bytes text.old ++ comma_line lines.now number) }
 {
-    write!(text, ", {number}")
+    let line = line_of(lines, number);
+    write!(text, ", {line}")
 }
 
-/// Adds numbers, each behind a comma.
-fn add_comma_numbers(text: &mut String, numbers: &[usize]) -> Result<(), AllocError>
-    ensures { OnOk result
-        (string_bytes text.new ≡ string_bytes text.old ++ flat_map comma_number numbers.now) }
+/// Adds the lines of rules, each behind a comma.
+fn add_comma_lines(text: &mut String, lines: &[usize], numbers: &[usize]) -> Result<(), AllocError>
+    ensures { OnOk result (string_bytes text.new
+        ≡ string_bytes text.old ++ flat_map (comma_line lines.now) numbers.now) }
 {
     for number in numbers {
-        add_comma_number(text, *number)?;
+        add_comma_line(text, lines, *number)?;
     }
     Ok(())
 }
 
 /// Adds which rules are before one.
-fn add_stops(text: &mut String, numbers: &[usize]) -> Result<(), AllocError>
-    ensures { OnOk result
-        (string_bytes text.new ≡ with_stops (string_bytes text.old) numbers.now) }
+fn add_stops(text: &mut String, lines: &[usize], numbers: &[usize]) -> Result<(), AllocError>
+    ensures { OnOk result (string_bytes text.new
+        ≡ string_bytes text.old ++ stops_text lines.now numbers.now) }
 {
     let Some((first, rest)) = numbers.split_first() else {
         return text.push_str("no command has its words");
     };
+    let line = line_of(lines, *first);
     if rest.is_empty() {
-        return write!(text, "rule {first} is before it wherever it agrees");
+        return write!(text, "rule {line} is before it wherever it agrees");
     }
-    write!(text, "rules {first}")?;
-    add_comma_numbers(text, rest)?;
+    write!(text, "rules {line}")?;
+    add_comma_lines(text, lines, rest)?;
     text.push_str(" are before it wherever it agrees")
 }
 
@@ -158,88 +249,209 @@ fn draws_text(quota: Option<Quota>) -> &'static str
     }
 }
 
-/// Adds why the rule of a place never matches.
-fn add_reason(
-    text: &mut String,
+/// Why the rule of a place never matches that is not asked.
+fn stops_text(alloc: Global, lines: &[usize], numbers: &[usize]) -> Result<String, AllocError>
+    ensures { IfOk result (λ text. string_bytes text ≡ stops_text lines.now numbers.now) }
+{
+    let mut text = String::new(alloc);
+    add_stops(&mut text, lines, numbers)?;
+    Ok(text)
+}
+
+/// Why the rule of a place never matches.
+fn reason(
     alloc: Global,
     rules: &[Rule],
+    lines: &[usize],
     place: usize,
-) -> Result<(), AllocError>
+) -> Result<String, AllocError>
     requires { place < length rules.now }
-    ensures { OnOk result
-        (IsReason rules.now place (string_bytes text.old) (string_bytes text.new)) }
+    ensures { IfOk result (λ text. IsReason rules.now lines.now place (string_bytes text)) }
 {
     if is_asked(rules, place) {
-        return text.push_str(draws_text(rules[place].quota));
+        return String::from_str(alloc, draws_text(rules[place].quota));
     }
     let stops = stops_before(alloc, rules, place)?;
-    add_stops(text, stops.as_slice())
+    stops_text(alloc, lines, stops.as_slice())
 }
 
-/// Adds the beginning of the line of the rule of a place, which never matches.
-fn add_number(text: &mut String, place: usize) -> Result<(), AllocError>
-    requires { place < 2 ^ 64 - 1 }
-    ensures { OnOk result (string_bytes text.new ≡ string_bytes text.old ++ note_text (place + 1)) }
+/// What is before a paragraph in markdown.
+fn paragraph_text(markdown: bool) -> &'static str
+    ensures { result.now ≡ paragraph_text markdown }
 {
-    let number = place + 1;
-    write!(text, "rule {number} never matches: ")
+    if markdown { "\n" } else { "" }
 }
 
-/// Adds the line of the rule of a place, which never matches, with the reason.
-fn add_never(
-    text: &mut String,
-    alloc: Global,
-    rules: &[Rule],
-    place: usize,
-) -> Result<(), AllocError>
-    requires place { place < length rules.now }
-    requires never { NeverMatches rules.now place }
-    ensures { OnOk result
-        (TellsNever rules.now place (string_bytes text.old) (string_bytes text.new)) }
+/// What is told of the rule of a line that never matches, before the ports.
+fn note_text(alloc: Global, markdown: bool, line: usize) -> Result<String, AllocError>
+    ensures { IfOk result (λ text. string_bytes text ≡ note_text markdown line) }
 {
-    add_number(text, place)?;
-    add_reason(text, alloc, rules, place)?;
-    text.push_str("\n")
+    let mut text = String::from_str(alloc, paragraph_text(markdown))?;
+    write!(text, "rule {line}")?;
+    Ok(text)
 }
 
-/// Adds the line of the rule of a place, where it never matches.
-fn add_note(
-    text: &mut String,
-    alloc: Global,
-    rules: &[Rule],
-    place: usize,
-) -> Result<(), AllocError>
-    requires place { place < length rules.now }
-    requires limits { All HasLimit rules.now }
-    ensures { OnOk result
-        (TellsNote rules.now place (string_bytes text.old) (string_bytes text.new)) }
+/// What is told of it behind the ports, with the reason.
+fn never_text(alloc: Global, reason: &str) -> Result<String, AllocError>
+    ensures { IfOk result (λ text.
+        string_bytes text ≡ codes " never matches: " ++ reason.now ++ 10 ∷ []) }
 {
-    if never_matches(rules, place) {
-        return add_never(text, alloc, rules, place);
-    }
-    Ok(())
-}
-
-/// Adds the lines of the rules that never match.
-fn add_notes(text: &mut String, alloc: Global, rules: &[Rule]) -> Result<(), AllocError>
-    requires { All HasLimit rules.now }
-    ensures { OnOk result (TellsFirst (TellsNote rules.now) (length rules.now)
-        (string_bytes text.old) (string_bytes text.new)) }
-{
-    for place in 0..rules.len() {
-        add_note(text, alloc, rules, place)?;
-    }
-    Ok(())
-}
-
-/// What is told of a table: a line for each of its map, and one for each rule that never matches.
-pub fn map_text(alloc: Global, rules: &[Rule]) -> Result<String, AllocError>
-    requires { All HasLimit rules.now }
-    ensures { IfOk result (λ text. TellsMap rules.now (string_bytes text)) }
-{
-    let lines = map_of(alloc, rules)?;
     let mut text = String::new(alloc);
-    add_lines(&mut text, alloc, rules, lines.as_slice())?;
-    add_notes(&mut text, alloc, rules)?;
+    writeln!(text, " never matches: {reason}")?;
+    Ok(text)
+}
+
+/// The row of the rule of a line that never matches at a port, with the reason.
+fn note_row(
+    alloc: Global,
+    markdown: bool,
+    port: u8,
+    line: usize,
+    reason: &str,
+) -> Result<Row, AllocError>
+    ensures { IfOk result (λ row. row ≡ note_row markdown port line reason.now) }
+{
+    let front = note_text(alloc, markdown, line)?;
+    let back = never_text(alloc, reason)?;
+    Ok(Row::new(port, front, back, String::new(alloc)))
+}
+
+/// Adds the row of the rule of a place, which never matches, with the reason.
+fn push_never(
+    rows: &mut Vec<Row>,
+    alloc: Global,
+    how: &Style<'_>,
+    at: &Asked,
+    place: usize,
+) -> Result<(), AllocError>
+    requires place { place < length at.now.rules }
+    requires never { NeverMatches at.now.rules place }
+    ensures { OnOk result (TellsNever how.now.markdown at.now place rows.old.items rows.new.items) }
+{
+    let why = reason(alloc, at.rules(), at.lines(), place)?;
+    let row = note_row(
+        alloc,
+        how.is_markdown(),
+        at.port(),
+        at.line_at(place),
+        why.as_str(),
+    )?;
+    rows.push(row)?;
+    Ok(())
+}
+
+/// Adds the row of the rule of a place, where it never matches.
+fn push_note(
+    rows: &mut Vec<Row>,
+    alloc: Global,
+    how: &Style<'_>,
+    at: &Asked,
+    place: usize,
+) -> Result<(), AllocError>
+    requires { place < length at.now.rules }
+    ensures { OnOk result (TellsNote how.now.markdown at.now place rows.old.items rows.new.items) }
+{
+    if never_matches(at.rules(), place) {
+        return push_never(rows, alloc, how, at, place);
+    }
+    Ok(())
+}
+
+/// Adds the rows of the rules that never match.
+fn push_notes(
+    rows: &mut Vec<Row>,
+    alloc: Global,
+    how: &Style<'_>,
+    at: &Asked,
+) -> Result<(), AllocError>
+    ensures { OnOk result (TellsNotes how.now.markdown at.now rows.old.items rows.new.items) }
+{
+    for place in 0..at.rules().len() {
+        push_note(rows, alloc, how, at, place)?;
+    }
+    Ok(())
+}
+
+/// Adds the rows of the lines of a port, if a chart of it is made.
+fn push_lines_at(
+    rows: &mut Vec<Row>,
+    alloc: Global,
+    how: &Style<'_>,
+    policy: &Policy,
+    port: u8,
+) -> Result<(), AllocError>
+    ensures { OnOk result (TellsPort (λ own. is_named own policy.now.rules)
+        (λ own. TellsLines how.now (asked_at policy.now own)) port rows.old.items rows.new.items) }
+{
+    if !Tables::One(policy).chart_port(port) {
+        return Ok(());
+    }
+    let at = Asked::at(alloc, policy, port)?;
+    push_lines(rows, alloc, how, &at)
+}
+
+/// Adds the rows of the rules of a port that never match there, if a chart of it is made.
+fn push_notes_at(
+    rows: &mut Vec<Row>,
+    alloc: Global,
+    how: &Style<'_>,
+    policy: &Policy,
+    port: u8,
+) -> Result<(), AllocError>
+    ensures { OnOk result (TellsPort (λ own. is_named own policy.now.rules)
+        (λ own. TellsNotes how.now.markdown (asked_at policy.now own)) port rows.old.items rows.new.items) }
+{
+    if !Tables::One(policy).chart_port(port) {
+        return Ok(());
+    }
+    let at = Asked::at(alloc, policy, port)?;
+    push_notes(rows, alloc, how, &at)
+}
+
+/// The rows of the lines of a map at each port.
+fn line_rows(alloc: Global, how: &Style<'_>, policy: &Policy) -> Result<Vec<Row>, AllocError>
+    ensures { IfOk result (λ rows. TellsPorts policy.now (TellsLines how.now) 32 [] rows.items) }
+{
+    let mut rows = Vec::new(alloc);
+    for port in 0..PORTS {
+        push_lines_at(&mut rows, alloc, how, policy, port)?;
+    }
+    Ok(rows)
+}
+
+/// The rows of the rules that never match, at each port.
+fn note_rows(alloc: Global, how: &Style<'_>, policy: &Policy) -> Result<Vec<Row>, AllocError>
+    ensures { IfOk result (λ rows. TellsPorts policy.now (TellsNotes how.now.markdown) 32 [] rows.items) }
+{
+    let mut rows = Vec::new(alloc);
+    for port in 0..PORTS {
+        push_notes_at(&mut rows, alloc, how, policy, port)?;
+    }
+    Ok(rows)
+}
+
+/// What is before all rows: in markdown the headings.
+fn head_of(alloc: Global, markdown: bool) -> Result<String, AllocError>
+    ensures { IfOk result (λ text. string_bytes text ≡ head_of markdown) }
+{
+    if markdown {
+        map_head(alloc)
+    } else {
+        Ok(String::new(alloc))
+    }
+}
+
+/// What is told of a table: a line for each of its map, and one for each rule that never matches; behind each the ports, where it
+/// is not so at all. In markdown a line of the map is a row of a table, with its ports, and a rule that never matches a paragraph.
+pub fn map_text(alloc: Global, how: &Style<'_>, policy: &Policy) -> Result<String, AllocError>
+    ensures { IfOk result (λ text. TellsMap how.now policy.now (string_bytes text)) }
+{
+    let markdown = how.is_markdown();
+    let tables = Tables::One(policy);
+    let lines = line_rows(alloc, how, policy)?;
+    let notes = note_rows(alloc, how, policy)?;
+    let mut text = head_of(alloc, markdown)?;
+    add_rows(&mut text, alloc, markdown, tables, lines.as_slice())?;
+    add_rows(&mut text, alloc, false, tables, notes.as_slice())?;
     Ok(text)
 }

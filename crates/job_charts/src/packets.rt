@@ -120,13 +120,13 @@ pub fn is_brought(packet: &Packet) -> bool
     }
 }
 
-/// Adds the line of a whole packet at port 0, without its end.
+/// Adds the line of a whole packet behind its port, without its end.
 pub fn add_packet(text: &mut String, alloc: Global, packet: &Packet) -> Result<(), AllocError>
     ensures { OnOk result
         (string_bytes text.new ≡ string_bytes text.old ++ packet_text packet.now) }
 {
     let digits = hex::encode_upper(alloc, packet.bytes())?;
-    write!(text, "0 {digits} EOP")
+    write!(text, " {digits} EOP")
 }
 
 /// A law and no work: the packet of a point is a command that has this point.

@@ -15,7 +15,7 @@ const END: u64 = 1 << 32;
 const BYTES: usize = 256;
 
 /// The word for kinds.
-fn kinds_word(kinds: Kinds) -> &'static str
+pub fn kinds_word(kinds: Kinds) -> &'static str
     ensures { result.now ≡ kinds_word kinds }
 {
     match (kinds.read, kinds.write, kinds.rmw) {
@@ -31,7 +31,7 @@ fn kinds_word(kinds: Kinds) -> &'static str
 }
 
 /// Adds a byte, where it is wanted.
-fn push_if(bytes: &mut Vec<u8>, wanted: bool, byte: u8) -> Result<(), AllocError>
+pub fn push_if(bytes: &mut Vec<u8>, wanted: bool, byte: u8) -> Result<(), AllocError>
     ensures { OnOk result (bytes.new.items ≡ bytes.old.items ++ one_if wanted byte) }
 {
     if wanted {
@@ -86,7 +86,7 @@ fn add_bytes(text: &mut String, alloc: Global, bytes: &[u8]) -> Result<(), Alloc
 }
 
 /// Adds the word for a set of bytes: those that are of it, or where those are most, those that are not.
-fn add_set(text: &mut String, alloc: Global, set: &ByteSet) -> Result<(), AllocError>
+pub fn add_set(text: &mut String, alloc: Global, set: &ByteSet) -> Result<(), AllocError>
     ensures { OnOk result (string_bytes text.new ≡ string_bytes text.old ++ set_text set.now) }
 {
     let bytes = bytes_of(alloc, set)?;
@@ -178,6 +178,22 @@ fn add_fields(text: &mut String, alloc: Global, region: &Region) -> Result<(), A
     text.push_str(" ")
 }
 
+/// Adds the word for the addresses of a line: `else` for the rest of all addresses.
+pub fn add_addresses(
+    text: &mut String,
+    alloc: Global,
+    rest: bool,
+    region: &Region,
+) -> Result<(), AllocError>
+    ensures { OnOk result
+        (string_bytes text.new ≡ string_bytes text.old ++ addresses_text rest region.now) }
+{
+    if rest && (is_whole(region.first) && is_whole(region.last)) {
+        return text.push_str("else");
+    }
+    add_span(text, alloc, region.first, region.last)
+}
+
 /// Adds the words of a line, which are those of a rule, but that `else` stands for the rest of all addresses.
 pub fn add_words(
     text: &mut String,
@@ -189,8 +205,5 @@ pub fn add_words(
         ≡ with_fields (string_bytes text.old) region.now ++ addresses_text rest region.now) }
 {
     add_fields(text, alloc, region)?;
-    if rest && (is_whole(region.first) && is_whole(region.last)) {
-        return text.push_str("else");
-    }
-    add_span(text, alloc, region.first, region.last)
+    add_addresses(text, alloc, rest, region)
 }

@@ -1,3 +1,4 @@
+pub mod BankLimits
 pub mod Chains
 pub mod Contents
 pub mod Each

@@ -27,6 +27,7 @@ use Rattle.job_parts.specs.declared.node_codes.NodeCode.TheVariants.{Text}
 use Rattle.job_config.specs.Configured.{
   ConfigurationValue,
   IsBadConfiguration,
+  IsConfiguration,
   configuration_at,
   items_in,
   list_at,
@@ -38,6 +39,7 @@ use Rattle.job_config.specs.Names.{IsBeside, IsPathOf, name_at}
 use Rattle.job_config.specs.Numbers.{number_at}
 use Rattle.job_config.specs.OwnNodes.{LoadValue, OwnNodeValue}
 use Rattle.job_config.specs.Places.{place}
+use Rattle.job_config.specs.declared.configuration.Configuration.{Configuration}
 use Rattle.job_config.specs.declared.faults.ConfigFault.{ConfigFault}
 use Rattle.job_config.specs.declared.faults.ConfigFault.TheVariants.{Memory}
 use Rattle.job_config.specs.declared.places.Kind.TheVariants.{Bank, Load}
@@ -191,6 +193,29 @@ module _ {S : Type 0} (reads : Reads S) (file : List ℕ) where
     pub is_table : parse_document text ≡ Some table
     pub parts : HoldsParts table begun own program after
     pub only_reads : SomeRead reads before after
+
+  -- the text of the node's file says that configuration; nothing else was read
+  pub record ReadsConfiguration (before : S) (configuration : Configuration) (after : S) : Type 0 where
+    pub text : List ℕ
+    pub table : Members
+    pub read : reads before file (Some text) after
+    pub utf8 : IsUtf8 text
+    pub is_table : parse_document text ≡ Some table
+    pub configured : IsConfiguration table configuration
+
+  -- the node's file was read, and says no configuration; nothing else was read
+  pub record ReadsBadConfiguration (before : S) (end : Fault) (after : S) : Type 0 where
+    pub text : List ℕ
+    pub fault : ConfigFault
+    pub read : reads before file (Some text) after
+    pub utf8 : IsUtf8 text
+    pub bad : IsBadText text fault
+    pub ends : Ends (code_of fault) end
+
+  -- the node's file says no configuration: it cannot be read, or it is bad
+  abbrev pub ReadsNoConfiguration : (before : S) → Fault → (after : S) → Type 0
+  ReadsNoConfiguration before end after =
+      TextUnread reads before file after end ⊎ ReadsBadConfiguration before end after
 
   -- the node's file was read, and there is no node of it; and nothing else was done to files
   pub record ReadsBadNode (before : S) (end : Fault) (after : S) : Type 0 where

@@ -2,7 +2,7 @@
 
 ghost use Rattle.std.specs.Prelude.{◌≡◌, IfErr, IfOk, Ok, true};
 ghost use Rattle.job_config.specs.Configured.{IsBadConfiguration, IsConfiguration, banks_at};
-ghost use Rattle.node_parts.specs.Nodes.{are_within};
+ghost use Rattle.node_parts.specs.Nodes.{are_within, windows_of};
 ghost use Rattle.toml.specs.View.{table_view};
 
 use crate::banks::banks_of;
@@ -14,7 +14,8 @@ use crate::own_node::NODE_ADDRESS;
 use crate::places::NumberKey;
 use crate::tables::OWN;
 use bver::MapSizes;
-use node_parts::BankConfig;
+use node_parts::{BankConfig, NodeConfig};
+use rmap::Windows;
 use spw::PORTS;
 use std::alloc::Global;
 use toml::Table;
@@ -30,6 +31,23 @@ pub struct Configuration {
     pub banks: Vec<BankConfig>,
     /// How many cells each map has, and of which kind it is.
     pub sizes: MapSizes,
+}
+
+impl Configuration {
+    /// The windows of the node: its address, and where its banks lie. The condition is banks that a node may have.
+    #[tactic(auto, using(crate::proofs::BankLimits::at_most_eight))]
+    pub fn windows(&self) -> Windows
+        requires { are_within self.now.banks.items ≡ true }
+        ensures { result ≡ windows_of self.now.address self.now.banks.items }
+    {
+        let config = NodeConfig {
+            address: self.address,
+            ports: self.ports,
+            banks: self.banks.as_slice(),
+            sizes: self.sizes,
+        };
+        config.windows()
+    }
 }
 
 /// The configuration that a table says.

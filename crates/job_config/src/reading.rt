@@ -4,7 +4,7 @@ ghost use Rattle.std.specs.Prelude.{◌≡◌, ◌≤◌, ◌⊎◌, ◌∷◌, 
 ghost use Rattle.job_config.specs.Configured.{IsConfiguration, banks_at};
 ghost use Rattle.job_config.specs.Faults.{code_of};
 ghost use Rattle.job_config.specs.Names.{IsPathOf};
-ghost use Rattle.job_config.specs.Reads.{BeginWith, BeginsWith, Ends, HoldLoads, HoldsBanks, HoldsBeside, HoldsFirst, HoldsLoad, HoldsLoads, HoldsParts, IsBadNode, IsNoTable, ReadsNoNode, ReadsNode, SomeRead};
+ghost use Rattle.job_config.specs.Reads.{BeginWith, BeginsWith, Ends, HoldLoads, HoldsBanks, HoldsBeside, HoldsFirst, HoldsLoad, HoldsLoads, HoldsParts, IsBadNode, IsBadText, IsNoTable, ReadsConfiguration, ReadsNoConfiguration, ReadsNoNode, ReadsNode, SomeRead};
 ghost use Rattle.job_config.specs.OwnNodes.{fit};
 ghost use Rattle.job_config.specs.declared.faults.ConfigFault.TheVariants.{Memory};
 ghost use Rattle.bver.specs.Justified.{IsJustified};
@@ -400,6 +400,17 @@ fn table_of(alloc: Global, text: &str) -> Result<Table, ConfigFault>
     }
 }
 
+/// The configuration that a text says.
+fn configuration_of_text(alloc: Global, text: &str) -> Result<Configuration, ConfigFault>
+    ensures says { IfOk result (λ c. (table : Members) × (parse_document text.now ≡ Some table)
+        × IsConfiguration table c) }
+    ensures bad { IfErr result (IsBadText text.now) }
+    ensures within { IfOk result (λ c. are_within c.banks.items ≡ true) }
+{
+    let table = table_of(alloc, text)?;
+    configuration_of(alloc, &table)
+}
+
 /// The node that a text says, whose file has this name, with what stands in the files that it names.
 fn node_of_text<F: Files>(
     alloc: Global,
@@ -457,6 +468,26 @@ pub fn node_in<'a, F: Files>(
     let text = read_text(alloc, files, name)?;
     match node_of_text(alloc, name, text.as_str(), files) {
         Ok(node) => Ok(node),
+        Err(fault) => Err(fault_of(alloc, name, &fault)),
+    }
+}
+
+/// The configuration of the node's file of this name. Of the files that it names none is read.
+///
+/// Faults are found in this order: the file (`CannotRead`, also where it is not UTF-8), that it is no TOML, a key that is
+/// unknown, the address, the ports, the banks and the maps (`BadNode`).
+pub fn configuration_in<'a, F: Files>(
+    alloc: Global,
+    files: &mut F,
+    name: &'a str,
+) -> Result<Configuration, Fault<'a>>
+    ensures says { IfOk result (λ c. ReadsConfiguration F.reads name.now files.old c files.new) }
+    ensures none { IfErr result (λ fault. ReadsNoConfiguration F.reads name.now files.old fault files.new) }
+    ensures within { IfOk result (λ c. are_within c.banks.items ≡ true) }
+{
+    let text = read_text(alloc, files, name)?;
+    match configuration_of_text(alloc, text.as_str()) {
+        Ok(configuration) => Ok(configuration),
         Err(fault) => Err(fault_of(alloc, name, &fault)),
     }
 }

@@ -65,7 +65,7 @@ pub fn source_arguments<'a>(alloc: Global, command: Command<'a>) -> Result<Comma
 }
 
 /// Whether an option has no value.
-fn lacks(found: &ArgMatches, name: &str) -> bool
+pub fn lacks(found: &ArgMatches, name: &str) -> bool
     ensures { result ≡ lacks name.now (rows_of (found_of found.now)) }
 {
     text_of(found, name).is_none()

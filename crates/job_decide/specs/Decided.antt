@@ -7,10 +7,14 @@ use Rattle.policy_table.specs.Counts.{after_draws, told_on}
 use Rattle.policy_table.specs.Matching.{matched}
 use Rattle.policy_table.specs.Meaning.{decision}
 use Rattle.policy_table.specs.Passing.{passed_rules}
+use Rattle.policy_table.specs.Policies.{PolicyValue}
+use Rattle.policy_table.specs.PortTables.{lines_at}
+use Rattle.policy_table.specs.Ports.{rules_at}
 use Rattle.policy_table.specs.declared.mismatches.Passed.{Passed}
 use Rattle.policy_table.specs.declared.rules.Rule.{Rule}
 use Rattle.rmap.specs.Checks.{header_check, header_status}
 use Rattle.rmap.specs.Command.{CommandValue, command_of}
+use Rattle.rmap.specs.Windows.{WindowsValue}
 use Rattle.rmap.specs.declared.discard.Discard.{Discard}
 use Rattle.rmap.specs.declared.header_faults.HeaderFault.{HeaderFault}
 use Rattle.rmap.specs.declared.status.Status.{Status}
@@ -21,7 +25,7 @@ use Rattle.job_nodes.specs.JudgeJob.{discard_line}
 use Rattle.job_parts.specs.Printed.{PrintsMore}
 use Rattle.job_parts.specs.declared.stops.LineEnd.{LineEnd}
 use Rattle.job_parts.specs.declared.stops.LineEnd.TheVariants.{NoMemory}
-use Rattle.job_decide.specs.DecideJob.{match_line, own_windows, status_text}
+use Rattle.job_decide.specs.DecideJob.{match_line, status_text}
 
 -- why rules do not match of which that is told: those before the one that decides, where it refuses
 abbrev pub told_passed : Verdict → List Rule → Header → (draws : List Call) → List Passed
@@ -30,16 +34,21 @@ told_passed InvalidKey rules header draws = passed_rules rules header draws
 told_passed NotAuthorised rules header draws = passed_rules rules header draws
 told_passed InvalidLogicalAddress rules header draws = passed_rules rules header draws
 
--- the rule by which the table decides on the header of the command was told, as the counts answer its draws, and more
--- behind it; and the counts are those behind its draws
-pub record TellsDecision (port : ℕ) (rules : List Rule) (c : CommandValue) (before after : List ℕ) (old new : Option (List ℕ)) :
-    Type 0 where
+-- the rule in one of these lines by which a table of a port decides on the header of the command was told, as the counts answer
+-- its draws, and more behind it; and the counts are those behind its draws
+pub record TellsMatch (port : ℕ) (rules : List Rule) (lines : List ℕ) (c : CommandValue) (before after : List ℕ)
+    (old new : Option (List ℕ)) : Type 0 where
   pub told : Option (List ℕ)
   pub line : Appends old told
-      (match_line port (matched rules (header c.front c.tail) (told_on before rules (header c.front c.tail))))
+      (match_line port lines (matched rules (header c.front c.tail) (told_on before rules (header c.front c.tail))))
   pub more : PrintsMore told new
   pub counts : after
       ≡ after_draws before (decision rules (header c.front c.tail) (told_on before rules (header c.front c.tail))).0
+
+-- the same of the rules that are asked at the port, in their lines
+abbrev pub TellsDecision : (port : ℕ) → PolicyValue → CommandValue → (before after : List ℕ) → (old new : Option (List ℕ)) → Type 0
+TellsDecision port policy c before after old new =
+    TellsMatch port (rules_at port policy.rules) (lines_at port policy.rules) c before after old new
 
 -- the status of a command was told, and more behind it
 pub record TellsStatus (port : ℕ) (status : Status) (old new : Option (List ℕ)) : Type 0 where
@@ -49,19 +58,19 @@ pub record TellsStatus (port : ℕ) (status : Status) (old new : Option (List �
 
 -- of a command whose header is found to have a fault the status was told, and nothing drawn; on any other the table
 -- decides
-abbrev pub TellsCommand : (port : ℕ) → List Rule → CommandValue → Option HeaderFault → (before after : List ℕ)
+abbrev pub TellsCommand : (port : ℕ) → PolicyValue → CommandValue → Option HeaderFault → (before after : List ℕ)
     → (old new : Option (List ℕ)) → Type 0
-TellsCommand port rules c (Some fault) before after old new =
+TellsCommand port policy c (Some fault) before after old new =
     (after ≡ before) × TellsStatus port (header_status fault) old new
-TellsCommand port rules c None before after old new = TellsDecision port rules c before after old new
+TellsCommand port policy c None before after old new = TellsDecision port policy c before after old new
 
 -- of a packet that is no command the reason was told, and nothing drawn
-abbrev pub TellsPacket : (port : ℕ) → List Rule → Cargo → Option Discard → (before after : List ℕ)
+abbrev pub TellsPacket : WindowsValue → (port : ℕ) → PolicyValue → Cargo → Option Discard → (before after : List ℕ)
     → (old new : Option (List ℕ)) → Type 0
-TellsPacket port rules p (Some discard) before after old new =
+TellsPacket windows port policy p (Some discard) before after old new =
     (after ≡ before) × Appends old new (discard_line port discard)
-TellsPacket port rules p None before after old new =
-    TellsCommand port rules (command_of p) (header_check (command_of p) own_windows) before after old new
+TellsPacket windows port policy p None before after old new =
+    TellsCommand port policy (command_of p) (header_check (command_of p) windows) before after old new
 
 -- memory was refused, and nothing printed
 abbrev pub IsRefused : (old new : Option (List ℕ)) → LineEnd → Type 0

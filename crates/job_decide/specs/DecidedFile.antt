@@ -1,8 +1,10 @@
 -- What the job `decide` reads and prints.
 use Rattle.std.specs.Prelude.{◌≡◌, ◌⊎◌, ℕ, List, [], Option, Some, replicate, string_bytes}
+use Rattle.std.specs.Borrow.{Bor}
 use Rattle.std.specs.Str.{IsUtf8}
-use Rattle.policy_table.specs.declared.rules.Rule.{Rule}
-use Rattle.policy_table.specs.declared.table_faults.TableFault.{TableFault}
+use Rattle.policy_table.specs.Policies.{PolicyValue}
+use Rattle.policy_table.specs.declared.text_faults.TextFault.{TextFault}
+use Rattle.rmap.specs.Windows.{WindowsValue}
 use Rattle.spw.specs.Line.{lines_of}
 use Rattle.job_parts.specs.Files.{Reads}
 use Rattle.job_parts.specs.Reading.{TextUnread}
@@ -18,9 +20,10 @@ use Rattle.job_decide.specs.declared.decide.Deciding.{Deciding}
 use Rattle.job_decide.specs.declared.tables.NoTable.{NoTable}
 use Rattle.job_decide.specs.declared.tables.NoTable.TheVariants.{BadTable, Ended}
 
--- what decides by these rules before the first line: nothing is held of any port, and no ticket was drawn
-abbrev pub at_first : List Rule → (ports : ℕ) → Deciding
-at_first rules ports = record { table = rules; feeds = replicate ports []; counts = replicate 2048 0 }
+-- what decides by this table before the first line: nothing is held of any port, and no ticket was drawn
+abbrev pub at_first : PolicyValue → (ports : ℕ) → Bor WindowsValue → Deciding
+at_first policy ports windows =
+    record { table = policy; feeds = replicate ports []; counts = replicate 2048 0; windows = windows }
 
 module _ {S : Type 0} (reads : Reads S) (words : DecideWords) where
   -- the file of lines was read, and is UTF-8
@@ -29,18 +32,19 @@ module _ {S : Type 0} (reads : Reads S) (words : DecideWords) where
     pub utf8 : IsUtf8 text
 
   -- the files were read in this order: lines, and a table that compiles for a node with these maps
-  pub record IsGiven (before : S) (text : List ℕ) (rules : List Rule) (after : S) : Type 0 where
+  pub record IsGiven (before : S) (text : List ℕ) (policy : PolicyValue) (after : S) : Type 0 where
     pub between : S
     pub lines : HoldsLines before text between
-    pub table : HoldsTable reads between (string_bytes words.table) words.sizes rules after
+    pub table : HoldsTable reads between (string_bytes words.table) words.sizes policy after
 
   -- the same, with what decides by the table before the first line
   pub record IsReady (before : S) (text : List ℕ) (deciding : Deciding) (after : S) : Type 0 where
     pub given : IsGiven before text deciding.table after
-    pub first : deciding ≡ at_first deciding.table words.ports
+    pub first : deciding ≡ at_first deciding.table words.ports deciding.windows
+    pub windows : deciding.windows.now ≡ words.windows
 
   -- the file of the table was read behind that of the lines, and this is the first fault of the table, with its place
-  pub record HoldsTableFault (before after : S) (fault : TableFault) : Type 0 where
+  pub record HoldsTableFault (before after : S) (fault : TextFault) : Type 0 where
     pub text : List ℕ
     pub between : S
     pub lines : HoldsLines before text between
@@ -56,8 +60,8 @@ module _ {S : Type 0} (reads : Reads S) (words : DecideWords) where
   -- memory was refused behind the reads
   pub record LacksMemory (before after : S) (fault : Fault) : Type 0 where
     pub text : List ℕ
-    pub rules : List Rule
-    pub given : IsGiven before text rules after
+    pub policy : PolicyValue
+    pub given : IsGiven before text policy after
     pub is_fault : fault ≡ NoMemory
 
   -- a file cannot be read, or memory was refused behind the reads; a table's fault is no such end, but told with its place
@@ -74,18 +78,22 @@ module _ {S : Type 0} (reads : Reads S) (words : DecideWords) where
   -- each line of the file was taken in turn
   pub record DecidesFile (before after : S) (old new : Option (List ℕ)) : Type 0 where
     pub text : List ℕ
-    pub rules : List Rule
+    pub policy : PolicyValue
+    pub windows : Bor WindowsValue
     pub left : Deciding
-    pub given : IsGiven before text rules after
-    pub all : AreTaken DecidesLine (lines_of text) (at_first rules words.ports) left old new
+    pub given : IsGiven before text policy after
+    pub windows_are : windows.now ≡ words.windows
+    pub all : AreTaken DecidesLine (lines_of text) (at_first policy words.ports windows) left old new
 
   -- each line up to one was taken in turn, and that one is bad
   pub record StopsFile (before after : S) (old new : Option (List ℕ)) (fault : Fault) : Type 0 where
     pub text : List ℕ
-    pub rules : List Rule
+    pub policy : PolicyValue
+    pub windows : Bor WindowsValue
     pub left : Deciding
-    pub given : IsGiven before text rules after
-    pub stop : StopsIn DecidesLine IsBadLine (lines_of text) (at_first rules words.ports) left old new fault
+    pub given : IsGiven before text policy after
+    pub windows_are : windows.now ≡ words.windows
+    pub stop : StopsIn DecidesLine IsBadLine (lines_of text) (at_first policy words.ports windows) left old new fault
 
   -- why not all lines were taken
   abbrev pub IsNotDecided : (before after : S) → (old new : Option (List ℕ)) → Fault → Type 0
@@ -94,7 +102,7 @@ module _ {S : Type 0} (reads : Reads S) (words : DecideWords) where
 
   -- the table has a fault, which was told with its place
   pub record TellsTable (before after : S) (old new : Option (List ℕ)) : Type 0 where
-    pub fault : TableFault
+    pub fault : TextFault
     pub held : HoldsTableFault before after fault
     pub told : TellsTableFault fault old new
 

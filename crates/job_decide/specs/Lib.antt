@@ -1,5 +1,5 @@
+pub mod Tables
 pub mod DecideJob
 pub mod Decided
 pub mod DecidedLines
-pub mod Tables
 pub mod DecidedFile

@@ -1,13 +1,11 @@
 -- The tables of files, and how their faults are told.
-use Rattle.std.specs.Prelude.{◌≡◌, ℕ, List, [], ◌∷◌, ◌++◌, Option, Some, None, codes}
+use Rattle.std.specs.Prelude.{◌≡◌, ◌-◌, ℕ, List, [], ◌∷◌, ◌++◌, Option, Some, None, codes, slice_index_or}
 use Rattle.std.specs.Io.KnownBytes.{Appends}
 use Rattle.std.specs.Str.{IsUtf8}
 use Rattle.machine.specs.Sizes.{Maps}
-use Rattle.policy_table.specs.FirstFault.{compile_fault}
-use Rattle.policy_table.specs.Lines.{IsTable}
-use Rattle.policy_table.specs.TableFaults.{IsTableFault, policy_fault_of, table_fault_text}
-use Rattle.policy_table.specs.declared.rules.Rule.{Rule}
-use Rattle.policy_table.specs.declared.table_faults.TableFault.{TableFault}
+use Rattle.policy_table.specs.Policies.{IsPolicyFault, PolicyValue, WritesPolicy, policy_fault}
+use Rattle.policy_table.specs.TextFaults.{text_fault_of, text_fault_text}
+use Rattle.policy_table.specs.declared.text_faults.TextFault.{TextFault}
 use Rattle.spw.specs.Line.{lines_of}
 use Rattle.job_parts.specs.Files.{Reads}
 use Rattle.job_parts.specs.Printed.{fault_line}
@@ -16,31 +14,42 @@ use Rattle.job_parts.specs.declared.faults.Fault.TheVariants.{BadTable as IsBadT
 use Rattle.job_decide.specs.declared.tables.NoTable.{NoTable}
 use Rattle.job_decide.specs.declared.tables.NoTable.TheVariants.{BadTable, Ended}
 
+-- the line of the rule of this number, from 1, where rules stand in these lines; 0 where none is
+abbrev pub line_of : (lines : List ℕ) → (number : ℕ) → ℕ
+line_of lines number = slice_index_or lines (number - 1) 0
+
 -- the line with the place of a table's fault
-abbrev pub place_line : TableFault → List ℕ
-place_line fault = codes "    " ++ table_fault_text fault ++ 10 ∷ []
+abbrev pub place_line : TextFault → List ℕ
+place_line fault = codes "    " ++ text_fault_text fault ++ 10 ∷ []
 
 -- the line of a table's fault was printed, and behind it a line with the place
-pub record TellsTableFault (fault : TableFault) (old new : Option (List ℕ)) : Type 0 where
+pub record TellsTableFault (fault : TextFault) (old new : Option (List ℕ)) : Type 0 where
   pub told : Option (List ℕ)
-  pub line : Appends old told (fault_line (IsBadTable (policy_fault_of fault)))
+  pub line : Appends old told (fault_line (IsBadTable (text_fault_of fault)))
   pub place : Appends told new (place_line fault)
 
 module _ {S : Type 0} (reads : Reads S) where
   -- the file was read, and gave the UTF-8 of a table without a fault for these maps
-  pub record HoldsTable (before : S) (name : List ℕ) (sizes : Maps) (rules : List Rule) (after : S) : Type 0 where
+  pub record HoldsTable (before : S) (name : List ℕ) (sizes : Maps) (policy : PolicyValue) (after : S) : Type 0 where
     pub text : List ℕ
     pub read : reads before name (Some text) after
     pub utf8 : IsUtf8 text
-    pub is_table : IsTable text rules
-    pub faultless : compile_fault sizes rules ≡ None
+    pub is_table : WritesPolicy (lines_of text) policy
+    pub faultless : policy_fault sizes policy ≡ None
+
+  -- the file was read, and gave the UTF-8 of this text, which is such a table
+  pub record HoldsText (before : S) (name : List ℕ) (sizes : Maps) (text : List ℕ) (policy : PolicyValue) (after : S) : Type 0 where
+    pub read : reads before name (Some text) after
+    pub utf8 : IsUtf8 text
+    pub is_table : WritesPolicy (lines_of text) policy
+    pub faultless : policy_fault sizes policy ≡ None
 
   -- the file was read, and gave the UTF-8 of a table whose first fault for these maps is this one, with its place
-  pub record HoldsBadTable (before : S) (name : List ℕ) (sizes : Maps) (fault : TableFault) (after : S) : Type 0 where
+  pub record HoldsBadTable (before : S) (name : List ℕ) (sizes : Maps) (fault : TextFault) (after : S) : Type 0 where
     pub text : List ℕ
     pub read : reads before name (Some text) after
     pub utf8 : IsUtf8 text
-    pub is_fault : IsTableFault sizes (lines_of text) fault
+    pub is_fault : IsPolicyFault sizes (lines_of text) fault
 
   -- why there is no table: the file cannot be read or is not UTF-8, or its table has a fault
   abbrev pub IsNoTable : (before : S) (name : List ℕ) (sizes : Maps) (after : S) → NoTable → Type 0

@@ -10,6 +10,7 @@ ghost use Rattle.job_decide.specs.DecideJob.{NamesDecide, RefusesDecide, decide_
 ghost use Rattle.job_decide.specs.DecidedFile.{Decides, IsNotDecided, IsReady, IsUnready};
 ghost use Rattle.job_decide.specs.DecidedLines.{DecidesLine, IsBadLine};
 
+use crate::node_windows::own_windows;
 use crate::packets::decide_packet;
 use crate::tables::{NoTable, print_table_fault, table_in};
 use clap::{ArgMatches, Command};
@@ -24,7 +25,8 @@ use job_parts::storage::Files;
 use job_parts::turns::{TakesLines, take_lines};
 use job_parts::usage::UsageFault;
 use machine::MapSizes;
-use policy::{Counts, Table};
+use policy::{Counts, Policy};
+use rmap::Windows;
 use std::alloc::{AllocError, Global};
 use std::io::Write;
 
@@ -39,6 +41,8 @@ pub struct DecideWords {
     pub sizes: MapSizes,
     /// How many ports the node has.
     pub ports: u8,
+    /// The address of the node, and where its banks lie.
+    pub windows: Windows,
 }
 
 impl DecideWords {
@@ -83,19 +87,21 @@ pub fn decide_job(alloc: Global, found: &ArgMatches) -> Result<DecideWords, Usag
         table,
         sizes,
         ports,
+        windows: own_windows(),
     })
 }
 
-/// What decides on packet lines by a table: the table, what each port has of a packet that has not ended, and how many
-/// tickets were drawn.
+/// What decides on packet lines by a table: the table, what each port has of a packet that has not ended, how many tickets were
+/// drawn, and where the node's banks lie.
 #[derive(Drop)]
-struct Deciding {
-    table: Table,
+struct Deciding<'a> {
+    table: Policy,
     feeds: Feeds,
     counts: Counts,
+    windows: &'a Windows,
 }
 
-impl TakesLines for Deciding {
+impl TakesLines for Deciding<'_> {
     ghost takes = { DecidesLine };
 
     ghost stops = { IsBadLine };
@@ -105,7 +111,15 @@ impl TakesLines for Deciding {
         let Some((port, packet)) = self.feeds.take_line(alloc, line)? else {
             return Ok(());
         };
-        decide_packet(alloc, &self.table, &mut self.counts, port, &packet, out)
+        decide_packet(
+            alloc,
+            self.windows,
+            &self.table,
+            &mut self.counts,
+            port,
+            &packet,
+            out,
+        )
     }
 }
 
@@ -114,7 +128,7 @@ fn ready<'a, F: Files>(
     alloc: Global,
     words: &'a DecideWords,
     files: &mut F,
-) -> Result<(String, Deciding), NoTable<'a>>
+) -> Result<(String, Deciding<'a>), NoTable<'a>>
     ensures ready { IfOk result (λ made. IsReady F.reads words.now files.old
         (string_bytes made.0) made.1 files.new) }
     ensures unready { IfErr result (IsUnready F.reads words.now files.old files.new) }
@@ -127,11 +141,12 @@ fn ready<'a, F: Files>(
         table,
         feeds,
         counts,
+        windows: &words.windows,
     };
     Ok((text, deciding))
 }
 
-/// Decides on the packets of a file by the table of another, for a node with these maps and ports. For each packet it
+/// Decides on the packets of a file by the table of another, for a node with these maps, ports and windows. For each packet it
 /// prints what becomes of it, as docs/COMMANDS.md has it. Where the table has a fault that is printed, with its place, and
 /// the job failed.
 ///

@@ -1,21 +1,24 @@
 //! What is printed of a packet.
 
-ghost use Rattle.std.specs.Prelude.{◌≡◌, IfErr, IfOk, OnOk};
+ghost use Rattle.std.specs.Prelude.{◌≡◌, IfErr, IfOk, OnOk, option_map};
 ghost use Rattle.machine.specs.Memory.{header};
+ghost use Rattle.policy_table.specs.PortTables.{lines_at};
+ghost use Rattle.policy_table.specs.Ports.{rules_at};
 ghost use Rattle.job_parts.specs.Printed.{PrintsMore, Prints};
 ghost use Rattle.job_parts.specs.Stops.{StopsLineBy};
-ghost use Rattle.job_decide.specs.Decided.{IsRefused, TellsCommand, TellsDecision, TellsPacket, TellsStatus, told_passed};
-ghost use Rattle.job_decide.specs.DecideJob.{match_line, own_windows, rule_text, ticket_text};
+ghost use Rattle.job_decide.specs.Decided.{IsRefused, TellsCommand, TellsDecision, TellsMatch, TellsPacket, TellsStatus, told_passed};
+ghost use Rattle.job_decide.specs.DecideJob.{match_line, rule_text, ticket_text};
+ghost use Rattle.job_decide.specs.Tables.{line_of};
 ghost use Rattle.rmap.specs.Checks.{header_check};
 ghost use Rattle.rmap.specs.Command.{discard_of};
 
-use crate::node_windows::own_windows;
 use crate::reasons::{fault_text, reasons};
+use crate::tables::line_of;
 use job_nodes::judge::print_discard;
 use job_parts::stops::LineHalt;
 use machine::Call;
-use policy::{Counts, Match, Passed, Table};
-use rmap::{Command, Status, Verdict, header_check};
+use policy::{Counts, Match, Passed, Policy, PortRule, Table};
+use rmap::{Command, Status, Verdict, Windows, header_check};
 use spw::Packet;
 use std::alloc::{AllocError, Global};
 use std::io::{self, Write};
@@ -36,13 +39,23 @@ fn print_answered<W: Write>(out: &mut W, port: u8, status: Status, reason: &str)
     print_more(out, reason)
 }
 
-/// Prints the port, and the number of the rule that decides.
-fn print_rule<W: Write>(out: &mut W, port: u8, rule: Option<usize>) -> io::Result<()>
-    ensures { OnOk result (Prints W.contents out.old out.new (rule_text port rule)) }
+/// Prints the port, and the line of the rule that decides.
+fn print_rule<W: Write>(out: &mut W, port: u8, line: Option<usize>) -> io::Result<()>
+    ensures { OnOk result (Prints W.contents out.old out.new (rule_text port line)) }
 {
-    match rule {
-        Some(number) => write!(out, "{port} rule {number}"),
+    match line {
+        Some(line) => write!(out, "{port} rule {line}"),
         None => write!(out, "{port} no rule"),
+    }
+}
+
+/// The line of the rule of this number, if there is one, where rules stand in these lines.
+fn line_in(lines: &[usize], number: Option<usize>) -> Option<usize>
+    ensures { result ≡ option_map (λ number. line_of lines.now number) number }
+{
+    match number {
+        Some(number) => Some(line_of(lines, number)),
+        None => None,
     }
 }
 
@@ -57,11 +70,11 @@ fn print_ticket<W: Write>(out: &mut W, ticket: Option<Call>) -> io::Result<()>
     writeln!(out, ", ticket {answer} of {map}:{cell}")
 }
 
-/// Prints which rule decides: `PORT rule N verdict V`, with the ticket that it drew.
-fn print_match<W: Write>(out: &mut W, port: u8, found: Match) -> io::Result<()>
-    ensures { OnOk result (Prints W.contents out.old out.new (match_line port found)) }
+/// Prints which rule decides: `PORT rule N verdict V`, with its line as N, and the ticket that it drew.
+fn print_match<W: Write>(out: &mut W, port: u8, lines: &[usize], found: Match) -> io::Result<()>
+    ensures { OnOk result (Prints W.contents out.old out.new (match_line port lines.now found)) }
 {
-    print_rule(out, port, found.rule)?;
+    print_rule(out, port, line_in(lines, found.rule))?;
     let verdict = found.verdict.number();
     write!(out, " verdict {verdict}")?;
     print_ticket(out, found.ticket)
@@ -87,44 +100,78 @@ fn passed_by(
     }
 }
 
+/// A line for each rule before the one that decides, where it refuses: why it does not match.
+fn why_passed(
+    alloc: Global,
+    rules: &[PortRule],
+    port: u8,
+    verdict: Verdict,
+    passed: &[Passed],
+) -> Result<String, AllocError> {
+    match verdict {
+        Verdict::Authorised => Ok(String::new(alloc)),
+        Verdict::InvalidKey | Verdict::NotAuthorised | Verdict::InvalidLogicalAddress => {
+            reasons(alloc, rules, port, passed)
+        }
+    }
+}
+
+/// The table that a port sees, and the lines of its rules.
+fn table_of(alloc: Global, policy: &Policy, port: u8) -> Result<(Table, Vec<usize>), AllocError>
+    ensures { IfOk result (λ made. (made.0 ≡ rules_at port policy.now.rules)
+        × (made.1.items ≡ lines_at port policy.now.rules)) }
+{
+    let table = policy.table_at(alloc, port)?;
+    let lines = policy.lines_at(alloc, port)?;
+    Ok((table, lines))
+}
+
 /// Decides on a command that no check of its header answers, and prints by which rule, and why by no rule before.
 fn decide_admitted<W: Write>(
     alloc: Global,
-    table: &Table,
+    policy: &Policy,
     counts: &mut Counts,
     port: u8,
     command: &Command,
     out: &mut W,
 ) -> Result<(), LineHalt>
-    ensures told { OnOk result (TellsDecision port table.now command.now counts.old counts.new
+    ensures told { OnOk result (TellsDecision port policy.now command.now counts.old counts.new
         (W.contents out.old) (W.contents out.new)) }
     ensures stops { IfErr result (StopsLineBy (IsRefused (W.contents out.old) (W.contents out.new))) }
 {
     let (front, tail) = (command.front(), command.tail());
+    let (table, lines) = table_of(alloc, policy, port)?;
     let mut calls = Vec::new(alloc);
     let found = table.matched(front, tail, counts, &mut calls)?;
-    let passed = passed_by(alloc, table, found.verdict, front, tail, calls.as_slice())?;
-    let why = reasons(alloc, passed.as_slice())?;
-    print_match(out, port, found)?;
+    let passed = passed_by(alloc, &table, found.verdict, front, tail, calls.as_slice())?;
+    let why = why_passed(
+        alloc,
+        policy.rules(),
+        port,
+        found.verdict,
+        passed.as_slice(),
+    )?;
+    print_match(out, port, lines.as_slice(), found)?;
     Ok(print_more(out, why.as_str())?)
 }
 
 /// Prints the status of a command that a check of its header answers, or decides on it.
 fn decide_on<W: Write>(
     alloc: Global,
-    table: &Table,
+    windows: &Windows,
+    policy: &Policy,
     counts: &mut Counts,
     port: u8,
     command: &Command,
     out: &mut W,
 ) -> Result<(), LineHalt>
-    ensures told { OnOk result (TellsCommand port table.now command.now
-        (header_check command.now own_windows) counts.old counts.new
+    ensures told { OnOk result (TellsCommand port policy.now command.now
+        (header_check command.now windows.now) counts.old counts.new
         (W.contents out.old) (W.contents out.new)) }
     ensures stops { IfErr result (StopsLineBy (IsRefused (W.contents out.old) (W.contents out.new))) }
 {
-    match header_check(command, &own_windows()) {
-        Ok(_place) => decide_admitted(alloc, table, counts, port, command, out),
+    match header_check(command, windows) {
+        Ok(_place) => decide_admitted(alloc, policy, counts, port, command, out),
         Err(fault) => {
             let why = fault_text(alloc, fault)?;
             Ok(print_answered(out, port, fault.status(), why.as_str())?)
@@ -132,21 +179,22 @@ fn decide_on<W: Write>(
     }
 }
 
-/// Decides on a packet, and prints what comes of it.
+/// Decides on a packet at its port, for a node with these windows, and prints what comes of it.
 pub fn decide_packet<W: Write>(
     alloc: Global,
-    table: &Table,
+    windows: &Windows,
+    policy: &Policy,
     counts: &mut Counts,
     port: u8,
     packet: &Packet,
     out: &mut W,
 ) -> Result<(), LineHalt>
-    ensures told { OnOk result (TellsPacket port table.now packet.now (discard_of packet.now.bytes)
+    ensures told { OnOk result (TellsPacket windows.now port policy.now packet.now (discard_of packet.now.bytes)
         counts.old counts.new (W.contents out.old) (W.contents out.new)) }
     ensures stops { IfErr result (StopsLineBy (IsRefused (W.contents out.old) (W.contents out.new))) }
 {
     match Command::view(packet) {
-        Ok(command) => decide_on(alloc, table, counts, port, &command, out),
+        Ok(command) => decide_on(alloc, windows, policy, counts, port, &command, out),
         Err(discard) => Ok(print_discard(out, port, discard)?),
     }
 }

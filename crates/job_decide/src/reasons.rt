@@ -1,6 +1,6 @@
 //! Why a rule does not match, and why a command is answered without a verdict.
 
-use policy::{Mismatch, OtherByte, Passed, RuleKind};
+use policy::{Mismatch, OtherByte, Passed, PortRule, RuleKind};
 use rmap::{
     CONTROL_SIZE, HeaderFault, Instruction, Kind, LOAD_REGISTER, LOAD_RESULT_SIZE, NoPlace,
 };
@@ -67,13 +67,36 @@ fn add_passed(text: &mut String, why: Passed) -> Result<(), AllocError> {
     }
 }
 
-/// A line for each rule that does not match, from the first on: its number, and why.
-pub fn reasons(alloc: Global, passed: &[Passed]) -> Result<String, AllocError> {
+/// The port of a rule that is not asked at another port.
+fn other_port(own: &PortRule, port: u8) -> Option<u8> {
+    let wanted = own.port?;
+    if wanted == port { None } else { Some(wanted) }
+}
+
+/// A line for each rule before the one that decides, from the first on: its line, and why it does not match. These are the
+/// reasons of the rules that are asked at the port, in order; the rule behind them decides.
+pub fn reasons(
+    alloc: Global,
+    rules: &[PortRule],
+    port: u8,
+    passed: &[Passed],
+) -> Result<String, AllocError> {
     let mut text = String::new(alloc);
-    let mut number: usize = 0;
-    for why in passed {
-        number = number.saturating_add(1);
-        write!(text, "    rule {number}: ")?;
+    let mut left = passed;
+    for own in rules {
+        let line = own.line;
+        if let Some(wanted) = other_port(own, port) {
+            writeln!(
+                text,
+                "    rule {line}: PORT is {wanted}, the packet's {port}"
+            )?;
+            continue;
+        }
+        let Some((why, rest)) = left.split_first() else {
+            return Ok(text);
+        };
+        left = rest;
+        write!(text, "    rule {line}: ")?;
         add_passed(&mut text, *why)?;
     }
     Ok(text)

@@ -1,7 +1,7 @@
 //! The tables of files.
 
-ghost use Rattle.std.specs.Prelude.{◌≡◌, IfErr, IfOk, OnOk};
-ghost use Rattle.job_decide.specs.Tables.{HoldsTable, IsNoTable, TellsTableFault};
+ghost use Rattle.std.specs.Prelude.{◌≡◌, IfErr, IfOk, OnOk, string_bytes};
+ghost use Rattle.job_decide.specs.Tables.{HoldsTable, HoldsText, IsNoTable, TellsTableFault, line_of};
 ghost use Rattle.job_decide.specs.declared.tables.NoTable.TheVariants.{BadTable, Ended};
 ghost use Rattle.job_parts.specs.declared.faults.Fault.TheVariants.{NoMemory};
 
@@ -9,7 +9,7 @@ use job_parts::faults::Fault;
 use job_parts::programs::text_in;
 use job_parts::storage::Files;
 use machine::MapSizes;
-use policy::{Table, TableFault};
+use policy::{Policy, TextFault};
 use std::alloc::{AllocError, Global};
 use std::io::{self, Write};
 
@@ -19,7 +19,7 @@ pub enum NoTable<'a> {
     /// The fault ends the job.
     Ended(Fault<'a>),
     /// The table has a fault.
-    BadTable(TableFault),
+    BadTable(TextFault),
 }
 
 impl<'a> From<Fault<'a>> for NoTable<'a> {
@@ -30,10 +30,10 @@ impl<'a> From<Fault<'a>> for NoTable<'a> {
     }
 }
 
-impl From<TableFault> for NoTable<'_> {
+impl From<TextFault> for NoTable<'_> {
     ghost from_gives = { λ fault none. none ≡ BadTable fault };
 
-    fn from(fault: TableFault) -> Self {
+    fn from(fault: TextFault) -> Self {
         NoTable::BadTable(fault)
     }
 }
@@ -46,26 +46,49 @@ impl From<AllocError> for NoTable<'_> {
     }
 }
 
-/// The table in the file of this name, which compiles for a node with maps of these sizes.
+/// The table of either version in the file of this name, which compiles for a node with maps of these sizes.
 pub fn table_in<'a, F: Files>(
     alloc: Global,
     files: &mut F,
     name: &'a str,
     sizes: &MapSizes,
-) -> Result<Table, NoTable<'a>>
+) -> Result<Policy, NoTable<'a>>
     ensures table { IfOk result (λ table.
         HoldsTable F.reads files.old name.now sizes.now table files.new) }
     ensures none { IfErr result (IsNoTable F.reads files.old name.now sizes.now files.new) }
 {
     let text = text_in(alloc, files, name)?;
-    Ok(Table::read_for(alloc, text.as_str(), sizes)?)
+    Ok(Policy::read_for(alloc, text.as_str(), sizes)?)
+}
+
+/// The text of the file of this name, and the table that it writes, as [`table_in`] gives it.
+pub fn text_and_table<'a, F: Files>(
+    alloc: Global,
+    files: &mut F,
+    name: &'a str,
+    sizes: &MapSizes,
+) -> Result<(String, Policy), NoTable<'a>>
+    ensures table { IfOk result (λ made. HoldsText F.reads files.old name.now sizes.now
+        (string_bytes made.0) made.1 files.new) }
+    ensures none { IfErr result (IsNoTable F.reads files.old name.now sizes.now files.new) }
+{
+    let text = text_in(alloc, files, name)?;
+    let table = Policy::read_for(alloc, text.as_str(), sizes)?;
+    Ok((text, table))
 }
 
 /// Prints the fault of a table: its line, and a line with its place.
-pub fn print_table_fault<W: Write>(out: &mut W, fault: &TableFault) -> io::Result<()>
+pub fn print_table_fault<W: Write>(out: &mut W, fault: &TextFault) -> io::Result<()>
     ensures { OnOk result (TellsTableFault fault.now (W.contents out.old) (W.contents out.new)) }
 {
     let code = fault.fault().code();
     writeln!(out, "policy fault {code}")?;
     writeln!(out, "    {fault}")
+}
+
+/// The line of the rule of this number, from 1, where rules stand in these lines; 0 where none is.
+pub fn line_of(lines: &[usize], number: usize) -> usize
+    ensures { result ≡ line_of lines.now number }
+{
+    lines.get(number.saturating_sub(1)).copied().unwrap_or(0)
 }

@@ -1,4 +1,7 @@
 mod Banks
 mod Continuing
 mod Loaded
+mod Scheduled
+mod SettledNodes
 mod Simulating
+mod FirstWorlds

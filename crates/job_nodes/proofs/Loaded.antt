@@ -31,13 +31,13 @@ loads_more address loads k d load a b c below is all one =
     (loads_behind address (take k loads) (get_or loads k d) a b c all (subst (λ (l : LoadValue). Loads address l b c) is one))
 
 -- the loads round one of them
-around : (loads : List LoadValue) (k : ℕ) (d : LoadValue) → k < length loads → loads ≡ take k loads ++ get_or loads k d ∷ drop (suc k) loads
+pub around : (loads : List LoadValue) (k : ℕ) (d : LoadValue) → k < length loads → loads ≡ take k loads ++ get_or loads k d ∷ drop (suc k) loads
 around [] k d low = absurd (omega (arith, low))
 around (first ∷ loads) zero d low = refl
 around (first ∷ loads) (suc k) d low = ap (λ (l : List LoadValue). first ∷ l) (around loads k d (omega (arith, low)))
 
 -- so many loads are before it
-count_before : (loads : List LoadValue) (k : ℕ) → k < length loads → length (take k loads) ≡ k
+pub count_before : (loads : List LoadValue) (k : ℕ) → k < length loads → length (take k loads) ≡ k
 count_before [] k low = absurd (omega (arith, low))
 count_before (first ∷ loads) zero low = refl
 count_before (first ∷ loads) (suc k) low = ap suc (count_before loads k (omega (arith, low)))

@@ -4,13 +4,14 @@ use Rattle.std.proofs.lemmas.List.{append-nil}
 use Rattle.std.specs.Io.KnownBytes.{Appends}
 use Rattle.bpf.specs.Program.{Program}
 use Rattle.node_parts.specs.declared.config.NodeConfig.{NodeConfig}
-use Rattle.sched.specs.History.{History, Start, Then}
+use Rattle.sched.specs.History.{History, Then}
 use Rattle.sched.specs.Looking.{Node}
-use Rattle.sched.specs.Worlds.{IsLawfulWorld, IsWorldOf, WorldValue, node_of}
+use Rattle.sched.specs.Worlds.{IsLawfulWorld, WorldValue, node_of}
+use Rattle.job_nodes.specs.Beginning.{node_by}
 use Rattle.job_nodes.specs.EventLines.{IsEventOf}
 use Rattle.job_nodes.specs.JobNode.{IsConfig}
 use Rattle.job_nodes.specs.SimJob.{outcome_line, outcome_lines}
-use Rattle.job_nodes.specs.Simulated.{IsCutShort, IsNotStepped, IsStuck, Simulates, SimulatesFrom, Steps, node_by}
+use Rattle.job_nodes.specs.Simulated.{IsCutShort, IsNotStepped, IsStuck, SimulatesFrom, Steps}
 use Rattle.job_parts.specs.Turns.{AreTaken, StopsIn}
 use Rattle.job_parts.specs.declared.faults.Fault.{Fault}
 use Rattle.job_parts.specs.declared.options.NodeWords.{NodeWords}
@@ -32,7 +33,7 @@ appends_nothing None = tt
 appends_nothing (Some xs) = sym (append-nil xs)
 
 -- lines that the world took in turn are simulated behind each history of which it was the world
-simulates_from : (n : Node) (h : History) (lines : List (List ℕ)) (before after : WorldValue) (old new : Option (List ℕ))
+pub simulates_from : (n : Node) (h : History) (lines : List (List ℕ)) (before after : WorldValue) (old new : Option (List ℕ))
     → IsLawfulWorld n h before → AreTaken Steps lines before after old new → SimulatesFrom n h lines after old new
 simulates_from n h [] before after old new lawful all = record {
   events = [];
@@ -54,16 +55,11 @@ simulates_from n h (line ∷ lines) before after old new lawful all =
       printed = appends_both old all.1 new (outcome_line step.outcome) (outcome_lines rest.outcomes) step.printed rest.printed;
     }
 
--- the same from the beginning of the node
-pub simulates : (n : Node) (lines : List (List ℕ)) (before after : WorldValue) (old new : Option (List ℕ))
-    → IsWorldOf n Start before → AreTaken Steps lines before after old new → Simulates n lines after old new
-simulates n lines before after old new world all = simulates_from n Start lines before after old new (record { lawful = tt; world = world }) all
-
 -- a line at which the world stopped cuts them short
-pub cuts_short : (n : Node) (lines : List (List ℕ)) (before after : WorldValue) (old new : Option (List ℕ)) (fault : Fault)
-    → IsWorldOf n Start before → StopsIn Steps IsStuck lines before after old new fault → IsCutShort n lines old new fault
-cuts_short n lines before after old new fault world stop =
-    let all = simulates n stop.done before stop.between old stop.printed world stop.all in
+pub cuts_short : (n : Node) (h : History) (lines : List (List ℕ)) (before after : WorldValue) (old new : Option (List ℕ)) (fault : Fault)
+    → IsLawfulWorld n h before → StopsIn Steps IsStuck lines before after old new fault → IsCutShort n h lines old new fault
+cuts_short n h lines before after old new fault lawful stop =
+    let all = simulates_from n h stop.done before stop.between old stop.printed lawful stop.all in
     record {
       front = stop.done;
       line = stop.line;
@@ -71,7 +67,7 @@ cuts_short n lines before after old new fault world stop =
       left = stop.between;
       end = stop.end;
       lines_are = stop.lines_are;
-      all = subst (λ (x : Option (List ℕ)). Simulates n stop.done stop.between old x) (sym stop.bad.1) all;
+      all = subst (λ (x : Option (List ℕ)). SimulatesFrom n h stop.done stop.between old x) (sym stop.bad.1) all;
       is_fault = stop.is_fault;
       bad = subst (λ (ports : ℕ). IsNotStepped ports stop.line stop.end) all.lawful.world.ports_are.count stop.bad.0;
     }

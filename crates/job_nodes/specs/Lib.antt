@@ -1,3 +1,4 @@
+pub mod Beginning
 pub mod EventLines
 pub mod Feeds
 pub mod JobNode
@@ -5,6 +6,7 @@ pub mod JudgeJob
 pub mod Judged
 pub mod Lines
 pub mod Making
+pub mod Settled
 pub mod SimJob
 pub mod Simulated
 pub mod Sources

@@ -78,6 +78,12 @@ pub record IsOwnHeader (address : ℕ) (header : HeaderWords) : Type 0 where
   pub transaction : header.transaction ≡ 0
   pub reply_address : header.reply_address.items ≡ []
 
+-- the text is the packet lines that `packet load` prints of a load into the node of that logical address
+pub record AreLoadLines (address : ℕ) (load : LoadValue) (text : List ℕ) : Type 0 where
+  pub header : HeaderWords
+  pub is_header : IsOwnHeader address header
+  pub lines : text ≡ with_loads [] header header.transaction (load.slot ∷ []) load.image
+
 -- the status of a command that was not done, if it was not
 abbrev pub unless_done : Status → Option Status
 unless_done status = if status_code status == 0 then None else Some status
@@ -107,16 +113,13 @@ abbrev pub IsNoLoadLine : List ℕ → SeesEnd Loading
 IsNoLoadLine line before after old new (Bad fault) = RefusesLine line fault before.node after.node
 IsNoLoadLine line before after old new NoMemory = ⊥
 
--- the node of that logical address took the packet lines of a load in turn: those that `packet load` prints. What is printed of
--- them is dropped
+-- the node of that logical address took the packet lines of a load in turn. What is printed of them is dropped
 pub record TakesLoad (address : ℕ) (load : LoadValue) (before : JobNodeValue) (last : Loading) : Type 0 where
-  pub header : HeaderWords
   pub text : List ℕ
   pub start : Loading
   pub shown : Option (List ℕ)
   pub dropped : Option (List ℕ)
-  pub is_header : IsOwnHeader address header
-  pub lines : text ≡ with_loads [] header header.transaction (load.slot ∷ []) load.image
+  pub lines : AreLoadLines address load text
   pub node : start.node ≡ before
   pub unrefused : start.refused ≡ None
   pub taken : AreTaken TakesLoadLine (lines_of text) start last shown dropped

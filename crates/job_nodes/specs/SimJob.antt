@@ -6,12 +6,12 @@ use Rattle.rmap.specs.Codes.{discard_code, status_code}
 use Rattle.rmap.specs.declared.status.Status.{Status}
 use Rattle.sched.specs.declared.event.Outcome.{Outcome}
 use Rattle.sched.specs.declared.event.Outcome.TheVariants.{Refused, Discarded, Answered, Taken, Told, Done}
-use Rattle.job_parts.specs.Lines.{lines_app}
+use Rattle.job_config.specs.NodeLines.{node_lines_app}
 use Rattle.job_parts.specs.Replies.{reply_text}
 
--- `sim LINES [--image FILE] [--maps LIST] [--ports N]`
+-- `sim LINES [--image FILE] [--maps LIST] [--ports N]`, or `sim LINES --node FILE`
 abbrev pub sim_app : App
-sim_app = lines_app (codes "sim")
+sim_app = node_lines_app (codes "sim")
 
 -- the line of a status with its reply
 abbrev pub status_line : (what : List ℕ) → Status → (reply : List ℕ) → List ℕ

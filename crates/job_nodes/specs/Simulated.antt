@@ -1,32 +1,24 @@
 -- What the job `sim` reads and does.
 use Rattle.std.specs.Prelude.{◌≡◌, ◌⊎◌, ℕ, suc, List, [], ◌∷◌, ◌++◌, length, Option}
 use Rattle.std.specs.Io.KnownBytes.{Appends}
-use Rattle.bpf.specs.Program.{Program}
-use Rattle.bver.specs.Justified.{AcceptedValue}
 use Rattle.spw.specs.Line.{lines_of}
-use Rattle.sched.specs.History.{History, Start, history_from}
+use Rattle.sched.specs.History.{History, history_from}
 use Rattle.sched.specs.Looking.{Node}
-use Rattle.sched.specs.Worlds.{GoesOn, IsLawfulWorld, IsWorldOf, WorldValue}
+use Rattle.sched.specs.Worlds.{GoesOn, IsLawfulWorld, WorldValue}
 use Rattle.sched.specs.declared.event.Event.{Event}
 use Rattle.sched.specs.declared.event.Outcome.{Outcome}
+use Rattle.job_config.specs.declared.node_lines.NodeLines.{NodeLines}
 use Rattle.job_parts.specs.Files.{Reads}
-use Rattle.job_parts.specs.Given.{AreGiven, IsNotReady}
 use Rattle.job_parts.specs.Stops.{fault_at}
 use Rattle.job_parts.specs.Turns.{SeesEnd}
 use Rattle.job_parts.specs.declared.faults.Fault.{Fault}
-use Rattle.job_parts.specs.declared.lines.LinesArgs.{LinesArgs}
-use Rattle.job_parts.specs.declared.options.NodeWords.{NodeWords}
+use Rattle.job_parts.specs.declared.status.Status.{Status}
+use Rattle.job_parts.specs.declared.status.Status.TheVariants.{Done, Failed, Misused}
 use Rattle.job_parts.specs.declared.stops.LineEnd.{LineEnd}
 use Rattle.job_parts.specs.declared.stops.LineEnd.TheVariants.{Bad, NoMemory}
+use Rattle.job_nodes.specs.Beginning.{IsScheduled, IsUnscheduled, RefusesContents}
 use Rattle.job_nodes.specs.EventLines.{IsBadEvent, IsEventOf}
-use Rattle.job_nodes.specs.JobNode.{own_bank}
 use Rattle.job_nodes.specs.SimJob.{outcome_line, outcome_lines}
-use Rattle.job_config.specs.declared.own_node.TheConstants.{NODE_ADDRESS}
-
--- the node of these words, with that factory program: logical address FE, and the one bank that the jobs have
-abbrev pub node_by : NodeWords → Program → Node
-node_by words program =
-    record { address = NODE_ADDRESS; ports = words.ports; banks = own_bank ∷ []; sizes = words.sizes; factory = program }
 
 -- ---- lines and events
 
@@ -48,26 +40,23 @@ pub record SimulatesFrom (n : Node) (h : History) (lines : List (List ℕ)) (lef
   pub lawful : IsLawfulWorld n (history_from h events outcomes) left
   pub printed : Appends old new (outcome_lines outcomes)
 
--- the same from the beginning of the node on
-abbrev pub Simulates : Node → List (List ℕ) → (left : WorldValue) → (old new : Option (List ℕ)) → Type 0
-Simulates n lines left old new = SimulatesFrom n Start lines left old new
-
 -- why a line is not simulated: it writes no event at one of so many ports, and this is what is wrong with it; or memory was
 -- refused to its event
 abbrev pub IsNotStepped : (ports : ℕ) → List ℕ → LineEnd → Type 0
 IsNotStepped ports line (Bad fault) = IsBadEvent ports line fault
 IsNotStepped ports line NoMemory = Unit {0}
 
--- the lines before one were simulated, and that one, which is counted from 1, ends the job with this fault: nothing was
--- printed of it
-pub record IsCutShort (n : Node) (lines : List (List ℕ)) (old new : Option (List ℕ)) (fault : Fault) : Type 0 where
+-- the lines before one were simulated behind a history, and that one, which is counted from 1, ends the job with this fault:
+-- nothing was printed of it
+pub record IsCutShort (n : Node) (h : History) (lines : List (List ℕ)) (old new : Option (List ℕ)) (fault : Fault) :
+    Type 0 where
   pub front : List (List ℕ)
   pub line : List ℕ
   pub rest : List (List ℕ)
   pub left : WorldValue
   pub end : LineEnd
   pub lines_are : lines ≡ front ++ line ∷ rest
-  pub all : Simulates n front left old new
+  pub all : SimulatesFrom n h front left old new
   pub is_fault : fault ≡ fault_at (suc (length front)) end
   pub bad : IsNotStepped n.ports line end
 
@@ -87,29 +76,31 @@ IsStuck line before after old new end = IsNotStepped (length before.ports) line 
 
 -- ---- the whole job
 
-module _ {S : Type 0} (reads : Reads S) (args : LinesArgs) where
-  -- the text was read, and the world is the beginning of the node with the program that was
-  pub record IsSet (before : S) (text : List ℕ) (world : WorldValue) (after : S) : Type 0 where
-    pub program : AcceptedValue
-    pub given : AreGiven reads args before text program after
-    pub beginning : IsWorldOf (node_by args.node program.program) Start world
-
-  -- each line of the file was simulated on that node
+module _ {S : Type 0} (reads : Reads S) (args : NodeLines) where
+  -- each line of the file was simulated on that node, behind the history at which its schedules begin
   pub record SimulatesFile (before after : S) (old new : Option (List ℕ)) : Type 0 where
     pub text : List ℕ
-    pub program : AcceptedValue
+    pub node : Node
+    pub begun : History
     pub left : WorldValue
-    pub given : AreGiven reads args before text program after
-    pub all : Simulates (node_by args.node program.program) (lines_of text) left old new
+    pub scheduled : IsScheduled reads args before text node begun after
+    pub all : SimulatesFrom node begun (lines_of text) left old new
+
+  -- what `sim` reads and prints where no fault ends it, with its exit status: 2 where a bank begins with bytes
+  abbrev pub DoesSim : (before after : S) → (old new : Option (List ℕ)) → Status → Type 0
+  DoesSim before after old new Done = SimulatesFile before after old new
+  DoesSim before after old new Failed = ⊥
+  DoesSim before after old new Misused = RefusesContents reads args before after old new
 
   -- the lines of the file before one were simulated on that node, and that one was not
   pub record StopsShort (before after : S) (old new : Option (List ℕ)) (fault : Fault) : Type 0 where
     pub text : List ℕ
-    pub program : AcceptedValue
-    pub given : AreGiven reads args before text program after
-    pub cut_short : IsCutShort (node_by args.node program.program) (lines_of text) old new fault
+    pub node : Node
+    pub begun : History
+    pub scheduled : IsScheduled reads args before text node begun after
+    pub cut_short : IsCutShort node begun (lines_of text) old new fault
 
-  -- why not all lines were simulated: nothing was printed where lines or program cannot be read
+  -- why not all lines were simulated: nothing was printed where lines or node cannot be read
   abbrev pub IsNotSimulated : (before after : S) → (old new : Option (List ℕ)) → Fault → Type 0
   IsNotSimulated before after old new fault =
-      ((new ≡ old) × IsNotReady reads args before after fault) ⊎ StopsShort before after old new fault
+      ((new ≡ old) × IsUnscheduled reads args before after fault) ⊎ StopsShort before after old new fault

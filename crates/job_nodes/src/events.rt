@@ -9,7 +9,7 @@ use spw::{LineFault, first_word, read_line, read_port, words_of};
 use std::alloc::Global;
 
 /// The packet that is taken, by the text behind the word `take`.
-fn taken(alloc: Global, text: &str) -> Result<Event, BadLine>
+pub(crate) fn taken(alloc: Global, text: &str) -> Result<Event, BadLine>
     ensures { MatchResult result (IsTakeLine text.now) (IsNoTake text.now) }
 {
     let (port, packet) = read_line(alloc, text)?;

@@ -6,5 +6,7 @@ pub mod feeds;
 pub mod judge;
 pub mod making;
 pub mod node;
+pub mod settling;
 pub mod sim;
 pub mod sources;
+pub mod worlds;

@@ -1,10 +1,10 @@
 //! The node of a configuration: its banks begin with their contents, and images are loaded before the first packet.
 
-ghost use Rattle.std.specs.Prelude.{◌≡◌, ◌<◌, [], ℕ, IfErr, IfOk, OnOk, None, length, slice_index_or, true};
+ghost use Rattle.std.specs.Prelude.{◌≡◌, ◌<◌, [], ℕ, IfErr, IfOk, OnOk, None, length, slice_index_or, string_bytes, true};
 ghost use Rattle.job_packets.specs.Requests.{has_reply_address};
 ghost use Rattle.job_config.specs.OwnNodes.{plain_node};
 ghost use Rattle.job_nodes.specs.JobNode.{IsFresh};
-ghost use Rattle.job_nodes.specs.Making.{Fills, FillsOne, IsFilled, IsNoLoadLine, IsNodeOf, IsOwnHeader, IsUnloaded, IsUnmade, Loads, LoadsAll, StopsLoads, TakesLoad, TakesLoadLine, refusal_behind, refusal_of, told_refusal, unless_done};
+ghost use Rattle.job_nodes.specs.Making.{AreLoadLines, Fills, FillsOne, IsFilled, IsNoLoadLine, IsNodeOf, IsOwnHeader, IsUnloaded, IsUnmade, Loads, LoadsAll, StopsLoads, TakesLoad, TakesLoadLine, refusal_behind, refusal_of, told_refusal, unless_done};
 ghost use Rattle.job_nodes.specs.declared.making.Unmade.TheVariants.{Memory};
 
 use crate::node::JobNode;
@@ -56,7 +56,7 @@ pub struct Loading {
 }
 
 /// The status of a command that was not done, if it was not.
-fn unless_done(status: Status) -> Option<Status>
+pub(crate) fn unless_done(status: Status) -> Option<Status>
     ensures { result ≡ unless_done status }
 {
     if status.code() == 0 {
@@ -117,6 +117,16 @@ fn own_header(alloc: Global, address: u8) -> HeaderWords
     }
 }
 
+/// The packet lines of a load into the node of that logical address.
+pub fn load_lines(alloc: Global, address: u8, load: &OwnLoad) -> Result<String, AllocError>
+    ensures { IfOk result (λ text. AreLoadLines address load.now (string_bytes text)) }
+{
+    let header = own_header(alloc, address);
+    let mut text = String::new(alloc);
+    add_loads(&mut text, alloc, &header, &[load.slot()], load.image())?;
+    Ok(text)
+}
+
 /// Lets the node of that logical address take the packets of a load. The condition is that none was refused yet.
 fn take_load(
     alloc: Global,
@@ -127,9 +137,7 @@ fn take_load(
     requires { loading.old.refused ≡ None }
     ensures { OnOk result (TakesLoad address load.now loading.old.node loading.new) }
 {
-    let header = own_header(alloc, address);
-    let mut text = String::new(alloc);
-    add_loads(&mut text, alloc, &header, &[load.slot()], load.image())?;
+    let text = load_lines(alloc, address, load)?;
     // Memory alone can be refused to it: the lines are those of packets, and nothing is printed.
     match take_lines(alloc, loading, text.as_str(), &mut io::sink()) {
         Ok(()) => Ok(()),
@@ -138,7 +146,7 @@ fn take_load(
 }
 
 /// The status that is told of a load that was not done.
-fn told_refusal(refused: Option<Status>) -> Status
+pub(crate) fn told_refusal(refused: Option<Status>) -> Status
     ensures { result ≡ told_refusal refused }
 {
     match refused {

@@ -1,7 +1,7 @@
 //! The node that the jobs run.
 
 ghost use Rattle.std.specs.Prelude.{◌≡◌, ◌≤◌, ◌<◌, ◌+◌, ◌↔◌, IfErr, IfOk, IsSome, length, slice_get, true};
-ghost use Rattle.job_nodes.specs.JobNode.{HandsOut, IsConfig, IsFreshOf, RefusesLine, Serves, SetsBytes, TakesLine, first_of, is_full, journal_of, load_reason};
+ghost use Rattle.job_nodes.specs.JobNode.{HandsOut, IsConfig, IsFreshOf, RefusesLine, Serves, SetsBytes, TakesLine, alone, first_of, is_full, journal_of, load_reason};
 ghost use Rattle.machine.specs.Sizes.{IsInside};
 ghost use Rattle.node_programs.specs.Published.{sizes_of};
 ghost use Rattle.plain_cells.specs.Words.{word_in};
@@ -199,6 +199,18 @@ impl JobNode {
         ensures { result ≡ load_reason self.now }
     {
         self.node.staging(0).load_result()[0]
+    }
+
+    /// The node alone: what its ports hold, and the last reply, end.
+    pub fn into_node(self) -> SingleNode
+        ensures { result ≡ alone self }
+    {
+        let JobNode {
+            node,
+            feeds: _feeds,
+            reply: _reply,
+        } = self;
+        node
     }
 
     /// How many programs were loaded.

@@ -1,22 +1,19 @@
 //! The job `sim`.
 
-ghost use Rattle.std.specs.Prelude.{◌≡◌, IfErr, IfOk, MatchResult, OnOk, false, string_bytes};
+ghost use Rattle.std.specs.Prelude.{◌≡◌, IfErr, IfOk, MatchResult, OnOk, false};
 ghost use Rattle.clap.specs.Simple.{app_of};
 ghost use Rattle.clap.specs.declared.builder.command.Command.TheViews.{out-Command as fields_of};
-ghost use Rattle.job_parts.specs.Given.{IsNotReady};
 ghost use Rattle.job_parts.specs.Printed.{Prints};
-ghost use Rattle.job_parts.specs.Statuses.{IsDoneWith};
 ghost use Rattle.job_parts.specs.Stops.{StopsBy};
 ghost use Rattle.job_nodes.specs.EventLines.{IsBadEvent, IsEventOf};
 ghost use Rattle.job_nodes.specs.SimJob.{outcome_line, sim_app, status_line};
-ghost use Rattle.job_nodes.specs.Simulated.{IsNotSimulated, IsSet, IsStuck, SimulatesFile, Steps};
+ghost use Rattle.job_nodes.specs.Simulated.{IsNotSimulated, IsStuck, DoesSim, Steps};
 
 use crate::events::read_event;
-use crate::node::node_config;
+use crate::sources::lines_and_world;
 use clap::Command;
+use job_config::node_lines::{NodeLines, node_lines_command};
 use job_parts::bad_lines::BadLine;
-use job_parts::faults::Fault;
-use job_parts::lines::{LinesArgs, lines_and_program, lines_command};
 use job_parts::replies::print_bytes;
 use job_parts::status::Status;
 use job_parts::stops::{Halt, LineEnd, LineHalt};
@@ -27,14 +24,14 @@ use std::alloc::{AllocError, Global};
 use std::io::{self, Write};
 use std::marker::Model;
 
-/// `sim LINES [--image FILE] [--maps LIST] [--ports N]`.
+/// `sim LINES [--image FILE] [--maps LIST] [--ports N]` or `sim LINES --node FILE`.
 pub fn sim_command<'a>(alloc: Global) -> Result<Command<'a>, AllocError>
     ensures shape { IfOk result (λ c. app_of c ≡ sim_app) }
     ensures local { IfOk result (λ c. (fields_of c).has_globals ≡ false) }
 {
     let about = "Steps through the events of a schedule and prints what each comes to";
     let help = "The file of events, or - for standard input";
-    lines_command(alloc, "sim", about, help)
+    node_lines_command(alloc, "sim", about, help)
 }
 
 /// Prints a status and a reply: `WHAT S HEX`, or `WHAT S -` where no reply is due and it has no bytes.
@@ -112,42 +109,29 @@ impl TakesLines for Simulating {
     }
 }
 
-/// The text of the file of events, and the world of a node of these arguments behind no event, in each of whose slots
-/// the program of its image file stands, or the factory program.
-fn lines_and_world<'a, F: Files>(
-    alloc: Global,
-    args: &'a LinesArgs,
-    files: &mut F,
-) -> Result<(String, Simulating), Fault<'a>>
-    ensures set { IfOk result
-        (λ made. IsSet F.reads args.now files.old (string_bytes made.0) made.1 files.new) }
-    ensures refused { IfErr result (IsNotReady F.reads args.now files.old files.new) }
-{
-    let (text, program) = lines_and_program(alloc, args, files)?;
-    let config = node_config(args.node.ports, args.node.sizes);
-    // Memory alone can be refused to it: the command line gives no other number of ports than a node has.
-    let world = World::with_factory(alloc, &config, program).map_err(|_| Fault::NoMemory)?;
-    Ok((text, Simulating { world }))
-}
-
-/// Steps through the events of a file, in order, from the beginning of the node of these arguments, whose programs are
-/// at first that of an image file, or the factory program. What each event comes to is printed before the next line is
-/// read.
+/// Steps through the events of a file, in order, from the beginning of the node of these arguments, or behind what its file
+/// loads. What each event comes to is printed before the next line is read. `Misused`, with the line `bad option`, where a bank
+/// begins with bytes, which no schedule does.
 ///
-/// Faults are found in this order: the file of events (`CannotRead`, also where it is not UTF-8), the image file, its
-/// image, and then each line.
+/// Faults are found in the order of [`lines_and_world`], and then each line.
+#[tactic(auto, using(crate::proofs::Scheduled::refuses_contents))]
 pub fn sim_file<'a, F: Files, W: Write>(
     alloc: Global,
-    args: &'a LinesArgs,
+    args: &'a NodeLines,
     files: &mut F,
     out: &mut W,
 ) -> Result<Status, Halt<'a>>
-    ensures done { IfOk result (IsDoneWith (SimulatesFile F.reads args.now files.old files.new
-        (W.contents out.old) (W.contents out.new))) }
+    ensures done { IfOk result (DoesSim F.reads args.now files.old files.new
+        (W.contents out.old) (W.contents out.new)) }
     ensures stops { IfErr result (StopsBy (IsNotSimulated F.reads args.now files.old files.new
         (W.contents out.old) (W.contents out.new))) }
 {
-    let (text, mut simulating) = lines_and_world(alloc, args, files)?;
+    let (text, made) = lines_and_world(alloc, args, files)?;
+    let Some(world) = made else {
+        writeln!(out, "bad option")?;
+        return Ok(Status::Misused);
+    };
+    let mut simulating = Simulating { world };
     take_lines(alloc, &mut simulating, text.as_str(), out)?;
     Ok(Status::Done)
 }

@@ -1,17 +1,24 @@
 //! The node that a job runs on: that of the words of its command line, or that of a file.
 
-ghost use Rattle.std.specs.Prelude.{IfErr, IfOk};
+ghost use Rattle.std.specs.Prelude.{IfErr, IfOk, MatchOption, string_bytes};
+ghost use Rattle.sched.specs.History.{History};
+ghost use Rattle.sched.specs.Looking.{Node};
+ghost use Rattle.job_nodes.specs.Beginning.{BeginsWithBytes, GivesNoWorld, GivesSchedule, HasContents, HoldsWorld, IsBegun, IsFileBeginning, IsNoFileWorld, IsPlainBeginning, IsUnscheduled};
 ghost use Rattle.job_nodes.specs.Sources.{EndsUnmade, HoldsNoNode, HoldsNode, IsFileNode, IsNoFileNode, IsNoPlainNode, IsPlainNode};
 
 use crate::making::Unmade;
-use crate::node::JobNode;
+use crate::node::{JobNode, node_config};
+use crate::worlds::{are_empty, world_of};
 use job_config::faults::ConfigFault;
+use job_config::node_lines::NodeLines;
 use job_config::reading::{ReadNode, fault_of, node_in};
 use job_config::sources::NodeSource;
 use job_parts::factory::judging_program;
 use job_parts::faults::Fault;
 use job_parts::options::NodeWords;
+use job_parts::programs::text_in;
 use job_parts::storage::Files;
+use sched::World;
 use std::alloc::Global;
 
 /// A fresh node of these words, whose commands the program of its image file, or the factory program, judges.
@@ -29,7 +36,7 @@ fn plain_node<'a, F: Files>(
 }
 
 /// What ends a job whose node was not made of the node's file of this name.
-fn unmade<'a>(alloc: Global, name: &str, why: Unmade) -> Fault<'a>
+pub fn unmade<'a>(alloc: Global, name: &str, why: Unmade) -> Fault<'a>
     ensures { EndsUnmade why result }
 {
     match why {
@@ -90,4 +97,85 @@ pub fn node_from<'a, F: Files>(
         NodeSource::Words(words) => plain_node(alloc, words, files),
         NodeSource::File(name) => file_node(alloc, name.as_str(), files),
     }
+}
+
+/// The world of the node of these words at its beginning, whose commands the program of its image file, or the factory
+/// program, judges.
+fn plain_world<'a, F: Files>(
+    alloc: Global,
+    words: &'a NodeWords,
+    files: &mut F,
+) -> Result<World, Fault<'a>>
+    ensures world { IfOk result (IsBegun (λ (n : Node) (begun : History).
+        IsPlainBeginning F.reads words.now files.old n begun files.new)) }
+    ensures refused { IfErr result (IsNoPlainNode F.reads words.now files.old files.new) }
+{
+    let image = words.image.as_deref();
+    let program = judging_program(alloc, files, image, words.sizes)?;
+    let config = node_config(words.ports, words.sizes);
+    // Memory alone can be refused to it: the command line gives no other number of ports than a node has.
+    match World::with_factory(alloc, &config, program) {
+        Ok(world) => Ok(world),
+        Err(_) => Err(Fault::NoMemory),
+    }
+}
+
+/// The world of the node's file of this name behind what it loads, or `None` where a bank begins with bytes.
+fn file_world<'a, F: Files>(
+    alloc: Global,
+    name: &'a str,
+    files: &mut F,
+) -> Result<Option<World>, Fault<'a>>
+    ensures world { IfOk result (λ made. MatchOption made
+        (BeginsWithBytes F.reads name.now files.old files.new)
+        (IsBegun (λ (n : Node) (begun : History).
+        IsFileBeginning F.reads name.now files.old n begun files.new))) }
+    ensures none { IfErr result (IsNoFileWorld F.reads name.now files.old files.new) }
+{
+    let ReadNode { node: own, program } = node_in(alloc, files, name)?;
+    if !are_empty(own.contents()) {
+        return Ok(None);
+    }
+    match world_of(alloc, &own, program) {
+        Ok(world) => Ok(Some(world)),
+        Err(why) => Err(unmade(alloc, name, why)),
+    }
+}
+
+/// The world of the words or of the file that a command line names, behind what the file loads; or `None` where a bank begins
+/// with bytes, which no world does.
+///
+/// Faults are those of [`node_from`].
+fn world_from<'a, F: Files>(
+    alloc: Global,
+    source: &'a NodeSource,
+    files: &mut F,
+) -> Result<Option<World>, Fault<'a>>
+    ensures world { IfOk result (λ made. MatchOption made
+        (HasContents F.reads source.now files.old files.new)
+        (λ world. HoldsWorld F.reads source.now files.old world files.new)) }
+    ensures none { IfErr result (GivesNoWorld F.reads source.now files.old files.new) }
+{
+    match source {
+        NodeSource::Words(words) => Ok(Some(plain_world(alloc, words, files)?)),
+        NodeSource::File(name) => file_world(alloc, name.as_str(), files),
+    }
+}
+
+/// The text of the file of lines, and the world of these arguments: that of their words at its beginning, or that of a file
+/// behind what it loads. `None` in place of a world where a bank begins with bytes, which no world does.
+///
+/// Faults are found in this order: the file of lines (`CannotRead`, also where it is not UTF-8), and those of [`node_from`].
+pub fn lines_and_world<'a, F: Files>(
+    alloc: Global,
+    args: &'a NodeLines,
+    files: &mut F,
+) -> Result<(String, Option<World>), Fault<'a>>
+    ensures given { IfOk result (λ made.
+        GivesSchedule F.reads args.now files.old (string_bytes made.0) made.1 files.new) }
+    ensures refused { IfErr result (IsUnscheduled F.reads args.now files.old files.new) }
+{
+    let text = text_in(alloc, files, args.lines.as_str())?;
+    let world = world_from(alloc, &args.node, files)?;
+    Ok((text, world))
 }

@@ -1,21 +1,14 @@
 -- What became of each port, from what its worker did.
-use Rattle.std.proofs.Common.{◌≡◌, ◌<◌, ◌+◌, ℕ, zero, suc, List, [], ◌∷◌, ◌++◌, length, map, get_or, refl, sym, ap, ap₂, subst, arith, ◌∙◌}
-use Rattle.std.specs.Prelude.{slice_index_or, zip}
-use Rattle.std.specs.List.{range_with_len}
-use Rattle.std.proofs.lemmas.List.{get_or-map, length-append, length-map, length-replicate}
-use Rattle.std.proofs.lemmas.List.FromFn.{get_or-map-range_with_len, length-map-range_with_len}
-use base.Stored.{Gv}
+use Rattle.std.proofs.Common.{◌≡◌, ◌<◌, ◌+◌, ℕ, zero, suc, List, [], ◌∷◌, ◌++◌, length, map, refl, sym, ap, ap₂, subst, arith, ◌∙◌}
+use Rattle.std.specs.Prelude.{slice_index_or}
 use mathlib.Core.List.{IsPrefix}
-use Rattle.bver.specs.Justified.{AcceptedValue}
+use Rattle.cells.specs.Seats.{CellsValue}
 use Rattle.spw.specs.Cargo.{Cargo}
-use Rattle.bank.specs.Records.{first_share}
-use Rattle.node_parts.specs.Nodes.{first_pass}
-use Rattle.node_parts.specs.Passes.{PassValue}
-use Rattle.target.specs.Passes.{PortPass, port_pass, unasked}
+use Rattle.ports.specs.Laws.{WorkersSharesCount}
 use Rattle.ports.specs.Queue.{IsServePassOf, put_of, taken_of}
 use Rattle.ports.specs.Serves.{AreServed, HaveServed, IsWorkerOf, ShareOneHistory, total_of}
 use Rattle.ports.specs.Sinks.{SentReply, SinkValue}
-use Rattle.ports.specs.Due.{standing}
+use Rattle.ports.specs.Due.{Standing}
 use Rattle.ports.specs.Worked.{HasServed, IsWorked, standing_of}
 use Rattle.ports.specs.declared.item.Item.{Item}
 use Rattle.ports.specs.declared.item.Item.TheVariants.{Data, Mark}
@@ -24,10 +17,11 @@ use Rattle.ports.specs.declared.port.PutPass.{PutPass}
 use Rattle.ports.specs.declared.port.ServePass.{ServePass}
 use Rattle.ports.specs.declared.worker.Report.{Report}
 use Rattle.ports.specs.declared.worker.Worker.{Worker}
-use Rattle.job_nodes.specs.JobNode.{first_passes, own_bank}
 use Rattle.job_ports.specs.Arrivals.{ArriveAll}
-use Rattle.job_ports.specs.Queues.{AreBeginnings, AreFew, AreFilled, AreOfPorts, IsBeginning, ServeEach, new_worker}
-use Rattle.job_ports.specs.ServedFile.{BeginOneHistory, EndsSo, PortEnd, ServePackets, no_replies}
+use Rattle.job_ports.specs.Ends.{PortEnd}
+use Rattle.job_ports.specs.Queues.{AreBeginnings, AreFew, AreOfPorts, IsBeginning, IsDesk, ServeEach}
+use Rattle.job_ports.specs.Quotas.{AreSeated, IsSeated}
+use Rattle.job_ports.specs.ServedFile.{BeginOneHistory, EndsSo, ServePackets, no_replies}
 
 -- the packet in front of some items
 abbrev packet_first : Cargo → List Item → Cargo
@@ -58,11 +52,11 @@ served_all sent failed old new report all put worked none put_is begins =
     subst (λ (packets : List Cargo). HasServed sent failed (standing_of old) (standing_of new) old.sink new.sink packets report) (sym same) worked.served
 
 -- what became of a port, by its worker and the report
-abbrev end_of : {J : Type 0} → Worker J SinkValue → Report → PortEnd
+abbrev pub end_of : {J : Type 0} → Worker J SinkValue → Report → PortEnd
 end_of worker report = record { pass = worker.pass; front = worker.front; sink = worker.sink; report = report }
 
 -- what became of each port
-abbrev ends_of : {J : Type 0} → List (Worker J SinkValue) → List Report → List PortEnd
+abbrev pub ends_of : {J : Type 0} → List (Worker J SinkValue) → List Report → List PortEnd
 ends_of [] reports = []
 ends_of (worker ∷ workers) [] = []
 ends_of (worker ∷ workers) (report ∷ reports) = end_of worker report ∷ ends_of workers reports
@@ -93,83 +87,62 @@ module _ {J : Type 0} where
   end_at (w ∷ workers) (r ∷ reports) zero worker report end many low = refl
   end_at (w ∷ workers) (r ∷ reports) (suc k) worker report end many low = end_at workers reports k worker report end (omega (arith, many)) (omega (arith, low))
 
-  worker_at : (passes : List PortPass) (serves : List ServePass) (k : ℕ) (pass : PortPass) (serve : ServePass) (worker : Worker J SinkValue) → k < length passes → k < length serves
-      → slice_index_or (map new_worker (zip passes serves)) k worker ≡ new_worker (slice_index_or passes k pass, slice_index_or serves k serve)
-  worker_at [] serves k pass serve worker low few = absurd (omega (arith, low))
-  worker_at (p ∷ passes) [] k pass serve worker low few = absurd (omega (arith, few))
-  worker_at (p ∷ passes) (s ∷ serves) zero pass serve worker low few = refl
-  worker_at (p ∷ passes) (s ∷ serves) (suc k) pass serve worker low few = worker_at passes serves k pass serve worker (omega (arith, low)) (omega (arith, few))
-
-workers_count : (J : Type 0) (passes : List PortPass) (serves : List ServePass) → length passes ≡ length serves → length (map (new_worker {J = J}) (zip passes serves)) ≡ length passes
-workers_count J [] [] same = refl
-workers_count J [] (s ∷ serves) same = absurd (omega (arith, same))
-workers_count J (p ∷ passes) [] same = absurd (omega (arith, same))
-workers_count J (p ∷ passes) (s ∷ serves) same = ap (λ n. suc n) (workers_count J passes serves (omega (arith, same)))
-
--- The workers of a fresh node, whose queues hold these packets.
-pub record AreFresh {J : Type 0} (program : AcceptedValue) (home : Gv) (ports : ℕ) (by_port : List (List Cargo)) (queues : List Port) (puts : List PutPass) (serves : List ServePass) (workers : List (Worker J SinkValue)) : Type 0 where
-  pub count : length by_port ≡ ports
-  pub filled : AreFilled by_port queues puts serves
-  pub workers_are : workers ≡ map new_worker (zip (unasked (first_passes ports program home)) serves)
-
-module _ {J : Type 0} (program : AcceptedValue) (home : Gv) (ports : ℕ) (by_port : List (List Cargo)) (queues : List Port) (puts : List PutPass) (serves : List ServePass) (workers : List (Worker J SinkValue))
-    (fresh : AreFresh program home ports by_port queues puts serves workers) where
-  -- what the port of that number has at first
-  abbrev fresh_pass : ℕ → PortPass
-  fresh_pass k = port_pass (first_pass 254 (own_bank ∷ []) program home k) []
-
-  first_count : length (first_passes ports program home) ≡ ports
-  first_count = length-map-range_with_len (first_pass 254 (own_bank ∷ []) program home) 0 ports
-
-  passes_count : length (unasked (first_passes ports program home)) ≡ ports
-  passes_count = length-map (first_passes ports program home) (λ (h : PassValue). port_pass h []) ∙ first_count
-
-  pub fresh_count : length workers ≡ ports
-  fresh_count = ap (λ (l : List (Worker J SinkValue)). length l) fresh.workers_are ∙ workers_count J (unasked (first_passes ports program home)) serves (omega (arith, passes_count, fresh.filled.serves_count, fresh.count)) ∙ passes_count
-
-  -- the worker at a place
-  fresh_at : (k : ℕ) (serve : ServePass) (worker : Worker J SinkValue) → k < ports
-      → slice_index_or workers k worker ≡ new_worker (fresh_pass k, slice_index_or serves k serve)
-  fresh_at k serve worker low =
-      ap (λ (l : List (Worker J SinkValue)). slice_index_or l k worker) fresh.workers_are
-      ∙ worker_at (unasked (first_passes ports program home)) serves k worker.pass serve worker (omega (arith, low, passes_count)) (omega (arith, low, fresh.filled.serves_count, fresh.count))
-      ∙ ap (λ (p : PortPass). new_worker (p, slice_index_or serves k serve))
-      (get_or-map (λ (h : PassValue). port_pass h []) (first_passes ports program home) k worker.pass.pass worker.pass (omega (arith, low, first_count))
-      ∙ ap (λ (h : PassValue). port_pass h []) (get_or-map-range_with_len (first_pass 254 (own_bank ∷ []) program home) 0 ports k k worker.pass.pass low (omega arith)))
-
-  -- They may serve their ports.
-  pub fresh_served : AreServed 1 ports queues workers
-  fresh_served = record {
-    len = fresh.filled.ports_count ∙ fresh.count;
+-- A node whose ports hold these packets.
+module _ {J : Type 0} {starts : ℕ → Standing} {ports : ℕ} {by_port : List (List Cargo)} {banks : ℕ} {queues : List Port} {puts : List PutPass} {workers : List (Worker J SinkValue)}
+    (desk : IsDesk starts ports by_port banks queues puts workers) where
+  -- Its workers may serve their ports.
+  pub desk_served : AreServed banks ports queues workers
+  desk_served = record {
+    len = desk.filled.ports_count ∙ desk.count;
     each = λ k port worker low.
-        let serve = worker.serve_pass in
-        let own : IsServePassOf (slice_index_or queues k port) (slice_index_or serves k serve) = fresh.filled.serves k port serve (omega (arith, low, fresh.count)) in
-        let new : Worker J SinkValue = new_worker (fresh_pass k, slice_index_or serves k serve) in
-        let here : IsWorkerOf 1 (slice_index_or queues k port) new = record { pass = own; shares = length-replicate 1 (first_share k) } in
-        subst (λ (w : Worker J SinkValue). IsWorkerOf 1 (slice_index_or queues k port) w) (sym (fresh_at k serve worker low)) here;
+        let own = desk.each k worker worker.serve_pass low in
+        let serves : IsServePassOf (slice_index_or queues k port) (slice_index_or desk.serves k worker.serve_pass) = desk.filled.serves k port worker.serve_pass (omega (arith, low, desk.count)) in
+        let here : IsWorkerOf banks (slice_index_or queues k port) (slice_index_or workers k worker) = record {
+          pass = subst (λ (s : ServePass). IsServePassOf (slice_index_or queues k port) s) (sym own.serves) serves;
+          shares = own.shares;
+        } in
+        here;
   }
 
-  module _ (sent : SinkValue → List SentReply) (failed : SinkValue → ℕ) (left : List (Worker J SinkValue)) (total : Report) (served : HaveServed sent failed 1 queues workers left total) where
+  module _ (sent : SinkValue → List SentReply) (failed : SinkValue → ℕ) (left : List (Worker J SinkValue)) (total : Report) (served : HaveServed sent failed banks queues workers left total) where
     -- What puts and takes belongs to the ports still.
     pub left_of_ports : AreOfPorts queues puts left
     left_of_ports = record {
-      puts_count = fresh.filled.puts_count ∙ sym fresh.filled.ports_count;
-      workers_count = served.len ∙ fresh_count ∙ sym (fresh.filled.ports_count ∙ fresh.count);
-      puts = λ k port put low. fresh.filled.puts k port put (omega (arith, low, fresh.filled.ports_count));
-      serves = λ k port worker low. (served.served.each k port worker (omega (arith, low, fresh.filled.ports_count, fresh.count, fresh_count))).pass;
+      puts_count = desk.filled.puts_count ∙ sym desk.filled.ports_count;
+      workers_count = served.len ∙ desk.workers_count ∙ sym (desk.filled.ports_count ∙ desk.count);
+      puts = λ k port put low. desk.filled.puts k port put (omega (arith, low, desk.filled.ports_count));
+      serves = λ k port worker low. (served.served.each k port worker (omega (arith, low, desk.filled.ports_count, desk.count, desk.workers_count))).pass;
     }
 
     -- what each port's worker did with its packets
     served_at : AreBeginnings puts left → (k : ℕ) (put : PutPass) (serve : ServePass) (worker : Worker J SinkValue) (report : Report) → k < ports
-        → HasServed sent failed (standing (port_pass (first_pass 254 (own_bank ∷ []) program home k) []) []) (standing_of (slice_index_or left k worker)) no_replies (slice_index_or left k worker).sink (slice_index_or by_port k []) (slice_index_or served.reports k report)
+        → HasServed sent failed (starts k) (standing_of (slice_index_or left k worker)) no_replies (slice_index_or left k worker).sink (slice_index_or by_port k []) (slice_index_or served.reports k report)
     served_at begins k put serve worker report low =
-        let new : Worker J SinkValue = new_worker (fresh_pass k, slice_index_or serves k serve) in
-        let low' : k < length by_port = omega (arith, low, fresh.count) in
-        let worked : IsWorked sent failed new (slice_index_or left k worker) (slice_index_or served.reports k report)
-        = subst (λ (w : Worker J SinkValue). IsWorked sent failed w (slice_index_or left k worker) (slice_index_or served.reports k report)) (fresh_at k serve worker low)
-        (served.each k worker report (omega (arith, low, fresh_count))) in
-        served_all sent failed new (slice_index_or left k worker) (slice_index_or served.reports k report) (slice_index_or by_port k []) (put_of (slice_index_or puts k put))
-        worked (fresh.filled.taken k [] serve low') (fresh.filled.put k [] put low') (begins k put worker (omega (arith, low, served.len, fresh_count)))
+        let old : Worker J SinkValue = slice_index_or workers k worker in
+        let new : Worker J SinkValue = slice_index_or left k worker in
+        let done : Report = slice_index_or served.reports k report in
+        let packets : List Cargo = slice_index_or by_port k [] in
+        let own = desk.each k worker serve low in
+        let low' : k < length by_port = omega (arith, low, desk.count) in
+        let worked : IsWorked sent failed old new done = served.each k worker report (omega (arith, low, desk.workers_count)) in
+        let none : taken_of old.serve_pass ≡ [] = ap (λ (s : ServePass). taken_of s) own.serves ∙ desk.filled.taken k [] serve low' in
+        let all = served_all sent failed old new done packets (put_of (slice_index_or puts k put))
+        worked none (desk.filled.put k [] put low') (begins k put worker (omega (arith, low, served.len, desk.workers_count))) in
+        subst (λ (start : Standing). HasServed sent failed start (standing_of new) no_replies new.sink packets done) own.stands
+        (subst (λ (sink : SinkValue). HasServed sent failed (standing_of old) (standing_of new) sink new.sink packets done) own.silent all)
+
+    -- The seats are still those of the ports' passes at first.
+    pub left_seated : WorkersSharesCount → (it : CellsValue) → ((port : ℕ) → IsSeated it (starts port).pass.seat) → AreSeated it left
+    left_seated law it seats = λ k worker low.
+        let inside : k < length workers = omega (arith, low, served.len) in
+        let old : Worker J SinkValue = slice_index_or workers k worker in
+        let new : Worker J SinkValue = slice_index_or left k worker in
+        let report : Report = record { discarded = 0; lost = 0 } in
+        let worked : IsWorked sent failed old new (slice_index_or served.reports k report) = served.each k worker report inside in
+        let stays = law (standing_of old) (standing_of new) worked.packets worked.served.deeds worked.served.worked in
+        let own = desk.each k worker worker.serve_pass (omega (arith, inside, desk.workers_count)) in
+        let first : IsSeated it (standing_of old).pass.seat = subst (λ (start : Standing). IsSeated it start.pass.seat) (sym own.stands) (seats k) in
+        record { sizes = stays.sizes ∙ first.sizes; home = stays.home ∙ first.home }
 
 -- an element of a list that has one
 some_of : {A : Type 0} (xs : List A) (k : ℕ) → k < length xs → A
@@ -187,23 +160,22 @@ ends_history {J} left reports many history = record {
 }
 
 -- What became of each port.
-pub serve_each : {J : Type 0} (program : AcceptedValue) (home : Gv) (ports : ℕ) (by_port : List (List Cargo)) (queues : List Port) (puts : List PutPass) (serves : List ServePass) (workers left : List (Worker J SinkValue))
-    (sinks : List SinkValue) (total : Report) → AreFresh program home ports by_port queues puts serves workers
-    → HaveServed (λ (s : SinkValue). s.sent) (λ (s : SinkValue). s.failed) 1 queues workers left total → AreBeginnings puts left
-    → sinks ≡ map (λ (w : Worker J SinkValue). w.sink) left → ServeEach program ports by_port sinks total
-serve_each {J} program home ports by_port queues puts serves workers left sinks total fresh served begins is =
+pub serve_each : {J : Type 0} {starts : ℕ → Standing} {ports : ℕ} {by_port : List (List Cargo)} {banks : ℕ} {queues : List Port} {puts : List PutPass} {workers : List (Worker J SinkValue)}
+    (desk : IsDesk starts ports by_port banks queues puts workers) (left : List (Worker J SinkValue)) (sinks : List SinkValue) (total : Report)
+    → HaveServed (λ (s : SinkValue). s.sent) (λ (s : SinkValue). s.failed) banks queues workers left total → AreBeginnings puts left
+    → sinks ≡ map (λ (w : Worker J SinkValue). w.sink) left → ServeEach starts ports by_port sinks total
+serve_each {J} {starts} {ports} {by_port} {banks} {queues} {puts} {workers} desk left sinks total served begins is =
     let many : length served.reports ≡ length left = served.told ∙ sym served.len in
-    let count : length left ≡ ports = served.len ∙ fresh_count program home ports by_port queues puts serves workers fresh in
+    let count : length left ≡ ports = served.len ∙ desk.workers_count in
     record {
-      home = home;
       ends = ends_of left served.reports;
       count = ends_count left served.reports many ∙ count;
       each = λ k end low.
           let low' : k < length left = omega (arith, low, count) in
           let worker : Worker J SinkValue = some_of left k low' in
-          let put : PutPass = some_of puts k (omega (arith, low, fresh.filled.puts_count, fresh.count)) in
-          subst (λ (e : PortEnd). EndsSo program home k (slice_index_or by_port k []) e) (sym (end_at left served.reports k worker end.report end many low'))
-          (served_at program home ports by_port queues puts serves workers fresh (λ (s : SinkValue). s.sent) (λ (s : SinkValue). s.failed) left total served begins k put worker.serve_pass worker end.report low);
+          let put : PutPass = some_of puts k (omega (arith, low, desk.filled.puts_count, desk.count)) in
+          subst (λ (e : PortEnd). EndsSo (starts k) (slice_index_or by_port k []) e) (sym (end_at left served.reports k worker end.report end many low'))
+          (served_at desk (λ (s : SinkValue). s.sent) (λ (s : SinkValue). s.failed) left total served begins k put worker.serve_pass worker end.report low);
       history = ends_history left served.reports many served.history;
       sinks_are = is ∙ sym (ends_sinks left served.reports many);
       report_is = served.sum ∙ ap total_of (sym (ends_reports left served.reports many));
@@ -216,11 +188,10 @@ few_each lines ports by_port all = λ port low.
     omega (arith, size, all.lines_are.taken.few port)
 
 -- Each port served its packets among those of the lines.
-pub by_packets : (program : AcceptedValue) (lines : List (List ℕ)) (ports : ℕ) (by_port : List (List Cargo)) (sinks : List SinkValue) (report : Report)
-    (all : ArriveAll lines ports by_port) (each : ServeEach program ports by_port sinks report) → ServePackets program ports all.packets each.ends
-by_packets program lines ports by_port sinks report all each = record {
-  home = each.home;
+pub by_packets : (starts : ℕ → Standing) (lines : List (List ℕ)) (ports : ℕ) (by_port : List (List Cargo)) (sinks : List SinkValue) (report : Report)
+    (all : ArriveAll lines ports by_port) (each : ServeEach starts ports by_port sinks report) → ServePackets starts ports all.packets each.ends
+by_packets starts lines ports by_port sinks report all each = record {
   count = each.count;
-  each = λ k end low. subst (λ (l : List Cargo). EndsSo program each.home k l (slice_index_or each.ends k end)) (all.sorted.each k low) (each.each k end low);
+  each = λ k end low. subst (λ (l : List Cargo). EndsSo (starts k) l (slice_index_or each.ends k end)) (all.sorted.each k low) (each.each k end low);
   history = each.history;
 }

@@ -2,7 +2,10 @@ mod Desking
 mod Ending
 mod Filling
 mod NotServed
+mod Numbering
 mod PrintedLines
 mod Rejoining
+mod Seating
+mod Starting
 mod Tables
 mod TakenIn

@@ -7,7 +7,8 @@ use Rattle.hex.specs.Hex.{encode_upper}
 use Rattle.ports.specs.Sinks.{SinkValue, replies_in}
 use Rattle.job_parts.specs.Replies.{reply_line}
 use Rattle.job_ports.specs.ServeJob.{lines_from, port_lines}
-use Rattle.job_ports.specs.ServedFile.{PortEnd, replies_of}
+use Rattle.job_ports.specs.Ends.{PortEnd}
+use Rattle.job_ports.specs.ServedFile.{replies_of}
 
 -- The parts of the line of a reply.
 pub reply_parts : (port : ℕ) (reply : List ℕ) → (reply ≡ [] → ⊥)

@@ -1,5 +1,9 @@
 pub mod Arrivals
 pub mod Arriving
+pub mod Ends
+pub mod OwnNodes
 pub mod Queues
+pub mod Quotas
 pub mod ServeJob
 pub mod ServedFile
+pub mod Starts

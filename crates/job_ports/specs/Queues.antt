@@ -1,7 +1,8 @@
 -- Packets that wait in the queues of ports, and the workers that serve them.
-use Rattle.std.specs.Prelude.{◌≡◌, ◌<◌, ◌≤◌, ℕ, List, [], ◌∷◌, ◌++◌, length, map, slice_index_or, zip}
-use base.Stored.{Gv}
+use Rattle.std.specs.Prelude.{◌≡◌, ◌<◌, ◌≤◌, ◌-◌, ℕ, List, [], ◌∷◌, ◌++◌, length, map, slice_index_or, slice_set}
+use Rattle.annals.specs.declared.deed.Link.{Link}
 use Rattle.bver.specs.Justified.{AcceptedValue}
+use Rattle.cells.specs.Seats.{CellsValue, cells}
 use Rattle.spw.specs.Cargo.{Cargo}
 use Rattle.ports.specs.Queue.{IsPutPassOf, IsServePassOf, put_of, taken_of}
 use Rattle.ports.specs.Sinks.{SinkValue}
@@ -12,9 +13,14 @@ use Rattle.ports.specs.declared.port.PutPass.{PutPass}
 use Rattle.ports.specs.declared.port.ServePass.{ServePass}
 use Rattle.ports.specs.declared.worker.Report.{Report}
 use Rattle.ports.specs.declared.worker.Worker.{Worker}
-use Rattle.target.specs.Passes.{PortPass, unasked}
-use Rattle.job_nodes.specs.JobNode.{first_passes}
-use Rattle.job_ports.specs.ServedFile.{BeginOneHistory, EndsSo, PortEnd, no_replies, report_of}
+use Rattle.ports.specs.Due.{Standing}
+use Rattle.ports.specs.Worked.{standing_of}
+use Rattle.target.specs.Passes.{PortPass}
+use Rattle.job_config.specs.OwnNodes.{LoadValue, OwnNodeValue}
+use Rattle.job_ports.specs.Ends.{PortEnd}
+use Rattle.job_ports.specs.Quotas.{IsSeated, QuotasAreKept}
+use Rattle.job_ports.specs.ServedFile.{BeginOneHistory, EndsSo, no_replies, report_of}
+use Rattle.job_ports.specs.Starts.{AreStarts, KeepsDesk, ServesLoads}
 
 -- no port has over 1,023 packets
 abbrev pub AreFew : List (List Cargo) → Type 0
@@ -43,20 +49,51 @@ pub record AreFilled (by_port : List (List Cargo)) (ports : List Port) (put_pass
   pub taken : (k : ℕ) (packets : List Cargo) (serve_pass : ServePass) → k < length by_port
       → taken_of (slice_index_or serve_passes k serve_pass) ≡ []
 
--- a worker with what its port has of the node and what takes from the port's queue, which knows nothing yet of the history of
--- the node's banks, and whose sink has taken nothing
-abbrev pub new_worker : {J : Type 0} → PortPass × ServePass → Worker J SinkValue
-new_worker parts = record { pass = parts.0; front = []; serve_pass = parts.1; sink = no_replies }
+-- a worker with what its port has of the node and what takes from the port's queue, which knows so much of the history of the
+-- node's banks, and whose sink has taken nothing
+abbrev pub new_worker : {J : Type 0} → (known : List Link) → PortPass × ServePass → Worker J SinkValue
+new_worker known parts = record { pass = parts.0; front = known; serve_pass = parts.1; sink = no_replies }
 
--- a fresh node of one bank, whose ports hold these packets, what puts into them, and their workers
-pub record IsDesk {J : Type 0} (program : AcceptedValue) (ports : ℕ) (by_port : List (List Cargo)) (banks : ℕ)
+-- the worker has and knows that, takes from that queue, and has a share of each of so many banks; its sink has taken nothing
+pub record IsDeskWorker {J : Type 0} (start : Standing) (banks : ℕ) (serve_pass : ServePass) (worker : Worker J SinkValue) :
+    Type 0 where
+  pub stands : standing_of worker ≡ start
+  pub serves : worker.serve_pass ≡ serve_pass
+  pub silent : worker.sink ≡ no_replies
+  pub shares : length worker.pass.pass.shares ≡ banks
+
+-- a node of so many banks, each of whose ports has what it starts with, and holds these packets, what puts into them, and
+-- their workers
+pub record IsDesk {J : Type 0} (starts : ℕ → Standing) (ports : ℕ) (by_port : List (List Cargo)) (banks : ℕ)
     (queues : List Port) (puts : List PutPass) (workers : List (Worker J SinkValue)) : Type 0 where
-  pub home : Gv
   pub serves : List ServePass
-  pub one : banks ≡ 1
   pub count : length by_port ≡ ports
   pub filled : AreFilled by_port queues puts serves
-  pub workers_are : workers ≡ map new_worker (zip (unasked (first_passes ports program home)) serves)
+  pub workers_count : length workers ≡ ports
+  pub each : (k : ℕ) (worker : Worker J SinkValue) (serve_pass : ServePass) → k < ports
+      → IsDeskWorker (starts k) banks (slice_index_or serves k serve_pass) (slice_index_or workers k worker)
+
+-- the same, where each port starts as the node of the configuration has it before the first packet, with a seat at the cells of
+-- the node's maps, to which no seat came back yet
+pub record IsOwnDesk {J : Type 0} (own : OwnNodeValue) (program : AcceptedValue) (by_port : List (List Cargo)) (banks : ℕ)
+    (own_cells : CellsValue) (queues : List Port) (puts : List PutPass) (workers : List (Worker J SinkValue)) : Type 0 where
+  pub starts : ℕ → Standing
+  pub are_starts : AreStarts own program starts
+  pub few : own.ports ≤ 256
+  pub cells_are : own_cells ≡ cells own.sizes own_cells.home (256 - own.ports) []
+  pub seats : (port : ℕ) → IsSeated own_cells (starts port).pass.seat
+  pub desk : IsDesk starts own.ports by_port banks queues puts workers
+
+-- the first worker served the packets of what is loaded, and stands at its own queue; the others are as they were
+pub record LoadsFirst {J : Type 0} (address : ℕ) (loads : List LoadValue) (banks : ℕ)
+    (before after : List (Worker J SinkValue)) : Type 0 where
+  pub old : Worker J SinkValue
+  pub new : Worker J SinkValue
+  pub some : 0 < length before
+  pub old_is : (worker : Worker J SinkValue) → slice_index_or before 0 worker ≡ old
+  pub after_is : after ≡ slice_set before 0 new
+  pub served : ServesLoads address loads (standing_of old) (standing_of new)
+  pub keeps : KeepsDesk banks old new
 
 -- the first list is a beginning of the second
 pub record IsBeginning (taken put : List Item) : Type 0 where
@@ -80,15 +117,22 @@ AreBeginnings {J} put_passes workers =
     → IsBeginning (taken_of (slice_index_or workers k worker).serve_pass)
     (put_of (slice_index_or put_passes k put_pass))
 
--- each port served the packets at its place and no others, in order, at banks of one history, and those are its replies and
--- what the workers reported
-pub record ServeEach (program : AcceptedValue) (ports : ℕ) (by_port : List (List Cargo)) (sinks : List SinkValue)
+-- each port, from what it starts with on, served the packets at its place and no others, in order, at banks of one history,
+-- and those are its replies and what the workers reported
+pub record ServeEach (starts : ℕ → Standing) (ports : ℕ) (by_port : List (List Cargo)) (sinks : List SinkValue)
     (report : Report) : Type 0 where
-  pub home : Gv
   pub ends : List PortEnd
   pub count : length ends ≡ ports
   pub each : (port : ℕ) (end : PortEnd) → port < ports
-      → EndsSo program home port (slice_index_or by_port port []) (slice_index_or ends port end)
+      → EndsSo (starts port) (slice_index_or by_port port []) (slice_index_or ends port end)
   pub history : BeginOneHistory ends
   pub sinks_are : sinks ≡ map (λ (end : PortEnd). end.sink) ends
   pub report_is : report ≡ report_of ends
+
+-- the same at the node of a configuration, and quotas were kept
+pub record ServeOwn (own : OwnNodeValue) (program : AcceptedValue) (by_port : List (List Cargo)) (sinks : List SinkValue)
+    (report : Report) : Type 0 where
+  pub starts : ℕ → Standing
+  pub are_starts : AreStarts own program starts
+  pub served : ServeEach starts own.ports by_port sinks report
+  pub quotas : QuotasAreKept own.sizes served.ends

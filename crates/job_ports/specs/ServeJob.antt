@@ -3,12 +3,12 @@ use Rattle.std.specs.Prelude.{ℕ, suc, List, [], ◌∷◌, ◌++◌, codes, de
 use Rattle.std.specs.List.{flat_map}
 use Rattle.clap.specs.Simple.{App}
 use Rattle.ports.specs.declared.worker.Report.{Report}
-use Rattle.job_parts.specs.Lines.{lines_app}
+use Rattle.job_config.specs.NodeLines.{node_lines_app}
 use Rattle.job_parts.specs.Replies.{reply_line}
 
--- `serve LINES [--image FILE] [--maps LIST] [--ports N]`
+-- `serve LINES [--image FILE] [--maps LIST] [--ports N]`, or `serve LINES --node FILE`
 abbrev pub serve_app : App
-serve_app = lines_app (codes "serve")
+serve_app = node_lines_app (codes "serve")
 
 -- the lines of the replies of a port, in order
 abbrev pub port_lines : ℕ → List (List ℕ) → List ℕ

@@ -3,5 +3,7 @@
 
 pub mod arrivals;
 pub mod arriving;
+mod own_nodes;
 pub mod queues;
 pub mod serve;
+mod starts;

@@ -1,18 +1,30 @@
 //! Packets that wait in the queues of a node's ports, and what its workers do with them.
 
-ghost use Rattle.std.specs.Prelude.{◌≡◌, ◌≤◌, IfOk, length, map, vec_len, zip};
-ghost use Rattle.job_ports.specs.Queues.{AreBeginnings, AreFew, AreFilled, AreOfPorts, IsDesk, IsFilled, ServeEach, new_worker};
+ghost use Rattle.std.specs.Prelude.{◌≡◌, ◌<◌, ◌≤◌, ◌↔◌, ℕ, IfOk, IsTrue, OnOk, length, map, slice_index_or, vec_len, zip};
+ghost use Rattle.cells.specs.Seats.{IsWhole};
+ghost use Rattle.machine.specs.Sizes.{kind_of_map};
+ghost use Rattle.machine.specs.declared.kinds.MapKind.TheVariants.{Counter};
+ghost use Rattle.job_ports.specs.Queues.{AreBeginnings, AreFew, AreFilled, AreOfPorts, IsFilled, IsOwnDesk, LoadsFirst, ServeOwn, new_worker};
+ghost use Rattle.job_ports.specs.Quotas.{AreAllNumbered, AreNumberedIn, AreSeated, AreTakenBack, IsNumberedAt, IsSeated, IsTakenBack};
 ghost use Rattle.ports.specs.Serves.{AreServed};
+ghost use Rattle.ports.specs.Sinks.{SinkValue};
 
 use crate::arrivals::Arrivals;
-use bver::Accepted;
-use job_nodes::node::node_config;
-use ports::{MAX_CAPACITY, NoGate, Port, PutPass, Replies, Report, ServePass, Worker, serve};
+use crate::starts::{load_all, set_all};
+use bver::{Accepted, MapSizes};
+use cells::Cells;
+use job_config::own_node::OwnNode;
+use machine::MapKind;
+use ports::{
+    MAX_CAPACITY, NoGate, Port, PutPass, Replies, Report, ServePass, Worker, serve,
+    workers_shares_count,
+};
+use quotas::quotas_hold_in_threads;
 use spw::Packet;
 use std::alloc::{AllocError, Global};
 use std::sync::Wait;
 use std::thread::Threads;
-use target::{Family, Node, Opened, Pass};
+use target::{Family, Front, Node, Opened, Pass};
 
 /// A port whose queue holds these packets and then the end mark, what puts into it, and what takes from it.
 fn filled<R: Wait>(
@@ -37,7 +49,7 @@ fn filled<R: Wait>(
 
 /// A port for each list of packets, in order, whose queue holds them and then the end mark; what puts into each, and
 /// what takes from each.
-fn fill<R: Wait>(
+pub(crate) fn fill<R: Wait>(
     rt: &R,
     alloc: Global,
     arrivals: Arrivals,
@@ -57,15 +69,15 @@ fn fill<R: Wait>(
     Ok((ports, put_passes, serve_passes))
 }
 
-/// A worker for each port, in order, whose replies are kept in memory.
-fn workers_of<J: Family, R: Wait + Drop>(
+/// A worker for each port, in order, who knows so much of the history, and whose replies are kept in memory.
+fn workers_of<J: Family>(
     alloc: Global,
-    node: &Node<J, R>,
+    known: &Front<J>,
     passes: Vec<Pass<J>>,
     serve_passes: Vec<ServePass>,
 ) -> Result<Vec<Worker<J, Replies>>, AllocError>
     ensures { IfOk result
-        (λ workers. workers.items ≡ map new_worker (zip passes.items serve_passes.items)) }
+        (λ workers. workers.items ≡ map (new_worker known.now) (zip passes.items serve_passes.items)) }
 {
     passes
         .into_iter()
@@ -74,7 +86,7 @@ fn workers_of<J: Family, R: Wait + Drop>(
             let sink = Replies::new(alloc, pass.port());
             Worker {
                 pass,
-                front: node.front(),
+                front: known.again(),
                 serve_pass,
                 sink,
             }
@@ -82,15 +94,26 @@ fn workers_of<J: Family, R: Wait + Drop>(
         .collect(alloc)
 }
 
+/// Gives the seat of a port back to the cells of its node.
+fn give_back<J: Family>(cells: &mut Cells, pass: Pass<J>)
+    requires { IsSeated cells.old pass.pass.seat }
+    ensures { IsTakenBack cells.old cells.new pass.pass.seat }
+{
+    cells.take_back(pass.into_seat());
+}
+
 /// The sink of each worker. What the workers took is taken back into what puts, so that it is known to be all that was
-/// put.
+/// put, and their seats into the cells.
 fn sinks_of<J: Family>(
     alloc: Global,
     ports: &[Port],
     mut put_passes: Vec<PutPass>,
+    cells: &mut Cells,
     workers: Vec<Worker<J, Replies>>,
 ) -> Result<Vec<Replies>, AllocError>
-    requires { AreOfPorts ports.now put_passes.items workers.items }
+    requires ports { AreOfPorts ports.now put_passes.items workers.items }
+    requires seats { AreSeated cells.old workers.items }
+    ensures back { IfOk result (λ _. AreTakenBack cells.old cells.new workers.items) }
     ensures sinks { IfOk result (λ sinks. sinks.items ≡ map (λ w. w.sink) workers.items) }
     ensures all { IfOk result (λ _. AreBeginnings put_passes.items workers.items) }
 {
@@ -99,76 +122,169 @@ fn sinks_of<J: Family>(
         let place = sinks.len();
         let put_pass = &mut put_passes[place];
         let Worker {
-            pass: _,
+            pass,
             front: _,
             serve_pass,
             sink,
         } = worker;
+        give_back(cells, pass);
         ports[place].rejoin(put_pass, serve_pass);
         sinks.push(sink)?;
     }
     Ok(sinks)
 }
 
-/// A fresh node whose ports hold packets, what puts into each port, and their workers.
+/// Whether the cells of a map count tickets.
+fn counts(sizes: &MapSizes, map: u8) -> bool
+    ensures { IsTrue result ↔ (kind_of_map sizes.now map ≡ Counter) }
+{
+    match sizes.kind(map) {
+        Some(MapKind::Counter) | None => true,
+        Some(MapKind::Peak) => false,
+    }
+}
+
+/// How many tickets were drawn from a cell that counts.
+fn tell_cell(cells: &mut Cells, sizes: &MapSizes, map: u8, key: u16)
+    requires { sizes.now ≡ cells.old.sizes }
+    ensures same { cells.new ≡ cells.old }
+    ensures numbered { IsWhole cells.old → IsNumberedAt cells.old map key }
+{
+    if sizes.contains(map, key) && counts(sizes, map) {
+        cells.drawn(map, key);
+    }
+}
+
+/// How many tickets were drawn from each cell of a map that counts.
+fn tell_map(cells: &mut Cells, sizes: &MapSizes, map: u8)
+    requires { sizes.now ≡ cells.old.sizes }
+    ensures same { cells.new ≡ cells.old }
+    ensures numbered { IsWhole cells.old → AreNumberedIn cells.old map }
+{
+    let Some(count) = sizes.cells(map) else {
+        return;
+    };
+    for key in 0..count {
+        tell_cell(cells, sizes, map, key);
+    }
+}
+
+/// How many tickets were drawn from each cell that counts. If every seat came back, their tickets are numbered.
+fn tell_tickets(cells: &mut Cells, sizes: &MapSizes)
+    requires { sizes.now ≡ cells.old.sizes }
+    ensures same { cells.new ≡ cells.old }
+    ensures numbered { IsWhole cells.old → AreAllNumbered cells.old }
+{
+    for map in 0..sizes.maps() {
+        tell_map(cells, sizes, map);
+    }
+}
+
+/// A node whose ports hold packets, the cells of its maps, what puts into each port, and their workers.
 #[derive(Drop)]
 struct Desks<J: Family, R: Wait + Drop> {
     node: Node<J, R>,
+    cells: Cells,
     ports: Vec<Port>,
     put_passes: Vec<PutPass>,
     workers: Vec<Worker<J, Replies>>,
 }
 
-/// A fresh node with so many ports, at each of which the program judges, and which hold the packets that came to them.
-fn fresh_desks<'r, J: Family, R: Wait>(
+/// Lets the worker of port 0 serve the packets of what is loaded. The condition is that each worker has a share of each bank.
+fn load_first<R: Wait, J: Family, Q: Wait + Drop>(
+    rt: &R,
+    alloc: Global,
+    node: &Node<J, Q>,
+    workers: &mut Vec<Worker<J, Replies>>,
+    own: &OwnNode,
+) -> Result<(), AllocError>
+    requires { (k : ℕ) (worker : Worker J SinkValue) → k < length workers.old.items
+        → length (slice_index_or workers.old.items k worker).pass.pass.shares ≡ node.now }
+    ensures { OnOk result (LoadsFirst own.now.address own.now.loads node.now workers.old.items
+        workers.new.items) }
+{
+    // A node has a port.
+    if workers.is_empty() {
+        return Err(AllocError);
+    }
+    let first = &mut workers[0];
+    load_all(rt, alloc, node, first, own.address(), own.loads())?;
+    Ok(())
+}
+
+/// A node of that configuration, at each of whose ports the program judges at first, whose banks begin with their contents, at
+/// whose port 0 what is loaded was, and whose ports hold the packets that came to them.
+fn own_desks<'r, J: Family, R: Wait>(
     rt: &'r R,
     alloc: Global,
     opened: Opened,
-    ports: u8,
+    own: &OwnNode,
     program: Accepted,
     arrivals: Arrivals,
 ) -> Result<Desks<J, &'r R>, AllocError>
     requires room { opened ≡ J.book }
+    requires sizes { program.sizes ≡ own.now.sizes }
     requires few { AreFew arrivals }
-    requires count { length arrivals ≡ ports }
-    ensures fresh { IfOk result (λ made. IsDesk program ports arrivals made.node made.ports.items
-        made.put_passes.items made.workers.items) }
+    requires count { length arrivals ≡ own.now.ports }
+    ensures own { IfOk result (λ made. IsOwnDesk own.now program arrivals made.node made.cells
+        made.ports.items made.put_passes.items made.workers.items) }
     ensures served { IfOk result (λ made.
         AreServed made.node (vec_len made.workers) made.ports.items made.workers.items) }
 {
-    let config = node_config(ports, program.sizes());
-    // Memory alone can be refused to it: the command line gives no other number of ports than a node has.
-    let Ok((node, passes)) = Node::<J, _>::new(alloc, rt, opened, &config, program) else {
+    workers_shares_count();
+    let config = own.config();
+    // Memory alone can be refused to it: a configuration has no other number of ports than a node has.
+    let Ok((node, cells, passes, mut line)) = Node::<J, _>::with_cells(
+        alloc, rt, opened, &config, program,
+    ) else {
         return Err(AllocError);
     };
+    let mut known = node.front();
+    set_all(
+        rt,
+        alloc,
+        &node,
+        &mut line,
+        &mut known,
+        own.banks(),
+        own.contents(),
+    )?;
     let (ports, put_passes, serve_passes) = fill(rt, alloc, arrivals)?;
-    let workers = workers_of(alloc, &node, passes, serve_passes)?;
+    let mut workers = workers_of(alloc, &known, passes, serve_passes)?;
+    load_first(rt, alloc, &node, &mut workers, own)?;
     Ok(Desks {
         node,
+        cells,
         ports,
         put_passes,
         workers,
     })
 }
 
-/// Serves the packets that came to the ports of a fresh node, each port in a thread of its own, to the end: the replies
-/// of each port, and the sum of the reports. The program judges.
+/// Serves the packets that came to the ports of the node of that configuration, each port in a thread of its own, to the end:
+/// the replies of each port, and the sum of the reports. The program judges in all slots at first. After it each seat is taken
+/// back to the cells.
 pub fn serve_arrivals<J: Family + Send + Sync + 'static, R: Threads + Wait + Sync>(
     rt: &R,
     alloc: Global,
     opened: Opened,
-    ports: u8,
+    own: &OwnNode,
     program: Accepted,
     arrivals: Arrivals,
 ) -> Result<(Vec<Replies>, Report), AllocError>
     requires room { opened ≡ J.book }
+    requires sizes { program.sizes ≡ own.now.sizes }
     requires few { AreFew arrivals }
-    requires count { length arrivals ≡ ports }
-    ensures { IfOk result (λ made. ServeEach program ports arrivals made.0.items made.1) }
+    requires count { length arrivals ≡ own.now.ports }
+    ensures { IfOk result (λ made. ServeOwn own.now program arrivals made.0.items made.1) }
 {
-    let made = fresh_desks::<J, _>(rt, alloc, opened, ports, program, arrivals)?;
+    quotas_hold_in_threads();
+    workers_shares_count();
+    let sizes = program.sizes();
+    let made = own_desks::<J, _>(rt, alloc, opened, own, program, arrivals)?;
     let Desks {
         node,
+        mut cells,
         ports,
         put_passes,
         workers,
@@ -178,6 +294,7 @@ pub fn serve_arrivals<J: Family + Send + Sync + 'static, R: Threads + Wait + Syn
     let Ok(report) = report else {
         return Err(AllocError);
     };
-    let sinks = sinks_of(alloc, &ports, put_passes, workers)?;
+    let sinks = sinks_of(alloc, &ports, put_passes, &mut cells, workers)?;
+    tell_tickets(&mut cells, &sizes);
     Ok((sinks, report))
 }

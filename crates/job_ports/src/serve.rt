@@ -1,6 +1,6 @@
 //! The job `serve`.
 
-ghost use Rattle.std.specs.Prelude.{◌≡◌, ◌<◌, IfErr, IfOk, OnOk, false, length, map};
+ghost use Rattle.std.specs.Prelude.{◌≡◌, ◌<◌, IfErr, IfOk, OnOk, false, length, map, string_bytes};
 ghost use Rattle.std.specs.Vec.{vec_items};
 ghost use Rattle.clap.specs.Simple.{app_of};
 ghost use Rattle.clap.specs.declared.builder.command.Command.TheViews.{out-Command as fields_of};
@@ -9,12 +9,17 @@ ghost use Rattle.job_parts.specs.Printed.{Prints};
 ghost use Rattle.job_parts.specs.Statuses.{IsDoneWith};
 ghost use Rattle.job_parts.specs.Stops.{StopsBy};
 ghost use Rattle.job_ports.specs.ServeJob.{lines_from, port_lines, report_line, serve_app};
-ghost use Rattle.job_ports.specs.ServedFile.{IsNotServed, ServesFile, ServesWords};
+ghost use Rattle.job_nodes.specs.Judged.{IsNotReady};
+ghost use Rattle.job_ports.specs.ServedFile.{AreGiven, IsNotServed, ServesFile, ServesWords};
 
 use crate::arriving::read_lines;
+use crate::own_nodes::own_from;
 use crate::queues::serve_arrivals;
 use clap::Command;
-use job_parts::lines::{LinesArgs, lines_and_program, lines_command};
+use job_config::node_lines::{NodeLines, node_lines_command};
+use job_config::reading::ReadNode;
+use job_parts::faults::Fault;
+use job_parts::programs::text_in;
 use job_parts::replies::print_reply;
 use job_parts::status::Status;
 use job_parts::stops::Halt;
@@ -26,14 +31,30 @@ use std::sync::Wait;
 use std::thread::Threads;
 use target::{Family, Opened};
 
-/// `serve LINES [--image FILE] [--maps LIST] [--ports N]`.
+/// `serve LINES [--image FILE] [--maps LIST] [--ports N]` or `serve LINES --node FILE`.
 pub fn serve_command<'a>(alloc: Global) -> Result<Command<'a>, AllocError>
     ensures shape { IfOk result (λ c. app_of c ≡ serve_app) }
     ensures local { IfOk result (λ c. (fields_of c).has_globals ≡ false) }
 {
     let about = "Serves the packets of all ports at once and prints the replies by port";
     let help = "The file of packet lines, or - for standard input";
-    lines_command(alloc, "serve", about, help)
+    node_lines_command(alloc, "serve", about, help)
+}
+
+/// The text of the file of packet lines, and the node of these arguments with its first program.
+fn lines_and_own<'a, F: Files>(
+    alloc: Global,
+    args: &'a NodeLines,
+    files: &mut F,
+) -> Result<(String, ReadNode), Fault<'a>>
+    ensures given { IfOk result (λ made. AreGiven F.reads args.now files.old (string_bytes made.0)
+        made.1.node made.1.program files.new) }
+    ensures sizes { IfOk result (λ made. made.1.program.sizes ≡ made.1.node.sizes) }
+    ensures refused { IfErr result (IsNotReady F.reads args.now files.old files.new) }
+{
+    let text = text_in(alloc, files, args.lines.as_str())?;
+    let read = own_from(alloc, &args.node, files)?;
+    Ok((text, read))
 }
 
 /// Serves the packet lines of a file on the node of these arguments, and gives the replies of each port, and the sum of the
@@ -42,7 +63,7 @@ fn serve_words<'a, J: Family + Send + Sync + 'static, R: Threads + Wait + Sync, 
     rt: &R,
     alloc: Global,
     opened: Opened,
-    args: &'a LinesArgs,
+    args: &'a NodeLines,
     files: &mut F,
 ) -> Result<(Vec<Replies>, Report), Halt<'a>>
     requires { opened ≡ J.book }
@@ -51,10 +72,10 @@ fn serve_words<'a, J: Family + Send + Sync + 'static, R: Threads + Wait + Sync, 
     ensures few { IfOk result (λ made. length made.0.items < 256) }
     ensures refused { IfErr result (StopsBy (IsNotServed F.reads args.now files.old files.new)) }
 {
-    let (text, program) = lines_and_program(alloc, args, files)?;
-    let ports = args.node.ports;
-    let arrivals = read_lines(alloc, text.as_str(), ports)?;
-    let served = serve_arrivals::<J, _>(rt, alloc, opened, ports, program, arrivals)?;
+    let (text, read) = lines_and_own(alloc, args, files)?;
+    let ReadNode { node: own, program } = read;
+    let arrivals = read_lines(alloc, text.as_str(), own.ports())?;
+    let served = serve_arrivals::<J, _>(rt, alloc, opened, &own, program, arrivals)?;
     Ok(served)
 }
 
@@ -95,12 +116,12 @@ pub fn print_report<W: Write>(out: &mut W, report: Report) -> io::Result<()>
     writeln!(out, "discarded {discarded} lost {lost}")
 }
 
-/// Serves the packet lines of a file by the program of an image file, or by the factory program, on the node of these
-/// arguments: one worker a port, each in a thread of its own. All lines are read before, and nothing is printed before all
-/// is served: then the replies of each port in order, port by port, and the sum of the workers' reports.
+/// Serves the packet lines of a file on the node of these arguments: one worker a port, each in a thread of its own. All lines
+/// are read before, and nothing is printed before all is served: then the replies of each port in order, port by port, and the
+/// sum of the workers' reports.
 ///
-/// Faults are found in this order: the file of lines (`CannotRead`, also where it is not UTF-8), the image file, its
-/// image, and then the first line that has one, as [`read_lines`] tells it. `NoMemory` where memory or a thread was
+/// Faults are found in this order: the file of lines (`CannotRead`, also where it is not UTF-8), those of the node
+/// ([`own_from`]), and then the first line that has one, as [`read_lines`] tells it. `NoMemory` where memory or a thread was
 /// refused. Where there is one, nothing is printed.
 pub fn serve_file<
     'a,
@@ -112,7 +133,7 @@ pub fn serve_file<
     rt: &R,
     alloc: Global,
     opened: Opened,
-    args: &'a LinesArgs,
+    args: &'a NodeLines,
     files: &mut F,
     out: &mut W,
 ) -> Result<Status, Halt<'a>>

@@ -5,13 +5,14 @@ use Rattle.std.proofs.lemmas.Option.{none-some}
 use Rattle.job_parts.specs.declared.faults.Fault.{Fault}
 use Rattle.job_parts.specs.declared.status.Status.{Status}
 use Rattle.job_parts.specs.declared.status.Status.TheVariants.{Failed}
-use Rattle.job_rehearse.specs.Loaders.{loader_in, loader_text, ports_in}
+use Rattle.job_rehearse.specs.Loaders.{loader_text}
 use Rattle.job_rehearse.specs.Loads.{Loads, StopsLoad}
 use Rattle.job_rehearse.specs.Rehearsed.{LoadsNew, StaysOld, StopsBack, StopsThere, TriesBack, back_line, there_line}
-use Rattle.job_rehearse.specs.Steps.{IsBegun}
+use Rattle.job_rehearse.specs.Places.{IsBegunAt, loader_on}
 use Rattle.job_rehearse.specs.declared.loads.Ending.{Ending}
 use Rattle.job_rehearse.specs.declared.loads.Ending.TheVariants.{InPart, Loaded, LockedOut, NotLoaded}
 use Rattle.job_rehearse.specs.declared.loaders.Loader.{Loader}
+use Rattle.job_rehearse.specs.declared.places.Place.{Place}
 use Rattle.job_rehearse.specs.declared.policies.Policies.{Policies}
 use Rattle.job_rehearse.specs.declared.steps.Rehearsing.{Rehearsing}
 
@@ -24,29 +25,29 @@ loaded_untold f None NotLoaded others is = absurd (none-some _ is)
 loaded_untold f (Some x) ending others is = absurd (others x refl)
 
 -- the load of the bytes of the new policy's image, which ended so
-pub loads_new : (slots image : List ℕ) (named : Option Loader) (policies : Policies) (ending is : Ending) (ports : ℕ) (loader : Loader) (fresh after : Rehearsing) (old new : Option (List ℕ)) → image ≡ policies.new.items → ending ≡ is → ports ≡ ports_in named → loader ≡ loader_in named → IsBegun policies.program ports fresh → Loads (codes "NEW") loader slots image ending fresh after old new → LoadsNew slots named policies is after old new
-loads_new slots image named policies ending is ports loader fresh after old new bytes ended count who begun loads =
+pub loads_new : (place : Place) (slots image : List ℕ) (named : Option Loader) (policies : Policies) (ending is : Ending) (loader : Loader) (fresh after : Rehearsing) (old new : Option (List ℕ)) → image ≡ policies.new.items → ending ≡ is → loader ≡ loader_on place named → IsBegunAt place policies.program named fresh → Loads (codes "NEW") loader slots image ending fresh after old new → LoadsNew place slots named policies is after old new
+loads_new place slots image named policies ending is loader fresh after old new bytes ended who begun loads =
     record {
       fresh = fresh;
-      begun = subst (λ (n : ℕ). IsBegun policies.program n fresh) count begun;
-      loads = subst (λ e. Loads (codes "NEW") (loader_in named) slots policies.new.items e fresh after old new) ended
-          (subst (λ (i : List ℕ). Loads (codes "NEW") (loader_in named) slots i ending fresh after old new) bytes
+      begun = begun;
+      loads = subst (λ e. Loads (codes "NEW") (loader_on place named) slots policies.new.items e fresh after old new) ended
+          (subst (λ (i : List ℕ). Loads (codes "NEW") (loader_on place named) slots i ending fresh after old new) bytes
           (subst (λ (l : Loader). Loads (codes "NEW") l slots image ending fresh after old new) who loads));
     }
 
 -- a fault ended the load of the bytes of the new policy's image
-pub stops_there : (slots image : List ℕ) (named : Option Loader) (policies : Policies) (ports : ℕ) (loader : Loader) (fresh : Rehearsing) (old new : Option (List ℕ)) (fault : Fault) → image ≡ policies.new.items → ports ≡ ports_in named → loader ≡ loader_in named → IsBegun policies.program ports fresh → StopsLoad (codes "NEW") loader slots image fresh old new fault → StopsThere slots named policies old new fault
-stops_there slots image named policies ports loader fresh old new fault bytes count who begun stop =
+pub stops_there : (place : Place) (slots image : List ℕ) (named : Option Loader) (policies : Policies) (loader : Loader) (fresh : Rehearsing) (old new : Option (List ℕ)) (fault : Fault) → image ≡ policies.new.items → loader ≡ loader_on place named → IsBegunAt place policies.program named fresh → StopsLoad (codes "NEW") loader slots image fresh old new fault → StopsThere place slots named policies old new fault
+stops_there place slots image named policies loader fresh old new fault bytes who begun stop =
     record {
       fresh = fresh;
-      begun = subst (λ (n : ℕ). IsBegun policies.program n fresh) count begun;
-      stop = subst (λ (i : List ℕ). StopsLoad (codes "NEW") (loader_in named) slots i fresh old new fault) bytes
+      begun = begun;
+      stop = subst (λ (i : List ℕ). StopsLoad (codes "NEW") (loader_on place named) slots i fresh old new fault) bytes
           (subst (λ (l : Loader). StopsLoad (codes "NEW") l slots image fresh old new fault) who stop);
     }
 
 -- the new policy was not loaded, and that was told
-pub stays_old : (slots : List ℕ) (named : Option Loader) (policies : Policies) (ending : Ending) (after : Rehearsing) (old between new : Option (List ℕ)) (line who : List ℕ) (status : Status) → LoadsNew slots named policies ending after old between → there_line ending ≡ Some line → who ≡ loader_text named → Appends between new (line ++ who ++ 10 ∷ []) → status ≡ Failed → StaysOld slots named policies old new status
-stays_old slots named policies ending after old between new line who status there closed is printed failed =
+pub stays_old : (place : Place) (slots : List ℕ) (named : Option Loader) (policies : Policies) (ending : Ending) (after : Rehearsing) (old between new : Option (List ℕ)) (line who : List ℕ) (status : Status) → LoadsNew place slots named policies ending after old between → there_line ending ≡ Some line → who ≡ loader_text named → Appends between new (line ++ who ++ 10 ∷ []) → status ≡ Failed → StaysOld place slots named policies old new status
+stays_old place slots named policies ending after old between new line who status there closed is printed failed =
     record {
       ending = ending;
       after = after;
@@ -59,19 +60,19 @@ stays_old slots named policies ending after old between new line who status ther
     }
 
 -- behind the load of the new policy a fault ended the load of the bytes of the old policy's image
-pub stops_back : (slots image : List ℕ) (named : Option Loader) (policies : Policies) (loader : Loader) (middle : Rehearsing) (old between new : Option (List ℕ)) (fault : Fault) → image ≡ policies.old.items → loader ≡ loader_in named → LoadsNew slots named policies Loaded middle old between → StopsLoad (codes "OLD") loader slots image middle between new fault → StopsBack slots named policies old new fault
-stops_back slots image named policies loader middle old between new fault bytes who there stop =
+pub stops_back : (place : Place) (slots image : List ℕ) (named : Option Loader) (policies : Policies) (loader : Loader) (middle : Rehearsing) (old between new : Option (List ℕ)) (fault : Fault) → image ≡ policies.old.items → loader ≡ loader_on place named → LoadsNew place slots named policies Loaded middle old between → StopsLoad (codes "OLD") loader slots image middle between new fault → StopsBack place slots named policies old new fault
+stops_back place slots image named policies loader middle old between new fault bytes who there stop =
     record {
       middle = middle;
       between = between;
       there = there;
-      stop = subst (λ (i : List ℕ). StopsLoad (codes "OLD") (loader_in named) slots i middle between new fault) bytes
+      stop = subst (λ (i : List ℕ). StopsLoad (codes "OLD") (loader_on place named) slots i middle between new fault) bytes
           (subst (λ (l : Loader). StopsLoad (codes "OLD") l slots image middle between new fault) who stop);
     }
 
 -- behind it the load of the bytes of the old policy's image was tried, and how it ended was told
-pub tries_back : (slots image : List ℕ) (named : Option Loader) (policies : Policies) (loader : Loader) (ending : Ending) (middle after : Rehearsing) (old between behind new : Option (List ℕ)) (line who : List ℕ) (status : Status) → image ≡ policies.old.items → loader ≡ loader_in named → LoadsNew slots named policies Loaded middle old between → Loads (codes "OLD") loader slots image ending middle after between behind → (line, status) ≡ back_line ending → who ≡ loader_text named → Appends behind new (line ++ who ++ 10 ∷ []) → TriesBack slots named policies old new status
-tries_back slots image named policies loader ending middle after old between behind new line who status bytes is there back told text printed =
+pub tries_back : (place : Place) (slots image : List ℕ) (named : Option Loader) (policies : Policies) (loader : Loader) (ending : Ending) (middle after : Rehearsing) (old between behind new : Option (List ℕ)) (line who : List ℕ) (status : Status) → image ≡ policies.old.items → loader ≡ loader_on place named → LoadsNew place slots named policies Loaded middle old between → Loads (codes "OLD") loader slots image ending middle after between behind → (line, status) ≡ back_line ending → who ≡ loader_text named → Appends behind new (line ++ who ++ 10 ∷ []) → TriesBack place slots named policies old new status
+tries_back place slots image named policies loader ending middle after old between behind new line who status bytes is there back told text printed =
     record {
       ending = ending;
       middle = middle;
@@ -79,7 +80,7 @@ tries_back slots image named policies loader ending middle after old between beh
       between = between;
       behind = behind;
       there = there;
-      back = subst (λ (i : List ℕ). Loads (codes "OLD") (loader_in named) slots i ending middle after between behind) bytes
+      back = subst (λ (i : List ℕ). Loads (codes "OLD") (loader_on place named) slots i ending middle after between behind) bytes
           (subst (λ (l : Loader). Loads (codes "OLD") l slots image ending middle after between behind) is back);
       told = subst (λ (p : List ℕ × Status). Appends behind new (p.0 ++ loader_text named ++ 10 ∷ [])) told
           (subst (λ (w : List ℕ). Appends behind new (line ++ w ++ 10 ∷ [])) text printed);

@@ -2,6 +2,8 @@
 use Rattle.std.specs.Prelude.{◌≡◌, ◌==◌, ◌&&◌, ◌||◌, ℕ, zero, suc, Bool, true, false, if◌then◌else◌, List, [], ◌∷◌, ◌++◌, drop, Option, Some, None, codes}
 use Rattle.std.specs.List.{list_any}
 use Rattle.hex.specs.Hex.{encode_upper}
+use Rattle.policy_table.specs.Policies.{PolicyValue}
+use Rattle.policy_table.specs.declared.port_rules.PortRule.{PortRule}
 use Rattle.policy_table.specs.declared.rules.Rule.{Rule}
 use Rattle.job_rehearse.specs.declared.askers.Asker.{Asker}
 use Rattle.job_rehearse.specs.declared.askers.Asking.{Asking}
@@ -18,16 +20,16 @@ abbrev pub is_same : Option ℕ → (byte : ℕ) → Bool
 is_same None byte = false
 is_same (Some own) byte = own == byte
 
--- the rule names the value
-abbrev pub is_wanted : Field → (byte : ℕ) → Rule → Bool
-is_wanted field byte rule = is_same (wanted field rule) byte
+-- the rule names the value, at whatever port it is asked
+abbrev pub is_wanted : Field → (byte : ℕ) → PortRule → Bool
+is_wanted field byte own = is_same (wanted field own.rule) byte
 
 -- some rule names the value
-abbrev pub names : List Rule → Field → (byte : ℕ) → Bool
+abbrev pub names : List PortRule → Field → (byte : ℕ) → Bool
 names rules field byte = list_any (is_wanted field byte) rules
 
 -- some rule names each value below that one
-abbrev pub are_named : List Rule → Field → (byte : ℕ) → Bool
+abbrev pub are_named : List PortRule → Field → (byte : ℕ) → Bool
 are_named rules field zero = true
 are_named rules field (suc byte) = are_named rules field byte && names rules field byte
 
@@ -36,13 +38,13 @@ abbrev pub value_at : (byte : ℕ) → (is_named are_named : Bool) → List Aski
 value_at byte is_named are_named = if is_named || are_named then record { byte = byte; is_named = is_named } ∷ [] else []
 
 -- such values below a number, from the least on
-abbrev pub values_below : List Rule → Field → (count : ℕ) → List Asking
+abbrev pub values_below : List PortRule → Field → (count : ℕ) → List Asking
 values_below rules field zero = []
 values_below rules field (suc byte) =
     values_below rules field byte ++ value_at byte (names rules field byte) (are_named rules field byte)
 
 -- the values of a field that some rule names, and the least that none names
-unfoldable pub values_of : List Rule → Field → List Asking
+unfoldable pub values_of : List PortRule → Field → List Asking
 values_of rules field = values_below rules field 256
 
 -- the values below a number, each for itself
@@ -65,7 +67,7 @@ with_pairs front [] keys = front
 with_pairs front (initiator ∷ initiators) keys = with_pairs (with_keys front initiator keys) initiators keys
 
 -- of a table: each initiator and each key that a rule names, and the least that none names
-abbrev pub table_askers : List Rule → List Asker
+abbrev pub table_askers : List PortRule → List Asker
 table_askers rules = with_pairs [] (values_of rules Initiator) (values_of rules Key)
 
 -- a value that stands for itself
@@ -77,9 +79,9 @@ abbrev pub every_asker : List Asker
 every_asker = with_keys (with_pairs [] each_value (just 0 ∷ [])) (just 103) (drop 1 each_value)
 
 -- of whose loads the program of a policy is asked: of that of a table, if it is of one
-abbrev pub askers_of : Option (List Rule) → List Asker
+abbrev pub askers_of : Option PolicyValue → List Asker
 askers_of None = every_asker
-askers_of (Some rules) = table_askers rules
+askers_of (Some policy) = table_askers policy.rules
 
 -- a value in two digits, or `*` if it stands for all that no rule names
 abbrev pub value_text : Asking → List ℕ

@@ -4,6 +4,7 @@ pub mod Policies
 pub mod Words
 pub mod Steps
 pub mod Loads
+pub mod Places
 pub mod Again
 pub mod Judging
 pub mod OpenPorts

@@ -2,6 +2,7 @@
 use Rattle.std.specs.Prelude.{◌≡◌, ◌&&◌, ◌||◌, ℕ, Bool, false, true, is_some, List, [], ◌∷◌, ◌++◌, Option, Some, None, codes, decimal}
 use Rattle.clap.specs.Walk.{Row, Text, first_of}
 use Rattle.hex.specs.Hex.{encode_upper}
+use Rattle.job_config.specs.declared.own_node.TheConstants.{NODE_ADDRESS}
 use Rattle.job_packets.specs.PacketOptions.{GivesHeader, GivesHex, GivesPort}
 use Rattle.job_packets.specs.declared.packet_options.HeaderWords.{HeaderWords}
 use Rattle.job_parts.specs.Arguments.{is_set}
@@ -21,11 +22,12 @@ names_loader rows = has_value (codes "port") rows || has_value (codes "initiator
 abbrev pub is_any_beside : List Row → Bool
 is_any_beside rows = is_set (codes "any") rows && (names_loader rows || has_value (codes "slot") rows)
 
--- who loads by the options; without them port 0, initiator 67 (103) and key 00
+-- who loads by the options; without them port 0, initiator 67 (103) and key 00. The node is FE
 pub record GivesLoader (rows : List Row) (loader : Loader) : Type 0 where
   pub port : GivesPort (first_of (codes "port") rows) loader.port
   pub initiator : GivesHex 2 103 (first_of (codes "initiator") rows) loader.initiator
   pub key : GivesHex 2 0 (first_of (codes "key") rows) loader.key
+  pub target : loader.target ≡ NODE_ADDRESS
 
 -- one who is named by the options, or nobody where none of them is there
 abbrev pub GivesNamed : List Row → Option Loader → Type 0
@@ -39,7 +41,7 @@ GivesLoaders rows Any = (is_set (codes "any") rows ≡ true) × (is_any_beside r
 
 -- who loads: the one that is named, or port 0, initiator 67 and key 00
 abbrev pub loader_in : Option Loader → Loader
-loader_in None = record { port = 0; initiator = 103; key = 0 }
+loader_in None = record { port = 0; initiator = 103; key = 0; target = NODE_ADDRESS }
 loader_in (Some loader) = loader
 
 -- how many ports the node has: 32 where it is named who loads, or else one
@@ -61,10 +63,11 @@ abbrev pub loader_text : Option Loader → List ℕ
 loader_text None = []
 loader_text (Some loader) = named_text loader
 
--- the words of a header are those of the loader, and but for its port, initiator and key those that `packet` has without an
--- option
+-- the words of a header are those of the loader, and but for its port, initiator, key and target those that `packet` has
+-- without an option
 pub record IsHeaderOf (loader : Loader) (header : HeaderWords) : Type 0 where
   pub port : header.port ≡ loader.port
   pub initiator : header.initiator ≡ loader.initiator
   pub key : header.key ≡ loader.key
-  pub plain : GivesHeader [] (record header { port = 0; initiator = 103; key = 0 })
+  pub target : header.target ≡ loader.target
+  pub plain : GivesHeader [] (record header { port = 0; initiator = 103; key = 0; target = 254 })

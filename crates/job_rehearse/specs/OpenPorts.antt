@@ -1,6 +1,7 @@
 -- At which ports a program lets loads pass.
 use Rattle.std.specs.Prelude.{◌≡◌, ◌+◌, ◌&&◌, not, ℕ, zero, suc, Bool, false, if◌then◌else◌, List, [], ◌∷◌, ◌++◌, codes, decimal, length, slice_index_or}
 use Rattle.bver.specs.Justified.{AcceptedValue}
+use Rattle.job_config.specs.declared.own_node.TheConstants.{NODE_ADDRESS}
 use Rattle.job_rehearse.specs.Askers.{asker_text}
 use Rattle.job_rehearse.specs.Judging.{LetsLoad}
 use Rattle.job_rehearse.specs.declared.askers.Asker.{Asker}
@@ -8,7 +9,8 @@ use Rattle.job_rehearse.specs.declared.loaders.Loader.{Loader}
 
 -- the asker, at a port
 abbrev pub loader_at : Asker → (port : ℕ) → Loader
-loader_at asker port = record { port = port; initiator = asker.initiator.byte; key = asker.key.byte }
+loader_at asker port =
+    record { port = port; initiator = asker.initiator.byte; key = asker.key.byte; target = NODE_ADDRESS }
 
 -- the asker of a place
 abbrev pub IsAt : List Asker → (place : ℕ) → Asker → Type 0

@@ -12,12 +12,10 @@ use Rattle.bver.specs.Refusals.{IsRefusal}
 use Rattle.bver.specs.Unjustified.{TellsUnjustified}
 use Rattle.bver_form.specs.declared.refusal.Refused.{Refused}
 use Rattle.machine.specs.Sizes.{Maps}
-use Rattle.policy.specs.Compiled.{IsCompiled}
-use Rattle.policy_table.specs.FirstFault.{compile_fault}
-use Rattle.policy_table.specs.Lines.{IsTable}
-use Rattle.policy_table.specs.TableFaults.{IsTableFault, policy_fault_of, table_fault_text}
-use Rattle.policy_table.specs.declared.rules.Rule.{Rule}
-use Rattle.policy_table.specs.declared.table_faults.TableFault.{TableFault}
+use Rattle.policy.specs.Compiled.{IsPortCompiled}
+use Rattle.policy_table.specs.Policies.{IsPolicyFault, PolicyValue, WritesPolicy, policy_fault}
+use Rattle.policy_table.specs.TextFaults.{text_fault_of, text_fault_text}
+use Rattle.policy_table.specs.declared.text_faults.TextFault.{TextFault}
 use Rattle.rmap.specs.declared.boot.TheConstants.{STAGING_SIZE}
 use Rattle.spw.specs.Line.{lines_of}
 use Rattle.job_parts.specs.Files.{Reads}
@@ -40,10 +38,10 @@ abbrev pub is_image : List ℕ → Bool
 is_image bytes = starts_with nat_eq bytes magic
 
 -- the bytes are UTF-8, and the text of a table without a fault for these maps
-pub record IsTableOf (sizes : Maps) (bytes : List ℕ) (rules : List Rule) : Type 0 where
+pub record IsTableOf (sizes : Maps) (bytes : List ℕ) (policy : PolicyValue) : Type 0 where
   pub utf8 : IsUtf8 bytes
-  pub is_table : IsTable bytes rules
-  pub faultless : compile_fault sizes rules ≡ None
+  pub is_table : WritesPolicy (lines_of bytes) policy
+  pub faultless : policy_fault sizes policy ≡ None
 
 -- the bytes are an image of the program
 pub record IsImageOf (bytes : List ℕ) (p : Program) : Type 0 where
@@ -51,16 +49,16 @@ pub record IsImageOf (bytes : List ℕ) (p : Program) : Type 0 where
   pub limits : IsProgram p
   pub spelled : bytes ≡ image_bytes p
 
--- the bytes are a table of these rules that compiles to the program for these maps
-pub record IsCompiledOf (sizes : Maps) (bytes : List ℕ) (p : Program) (rules : List Rule) : Type 0 where
+-- the bytes are this table, which compiles to the program for these maps
+pub record IsCompiledOf (sizes : Maps) (bytes : List ℕ) (p : Program) (policy : PolicyValue) : Type 0 where
   pub other : is_image bytes ≡ false
-  pub table : IsTableOf sizes bytes rules
-  pub compiled : IsCompiled sizes rules p
+  pub table : IsTableOf sizes bytes policy
+  pub compiled : IsPortCompiled sizes policy p
 
--- the bytes are a policy of this program, for a node with these maps: its image, or a table of these rules that compiles to it
-abbrev pub IsPolicy : Maps → (bytes : List ℕ) → Program → Option (List Rule) → Type 0
+-- the bytes are a policy of this program, for a node with these maps: its image, or this table, which compiles to it
+abbrev pub IsPolicy : Maps → (bytes : List ℕ) → Program → Option PolicyValue → Type 0
 IsPolicy sizes bytes p None = IsImageOf bytes p
-IsPolicy sizes bytes p (Some rules) = IsCompiledOf sizes bytes p rules
+IsPolicy sizes bytes p (Some policy) = IsCompiledOf sizes bytes p policy
 
 -- the first fault of bytes that are no image, or memory was refused to it
 abbrev pub IsNoImage : (bytes : List ℕ) → Fault → Type 0
@@ -75,10 +73,10 @@ pub record IsNoText (name bytes : List ℕ) (fault : Fault) : Type 0 where
   pub no_text : ¬ IsUtf8 bytes
 
 -- the bytes are UTF-8, and no table without a fault for these maps: this is the first, with its place
-pub record IsBadTableOf (sizes : Maps) (bytes : List ℕ) (fault : TableFault) : Type 0 where
+pub record IsBadTableOf (sizes : Maps) (bytes : List ℕ) (fault : TextFault) : Type 0 where
   pub other : is_image bytes ≡ false
   pub utf8 : IsUtf8 bytes
-  pub is_fault : IsTableFault sizes (lines_of bytes) fault
+  pub is_fault : IsPolicyFault sizes (lines_of bytes) fault
 
 -- why the bytes of the file of this name are no policy for these maps
 abbrev pub IsNoPolicy : (name : List ℕ) → Maps → (bytes : List ℕ) → NoPolicy → Type 0
@@ -125,16 +123,16 @@ AreUnasked images sizes fault = AreUnready images.old images.new sizes fault ⊎
 -- ---- files
 
 -- the line of a table's fault was printed, and behind it a line with the name of its file and the place
-pub record TellsNamedFault (name : List ℕ) (fault : TableFault) (old new : Option (List ℕ)) : Type 0 where
+pub record TellsNamedFault (name : List ℕ) (fault : TextFault) (old new : Option (List ℕ)) : Type 0 where
   pub told : Option (List ℕ)
   pub named : Option (List ℕ)
-  pub line : Appends old told (fault_line (IsBadTable (policy_fault_of fault)))
+  pub line : Appends old told (fault_line (IsBadTable (text_fault_of fault)))
   pub file : Appends told named (codes "    " ++ name ++ codes " ")
-  pub place : Appends named new (table_fault_text fault ++ 10 ∷ [])
+  pub place : Appends named new (text_fault_text fault ++ 10 ∷ [])
 
 module _ {S : Type 0} (reads : Reads S) where
-  -- the file was read, and gave a policy of this program for these maps, and of these rules if it is a table
-  pub record HoldsPolicy (before : S) (name : List ℕ) (sizes : Maps) (p : Program) (table : Option (List Rule)) (after : S) :
+  -- the file was read, and gave a policy of this program for these maps, and this table if it is one
+  pub record HoldsPolicy (before : S) (name : List ℕ) (sizes : Maps) (p : Program) (table : Option PolicyValue) (after : S) :
       Type 0 where
     pub bytes : List ℕ
     pub read : reads before name (Some bytes) after
@@ -156,41 +154,41 @@ module _ {S : Type 0} (reads : Reads S) where
   GivesNoPolicy before name sizes after none =
       CannotBeRead before name after none ⊎ HoldsNone before name sizes after none
 
-module _ {S : Type 0} (reads : Reads S) (words : RehearseWords) where
+module _ {S : Type 0} (reads : Reads S) (words : RehearseWords) (sizes : Maps) where
   -- the file of the old policy gave this program
   abbrev pub HoldsOld : (before : S) → Program → (after : S) → Type 0
   HoldsOld before p after =
-      (table : Option (List Rule)) × HoldsPolicy reads before (string_bytes words.old) words.sizes p table after
+      (table : Option (PolicyValue)) × HoldsPolicy reads before (string_bytes words.old) sizes p table after
 
   -- the files were read in this order, and gave policies of these images
   pub record AreImages (before : S) (images : Images) (after : S) : Type 0 where
     pub between : S
     pub first : HoldsOld before images.old between
-    pub second : HoldsPolicy reads between (string_bytes words.new) words.sizes images.new images.table after
+    pub second : HoldsPolicy reads between (string_bytes words.new) sizes images.new images.table after
 
   -- the file of the new policy gives none, behind that of the old one, which does
   pub record NewIsNone (before after : S) (none : NoPolicy) : Type 0 where
     pub between : S
     pub one : Program
     pub first : HoldsOld before one between
-    pub second : GivesNoPolicy reads between (string_bytes words.new) words.sizes after none
+    pub second : GivesNoPolicy reads between (string_bytes words.new) sizes after none
 
   -- a file gives no policy
   abbrev pub AreNoImages : (before after : S) → NoPolicy → Type 0
   AreNoImages before after none =
-      GivesNoPolicy reads before (string_bytes words.old) words.sizes after none ⊎ NewIsNone before after none
+      GivesNoPolicy reads before (string_bytes words.old) sizes after none ⊎ NewIsNone before after none
 
   -- the files gave what a rehearsal needs
   pub record HoldsBoth (before after : S) (made : Policies) : Type 0 where
     pub images : Images
     pub are_images : AreImages before images after
-    pub policies : ArePolicies images.old images.new words.sizes made
+    pub policies : ArePolicies images.old images.new sizes made
 
   -- the files gave policies that cannot be rehearsed with
   pub record BothUnready (before after : S) (fault : Fault) : Type 0 where
     pub images : Images
     pub are_images : AreImages before images after
-    pub unready : AreUnready images.old images.new words.sizes fault
+    pub unready : AreUnready images.old images.new sizes fault
 
   -- the same as a reason
   abbrev pub EndUnready : (before after : S) → NoPolicy → Type 0
@@ -205,13 +203,13 @@ module _ {S : Type 0} (reads : Reads S) (words : RehearseWords) where
   pub record HoldsAsked (before after : S) (made : Asked) : Type 0 where
     pub images : Images
     pub are_images : AreImages before images after
-    pub asked : AreAsked images words.sizes made
+    pub asked : AreAsked images sizes made
 
   -- the files gave policies of which the new one cannot be asked
   pub record BothUnasked (before after : S) (fault : Fault) : Type 0 where
     pub images : Images
     pub are_images : AreImages before images after
-    pub unasked : AreUnasked images words.sizes fault
+    pub unasked : AreUnasked images sizes fault
 
   -- the same as a reason
   abbrev pub EndUnasked : (before after : S) → NoPolicy → Type 0

@@ -6,10 +6,10 @@ use Rattle.clap.specs.Simple.{App, new_app, with_rule}
 use Rattle.job_packets.specs.HexWords.{Has}
 use Rattle.job_packets.specs.Slots.{WritesSlots, every_slot}
 use Rattle.job_parts.specs.Arguments.{file_rule, flag_rule, option_rule}
-use Rattle.job_parts.specs.Options.{GivesSizes, IsBadList}
 use Rattle.job_parts.specs.declared.usage.UsageFault.{UsageFault}
 use Rattle.job_parts.specs.declared.usage.UsageFault.TheVariants.{Parse, BadOption, Memory}
 use Rattle.job_rehearse.specs.Loaders.{GivesLoaders}
+use Rattle.job_rehearse.specs.Places.{GivesPlace, SpoilsPlace}
 use Rattle.job_rehearse.specs.declared.rehearse.RehearseWords.{RehearseWords}
 
 -- `rehearse OLD NEW [--maps LIST] [--slot LIST]`
@@ -21,12 +21,16 @@ slots_app =
     (option_rule (codes "maps"))) (option_rule (codes "slot"))
 
 -- the same, with `[--port N] [--initiator HH] [--key HH] [--any]` behind it
-abbrev pub rehearse_app : App
-rehearse_app =
+abbrev pub loads_app : App
+loads_app =
     with_rule
     (with_rule
     (with_rule (with_rule slots_app (option_rule (codes "port"))) (option_rule (codes "initiator")))
     (option_rule (codes "key"))) (flag_rule (codes "any"))
+
+-- the same, with `[--node FILE]` behind it
+abbrev pub rehearse_app : App
+rehearse_app = with_rule loads_app (option_rule (codes "node"))
 
 -- both names are that of standard input, which one read ends
 abbrev pub are_one_input : (old new : List ℕ) → Bool
@@ -53,7 +57,7 @@ pub record NamesRehearse (rows : List Row) (words : RehearseWords) : Type 0 wher
   pub old : first_of (codes "old") rows ≡ Some (string_bytes words.old)
   pub new : first_of (codes "new") rows ≡ Some (string_bytes words.new)
   pub apart : are_one_input (string_bytes words.old) (string_bytes words.new) ≡ false
-  pub sizes : GivesSizes (first_of (codes "maps") rows) words.sizes
+  pub place : GivesPlace rows words.place
   pub slots : GivesSlots (first_of (codes "slot") rows) words.slots.items
   pub loaders : GivesLoaders rows words.loaders
 
@@ -65,11 +69,11 @@ pub record NamesOneInput (rows : List Row) : Type 0 where
   pub new_name : first_of (codes "new") rows ≡ Some new
   pub one : are_one_input old new ≡ true
 
--- matches without one of the files, with one input for both, with a list of maps or of slots that is none, or with options that
--- do not say whose loads are rehearsed
+-- matches without one of the files, with one input for both, with options that say no node or no slots, or that do not say whose
+-- loads are rehearsed
 abbrev pub SpoilsRehearse : List Row → Type 0
 SpoilsRehearse rows = (first_of (codes "old") rows ≡ None) ⊎ (first_of (codes "new") rows ≡ None) ⊎ NamesOneInput rows
-    ⊎ IsBadList (first_of (codes "maps") rows) ⊎ AreBadSlots (first_of (codes "slot") rows) ⊎ (¬ Has (GivesLoaders rows))
+    ⊎ SpoilsPlace rows ⊎ AreBadSlots (first_of (codes "slot") rows) ⊎ (¬ Has (GivesLoaders rows))
 
 -- such matches, or memory was refused
 abbrev pub RefusesRehearse : List Row → UsageFault → Type 0

@@ -1,23 +1,25 @@
 -- What the job `rehearse` reads and prints.
-use Rattle.std.specs.Prelude.{◌≡◌, ◌⊎◌, ℕ, List, [], ◌∷◌, ◌++◌, Option, Some, None, codes}
+use Rattle.std.specs.Prelude.{◌≡◌, ◌⊎◌, ℕ, true, false, List, [], ◌∷◌, ◌++◌, Option, Some, None, codes}
 use Rattle.std.specs.Borrow.{Bor}
 use Rattle.std.specs.Io.KnownBytes.{Appends}
-use Rattle.policy_table.specs.declared.table_faults.TableFault.{TableFault}
+use Rattle.machine.specs.Sizes.{Maps}
+use Rattle.policy_table.specs.declared.text_faults.TextFault.{TextFault}
 use Rattle.job_parts.specs.Files.{Reads}
 use Rattle.job_parts.specs.declared.faults.Fault.{Fault}
 use Rattle.job_parts.specs.declared.faults.Fault.TheVariants.{NoMemory}
 use Rattle.job_parts.specs.declared.status.Status.{Status}
-use Rattle.job_parts.specs.declared.status.Status.TheVariants.{Done, Failed}
-use Rattle.job_rehearse.specs.Loaders.{loader_in, loader_text, ports_in}
+use Rattle.job_parts.specs.declared.status.Status.TheVariants.{Done, Failed, Misused}
+use Rattle.job_rehearse.specs.Loaders.{loader_text}
 use Rattle.job_rehearse.specs.Loads.{Loads, StopsLoad}
 use Rattle.job_rehearse.specs.OpenPorts.{TellsAskers}
+use Rattle.job_rehearse.specs.Places.{HoldsNoPlace, HoldsPlace, IsBegunAt, IsUnbegun, has_port, loader_on, sizes_at}
 use Rattle.job_rehearse.specs.Policies.{HoldsAsked, HoldsBoth, HoldsNotAsked, HoldsNotBoth, TellsNamedFault}
-use Rattle.job_rehearse.specs.Steps.{IsBegun}
 use Rattle.job_rehearse.specs.declared.loads.Ending.{Ending}
 use Rattle.job_rehearse.specs.declared.loads.Ending.TheVariants.{InPart, Loaded, LockedOut, NotLoaded}
 use Rattle.job_rehearse.specs.declared.loaders.Loader.{Loader}
 use Rattle.job_rehearse.specs.declared.loaders.Loaders.TheVariants.{Any, One}
 use Rattle.job_rehearse.specs.declared.loaders.Loaders.{Loaders}
+use Rattle.job_rehearse.specs.declared.places.Place.{Place}
 use Rattle.job_rehearse.specs.declared.policies.Asked.{Asked}
 use Rattle.job_rehearse.specs.declared.policies.NoPolicy.{NoPolicy}
 use Rattle.job_rehearse.specs.declared.policies.NoPolicy.TheVariants.{BadTable, Ended}
@@ -47,12 +49,12 @@ any_end (code ∷ lines) = (code ∷ lines, Done)
 
 -- ---- of the loads of one
 
-module _ (slots : List ℕ) (named : Option Loader) (policies : Policies) where
-  -- the new policy was loaded at a fresh node on which the old one judges
+module _ (place : Place) (slots : List ℕ) (named : Option Loader) (policies : Policies) where
+  -- the new policy was loaded at the node, before any other load, on which the old one judges
   pub record LoadsNew (ending : Ending) (after : Rehearsing) (old new : Option (List ℕ)) : Type 0 where
     pub fresh : Rehearsing
-    pub begun : IsBegun policies.program (ports_in named) fresh
-    pub loads : Loads (codes "NEW") (loader_in named) slots policies.new.items ending fresh after old new
+    pub begun : IsBegunAt place policies.program named fresh
+    pub loads : Loads (codes "NEW") (loader_on place named) slots policies.new.items ending fresh after old new
 
   -- the new policy was not loaded, which was told
   pub record StaysOld (old new : Option (List ℕ)) (status : Status) : Type 0 where
@@ -73,7 +75,7 @@ module _ (slots : List ℕ) (named : Option Loader) (policies : Policies) where
     pub between : Option (List ℕ)
     pub behind : Option (List ℕ)
     pub there : LoadsNew Loaded middle old between
-    pub back : Loads (codes "OLD") (loader_in named) slots policies.old.items ending middle after between behind
+    pub back : Loads (codes "OLD") (loader_on place named) slots policies.old.items ending middle after between behind
     pub told : Appends behind new ((back_line ending).0 ++ loader_text named ++ 10 ∷ [])
     pub status_is : status ≡ (back_line ending).1
 
@@ -84,20 +86,21 @@ module _ (slots : List ℕ) (named : Option Loader) (policies : Policies) where
   -- a fault ended the load of the new policy
   pub record StopsThere (old new : Option (List ℕ)) (fault : Fault) : Type 0 where
     pub fresh : Rehearsing
-    pub begun : IsBegun policies.program (ports_in named) fresh
-    pub stop : StopsLoad (codes "NEW") (loader_in named) slots policies.new.items fresh old new fault
+    pub begun : IsBegunAt place policies.program named fresh
+    pub stop : StopsLoad (codes "NEW") (loader_on place named) slots policies.new.items fresh old new fault
 
   -- a fault ended the load of the old policy, behind that of the new one
   pub record StopsBack (old new : Option (List ℕ)) (fault : Fault) : Type 0 where
     pub middle : Rehearsing
     pub between : Option (List ℕ)
     pub there : LoadsNew Loaded middle old between
-    pub stop : StopsLoad (codes "OLD") (loader_in named) slots policies.old.items middle between new fault
+    pub stop : StopsLoad (codes "OLD") (loader_on place named) slots policies.old.items middle between new fault
 
-  -- why a rehearsal was not ended: memory was refused to the node, or a fault ended one of the loads
+  -- why a rehearsal was not ended: there is no such node, or memory was refused before it; or a fault ended one of the loads
   abbrev pub IsStuck : (old new : Option (List ℕ)) → Fault → Type 0
   IsStuck old new fault =
-      ((fault ≡ NoMemory) × (new ≡ old)) ⊎ (StopsThere old new fault ⊎ StopsBack old new fault)
+      (((fault ≡ NoMemory) ⊎ IsUnbegun place policies.program fault) × (new ≡ old))
+      ⊎ (StopsThere old new fault ⊎ StopsBack old new fault)
 
 -- ---- of the loads of any
 
@@ -113,35 +116,68 @@ pub record AsksAny (asked : Asked) (old new : Option (List ℕ)) (status : Statu
 -- a table has a fault, which was told with the name of its file and its place
 pub record TellsBad (holds : NoPolicy → Type 0) (old new : Option (List ℕ)) (status : Status) : Type 0 where
   pub file : Bor (List ℕ)
-  pub fault : TableFault
+  pub fault : TextFault
   pub bad : holds (BadTable file fault)
   pub told : TellsNamedFault file.now fault old new
   pub failed : status ≡ Failed
 
 module _ {S : Type 0} (reads : Reads S) (words : RehearseWords) where
-  -- both policies were read, and rehearsed with
-  pub record RehearsesBoth (named : Option Loader) (before after : S) (old new : Option (List ℕ)) (status : Status) : Type 0
-    where
-      pub policies : Policies
-      pub held : HoldsBoth reads words before after policies
-      pub rehearsed : Rehearses words.slots.items named policies old new status
+  -- both policies were read, and rehearsed with at that node
+  pub record RehearsesBoth (place : Place) (named : Option Loader) (before after : S) (old new : Option (List ℕ))
+      (status : Status) : Type 0 where
+    pub policies : Policies
+    pub held : HoldsBoth reads words (sizes_at place) before after policies
+    pub rehearsed : Rehearses place words.slots.items named policies old new status
 
-  -- what was read and printed of the loads of one where no fault ended it: the new policy was loaded or not, and so was the old one
-  -- under it; or a table has a fault
+  -- what was read and printed of the loads of one at that node where no fault ended it: the new policy was loaded or not, and so
+  -- was the old one under it; or a table has a fault
+  abbrev pub DoesAt : Place → Option Loader → (before after : S) → (old new : Option (List ℕ)) → Status → Type 0
+  DoesAt place named before after old new status =
+      RehearsesBoth place named before after old new status
+      ⊎ TellsBad (HoldsNotBoth reads words (sizes_at place) before after) old new status
+
+  -- the node of the words was read, and what was read and printed at it
+  pub record DoesPlaced (named : Option Loader) (before after : S) (old new : Option (List ℕ)) (status : Status) : Type 0
+    where
+      pub place : Place
+      pub between : S
+      pub placed : HoldsPlace reads words.place before place between
+      pub port : has_port place named ≡ true
+      pub does : DoesAt place named between after old new status
+
+  -- the node of the words was read, and does not have the port of the one that is named, which was refused
+  pub record RefusesPort (named : Option Loader) (before after : S) (old new : Option (List ℕ)) (status : Status) : Type 0
+    where
+      pub place : Place
+      pub placed : HoldsPlace reads words.place before place after
+      pub no_port : has_port place named ≡ false
+      pub told : Appends old new (codes "bad option" ++ 10 ∷ [])
+      pub misused : status ≡ Misused
+
+  -- what was read and printed of the loads of one where no fault ended it
   abbrev pub DoesOne : Option Loader → (before after : S) → (old new : Option (List ℕ)) → Status → Type 0
   DoesOne named before after old new status =
-      RehearsesBoth named before after old new status ⊎ TellsBad (HoldsNotBoth reads words before after) old new status
+      DoesPlaced named before after old new status ⊎ RefusesPort named before after old new status
 
-  -- both policies were read, and the new one was asked
-  pub record AsksBoth (before after : S) (old new : Option (List ℕ)) (status : Status) : Type 0 where
+  -- both policies were read, for a node with these maps, and the new one was asked
+  pub record AsksBoth (sizes : Maps) (before after : S) (old new : Option (List ℕ)) (status : Status) : Type 0 where
     pub asked : Asked
-    pub held : HoldsAsked reads words before after asked
+    pub held : HoldsAsked reads words sizes before after asked
     pub asks : AsksAny asked old new status
 
-  -- what was read and printed of the loads of any where no fault ended it: the new policy was asked; or a table has a fault
-  abbrev pub DoesAny : (before after : S) → (old new : Option (List ℕ)) → Status → Type 0
-  DoesAny before after old new status =
-      AsksBoth before after old new status ⊎ TellsBad (HoldsNotAsked reads words before after) old new status
+  -- what was read and printed of the loads of any where no fault ended it, for a node with these maps: the new policy was asked;
+  -- or a table has a fault
+  abbrev pub AsksWith : Maps → (before after : S) → (old new : Option (List ℕ)) → Status → Type 0
+  AsksWith sizes before after old new status =
+      AsksBoth sizes before after old new status
+      ⊎ TellsBad (HoldsNotAsked reads words sizes before after) old new status
+
+  -- the same with the maps of the words
+  pub record DoesAny (before after : S) (old new : Option (List ℕ)) (status : Status) : Type 0 where
+    pub place : Place
+    pub between : S
+    pub placed : HoldsPlace reads words.place before place between
+    pub does : AsksWith (sizes_at place) between after old new status
 
   -- of whose loads it is done
   abbrev pub Does : Loaders → (before after : S) → (old new : Option (List ℕ)) → Status → Type 0
@@ -153,27 +189,52 @@ module _ {S : Type 0} (reads : Reads S) (words : RehearseWords) where
   abbrev pub RehearsesFile : (before after : S) → (old new : Option (List ℕ)) → Status → Type 0
   RehearsesFile before after old new status = Does words.loaders before after old new status
 
-  -- a fault ended the rehearsal of both policies
-  pub record StopsBoth (named : Option Loader) (before after : S) (old new : Option (List ℕ)) (fault : Fault) : Type 0 where
+  -- a fault ended the rehearsal of both policies at that node
+  pub record StopsBoth (place : Place) (named : Option Loader) (before after : S) (old new : Option (List ℕ))
+      (fault : Fault) : Type 0 where
     pub policies : Policies
-    pub held : HoldsBoth reads words before after policies
-    pub stuck : IsStuck words.slots.items named policies old new fault
+    pub held : HoldsBoth reads words (sizes_at place) before after policies
+    pub stuck : IsStuck place words.slots.items named policies old new fault
 
-  -- of the loads of one: a file gives no policy that can be rehearsed with, and nothing was printed; or a fault ended the rehearsal
+  -- of the loads of one at that node: a file gives no policy that can be rehearsed with, and nothing was printed; or a fault ended
+  -- the rehearsal
+  abbrev pub IsUndoneAt : Place → Option Loader → (before after : S) → (old new : Option (List ℕ)) → Fault → Type 0
+  IsUndoneAt place named before after old new fault =
+      ((new ≡ old) × HoldsNotBoth reads words (sizes_at place) before after (Ended fault))
+      ⊎ StopsBoth place named before after old new fault
+
+  -- the node of the words was read, and why it is not done at it
+  pub record IsUndoneThere (named : Option Loader) (before after : S) (old new : Option (List ℕ)) (fault : Fault) : Type 0
+    where
+      pub place : Place
+      pub between : S
+      pub placed : HoldsPlace reads words.place before place between
+      pub undone : IsUndoneAt place named between after old new fault
+
+  -- of the loads of one: the words say no node, and nothing was printed; or it is not done at the node
   abbrev pub IsUndone : Option Loader → (before after : S) → (old new : Option (List ℕ)) → Fault → Type 0
   IsUndone named before after old new fault =
-      ((new ≡ old) × HoldsNotBoth reads words before after (Ended fault)) ⊎ StopsBoth named before after old new fault
+      ((new ≡ old) × HoldsNoPlace reads words.place before after fault)
+      ⊎ IsUndoneThere named before after old new fault
 
   -- both policies were read, and memory was refused to what was to be printed
-  pub record LacksRoom (before after : S) (fault : Fault) : Type 0 where
+  pub record LacksRoom (sizes : Maps) (before after : S) (fault : Fault) : Type 0 where
     pub asked : Asked
-    pub held : HoldsAsked reads words before after asked
+    pub held : HoldsAsked reads words sizes before after asked
     pub no_memory : fault ≡ NoMemory
 
-  -- of the loads of any: nothing was printed, and a file gives no policy that can be asked, or memory was refused
+  -- the node of the words was read, and a file gives no policy that can be asked for it, or memory was refused
+  pub record IsUnaskedThere (before after : S) (fault : Fault) : Type 0 where
+    pub place : Place
+    pub between : S
+    pub placed : HoldsPlace reads words.place before place between
+    pub unasked : HoldsNotAsked reads words (sizes_at place) between after (Ended fault)
+        ⊎ LacksRoom (sizes_at place) between after fault
+
+  -- of the loads of any: nothing was printed, and the words say no node, or it is not asked for the node
   abbrev pub IsUnasked : (before after : S) → (old new : Option (List ℕ)) → Fault → Type 0
   IsUnasked before after old new fault =
-      (new ≡ old) × (HoldsNotAsked reads words before after (Ended fault) ⊎ LacksRoom before after fault)
+      (new ≡ old) × (HoldsNoPlace reads words.place before after fault ⊎ IsUnaskedThere before after fault)
 
   -- of whose loads it is not done
   abbrev pub DoesNot : Loaders → (before after : S) → (old new : Option (List ℕ)) → Fault → Type 0

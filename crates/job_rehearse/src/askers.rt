@@ -4,7 +4,7 @@ ghost use Rattle.std.specs.Prelude.{◌≡◌, ◌++◌, IfOk, OnOk, drop, strin
 ghost use Rattle.std.specs.List.{list_any};
 ghost use Rattle.job_rehearse.specs.Askers.{asker_text, asker_words, askers_of, each_value, every_asker, is_wanted, table_askers, value_at, value_text, values_of, wanted, with_keys, with_pairs};
 
-use policy::{Rule, Table};
+use policy::{Policy, PortRule, Rule};
 use std::alloc::{AllocError, Global};
 
 /// A value of a field of a header, of which a program is asked.
@@ -44,21 +44,21 @@ fn wanted(field: Field, rule: &Rule) -> Option<u8>
     }
 }
 
-/// Whether a rule wants just this value of a field.
-fn is_wanted(field: Field, byte: u8, rule: &Rule) -> bool
-    ensures { result ≡ is_wanted field byte rule.now }
+/// Whether a rule wants just this value of a field, at whatever port it is asked.
+fn is_wanted(field: Field, byte: u8, own: &PortRule) -> bool
+    ensures { result ≡ is_wanted field byte own.now }
 {
-    match wanted(field, rule) {
+    match wanted(field, &own.rule) {
         Some(own) => own == byte,
         None => false,
     }
 }
 
 /// Whether some rule names a value of a field.
-fn names(rules: &[Rule], field: Field, byte: u8) -> bool
+fn names(rules: &[PortRule], field: Field, byte: u8) -> bool
     ensures { result ≡ list_any (is_wanted field byte) rules.now }
 {
-    rules.iter().any(|rule| is_wanted(field, byte, rule))
+    rules.iter().any(|own| is_wanted(field, byte, own))
 }
 
 /// Adds a value, if a rule names it, or if it is the first that none names.
@@ -78,7 +78,7 @@ fn push_value(
 }
 
 /// The values of a field that some rule names, and the least that none names, from the least on.
-fn values_of(alloc: Global, rules: &[Rule], field: Field) -> Result<Vec<Asking>, AllocError>
+fn values_of(alloc: Global, rules: &[PortRule], field: Field) -> Result<Vec<Asking>, AllocError>
     ensures { IfOk result (λ values. values.items ≡ values_of rules.now field) }
 {
     let mut values = Vec::new(alloc);
@@ -130,7 +130,7 @@ fn add_pairs(
 }
 
 /// Of whose loads the program of a table is asked.
-fn table_askers(alloc: Global, rules: &[Rule]) -> Result<Vec<Asker>, AllocError>
+fn table_askers(alloc: Global, rules: &[PortRule]) -> Result<Vec<Asker>, AllocError>
     ensures { IfOk result (λ askers. askers.items ≡ table_askers rules.now) }
 {
     let initiators = values_of(alloc, rules, Field::Initiator)?;
@@ -172,7 +172,7 @@ fn every_asker(alloc: Global) -> Result<Vec<Asker>, AllocError>
 
 /// Of whose loads the program of a policy is asked, of a table if it is of one: each initiator and each key that a rule names,
 /// and the least that none names. Of an image each initiator with key 00, and initiator 67 with each other key.
-pub fn askers_of(alloc: Global, table: &Option<Table>) -> Result<Vec<Asker>, AllocError>
+pub fn askers_of(alloc: Global, table: &Option<Policy>) -> Result<Vec<Asker>, AllocError>
     ensures { IfOk result (λ askers. askers.items ≡ askers_of table.now) }
 {
     match table {

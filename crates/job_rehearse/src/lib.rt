@@ -7,6 +7,7 @@ mod judging;
 pub mod loaders;
 mod loads;
 mod open_ports;
+pub mod places;
 mod policies;
 pub mod rehearse;
 mod steps;

@@ -10,13 +10,14 @@ ghost use Rattle.job_parts.specs.Options.{IsBadValue};
 ghost use Rattle.job_rehearse.specs.Loaders.{GivesLoader, GivesLoaders, IsHeaderOf, has_value, is_any_beside, loader_in, loader_text, named_text, named_words, names_loader, ports_in};
 
 use clap::ArgMatches;
+use job_config::own_node::NODE_ADDRESS;
 use job_packets::packet_options::{HeaderWords, byte_of, port_of};
 use job_packets::slips::{PacketFault, PacketWord};
 use job_parts::arguments::{is_set, text_of};
 use job_parts::usage::UsageFault;
 use std::alloc::{AllocError, Global};
 
-/// Who loads: the port at which its packets come in, and what their headers say of it.
+/// Who loads: the port at which its packets come in, and what their headers say of it and of the node.
 #[derive(Clone, Copy, Debug, PartialEq, Eq)]
 pub struct Loader {
     /// The port, 0 to 31.
@@ -25,6 +26,8 @@ pub struct Loader {
     pub initiator: u8,
     /// The key.
     pub key: u8,
+    /// The logical address of the node that is loaded.
+    pub target: u8,
 }
 
 /// Whose loads are rehearsed.
@@ -70,6 +73,7 @@ pub fn loader_of(found: &ArgMatches) -> Result<Loader, PacketFault>
         port,
         initiator,
         key,
+        target: NODE_ADDRESS,
     })
 }
 
@@ -103,6 +107,7 @@ pub fn loader_in(named: Option<Loader>) -> Loader
             port: 0,
             initiator: 0x67,
             key: 0,
+            target: NODE_ADDRESS,
         },
     }
 }
@@ -153,14 +158,14 @@ pub fn loader_text(alloc: Global, named: Option<Loader>) -> Result<String, Alloc
     }
 }
 
-/// The words of the headers of a loader: but for its port, initiator and key as `packet` has them without an option.
+/// The words of the headers of a loader: but for its port, initiator, key and target as `packet` has them without an option.
 pub fn header_of(alloc: Global, loader: Loader) -> HeaderWords
     ensures given { IsHeaderOf loader result }
     ensures address { has_reply_address result ≡ true }
 {
     HeaderWords {
         port: loader.port,
-        target: 0xFE,
+        target: loader.target,
         key: loader.key,
         initiator: loader.initiator,
         transaction: 0,

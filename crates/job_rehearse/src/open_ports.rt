@@ -8,6 +8,7 @@ use crate::askers::{Asker, asker_text};
 use crate::judging::lets_load;
 use crate::loaders::Loader;
 use bver::Accepted;
+use job_config::own_node::NODE_ADDRESS;
 use spw::PORTS;
 use std::alloc::{AllocError, Global};
 
@@ -27,6 +28,7 @@ fn lets_at(
         port,
         initiator: asker.initiator.byte,
         key: asker.key.byte,
+        target: NODE_ADDRESS,
     };
     lets_load(alloc, judge, loader, image)
 }

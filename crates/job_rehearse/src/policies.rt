@@ -14,7 +14,7 @@ use job_parts::faults::Fault;
 use job_parts::programs::bytes_in;
 use job_parts::storage::Files;
 use machine::MapSizes;
-use policy::{Table, TableFault, compile};
+use policy::{Policy, TextFault, compile_policy};
 use rmap::STAGING_SIZE;
 use std::alloc::{AllocError, Global};
 use std::io::{self, Write};
@@ -28,7 +28,7 @@ pub enum NoPolicy<'a> {
     /// The fault ends the job.
     Ended(Fault<'a>),
     /// The table in the file of this name has a fault.
-    BadTable(&'a str, TableFault),
+    BadTable(&'a str, TextFault),
 }
 
 impl<'a> From<Fault<'a>> for NoPolicy<'a> {
@@ -47,7 +47,7 @@ struct Images {
     /// The image of the new policy.
     new: Image,
     /// The table that the new policy is, if it is one.
-    table: Option<Table>,
+    table: Option<Policy>,
 }
 
 /// The policies of a rehearsal.
@@ -93,7 +93,7 @@ fn table_of<'a>(
     name: &'a str,
     bytes: Vec<u8>,
     sizes: &MapSizes,
-) -> Result<Table, NoPolicy<'a>>
+) -> Result<Policy, NoPolicy<'a>>
     requires { is_image bytes.items ≡ false }
     ensures table { IfOk result (IsTableOf sizes.now bytes.items) }
     ensures none { IfErr result (IsNoPolicy name.now sizes.now bytes.items) }
@@ -101,7 +101,7 @@ fn table_of<'a>(
     let Ok(text) = String::from_utf8(bytes) else {
         return Err(NoPolicy::Ended(Fault::CannotRead(name)));
     };
-    match Table::read_for(alloc, text.as_str(), sizes) {
+    match Policy::read_for(alloc, text.as_str(), sizes) {
         Ok(table) => Ok(table),
         Err(fault) => Err(NoPolicy::BadTable(name, fault)),
     }
@@ -113,13 +113,13 @@ fn compiled<'a>(
     name: &'a str,
     bytes: Vec<u8>,
     sizes: &MapSizes,
-) -> Result<(Image, Table), NoPolicy<'a>>
+) -> Result<(Image, Policy), NoPolicy<'a>>
     requires { is_image bytes.items ≡ false }
     ensures policy { IfOk result (λ made. IsCompiledOf sizes.now bytes.items made.0 made.1) }
     ensures none { IfErr result (IsNoPolicy name.now sizes.now bytes.items) }
 {
     let table = table_of(alloc, name, bytes, sizes)?;
-    match compile(alloc, &table, sizes) {
+    match compile_policy(alloc, &table, sizes) {
         Ok(image) => Ok((image, table)),
         // Memory alone can be refused to it: the table has no fault for these maps.
         Err(_) => Err(NoPolicy::Ended(Fault::NoMemory)),
@@ -133,7 +133,7 @@ fn policy_in<'a, F: Files>(
     files: &mut F,
     name: &'a str,
     sizes: &MapSizes,
-) -> Result<(Image, Option<Table>), NoPolicy<'a>>
+) -> Result<(Image, Option<Policy>), NoPolicy<'a>>
     ensures policy { IfOk result (λ made.
         HoldsPolicy F.reads files.old name.now sizes.now made.0 made.1 files.new) }
     ensures none { IfErr result
@@ -151,13 +151,14 @@ fn policy_in<'a, F: Files>(
 fn images_read<'a, F: Files>(
     alloc: Global,
     words: &'a RehearseWords,
+    sizes: &MapSizes,
     files: &mut F,
 ) -> Result<Images, NoPolicy<'a>>
-    ensures images { IfOk result (λ made. AreImages F.reads words.now files.old made files.new) }
-    ensures none { IfErr result (AreNoImages F.reads words.now files.old files.new) }
+    ensures images { IfOk result (λ made. AreImages F.reads words.now sizes.now files.old made files.new) }
+    ensures none { IfErr result (AreNoImages F.reads words.now sizes.now files.old files.new) }
 {
-    let (old, _) = policy_in(alloc, files, words.old.as_str(), &words.sizes)?;
-    let (new, table) = policy_in(alloc, files, words.new.as_str(), &words.sizes)?;
+    let (old, _) = policy_in(alloc, files, words.old.as_str(), sizes)?;
+    let (new, table) = policy_in(alloc, files, words.new.as_str(), sizes)?;
     Ok(Images { old, new, table })
 }
 
@@ -199,20 +200,22 @@ fn policies_of<'a>(
     Ok(Policies { program, old, new })
 }
 
-/// The policies of a rehearsal, of the files that the words name.
+/// The policies of a rehearsal, of the files that the words name, for a node with maps of these sizes.
 ///
 /// Faults are found in this order: the file of the old policy, that policy, the file of the new one, that policy, and
 /// whether the old one may judge on the node.
 pub fn policies_in<'a, F: Files>(
     alloc: Global,
     words: &'a RehearseWords,
+    sizes: &MapSizes,
     files: &mut F,
 ) -> Result<Policies, NoPolicy<'a>>
-    ensures policies { IfOk result (HoldsBoth F.reads words.now files.old files.new) }
-    ensures none { IfErr result (HoldsNotBoth F.reads words.now files.old files.new) }
+    ensures policies { IfOk result (HoldsBoth F.reads words.now sizes.now files.old files.new) }
+    ensures sizes { IfOk result (λ made. made.program.sizes ≡ sizes.now) }
+    ensures none { IfErr result (HoldsNotBoth F.reads words.now sizes.now files.old files.new) }
 {
-    let images = images_read(alloc, words, files)?;
-    Ok(policies_of(alloc, &images.old, &images.new, &words.sizes)?)
+    let images = images_read(alloc, words, sizes, files)?;
+    Ok(policies_of(alloc, &images.old, &images.new, sizes)?)
 }
 
 /// What is asked of two images.
@@ -230,23 +233,24 @@ fn asked_of<'a>(alloc: Global, images: &Images, sizes: &MapSizes) -> Result<Aske
     })
 }
 
-/// The policies of which the new one is asked, of the files that the words name.
+/// The policies of which the new one is asked, of the files that the words name, for a node with maps of these sizes.
 ///
 /// Faults are found in the order of [`policies_in`], and then whether the new policy may judge on the node.
 pub fn asked_in<'a, F: Files>(
     alloc: Global,
     words: &'a RehearseWords,
+    sizes: &MapSizes,
     files: &mut F,
 ) -> Result<Asked, NoPolicy<'a>>
-    ensures asked { IfOk result (HoldsAsked F.reads words.now files.old files.new) }
-    ensures none { IfErr result (HoldsNotAsked F.reads words.now files.old files.new) }
+    ensures asked { IfOk result (HoldsAsked F.reads words.now sizes.now files.old files.new) }
+    ensures none { IfErr result (HoldsNotAsked F.reads words.now sizes.now files.old files.new) }
 {
-    let images = images_read(alloc, words, files)?;
-    Ok(asked_of(alloc, &images, &words.sizes)?)
+    let images = images_read(alloc, words, sizes, files)?;
+    Ok(asked_of(alloc, &images, sizes)?)
 }
 
 /// Prints the fault of a table: its line, and a line with the name of its file and the place.
-pub fn print_named_fault<W: Write>(out: &mut W, name: &str, fault: &TableFault) -> io::Result<()>
+pub fn print_named_fault<W: Write>(out: &mut W, name: &str, fault: &TextFault) -> io::Result<()>
     ensures { OnOk result
         (TellsNamedFault name.now fault.now (W.contents out.old) (W.contents out.new)) }
 {

@@ -11,19 +11,21 @@ ghost use Rattle.rmap.specs.declared.boot.TheConstants.{STAGING_SIZE};
 ghost use Rattle.job_parts.specs.declared.faults.Fault.TheVariants.{NoMemory};
 ghost use Rattle.job_rehearse.specs.RehearseJob.{GivesSlots, NamesRehearse, RefusesRehearse, RefusesSlots, are_one_input, rehearse_app};
 ghost use Rattle.job_rehearse.specs.Loaders.{loader_text};
+ghost use Rattle.job_rehearse.specs.Places.{sizes_at};
 ghost use Rattle.job_rehearse.specs.declared.policies.NoPolicy.TheVariants.{Ended};
-ghost use Rattle.job_rehearse.specs.Rehearsed.{AsksAny, DoesAny, DoesOne, IsNotRehearsed, IsStuck, IsUnasked, IsUndone, Rehearses, RehearsesFile, TellsBad, any_end, back_line, there_line};
+ghost use Rattle.job_rehearse.specs.Rehearsed.{AsksAny, DoesAny, DoesAt, DoesOne, IsNotRehearsed, IsStuck, IsUnasked, IsUndone, IsUndoneAt, Rehearses, RehearsesFile, TellsBad, any_end, back_line, there_line};
 
-use crate::loaders::{Loader, Loaders, loader_in, loader_text, loaders_of, ports_in};
+use crate::loaders::{Loader, Loaders, loader_text, loaders_of};
 use crate::loads::{Ending, LoadOf, load};
 use crate::open_ports::askers_text;
+use crate::places::{Place, PlaceWords, begun_at, place_in, place_of};
 use crate::policies::{Asked, NoPolicy, Policies, asked_in, policies_in, print_named_fault};
-use crate::steps::Rehearsing;
 use clap::{ArgMatches, Command};
+use job_config::sources::node_option;
 use job_packets::numbers::{every_slot, slots_written};
 use job_parts::arguments::{file, flag, name_of, option, text_of};
 use job_parts::inputs::{Content, InputFile, Inputs};
-use job_parts::options::{maps_option, sizes_of};
+use job_parts::options::maps_option;
 use job_parts::printing::print_text;
 use job_parts::status::Status;
 use job_parts::stops::Halt;
@@ -43,8 +45,8 @@ pub struct RehearseWords {
     pub old: String,
     /// The name of the file of the new policy.
     pub new: String,
-    /// How many cells each map of the node has, and of which kind it is.
-    pub sizes: MapSizes,
+    /// The node.
+    pub place: PlaceWords,
     /// The slots into which a policy is loaded, in this order.
     pub slots: Vec<u8>,
     /// Whose loads are rehearsed.
@@ -52,14 +54,26 @@ pub struct RehearseWords {
 }
 
 impl RehearseWords {
-    /// What the job reads: the old policy, and then the new one.
+    /// What the job reads: the old policy, and then the new one; before them the node's file, if there is one, and behind that
+    /// the files that it names.
     pub fn inputs(&self) -> Inputs<'_> {
+        if let PlaceWords::File(name) = &self.place {
+            return Inputs::one(InputFile::new(name.as_str(), Content::Node));
+        }
         let old = InputFile::new(self.old.as_str(), Content::ImageOrText);
         Inputs::two(old, InputFile::new(self.new.as_str(), Content::ImageOrText))
     }
+
+    /// How many cells each map of the node has, where no file says it.
+    pub fn sizes(&self) -> Option<&MapSizes> {
+        match &self.place {
+            PlaceWords::Maps(sizes) => Some(sizes),
+            PlaceWords::File(_) => None,
+        }
+    }
 }
 
-/// `rehearse OLD NEW [--maps LIST] [--slot LIST] [--port N] [--initiator HH] [--key HH] [--any]`.
+/// `rehearse OLD NEW [--maps LIST] [--slot LIST] [--port N] [--initiator HH] [--key HH] [--any] [--node FILE]`.
 pub fn rehearse_command<'a>(alloc: Global) -> Result<Command<'a>, AllocError>
     ensures shape { IfOk result (λ c. app_of c ≡ rehearse_app) }
     ensures local { IfOk result (λ c. (fields_of c).has_globals ≡ false) }
@@ -89,7 +103,8 @@ pub fn rehearse_command<'a>(alloc: Global) -> Result<Command<'a>, AllocError>
         .arg(port)?
         .arg(initiator)?
         .arg(key)?
-        .arg(any)
+        .arg(any)?
+        .arg(node_option(alloc))
 }
 
 /// Whether both policies would be read of standard input, which one read ends.
@@ -124,13 +139,13 @@ pub fn rehearse_job(alloc: Global, found: &ArgMatches) -> Result<RehearseWords, 
     if are_one_input(old.as_str(), new.as_str()) {
         return Err(UsageFault::BadOption);
     }
-    let sizes = sizes_of(alloc, found)?;
+    let place = place_of(alloc, found)?;
     let slots = slots_of(alloc, found)?;
     let loaders = loaders_of(found)?;
     Ok(RehearseWords {
         old,
         new,
-        sizes,
+        place,
         slots,
         loaders,
     })
@@ -166,25 +181,28 @@ fn print_end<W: Write>(out: &mut W, line: &str, who: &str) -> io::Result<()>
     writeln!(out, "{line}{who}")
 }
 
-/// Loads the new policy at a fresh node on which the old one judges, and then the old one, and prints what becomes of each
-/// packet, and how it ended.
+/// Loads the new policy at a node on which the old one judges, and then the old one, and prints what becomes of each packet, and
+/// how it ended.
 fn rehearse<'a, W: Write>(
     alloc: Global,
-    slots: &[u8],
+    words: &RehearseWords,
+    place: &Place,
     named: Option<Loader>,
     policies: Policies,
     out: &mut W,
 ) -> Result<Status, Halt<'a>>
+    requires sizes { policies.program.sizes ≡ sizes_at place.now }
     requires old { length policies.old.items ≤ STAGING_SIZE }
     requires new { length policies.new.items ≤ STAGING_SIZE }
-    ensures done { IfOk result
-        (Rehearses slots.now named policies (W.contents out.old) (W.contents out.new)) }
-    ensures stops { IfErr result
-        (StopsBy (IsStuck slots.now named policies (W.contents out.old) (W.contents out.new))) }
+    ensures done { IfOk result (Rehearses place.now words.now.slots.items named policies
+        (W.contents out.old) (W.contents out.new)) }
+    ensures stops { IfErr result (StopsBy (IsStuck place.now words.now.slots.items named policies
+        (W.contents out.old) (W.contents out.new))) }
 {
     let who = loader_text(alloc, named)?;
-    let mut rehearsing = Rehearsing::new(alloc, policies.program, ports_in(named))?;
-    let loader = loader_in(named);
+    let mut rehearsing = begun_at(alloc, &words.place, place, policies.program, named)?;
+    let loader = place.loader(named);
+    let slots = words.slots.as_slice();
     let new = LoadOf {
         name: "NEW",
         loader,
@@ -222,7 +240,28 @@ fn tell_none<'a, W: Write>(none: NoPolicy<'a>, out: &mut W) -> Result<Status, Ha
     }
 }
 
-/// Rehearses the load of the new policy by the one that is named, and the way back.
+/// Rehearses the load of the new policy at that node by the one that is named, and the way back.
+fn rehearse_at<'a, F: Files, W: Write>(
+    alloc: Global,
+    words: &'a RehearseWords,
+    place: &Place,
+    named: Option<Loader>,
+    files: &mut F,
+    out: &mut W,
+) -> Result<Status, Halt<'a>>
+    ensures done { IfOk result (DoesAt F.reads words.now place.now named files.old files.new
+        (W.contents out.old) (W.contents out.new)) }
+    ensures stops { IfErr result (StopsBy (IsUndoneAt F.reads words.now place.now named files.old
+        files.new (W.contents out.old) (W.contents out.new))) }
+{
+    match policies_in(alloc, words, &place.sizes(), files) {
+        Ok(policies) => rehearse(alloc, words, place, named, policies, out),
+        Err(none) => tell_none(none, out),
+    }
+}
+
+/// The same at the node of the words. `Misused`, with the line `bad option`, where the node of a file does not have the port of the
+/// one that is named.
 fn rehearse_one<'a, F: Files, W: Write>(
     alloc: Global,
     words: &'a RehearseWords,
@@ -235,10 +274,12 @@ fn rehearse_one<'a, F: Files, W: Write>(
     ensures stops { IfErr result (StopsBy (IsUndone F.reads words.now named files.old files.new
         (W.contents out.old) (W.contents out.new))) }
 {
-    match policies_in(alloc, words, files) {
-        Ok(policies) => rehearse(alloc, words.slots.as_slice(), named, policies, out),
-        Err(none) => tell_none(none, out),
+    let place = place_in(alloc, &words.place, files)?;
+    if !place.has_port(named) {
+        writeln!(out, "bad option")?;
+        return Ok(Status::Misused);
     }
+    rehearse_at(alloc, words, &place, named, files, out)
 }
 
 /// What is printed of whose loads the new policy lets pass, where these are their lines, and the exit status.
@@ -267,7 +308,7 @@ fn ask_any<'a, W: Write>(alloc: Global, asked: &Asked, out: &mut W) -> Result<St
     Ok(status)
 }
 
-/// Asks the new policy whose loads of the old one it lets pass.
+/// Asks the new policy whose loads of the old one it lets pass, at a node with the maps of the words.
 fn rehearse_any<'a, F: Files, W: Write>(
     alloc: Global,
     words: &'a RehearseWords,
@@ -279,7 +320,8 @@ fn rehearse_any<'a, F: Files, W: Write>(
     ensures stops { IfErr result (StopsBy (IsUnasked F.reads words.now files.old files.new
         (W.contents out.old) (W.contents out.new))) }
 {
-    match asked_in(alloc, words, files) {
+    let place = place_in(alloc, &words.place, files)?;
+    match asked_in(alloc, words, &place.sizes(), files) {
         Ok(asked) => ask_any(alloc, &asked, out),
         Err(none) => tell_none(none, out),
     }
@@ -290,7 +332,7 @@ fn rehearse_any<'a, F: Files, W: Write>(
 /// lets pass, and loads nothing. Where a table has a fault that is printed, with the name of its file and the place, and the
 /// job failed.
 ///
-/// Faults are found in this order: the file of the old policy (`CannotRead`, also where it is neither an image nor UTF-8),
+/// Faults are found in this order: those of the node's file, the file of the old policy (`CannotRead`, also where it is neither an image nor UTF-8),
 /// that policy, the file of the new one, that policy, whether the old one may judge, and if it is asked whether the new one may.
 pub fn rehearse_file<'a, F: Files, W: Write>(
     alloc: Global,

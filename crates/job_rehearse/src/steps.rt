@@ -1,13 +1,14 @@
 //! The packets of loads, which a node of one thread takes in turn.
 
-ghost use Rattle.std.specs.Prelude.{◌≡◌, ◌<◌, IfErr, IfOk};
+ghost use Rattle.std.specs.Prelude.{◌≡◌, ◌<◌, [], IfErr, IfOk, false};
+ghost use Rattle.job_nodes.specs.JobNode.{alone};
 ghost use Rattle.rmap.specs.Command.{discard_of};
 ghost use Rattle.spw.specs.Line.{IsPacketLine};
 ghost use Rattle.job_rehearse.specs.Steps.{IsBegun, IsNoPacket, IsNoStep, TakesStep, is_refused, step_at, step_of};
 
 use crate::words::print_step;
 use bver::Accepted;
-use job_nodes::node::node_config;
+use job_nodes::node::{JobNode, node_config};
 use job_parts::bad_lines::BadLine;
 use job_parts::stops::LineHalt;
 use job_parts::turns::TakesLines;
@@ -102,6 +103,21 @@ impl Rehearsing {
             reply: ReplyBuf::new(),
             refused: false,
         })
+    }
+}
+
+impl Rehearsing {
+    /// That node, which has served nothing here.
+    pub fn at(node: JobNode) -> Rehearsing
+        ensures node { result.node ≡ alone node }
+        ensures silent { result.reply ≡ [] }
+        ensures unrefused { result.refused ≡ false }
+    {
+        Rehearsing {
+            node: node.into_node(),
+            reply: ReplyBuf::new(),
+            refused: false,
+        }
     }
 }
 

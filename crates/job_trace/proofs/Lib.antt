@@ -1,4 +1,5 @@
 mod Histories
 mod LinesInTurn
+mod Scheduled
 mod Signs
 mod Striding

@@ -1,19 +1,14 @@
 -- Lines that are traced in turn.
-use Rattle.std.proofs.Common.{◌≡◌, ℕ, List, [], ◌∷◌, Option, Some, None, refl, sym, ap, subst, ◌∙◌}
+use Rattle.std.proofs.Common.{◌≡◌, ℕ, List, [], ◌∷◌, Option, Some, None, refl, sym, ap, subst}
 use Rattle.spw.specs.Cargo.{Cargo}
-use Rattle.bpf.specs.Program.{Program}
-use Rattle.node_parts.specs.declared.config.NodeConfig.{NodeConfig}
 use Rattle.sched.specs.History.{History}
 use Rattle.sched.specs.Looking.{Node}
-use Rattle.sched.specs.Worlds.{IsLawfulWorld, WorldValue, node_of}
+use Rattle.sched.specs.Worlds.{IsLawfulWorld, WorldValue}
 use Rattle.job_nodes.specs.Feeds.{IsFed}
-use Rattle.job_nodes.specs.JobNode.{IsConfig}
-use Rattle.job_nodes.specs.Simulated.{node_by}
 use Rattle.job_parts.specs.Turns.{AreTaken, StopsIn}
-use Rattle.job_parts.specs.declared.options.NodeWords.{NodeWords}
 use Rattle.job_parts.specs.declared.faults.Fault.{Fault}
 use Rattle.job_trace.specs.Judged.{Traces, TracesPacket}
-use Rattle.job_trace.specs.Traced.{IsCutShort, IsStuck, TracesLine, TracesLineFrom, TracesLines}
+use Rattle.job_trace.specs.Traced.{IsCutShort, IsStuck, TracesLineFrom, TracesLines}
 use Rattle.job_trace.specs.declared.trace.Tracing.{Tracing}
 use Rattle.std.specs.Io.KnownBytes.{Appends}
 
@@ -63,7 +58,3 @@ cuts_short n h lines a b old new fault lawful stop =
       is_fault = stop.is_fault;
       bad = stop.bad.0;
     }
-
--- the node of that configuration is the node of the words
-pub node_is : (words : NodeWords) (config : NodeConfig) (program : Program) → IsConfig words.ports words.sizes config → node_of config program ≡ node_by words program
-node_is words config program is = rw (is.address, is.ports_are, is.banks, is.sizes_are) refl

@@ -9,10 +9,11 @@ use Rattle.sched.specs.History.{History, Then, Open, opened, taken}
 use Rattle.sched.specs.Looking.{Node}
 use Rattle.sched.specs.Worlds.{IsLawfulWorld, IsWorldOf, WorldValue}
 use Rattle.sched.specs.declared.event.Event.{Event}
-use Rattle.sched.specs.declared.event.Event.TheVariants.{Take, Effect, Publish}
+use Rattle.sched.specs.declared.event.Event.TheVariants.{Take}
 use Rattle.sched.specs.declared.event.Outcome.{Outcome}
 use Rattle.sched.specs.declared.event.Outcome.TheVariants.{Refused, Discarded, Answered, Taken, Told, Done}
 use Rattle.job_nodes.specs.JudgeJob.{discard_line}
+use Rattle.job_nodes.specs.Settled.{IsEnd}
 use Rattle.job_parts.specs.Replies.{reply_line}
 use Rattle.job_trace.specs.TraceJob.{command_lines}
 
@@ -32,10 +33,6 @@ pub data Helped (port : ℕ) (first : History) : (answers : List ℕ) → Histor
   none : Helped port first [] first
   more : {answers : List ℕ} {h : History} (helper : Helper) (told : ℕ) → Helped port first answers h
       → Helped port first (answers ++ told ∷ []) (Then h (answering helper port) (Told told))
-
--- the event ends a command of the port
-abbrev pub IsEnd : (port : ℕ) → Event → Type 0
-IsEnd port event = (event ≡ Effect port) ⊎ (event ≡ Publish port)
 
 -- the command of a packet that was taken behind this history, with that generation and those answers
 abbrev pub command_with : Cargo → (generation : ℕ) → History → (answers : List ℕ) → Open

@@ -5,12 +5,12 @@ use Rattle.bpf.specs.Program.{Program}
 use Rattle.machine.specs.State.{entry_state}
 use Rattle.sched.specs.History.{Open}
 use Rattle.sched.specs.Looking.{Node, header_in, program_of, slot_of_packet}
-use Rattle.job_parts.specs.Lines.{lines_app}
+use Rattle.job_config.specs.NodeLines.{node_lines_app}
 use Rattle.job_trace.specs.Runs.{lines_within}
 
--- `trace LINES [--image FILE] [--maps LIST] [--ports N]`
+-- `trace LINES [--image FILE] [--maps LIST] [--ports N]`, or `trace LINES --node FILE`
 abbrev pub trace_app : App
-trace_app = lines_app (codes "trace")
+trace_app = node_lines_app (codes "trace")
 
 -- the line of a command that is taken
 abbrev pub taken_line : (port slot generation : ℕ) → List ℕ

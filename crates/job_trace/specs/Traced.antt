@@ -1,19 +1,20 @@
 -- What the job `trace` reads and does, and what it prints.
 use Rattle.std.specs.Prelude.{◌≡◌, ◌⊎◌, ℕ, suc, List, [], ◌∷◌, ◌++◌, length, replicate, Option, Some}
-use Rattle.bver.specs.Justified.{AcceptedValue}
 use Rattle.spw.specs.Cargo.{Cargo}
 use Rattle.spw.specs.Line.{lines_of}
-use Rattle.sched.specs.History.{History, Start}
+use Rattle.sched.specs.History.{History}
 use Rattle.sched.specs.Looking.{Node}
-use Rattle.sched.specs.Worlds.{IsLawfulWorld, IsWorldOf, WorldValue}
+use Rattle.sched.specs.Worlds.{IsLawfulWorld, WorldValue}
+use Rattle.job_config.specs.declared.node_lines.NodeLines.{NodeLines}
+use Rattle.job_nodes.specs.Beginning.{IsScheduled, IsUnscheduled, RefusesContents}
 use Rattle.job_nodes.specs.Feeds.{IsFed, IsNotFed}
-use Rattle.job_nodes.specs.Simulated.{node_by}
 use Rattle.job_parts.specs.Files.{Reads}
-use Rattle.job_parts.specs.Given.{AreGiven, IsNotReady}
 use Rattle.job_parts.specs.Stops.{fault_at}
 use Rattle.job_parts.specs.Turns.{Sees, SeesEnd}
 use Rattle.job_parts.specs.declared.faults.Fault.{Fault}
-use Rattle.job_parts.specs.declared.lines.LinesArgs.{LinesArgs}
+use Rattle.job_parts.specs.declared.faults.Fault.TheVariants.{NoMemory as OutOfMemory}
+use Rattle.job_parts.specs.declared.status.Status.{Status}
+use Rattle.job_parts.specs.declared.status.Status.TheVariants.{Done, Failed, Misused}
 use Rattle.job_parts.specs.declared.stops.LineEnd.{LineEnd}
 use Rattle.job_parts.specs.declared.stops.LineEnd.TheVariants.{Bad, NoMemory}
 use Rattle.job_trace.specs.Judged.{IsTraced}
@@ -71,35 +72,44 @@ IsStuck line before after old new end = IsUntraced line before.feeds after.feeds
 
 -- ---- the whole job
 
-module _ {S : Type 0} (reads : Reads S) (args : LinesArgs) where
-  -- the text was read, the world is the beginning of the node with the program that was, and its ports hold nothing
-  pub record IsSet (before : S) (text : List ℕ) (first : Tracing) (after : S) : Type 0 where
-    pub program : AcceptedValue
-    pub given : AreGiven reads args before text program after
-    pub beginning : IsWorldOf (node_by args.node program.program) Start first.world
-    pub empty : first.feeds ≡ replicate args.node.ports []
-
-  -- each line of the file was traced on that node, and what became of its packets is lawful
+module _ {S : Type 0} (reads : Reads S) (args : NodeLines) where
+  -- each line of the file was traced on that node, behind the history at which its schedules begin, and what became of its
+  -- packets is lawful
   pub record TracesFile (before after : S) (old new : Option (List ℕ)) : Type 0 where
     pub text : List ℕ
-    pub program : AcceptedValue
+    pub node : Node
+    pub begun : History
     pub later : History
     pub world : WorldValue
     pub left : List (List ℕ)
-    pub given : AreGiven reads args before text program after
-    pub lawful : IsLawfulWorld (node_by args.node program.program) later world
-    pub all : TracesLines (node_by args.node program.program) (lines_of text) Start (replicate args.node.ports [])
-        later left old new
+    pub scheduled : IsScheduled reads args before text node begun after
+    pub lawful : IsLawfulWorld node later world
+    pub all : TracesLines node (lines_of text) begun (replicate node.ports []) later left old new
+
+  -- what `trace` reads and prints where no fault ends it, with its exit status: 2 where a bank begins with bytes
+  abbrev pub DoesTrace : (before after : S) → (old new : Option (List ℕ)) → Status → Type 0
+  DoesTrace before after old new Done = TracesFile before after old new
+  DoesTrace before after old new Failed = ⊥
+  DoesTrace before after old new Misused = RefusesContents reads args before after old new
 
   -- the lines of the file before one were traced on that node, and that one was not
   pub record StopsShort (before after : S) (old new : Option (List ℕ)) (fault : Fault) : Type 0 where
     pub text : List ℕ
-    pub program : AcceptedValue
-    pub given : AreGiven reads args before text program after
-    pub cut_short : IsCutShort (node_by args.node program.program) (lines_of text) Start (replicate args.node.ports [])
-        old new fault
+    pub node : Node
+    pub begun : History
+    pub scheduled : IsScheduled reads args before text node begun after
+    pub cut_short : IsCutShort node (lines_of text) begun (replicate node.ports []) old new fault
 
-  -- why not all lines were traced: nothing was printed where lines or program cannot be read
+  -- lines and node were read, and memory was refused to what takes the lines
+  pub record LacksRoom (before after : S) (fault : Fault) : Type 0 where
+    pub text : List ℕ
+    pub node : Node
+    pub begun : History
+    pub scheduled : IsScheduled reads args before text node begun after
+    pub no_memory : fault ≡ OutOfMemory
+
+  -- why not all lines were traced: nothing was printed where lines or node cannot be read
   abbrev pub IsNotTraced : (before after : S) → (old new : Option (List ℕ)) → Fault → Type 0
   IsNotTraced before after old new fault =
-      ((new ≡ old) × IsNotReady reads args before after fault) ⊎ StopsShort before after old new fault
+      ((new ≡ old) × (IsUnscheduled reads args before after fault ⊎ LacksRoom before after fault))
+      ⊎ StopsShort before after old new fault

@@ -5,14 +5,13 @@ ghost use Rattle.machine.specs.declared.helpers.Helper.{Helper};
 ghost use Rattle.sched.specs.Answers.{answering};
 ghost use Rattle.job_parts.specs.Printed.{Prints};
 ghost use Rattle.job_trace.specs.TraceJob.{taken_line};
-ghost use Rattle.job_trace.specs.Judged.{AnswersHelpers, EndsCommand, IsEnd, PrintsRun, TracesCommand, TracesPacket};
+ghost use Rattle.job_trace.specs.Judged.{AnswersHelpers, EndsCommand, PrintsRun, TracesCommand, TracesPacket};
 
 use crate::runs::trace_run;
 use brun::Turn;
 use job_nodes::judge::print_discard;
+use job_nodes::settling::{answered_by, ending};
 use job_parts::replies::print_reply;
-use machine::Helper;
-use rmap::Place;
 use sched::{Event, Outcome, World, step};
 use spw::Packet;
 use std::alloc::{AllocError, Global};
@@ -21,17 +20,6 @@ use stepper::Machine;
 
 /// How many questions a run has at most: no more than a budget allows it steps.
 const MOST_QUESTIONS: u32 = 0x1_0000;
-
-/// The event that answers a helper at the port.
-fn answered_by(helper: Helper, port: u8) -> Event
-    ensures { result ≡ answering helper port }
-{
-    match helper {
-        Helper::Count => Event::Count(port),
-        Helper::Ticket => Event::Ticket(port),
-        Helper::Peak => Event::Peak(port),
-    }
-}
 
 /// The event that answers the helper that a program at the port asks, or `None` where it asks none.
 fn question(world: &World, port: u8) -> Option<Event>
@@ -90,16 +78,6 @@ fn print_run<W: Write>(
     let sizes = standing.program.sizes();
     let machine = Machine::start(image, &sizes, standing.front, standing.tail, port);
     trace_run(alloc, machine, answers, image.budget(), out)
-}
-
-/// The event that ends the command at a port, where its bytes lie there.
-fn ending(port: u8, place: Place) -> Event
-    ensures { IsEnd port result }
-{
-    match place {
-        Place::Bank(_) | Place::Staging | Place::LoadResult => Event::Effect(port),
-        Place::Control => Event::Publish(port),
-    }
 }
 
 /// Ends the command at a port, whose program has its verdict, and prints its reply.

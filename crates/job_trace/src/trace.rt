@@ -1,21 +1,18 @@
 //! The job `trace`.
 
-ghost use Rattle.std.specs.Prelude.{◌≡◌, IfErr, IfOk, Some, [], false, string_bytes};
+ghost use Rattle.std.specs.Prelude.{◌≡◌, IfErr, IfOk, Some, [], false, length, replicate};
 ghost use Rattle.clap.specs.Simple.{app_of};
 ghost use Rattle.clap.specs.declared.builder.command.Command.TheViews.{out-Command as fields_of};
-ghost use Rattle.job_parts.specs.Given.{IsNotReady};
-ghost use Rattle.job_parts.specs.Statuses.{IsDoneWith};
 ghost use Rattle.job_parts.specs.Stops.{StopsBy};
 ghost use Rattle.job_trace.specs.Judged.{TracesPacket};
 ghost use Rattle.job_trace.specs.TraceJob.{trace_app};
-ghost use Rattle.job_trace.specs.Traced.{IsNotTraced, IsSet, IsStuck, TracesFile, TracesLineFrom};
+ghost use Rattle.job_trace.specs.Traced.{IsNotTraced, IsStuck, DoesTrace, TracesLineFrom};
 
 use crate::judged::trace_packet;
 use clap::Command;
+use job_config::node_lines::{NodeLines, node_lines_command};
 use job_nodes::feeds::Feeds;
-use job_nodes::node::node_config;
-use job_parts::faults::Fault;
-use job_parts::lines::{LinesArgs, lines_and_program, lines_command};
+use job_nodes::sources::lines_and_world;
 use job_parts::status::Status;
 use job_parts::stops::{Halt, LineHalt};
 use job_parts::storage::Files;
@@ -25,14 +22,14 @@ use spw::Packet;
 use std::alloc::{AllocError, Global};
 use std::io::Write;
 
-/// `trace LINES [--image FILE] [--maps LIST] [--ports N]`.
+/// `trace LINES [--image FILE] [--maps LIST] [--ports N]` or `trace LINES --node FILE`.
 pub fn trace_command<'a>(alloc: Global) -> Result<Command<'a>, AllocError>
     ensures shape { IfOk result (λ c. app_of c ≡ trace_app) }
     ensures local { IfOk result (λ c. (fields_of c).has_globals ≡ false) }
 {
     let about = "Judges each packet line and prints the steps of its program and its reply";
     let help = "The file of packet lines, or - for standard input";
-    lines_command(alloc, "trace", about, help)
+    node_lines_command(alloc, "trace", about, help)
 }
 
 /// What is printed of a packet that is taken at a port: the run of the program that judges it, and its reply.
@@ -77,43 +74,38 @@ impl TakesLines for Tracing {
     }
 }
 
-/// The text of the file of packet lines, the world of a node of these arguments behind no event, in each of whose slots
-/// the program of its image file stands, or the factory program, and ports that hold nothing.
-fn lines_and_world<'a, F: Files>(
-    alloc: Global,
-    args: &'a LinesArgs,
-    files: &mut F,
-) -> Result<(String, Tracing), Fault<'a>>
-    ensures set { IfOk result
-        (λ made. IsSet F.reads args.now files.old (string_bytes made.0) made.1 files.new) }
-    ensures refused { IfErr result (IsNotReady F.reads args.now files.old files.new) }
+/// What takes lines on a world, whose ports hold nothing.
+fn tracing_on(alloc: Global, world: World) -> Result<Tracing, AllocError>
+    ensures world { IfOk result (λ tracing. tracing.world ≡ world) }
+    ensures empty { IfOk result (λ tracing. tracing.feeds ≡ replicate (length world.ports) []) }
 {
-    let (text, program) = lines_and_program(alloc, args, files)?;
-    let config = node_config(args.node.ports, args.node.sizes);
-    let feeds = Feeds::new(alloc, args.node.ports)?;
-    // Memory alone can be refused to it: the command line gives no other number of ports than a node has.
-    let world = World::with_factory(alloc, &config, program).map_err(|_| Fault::NoMemory)?;
-    Ok((text, Tracing { world, feeds }))
+    let feeds = Feeds::new(alloc, world.ports())?;
+    Ok(Tracing { world, feeds })
 }
 
-/// Judges the packet lines of a file, in order, on the node of these arguments, whose programs are at first that of an
-/// image file, or the factory program. Of each packet that a program judges it prints the steps of the run, and then the
-/// reply; of any other its line alone.
+/// Judges the packet lines of a file, in order, on the node of these arguments, at its beginning or behind what its file loads.
+/// Of each packet that a program judges it prints the steps of the run, and then the reply; of any other its line alone.
+/// `Misused`, with the line `bad option`, where a bank begins with bytes, which no schedule does.
 ///
-/// Faults are found in this order: the file of lines (`CannotRead`, also where it is not UTF-8), the image file, its
-/// image, and then each line.
+/// Faults are found in the order of [`lines_and_world`], and then each line.
+#[tactic(auto, using(crate::proofs::Scheduled::refuses_contents))]
 pub fn trace_file<'a, F: Files, W: Write>(
     alloc: Global,
-    args: &'a LinesArgs,
+    args: &'a NodeLines,
     files: &mut F,
     out: &mut W,
 ) -> Result<Status, Halt<'a>>
-    ensures done { IfOk result (IsDoneWith (TracesFile F.reads args.now files.old files.new
-        (W.contents out.old) (W.contents out.new))) }
+    ensures done { IfOk result (DoesTrace F.reads args.now files.old files.new
+        (W.contents out.old) (W.contents out.new)) }
     ensures stops { IfErr result (StopsBy (IsNotTraced F.reads args.now files.old files.new
         (W.contents out.old) (W.contents out.new))) }
 {
-    let (text, mut tracing) = lines_and_world(alloc, args, files)?;
+    let (text, made) = lines_and_world(alloc, args, files)?;
+    let Some(world) = made else {
+        writeln!(out, "bad option")?;
+        return Ok(Status::Misused);
+    };
+    let mut tracing = tracing_on(alloc, world)?;
     take_lines(alloc, &mut tracing, text.as_str(), out)?;
     Ok(Status::Done)
 }

@@ -3,9 +3,10 @@
 #![tactic(auto)]
 
 use commands::{
-    Asked, Course, DumpTalk, Fault, HostLink, HostTalk, Job, NodeSource, OWN_SOURCE, ShowWords,
-    Status, ToldFiles, ToldTalk, UsageFault, WITHOUT_WORDS, Work, WriteFault, asked_of, live,
-    live_frames, own_source, perform_told, show_talk, told_node, told_option, told_wait,
+    Asked, Configuration, Course, DumpTalk, Fault, HostLink, HostTalk, Job, JobEnd, NodeJob,
+    NodeSource, Noted, OWN_SOURCE, ShowWords, Status, ToldFiles, ToldTalk, UsageFault,
+    WITHOUT_WORDS, Work, WriteFault, asked_of, configuration_in, live, live_frames, node_inputs,
+    own_source, perform_told, show_talk, told_end, told_node, told_option, told_wait,
 };
 use std::alloc::{AllocError, Global};
 use std::io::{BufReader, BufWriter, IsTerminal, Stderr, Write};
@@ -56,11 +57,12 @@ fn refuse_output<R: Print + Eprint>(rt: &R, name: &str) -> u8 {
     status
 }
 
-/// Does a job over this machine's files and standard output, and gives the exit status.
+/// Does a job over this machine's files and standard output, where a node's file may say its maps, and gives the exit status.
 fn do_job<R: rt::Files + Input + Print + Eprint + Threads + Wait + Sync>(
     rt: &R,
     alloc: Global,
     job: &Job,
+    is_on_node: bool,
 ) -> u8 {
     if let Some(name) = own_source(rt, &job.inputs()) {
         return refuse_output(rt, name);
@@ -69,7 +71,7 @@ fn do_job<R: rt::Files + Input + Print + Eprint + Threads + Wait + Sync>(
         Ok(out) => out,
         Err(refused) => return lose_output(rt, Err(refused)),
     };
-    let mut files = ToldFiles::of_job(rt, job);
+    let mut files = ToldFiles::of_job(rt, job, is_on_node);
     let done = perform_told(rt, alloc, job, &mut files, &mut out);
     // What was held back fails again where it failed before, with the reason.
     match (done, out.flush()) {
@@ -78,6 +80,57 @@ fn do_job<R: rt::Files + Input + Print + Eprint + Threads + Wait + Sync>(
             end.status.code()
         }
         (_, flushed) => lose_output(rt, flushed),
+    }
+}
+
+/// Prints the fault of a job's node, and gives the exit status.
+fn refuse_node<R: Print + Eprint>(
+    rt: &R,
+    alloc: Global,
+    job: &Job,
+    fault: Fault<'_>,
+    noted: &Noted<'_>,
+) -> u8 {
+    let status = match rt.println(&fault) {
+        Ok(()) => FAILED,
+        Err(refused) => lose_output(rt, Err(refused)),
+    };
+    let end = JobEnd {
+        status: Status::Failed,
+        fault: Some(fault),
+        full: None,
+    };
+    tell(rt, told_end(alloc, job, &end, noted));
+    status
+}
+
+/// The configuration of the node's file of this name, of which the job is told, or the exit status where it has a fault.
+fn read_node<R: rt::Files + Input + Print + Eprint>(
+    rt: &R,
+    alloc: Global,
+    job: &Job,
+    node: &str,
+) -> Result<Configuration, u8> {
+    let mut files = ToldFiles::new(rt, node_inputs(node));
+    match configuration_in(alloc, &mut files, node) {
+        Ok(configuration) => Ok(configuration),
+        Err(fault) => Err(refuse_node(rt, alloc, job, fault, files.noted())),
+    }
+}
+
+/// Does a job for the node of a file, and gives the exit status.
+fn do_on_node<R: rt::Files + Input + Print + Eprint + Threads + Wait + Sync>(
+    rt: &R,
+    alloc: Global,
+    own: NodeJob,
+) -> u8 {
+    if let Some(name) = own_source(rt, &own.inputs()) {
+        return refuse_output(rt, name);
+    }
+    let NodeJob { job, node } = own;
+    match read_node(rt, alloc, &job, node.as_str()) {
+        Ok(configuration) => do_job(rt, alloc, &job.placed(&configuration), true),
+        Err(status) => status,
     }
 }
 
@@ -146,13 +199,14 @@ fn do_work<R: rt::Files + Input + Print + Eprint + Threads + Wait + Sync>(
     rt: &R,
     errors: &Stderr,
     alloc: Global,
-    work: &Work,
+    work: Work,
 ) -> u8 {
     match work.course() {
-        Course::Perform(job) => do_job(rt, alloc, job),
-        Course::Show(words) => show_input(rt, alloc, words),
-        Course::Lines(node) => talk_lines(rt, alloc, node),
-        Course::Frames(node) => talk_frames(rt, errors, alloc, node),
+        Course::Perform(job) => do_job(rt, alloc, &job, false),
+        Course::OnNode(own) => do_on_node(rt, alloc, own),
+        Course::Show(words) => show_input(rt, alloc, &words),
+        Course::Lines(node) => talk_lines(rt, alloc, &node),
+        Course::Frames(node) => talk_frames(rt, errors, alloc, &node),
     }
 }
 
@@ -227,7 +281,7 @@ fn do_words<R: rt::Files + Input + Print + Eprint + Threads + Wait + Sync>(
             let _ = rt.eprintln(&text);
         }
     }
-    match &found {
+    match found {
         Asked::Named(work) => do_work(rt, errors, alloc, work),
         Asked::Told(text) => print(rt, text.as_str(), 0),
     }

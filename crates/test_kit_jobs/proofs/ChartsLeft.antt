@@ -1,7 +1,7 @@
 -- What the jobs `compare` and `map` leave in a folder: their reads changed nothing.
 use Rattle.std.proofs.Common.{◌≡◌, inl, inr, ℕ, List, Option, Some, None, ◌∙◌}
-use Rattle.policy_table.specs.declared.rules.Rule.{Rule}
-use Rattle.policy_table.specs.declared.table_faults.TableFault.{TableFault}
+use Rattle.policy_table.specs.Policies.{PolicyValue}
+use Rattle.policy_table.specs.declared.text_faults.TextFault.{TextFault}
 use Rattle.job_parts.specs.Reading.{TextUnread}
 use Rattle.job_parts.specs.declared.faults.Fault.{Fault}
 use Rattle.job_parts.specs.declared.status.Status.{Status}
@@ -32,11 +32,11 @@ unmapped words before after fault (inl is) = no_text before _ after fault is
 unmapped words before after fault (inr is) = is.given.read.0
 
 -- two tables that were read
-paired : (words : CompareWords) (before : FolderValue) (one other : List Rule) (after : FolderValue)
+paired : (words : CompareWords) (before : FolderValue) (one other : PolicyValue) (after : FolderValue)
     → AreTables FolderReads words before one other after → after ≡ before
 paired words before one other after are = are.second.read.0 ∙ are.first.read.0
 
-bad : (words : CompareWords) (before after : FolderValue) (name : List ℕ) (fault : TableFault)
+bad : (words : CompareWords) (before after : FolderValue) (name : List ℕ) (fault : TextFault)
     → IsBad FolderReads words before after name fault → after ≡ before
 bad words before after name fault (inl is) = is.1.read.0
 bad words before after name fault (inr is) = is.1.held.read.0 ∙ is.1.first.read.0

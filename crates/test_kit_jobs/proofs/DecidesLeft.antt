@@ -1,6 +1,6 @@
 -- What the job `decide` leaves in a folder: its reads changed nothing.
 use Rattle.std.proofs.Common.{◌≡◌, inl, inr, ℕ, List, Option, Some, None, ◌∙◌}
-use Rattle.policy_table.specs.declared.rules.Rule.{Rule}
+use Rattle.policy_table.specs.Policies.{PolicyValue}
 use Rattle.job_parts.specs.Reading.{TextUnread}
 use Rattle.job_parts.specs.declared.faults.Fault.{Fault}
 use Rattle.job_parts.specs.declared.status.Status.{Status}
@@ -18,22 +18,22 @@ same before name (Some bytes) after read = read.0
 no_text : (before : FolderValue) (name : List ℕ) (after : FolderValue) (fault : Fault) → TextUnread FolderReads before name after fault → after ≡ before
 no_text before name after fault is = same before name is.no_text.given after is.no_text.read
 
-decided : (words : DecideWords) (before : FolderValue) (text : List ℕ) (rules : List Rule) (after : FolderValue)
-    → IsGiven FolderReads words before text rules after → after ≡ before
-decided words before text rules after given = given.table.read.0 ∙ given.lines.read.0
+decided : (words : DecideWords) (before : FolderValue) (text : List ℕ) (policy : PolicyValue) (after : FolderValue)
+    → IsGiven FolderReads words before text policy after → after ≡ before
+decided words before text policy after given = given.table.read.0 ∙ given.lines.read.0
 
 unread : (words : DecideWords) (before after : FolderValue) (fault : Fault) → IsUnread FolderReads words before after fault → after ≡ before
 unread words before after fault (inl is) = no_text before _ after fault is
 unread words before after fault (inr (inl is)) = no_text is.between _ after fault is.unread ∙ is.lines.read.0
-unread words before after fault (inr (inr is)) = decided words before is.text is.rules after is.given
+unread words before after fault (inr (inr is)) = decided words before is.text is.policy after is.given
 
 pub undecided : (words : DecideWords) (before after : FolderValue) (old new : Option (List ℕ)) (fault : Fault)
     → IsNotDecided FolderReads words before after old new fault → after ≡ before
 undecided words before after old new fault (inl is) = unread words before after fault is.1
-undecided words before after old new fault (inr stops) = decided words before stops.text stops.rules after stops.given
+undecided words before after old new fault (inr stops) = decided words before stops.text stops.policy after stops.given
 
 pub decides_file : (words : DecideWords) (before after : FolderValue) (old new : Option (List ℕ)) (status : Status)
     → Decides FolderReads words before after old new status → after ≡ before
-decides_file words before after old new Done is = decided words before is.text is.rules after is.given
+decides_file words before after old new Done is = decided words before is.text is.policy after is.given
 decides_file words before after old new Failed is = is.held.table.read.0 ∙ is.held.lines.read.0
 decides_file words before after old new Misused is = absurd is

@@ -2,26 +2,30 @@
 use Rattle.std.proofs.Common.{◌≡◌, inl, inr, ℕ, zero, suc, List, Option, Some, None, subst, sym, ◌∙◌}
 use Rattle.bpf.specs.Program.{Program, image_bytes}
 use Rattle.machine.specs.Sizes.{Maps}
-use Rattle.job_parts.specs.Given.{AreGiven, AreRead, HoldsNoProgram, HoldsProgram, IsNotReady}
+use Rattle.job_parts.specs.Given.{HoldsNoProgram, HoldsProgram}
 use Rattle.job_parts.specs.Reading.{IsNoImage, IsNoProgram, TextUnread}
 use Rattle.job_parts.specs.declared.faults.Fault.{Fault}
-use Rattle.job_parts.specs.declared.lines.LinesArgs.{LinesArgs}
-use Rattle.job_parts.specs.Options.{image_name}
 use Rattle.job_texts.specs.Assembled.{Assembles, IsNotAssembled}
 use Rattle.job_texts.specs.Compiled.{CompilesTable, IsNoTable, IsNotCompiled}
 use Rattle.job_texts.specs.Disassembled.{IsNotPrinted}
+use Rattle.bver.specs.Justified.{AcceptedValue}
+use Rattle.sched.specs.History.{History}
+use Rattle.sched.specs.Looking.{Node as Schedule}
+use Rattle.job_config.specs.OwnNodes.{OwnNodeValue}
 use Rattle.job_config.specs.declared.node_lines.NodeLines.{NodeLines}
+use Rattle.job_nodes.specs.Beginning.{BeginsAt, GivesNoWorld, HasContents, IsScheduled, IsUnscheduled, RefusesContents}
 use Rattle.job_config.specs.declared.sources.NodeSource.{NodeSource}
 use Rattle.job_config.specs.declared.sources.NodeSource.TheVariants.{File, Words}
 use Rattle.job_nodes.specs.JobNode.{JobNodeValue}
 use Rattle.job_nodes.specs.Judged.{IsNotJudged, IsReady}
 use Rattle.job_nodes.specs.Sources.{HoldsNoNode, HoldsNode}
-use Rattle.job_nodes.specs.Simulated.{IsNotSimulated}
-use Rattle.job_ports.specs.ServedFile.{IsNotServed}
-use Rattle.job_trace.specs.Traced.{IsNotTraced}
+use Rattle.job_nodes.specs.Simulated.{DoesSim, IsNotSimulated}
+use Rattle.job_ports.specs.OwnNodes.{HoldsOwn}
+use Rattle.job_ports.specs.ServedFile.{AreGiven, IsNotServed}
+use Rattle.job_trace.specs.Traced.{DoesTrace, IsNotTraced}
 use Rattle.job_parts.specs.Statuses.{status_code}
 use Rattle.job_parts.specs.declared.status.Status.{Status}
-use Rattle.job_parts.specs.declared.status.Status.TheVariants.{Done}
+use Rattle.job_parts.specs.declared.status.Status.TheVariants.{Done, Failed, Misused}
 use Rattle.commands.specs.Performed.{IsDone, IsEnded, Performs}
 use Rattle.commands.specs.declared.jobs.Job.{Job}
 use Rattle.commands.specs.declared.jobs.Job.TheVariants.{
@@ -85,20 +89,6 @@ unprogrammed : (before : FolderValue) (image : Option (List ℕ)) (maps : Maps) 
 unprogrammed before None maps after fault holds = holds.0
 unprogrammed before (Some name) maps after fault holds = unfit before name maps after fault holds
 
-read_all : (before : FolderValue) (lines : List ℕ) (image : Option (List ℕ)) (text : List ℕ) (p : Program) (after : FolderValue)
-    → AreRead FolderReads before lines image text p after → after ≡ before
-read_all before lines image text p after read = programmed read.between image p after read.program ∙ read.read.0
-
-unready : (args : LinesArgs) (before after : FolderValue) (fault : Fault) → IsNotReady FolderReads args before after fault → after ≡ before
-unready args before after fault (inl unread_lines) = no_text before _ after fault unread_lines
-unready args before after fault (inr (inl unread_program)) =
-    unprogrammed unread_program.between (image_name args.node) args.node.sizes after fault unread_program.no_program ∙ unread_program.read.0
-unready args before after fault (inr (inr unmade)) = read_all before _ _ unmade.text unmade.program after unmade.read
-
-given_all : (args : LinesArgs) (before : FolderValue) (text : List ℕ) (program : _) (after : FolderValue)
-    → AreGiven FolderReads args before text program after → after ≡ before
-given_all args before text program after given = read_all before _ _ text program.program after given.read
-
 -- a node of words or of a file was read, or there is none
 held : (source : NodeSource) (before : FolderValue) (node : JobNodeValue) (after : FolderValue)
     → HoldsNode FolderReads source before node after → after ≡ before
@@ -124,19 +114,72 @@ unjudged args before after old new fault (inl (same, inl unread_lines)) = no_tex
 unjudged args before after old new fault (inl (same, inr lacks)) = unheld args.node lacks.between after fault lacks.no_node ∙ lacks.read.0
 unjudged args before after old new fault (inr stops) = ready_all args before stops.text stops.fresh after stops.ready
 
-unsimulated : (args : LinesArgs) (before after : FolderValue) (old new : Option (List ℕ)) (fault : Fault)
+-- the lines of a schedule, and the node on which they begin
+begun : (source : NodeSource) (before : FolderValue) (n : Schedule) (h : History) (after : FolderValue) → BeginsAt FolderReads source before n h after
+    → after ≡ before
+begun (Words words) before n h after begins = programmed before _ _ after begins.given
+begun (File name) before n h after begins = some_read before after begins.read.only_reads
+
+scheduled_all : (args : NodeLines) (before : FolderValue) (text : List ℕ) (n : Schedule) (h : History) (after : FolderValue)
+    → IsScheduled FolderReads args before text n h after → after ≡ before
+scheduled_all args before text n h after scheduled = begun args.node scheduled.between n h after scheduled.begins ∙ scheduled.read.0
+
+with_contents : (source : NodeSource) (before after : FolderValue) → HasContents FolderReads source before after → after ≡ before
+with_contents (Words words) before after contents = absurd contents
+with_contents (File name) before after contents = some_read before after contents.read.only_reads
+
+refused : (args : NodeLines) (before after : FolderValue) (old new : Option (List ℕ)) → RefusesContents FolderReads args before after old new
+    → after ≡ before
+refused args before after old new refuses = with_contents args.node refuses.between after refuses.contents ∙ refuses.read.0
+
+no_world : (source : NodeSource) (before after : FolderValue) (fault : Fault) → GivesNoWorld FolderReads source before after fault → after ≡ before
+no_world (Words words) before after fault (inl none) = unprogrammed before _ words.sizes after fault none
+no_world (Words words) before after fault (inr unmade) = programmed before _ unmade.program after unmade.given
+no_world (File name) before after fault (inl none) = no_node _ before after fault none
+no_world (File name) before after fault (inr unloaded) = some_read before after unloaded.read.only_reads
+
+unscheduled : (args : NodeLines) (before after : FolderValue) (fault : Fault) → IsUnscheduled FolderReads args before after fault → after ≡ before
+unscheduled args before after fault (inl unread_lines) = no_text before _ after fault unread_lines
+unscheduled args before after fault (inr lacks) = no_world args.node lacks.between after fault lacks.no_world ∙ lacks.read.0
+
+simulated : (args : NodeLines) (before after : FolderValue) (old new : Option (List ℕ)) (status : Status) → DoesSim FolderReads args before after old new status
+    → after ≡ before
+simulated args before after old new Done done = scheduled_all args before done.text done.node done.begun after done.scheduled
+simulated args before after old new Failed done = absurd done
+simulated args before after old new Misused done = refused args before after old new done
+
+traced : (args : NodeLines) (before after : FolderValue) (old new : Option (List ℕ)) (status : Status) → DoesTrace FolderReads args before after old new status
+    → after ≡ before
+traced args before after old new Done done = scheduled_all args before done.text done.node done.begun after done.scheduled
+traced args before after old new Failed done = absurd done
+traced args before after old new Misused done = refused args before after old new done
+
+unsimulated : (args : NodeLines) (before after : FolderValue) (old new : Option (List ℕ)) (fault : Fault)
     → IsNotSimulated FolderReads args before after old new fault → after ≡ before
-unsimulated args before after old new fault (inl is) = unready args before after fault is.1
-unsimulated args before after old new fault (inr stops) = given_all args before stops.text stops.program after stops.given
+unsimulated args before after old new fault (inl is) = unscheduled args before after fault is.1
+unsimulated args before after old new fault (inr stops) = scheduled_all args before stops.text stops.node stops.begun after stops.scheduled
 
-untraced : (args : LinesArgs) (before after : FolderValue) (old new : Option (List ℕ)) (fault : Fault)
+untraced : (args : NodeLines) (before after : FolderValue) (old new : Option (List ℕ)) (fault : Fault)
     → IsNotTraced FolderReads args before after old new fault → after ≡ before
-untraced args before after old new fault (inl is) = unready args before after fault is.1
-untraced args before after old new fault (inr stops) = given_all args before stops.text stops.program after stops.given
+untraced args before after old new fault (inl (same, inl is)) = unscheduled args before after fault is
+untraced args before after old new fault (inl (same, inr lacks)) = scheduled_all args before lacks.text lacks.node lacks.begun after lacks.scheduled
+untraced args before after old new fault (inr stops) = scheduled_all args before stops.text stops.node stops.begun after stops.scheduled
 
-unserved : (args : LinesArgs) (before after : FolderValue) (fault : Fault) → IsNotServed FolderReads args before after fault → after ≡ before
-unserved args before after fault (inl is) = unready args before after fault is
-unserved args before after fault (inr bad) = given_all args before bad.text bad.program after bad.given
+-- the lines of packets of ports, and the node that serves them
+owned : (source : NodeSource) (before : FolderValue) (own : OwnNodeValue) (program : AcceptedValue) (after : FolderValue)
+    → HoldsOwn FolderReads source before own program after → after ≡ before
+owned (Words words) before own program after holds = programmed before _ _ after holds.given
+owned (File name) before own program after holds = some_read before after holds.only_reads
+
+given_all : (args : NodeLines) (before : FolderValue) (text : List ℕ) (own : OwnNodeValue) (program : AcceptedValue) (after : FolderValue)
+    → AreGiven FolderReads args before text own program after → after ≡ before
+given_all args before text own program after given = owned args.node given.between own program after given.holds ∙ given.read.0
+
+unserved : (args : NodeLines) (before after : FolderValue) (fault : Fault) → IsNotServed FolderReads args before after fault → after ≡ before
+unserved args before after fault (inl (inl unread_lines)) = no_text before _ after fault unread_lines
+unserved args before after fault (inl (inr lacks)) = unheld args.node lacks.between after fault lacks.no_node ∙ lacks.read.0
+unserved args before after fault (inr (inl bad)) = given_all args before bad.text bad.own bad.program after bad.given
+unserved args before after fault (inr (inr lacks)) = given_all args before lacks.text lacks.own lacks.program after lacks.given
 
 -- a text or a table of which no image was written
 unassembled : (before : FolderValue) (text image : List ℕ) (after : FolderValue) (fault : Fault)
@@ -199,8 +242,8 @@ done_leaves (Judge args) before after old new status done =
     ready_all args before done.1.text done.1.fresh after done.1.ready
 done_leaves (Policy words) before after old new status done =
     at_done (Policy words) before after status done.0 (compiled before _ _ words.sizes after old new done.1)
-done_leaves (Serve args) before after old new status done = given_all args before done.1.text done.1.program after done.1.given
-done_leaves (Simulate args) before after old new status done = given_all args before done.1.text done.1.program after done.1.given
+done_leaves (Serve args) before after old new status done = given_all args before done.1.text done.1.own done.1.program after done.1.given
+done_leaves (Simulate args) before after old new status done = simulated args before after old new status done
 done_leaves (Explain words) before after old new status done = done.0
 done_leaves (Why args) before after old new status done = done.read.0
 done_leaves (Weigh words) before after old new status done = done.1.image.read.0
@@ -208,7 +251,7 @@ done_leaves (Node words) before after old new status done = some_read before aft
 done_leaves (Packet words) before after old new status done = made_file words before after old new status done
 done_leaves (Show words) before after old new status done = done.1.read.0
 done_leaves (Decide words) before after old new status done = decides_file words before after old new status done
-done_leaves (Trace args) before after old new status done = given_all args before done.1.text done.1.program after done.1.given
+done_leaves (Trace args) before after old new status done = traced args before after old new status done
 done_leaves (Compare words) before after old new status done = compares_file words before after old new status done
 done_leaves (Map words) before after old new status done = maps_file words before after old new status done
 done_leaves (Rehearse words) before after old new status done = rehearses_file words before after old new status done

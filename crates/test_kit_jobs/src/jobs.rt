@@ -9,11 +9,11 @@ use std::alloc::Global;
 use std::sync::Wait;
 use std::thread::Threads;
 
-/// The job over files that the words name; `BadOption` also where they name a talk.
+/// The job over files that the words name; `BadOption` also where they name one for the node of a file, or a talk.
 pub fn job_named(alloc: Global, named: &[&str]) -> Result<Job, UsageFault> {
     match words(alloc, named)? {
         Work::Once(job) => Ok(job),
-        Work::Live(_) => Err(UsageFault::BadOption),
+        Work::OnNode(_) | Work::Live(_) => Err(UsageFault::BadOption),
     }
 }
 

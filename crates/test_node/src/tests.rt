@@ -3,6 +3,7 @@
 mod banks;
 mod checks;
 mod journals;
+mod laws;
 mod limits;
 mod nodes;
 mod pages;

@@ -1,5 +1,6 @@
 //! What no clause says, of queues, of workers, and of ports that are served side by side.
 
+mod accounts;
 mod checks;
 mod faults;
 mod gates;

@@ -6,7 +6,7 @@ use node_parts::Served;
 use rmap::Status;
 use std::alloc::Global;
 use std::test::Fail;
-use test_kit::{PlainNode, bank, program};
+use test_kit::{LOAD, PlainNode, STAGE, bank, program};
 
 /// Reads of the first bytes of the banks 0 to 7, as packet lines.
 const READS: [&str; 8] = [
@@ -99,6 +99,20 @@ fn a_command_at_each_of_eight_banks(rt: HostRuntime) -> Result<(), Fail> {
             let wanted: &[(u8, u64)] = if k <= last { &[(1, 0)] } else { &[] };
             same(&rt, "a bank", (k, found.as_slice()), (k, wanted));
         }
+    }
+    Ok(())
+}
+
+/// Each of a hundred loads of one port is carried out.
+#[test]
+fn a_hundred_loads_of_one_port(rt: HostRuntime) -> Result<(), Fail> {
+    let alloc = rt.alloc();
+    let mut node = PlainNode::new(alloc, 1, &[bank(16)], program(alloc, 0)?)?;
+    let done = Served::Window(Status::Success);
+    same(&rt, STAGE, node.serve_line(0, STAGE)?, done);
+    for load in 1..=100u8 {
+        let served = node.serve_line(0, LOAD)?;
+        same(&rt, "a load", (load, served), (load, done));
     }
     Ok(())
 }

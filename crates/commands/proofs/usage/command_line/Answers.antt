@@ -2,6 +2,7 @@ use Rattle.std.proofs.Common.{ap, ap₂, codes, true, ◌≡◌, ◌∙◌}
 use Rattle.std.proofs.lemmas.Result.{IfOk-weaker}
 use Rattle.clap.specs.Simple.{App, Shape, app_of, app_of_fields, new_app, on_top, with_subcommand}
 use Rattle.commands.specs.CommandLine.{rmapctl_app, with_chart_jobs, with_first_jobs, with_packet_jobs}
+use Rattle.commands.specs.OnNodes.{with_node}
 use Rattle.commands.proofs.usage.command_line.Goals as goal
 
 abbrev versioned : Shape → Shape
@@ -37,11 +38,13 @@ returns c =
     ∙ ap₂ with_subcommand with_sim (ap (λ (a : App). a.top) c.in_ok-live.ensures.shape) in
     let with_explain = c.in_ok-subcommand-4.ensures.shape c.in_ok-explain.ensures.local
     ∙ ap₂ with_subcommand with_live (ap (λ (a : App). a.top) c.in_ok-explain.ensures.shape) in
+    let why = c.in_ok-why.ensures.shape ∙ ap with_node c.in_ok-why_command.ensures.shape in
     let with_why = c.in_ok-subcommand-5.ensures.shape c.in_ok-why.ensures.local
-    ∙ ap₂ with_subcommand with_explain (ap (λ (a : App). a.top) c.in_ok-why.ensures.shape) in
+    ∙ ap₂ with_subcommand with_explain (ap (λ (a : App). a.top) why) in
+    let weigh = c.in_ok-weigh.ensures.shape ∙ ap with_node c.in_ok-weigh_command.ensures.shape in
     let with_weigh = c.in_ok-subcommand-6.ensures.shape c.in_ok-weigh.ensures.local
-    ∙ ap₂ with_subcommand with_why (ap (λ (a : App). a.top) c.in_ok-weigh.ensures.shape) in
-    let with_node = c.in_ok-all.ensures.shape c.in_ok-node.ensures.local
+    ∙ ap₂ with_subcommand with_why (ap (λ (a : App). a.top) weigh) in
+    let with_all = c.in_ok-all.ensures.shape c.in_ok-node.ensures.local
     ∙ ap₂ with_subcommand with_weigh (ap (λ (a : App). a.top) c.in_ok-node.ensures.shape) in
-    let with_told = c.in_ok-told.ensures ∙ ap with_packet_jobs with_node in
+    let with_told = c.in_ok-told.ensures ∙ ap with_packet_jobs with_all in
     IfOk-weaker c.with_chart_jobs.result _ _ (λ m h. h ∙ ap with_chart_jobs with_told) c.with_chart_jobs.ensures

@@ -1,11 +1,12 @@
-use Rattle.std.proofs.Common.{List, ℕ, subst, sym}
+use Rattle.std.proofs.Common.{◌≡◌, ◌∙◌, List, ℕ, subst, sym}
 use Rattle.std.specs.Prelude.{IfOk, vec_items}
 use Rattle.ports.specs.Serves.{HaveServed}
 use Rattle.ports.specs.Sinks.{SentReply, SinkValue}
 use Rattle.ports.specs.declared.port.Port.{Port}
 use Rattle.ports.specs.declared.worker.Report.{Report}
 use Rattle.job_ports.specs.Queues.{AreOfPorts}
-use Rattle.job_ports.proofs.Desking.{desk_ends, desk_left}
+use Rattle.job_ports.proofs.Ending.{left_of_ports, left_seated, serve_each}
+use Rattle.job_ports.proofs.Seating.{cells_sizes, own_quotas}
 use Rattle.job_ports.proofs.queues.serve_arrivals.Goals as goal
 
 abbrev sent : SinkValue → List SentReply
@@ -14,17 +15,33 @@ sent s = s.sent
 abbrev failed : SinkValue → ℕ
 failed s = s.failed
 
-pub sinks_of-requires : goal.sinks_of-requires
-sinks_of-requires g c =
+pub sinks_of-requires-clause-ports : goal.sinks_of-requires-clause-ports
+sinks_of-requires-clause-ports g c =
     let told : HaveServed sent failed c.in_ok-made.made.node c.deref.result.now (vec_items c.in_ok-made.made.workers) (vec_items c.serve-workers.result.0) c.in-Ok.report
     = subst (λ r. IfOk r (λ (total : Report). HaveServed sent failed c.in_ok-made.made.node c.deref.result.now (vec_items c.in_ok-made.made.workers) (vec_items c.serve-workers.result.0) total)) c.in-Ok.is c.serve-workers.ensures.served in
     let here = subst (λ (ps : List Port). HaveServed sent failed c.in_ok-made.made.node ps (vec_items c.in_ok-made.made.workers) (vec_items c.serve-workers.result.0) c.in-Ok.report) c.deref.ensures.value told in
     subst (λ (ps : List Port). AreOfPorts ps (vec_items c.in_ok-made.made.put_passes) (vec_items c.serve-workers.result.0)) (sym c.deref-2.ensures.value)
-    (desk_left c.in_ok-made.ensures.fresh here)
+    (left_of_ports c.in_ok-made.ensures.own.desk sent failed _ _ here)
+
+pub sinks_of-requires-clause-seats : goal.sinks_of-requires-clause-seats
+sinks_of-requires-clause-seats g c =
+    let told : HaveServed sent failed c.in_ok-made.made.node c.deref.result.now (vec_items c.in_ok-made.made.workers) (vec_items c.serve-workers.result.0) c.in-Ok.report
+    = subst (λ r. IfOk r (λ (total : Report). HaveServed sent failed c.in_ok-made.made.node c.deref.result.now (vec_items c.in_ok-made.made.workers) (vec_items c.serve-workers.result.0) total)) c.in-Ok.is c.serve-workers.ensures.served in
+    let here = subst (λ (ps : List Port). HaveServed sent failed c.in_ok-made.made.node ps (vec_items c.in_ok-made.made.workers) (vec_items c.serve-workers.result.0) c.in-Ok.report) c.deref.ensures.value told in
+    left_seated c.in_ok-made.ensures.own.desk sent failed _ _ here c.workers_shares_count.ensures _ c.in_ok-made.ensures.own.seats
+
+pub tell_tickets-requires : goal.tell_tickets-requires
+tell_tickets-requires g c = c.sizes-sizes.ensures.value ∙ (c.requires.sizes ∙ sym (cells_sizes c.in_ok-made.ensures.own c.in_ok-sinks.ensures.back))
 
 pub returns : goal.returns
 returns g c =
     let told : HaveServed sent failed c.in_ok-made.made.node c.deref.result.now (vec_items c.in_ok-made.made.workers) (vec_items c.serve-workers.result.0) c.in-Ok.report
     = subst (λ r. IfOk r (λ (total : Report). HaveServed sent failed c.in_ok-made.made.node c.deref.result.now (vec_items c.in_ok-made.made.workers) (vec_items c.serve-workers.result.0) total)) c.in-Ok.is c.serve-workers.ensures.served in
     let here = subst (λ (ps : List Port). HaveServed sent failed c.in_ok-made.made.node ps (vec_items c.in_ok-made.made.workers) (vec_items c.serve-workers.result.0) c.in-Ok.report) c.deref.ensures.value told in
-    desk_ends c.in_ok-made.ensures.fresh here _ c.in_ok-sinks.ensures.all c.in_ok-sinks.ensures.sinks
+    let own = c.in_ok-made.ensures.own in
+    record {
+      starts = own.starts;
+      are_starts = own.are_starts;
+      served = serve_each own.desk _ _ _ here c.in_ok-sinks.ensures.all c.in_ok-sinks.ensures.sinks;
+      quotas = own_quotas own c.quotas_hold_in_threads.ensures _ _ _ here c.in_ok-sinks.ensures.back c.tell_tickets.ensures.numbered;
+    }

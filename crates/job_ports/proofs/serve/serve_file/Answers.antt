@@ -1,5 +1,4 @@
 use Rattle.std.proofs.Common.{◌≡◌, ◌∙◌, List, ℕ, ap, arith, length, map, refl, subst}
-use Rattle.std.specs.Prelude.{vec_items}
 use Rattle.std.specs.Io.KnownBytes.{Appends}
 use Rattle.std.proofs.KnownBytes.{Appends-trans}
 use Rattle.std.proofs.lemmas.Result.{err_from_is_err_and}
@@ -26,12 +25,16 @@ returns-clause-done g c =
       refl,
       record {
         text = h.text;
+        own = h.own;
         program = h.program;
         packets = h.packets;
+        starts = h.starts;
         ends = h.ends;
         given = h.given;
         lines = h.lines;
+        are_starts = h.are_starts;
         served = h.served;
+        quotas = h.quotas;
         printed = Appends-trans old mid new _ _ one two;
       },
     )

@@ -1,10 +1,10 @@
-use Rattle.std.proofs.Common.{◌≡◌, ◌<◌, ap, arith, length, refl, subst, rules}
+use Rattle.std.proofs.Common.{◌≡◌, ◌∙◌, ◌<◌, ap, arith, length, refl, subst, rules}
 use Rattle.std.specs.Prelude.{string_bytes}
 use Rattle.std.proofs.lemmas.List.{length-map}
 use Rattle.std.proofs.lemmas.Result.{err_from_is_err_and}
 use Rattle.job_ports.specs.Arrivals.{ArriveAll}
 use Rattle.spw.specs.Line.{lines_of}
-use Rattle.job_ports.specs.ServedFile.{PortEnd}
+use Rattle.job_ports.specs.Ends.{PortEnd}
 use Rattle.job_ports.proofs.Ending.{by_packets, few_each}
 use Rattle.job_ports.proofs.NotServed.{no_memory, halt_of}
 use Rattle.job_ports.proofs.serve.serve_words.Goals as goal
@@ -13,38 +13,44 @@ pub serve_arrivals-requires-clause-few : goal.serve_arrivals-requires-clause-few
 serve_arrivals-requires-clause-few g c = λ κs bounds. few_each _ _ _ c.in_ok-arrivals.ensures.arrive
 
 pub serve_arrivals-requires-clause-count : goal.serve_arrivals-requires-clause-count
-serve_arrivals-requires-clause-count g c = λ κs bounds. c.in_ok-arrivals.ensures.arrive.sorted.count
+serve_arrivals-requires-clause-count g c = λ κs bounds. c.in_ok-arrivals.ensures.arrive.sorted.count ∙ c.ports.ensures
 
 pub returns-clause-served : goal.returns-clause-served
 returns-clause-served g c =
     let same : c.as_str.result.now ≡ string_bytes c.in_ok-text.text = search rules in
-    let all : ArriveAll (lines_of (string_bytes c.in_ok-text.text)) c.args.args.now.node.ports c.in_ok-arrivals.arrivals
-    = subst (λ t. ArriveAll (lines_of t) c.args.args.now.node.ports c.in_ok-arrivals.arrivals) same c.in_ok-arrivals.ensures.arrive in
+    let own = c.in_ok-text.read.node in
+    let all : ArriveAll (lines_of (string_bytes c.in_ok-text.text)) own.ports c.in_ok-arrivals.arrivals
+    = subst (λ n. ArriveAll (lines_of (string_bytes c.in_ok-text.text)) n c.in_ok-arrivals.arrivals) c.ports.ensures
+    (subst (λ t. ArriveAll (lines_of t) c.ports.result c.in_ok-arrivals.arrivals) same c.in_ok-arrivals.ensures.arrive) in
     let each = c.in_ok-served.ensures in record {
       text = string_bytes c.in_ok-text.text;
-      program = c.in_ok-text.program;
+      own = own;
+      program = c.in_ok-text.read.program;
       packets = all.packets;
-      ends = each.ends;
+      starts = each.starts;
+      ends = each.served.ends;
       given = c.in_ok-text.ensures.given;
       lines = all.lines_are;
-      served = by_packets _ _ _ _ _ _ all each;
-      sinks_are = each.sinks_are;
-      report_is = each.report_is;
+      are_starts = each.are_starts;
+      served = by_packets _ _ _ _ _ _ all each.served;
+      quotas = each.quotas;
+      sinks_are = each.served.sinks_are;
+      report_is = each.served.report_is;
     }
 
 pub returns-clause-few : goal.returns-clause-few
 returns-clause-few g c =
-    let small : c.args.args.now.node.ports < 256 = search rules in
-    let each = c.in_ok-served.ensures in
-    omega (arith, small, each.count, ap (λ l. length l) each.sinks_are, length-map each.ends (λ (end : PortEnd). end.sink))
+    let small : c.ports.result < 256 = search rules in
+    let each = c.in_ok-served.ensures.served in
+    omega (arith, small, c.ports.ensures, each.count, ap (λ l. length l) each.sinks_are, length-map each.ends (λ (end : PortEnd). end.sink))
 
 pub returns-in_err-served-clause-refused : goal.returns-in_err-served-clause-refused
 returns-in_err-served-clause-refused g c =
     let gone = err_from_is_err_and c.from_residual-in_err-served.result c.from_residual-in_err-served.ensures.1 in
-    rw (gone.1, gone.2) (no_memory _ _ _ _ _ _ c.in_ok-text.ensures.given _ refl)
+    rw (gone.1, gone.2) (no_memory _ _ _ _ _ _ _ c.in_ok-text.ensures.given _ refl)
 
 pub returns-in_err-arrivals-clause-refused : goal.returns-in_err-arrivals-clause-refused
 returns-in_err-arrivals-clause-refused g c =
     let same : c.as_str.result.now ≡ string_bytes c.in_ok-text.text = search rules in
     let gone = err_from_is_err_and c.from_residual-in_err-arrivals.result c.from_residual-in_err-arrivals.ensures.1 in
-    rw (gone.1, gone.2) (halt_of _ _ _ _ _ _ c.in_ok-text.ensures.given _ same _ c.in_err-arrivals.ensures.refused)
+    rw (gone.1, gone.2) (halt_of _ _ _ _ _ _ _ c.in_ok-text.ensures.given _ same _ c.ports.ensures _ c.in_err-arrivals.ensures.refused)

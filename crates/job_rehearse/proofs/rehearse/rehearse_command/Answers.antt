@@ -15,7 +15,8 @@ returns-clause-shape c =
     let fifth = c.in_ok-arg-5.ensures.shape c.option-port.ensures.local ∙ ap₂ with_rule fourth c.option-port.ensures.rule in
     let sixth = c.in_ok-arg-6.ensures.shape c.option-initiator.ensures.local ∙ ap₂ with_rule fifth c.option-initiator.ensures.rule in
     let seventh = c.in_ok-arg-7.ensures.shape c.option-key.ensures.local ∙ ap₂ with_rule sixth c.option-key.ensures.rule in
-    IfOk-weaker c.arg-8.result _ _ (λ m h. h.shape c.flag-any.ensures.local ∙ ap₂ with_rule seventh c.flag-any.ensures.rule) c.arg-8.ensures
+    let eighth = c.in_ok-arg-8.ensures.shape c.flag-any.ensures.local ∙ ap₂ with_rule seventh c.flag-any.ensures.rule in
+    IfOk-weaker c.arg-9.result _ _ (λ m h. h.shape c.node_option.ensures.local ∙ ap₂ with_rule eighth c.node_option.ensures.rule) c.arg-9.ensures
 
 pub returns-clause-local : goal.returns-clause-local
 returns-clause-local c =
@@ -27,4 +28,5 @@ returns-clause-local c =
     let fifth = c.in_ok-arg-5.ensures.globals ∙ or_from _ _ fourth c.option-port.ensures.local in
     let sixth = c.in_ok-arg-6.ensures.globals ∙ or_from _ _ fifth c.option-initiator.ensures.local in
     let seventh = c.in_ok-arg-7.ensures.globals ∙ or_from _ _ sixth c.option-key.ensures.local in
-    IfOk-weaker c.arg-8.result _ _ (λ m h. h.globals ∙ or_from _ _ seventh c.flag-any.ensures.local) c.arg-8.ensures
+    let eighth = c.in_ok-arg-8.ensures.globals ∙ or_from _ _ seventh c.flag-any.ensures.local in
+    IfOk-weaker c.arg-9.result _ _ (λ m h. h.globals ∙ or_from _ _ eighth c.node_option.ensures.local) c.arg-9.ensures

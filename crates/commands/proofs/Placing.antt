@@ -1,0 +1,66 @@
+-- From the job of matches to the work that they name.
+use Rattle.std.proofs.Common.{◌≡◌, Bool, true, false, List, Option, None, Some, string_bytes, ap, inl, inr, subst, refl, sym}
+use Rattle.std.specs.Prelude.{if◌then◌else◌, is_some, not}
+use Rattle.clap.specs.Walk.{Row, Text}
+use Rattle.commands.specs.CommandLine.{IsPlacedBy, Names, NamesPlain, Refuses, RefusesPlace, RefusesPlain, SpoilsPlace}
+use Rattle.commands.specs.OnNodes.{are_left, own_file, takes_file}
+use Rattle.commands.specs.declared.jobs.Job.{Job}
+use Rattle.commands.specs.declared.node_jobs.NodeJob.{NodeJob}
+use Rattle.commands.specs.declared.word.Word.{Word}
+use Rattle.commands.specs.declared.work.Work.{Work}
+use Rattle.commands.specs.declared.work.Work.TheVariants.{Once, OnNode, Live}
+use Rattle.job_live.specs.declared.words.LiveWords.{LiveWords}
+use Rattle.job_parts.specs.declared.usage.UsageFault.{UsageFault}
+use Rattle.job_parts.specs.declared.usage.UsageFault.TheVariants.{Parse, BadOption, Memory}
+
+-- the job of matches, for the node of the file that they name, if they name one, is the work that they name
+names_placed : (found : Text × List Row) (job : Job) (work : Work) → NamesPlain found (Once job)
+    → IsPlacedBy job found.1 work → Names (Some found) work
+names_placed found job (Once own) names (same, none) = (
+  subst (λ (j : Job). NamesPlain found (Once j)) (sym same) names,
+  (refl, subst (λ (j : Job). own_file j found.1 ≡ None) (sym same) none),
+)
+names_placed found job (OnNode own) names (same, named, left) = (
+  subst (λ (j : Job). NamesPlain found (Once j)) (sym same) names,
+  (refl, (subst (λ (j : Job). own_file j found.1 ≡ Some (string_bytes own.node)) (sym same) named, left)),
+)
+names_placed found job (Live words) names placed = absurd placed
+
+-- the same of what the subcommand names, which is that job
+pub places : (found : Text × List Row) (plain : Work) (job : Job) (work : Work) → plain ≡ Once job → NamesPlain found plain
+    → IsPlacedBy job found.1 work → Names (Some found) work
+places found plain job work is names placed = names_placed found job work (subst (NamesPlain found) is names) placed
+
+-- a talk is named as it is
+pub names_talk : (found : Text × List Row) (plain : Work) (words : LiveWords) → plain ≡ Live words → NamesPlain found plain
+    → Names (Some found) (Live words)
+names_talk found plain words is names = subst (NamesPlain found) is names
+
+-- no subcommand names a job for the node of a file before that file is looked for
+pub is_unplaced : (found : Text × List Row) (plain : Work) (own : NodeJob) → plain ≡ OnNode own → NamesPlain found plain → ⊥
+is_unplaced found plain own is names = subst (NamesPlain found) is names
+
+-- what is refused of the job alone is refused
+pub refuses_plain : (named : Word) (rows : List Row) (fault : UsageFault) → RefusesPlain named rows fault
+    → Refuses named rows fault
+refuses_plain named rows Memory refuses = refuses
+refuses_plain named rows BadOption refuses = inl refuses
+refuses_plain named rows (Parse text) refuses = refuses
+
+-- what is refused of the node's file is refused
+pub refuses_place : (named : Word) (rows : List Row) (fault : UsageFault) → RefusesPlace rows fault
+    → Refuses named rows fault
+refuses_place named rows Memory refuses = refuses
+refuses_place named rows BadOption refuses = inr refuses
+refuses_place named rows (Parse text) refuses = refuses
+
+-- the name of a node's file that stands beside a job is among its matches
+left_to : (takes : Bool) (given : Option Text) (name : Text) → (if takes then given else None) ≡ Some name → given ≡ Some name
+left_to true given name h = h
+left_to false given name h = absurd (cc h)
+
+-- a node's file beside an option that says what it says
+pub spoils_place : (job : Job) (rows : List Row) (name : Text) → own_file job rows ≡ Some name → are_left rows ≡ false
+    → SpoilsPlace rows
+spoils_place job rows name is left =
+    (ap (λ (given : Option Text). not (is_some given)) (left_to (takes_file job) _ name is), left)

@@ -1,0 +1,104 @@
+-- The node at which is rehearsed: one with some maps of which nothing else is said, or that of a file.
+use Rattle.std.specs.Prelude.{◌≡◌, ◌⊎◌, nat_lt, ℕ, Bool, true, false, List, [], Option, Some, None, codes, string_bytes}
+use Rattle.bver.specs.Justified.{AcceptedValue}
+use Rattle.clap.specs.Walk.{Row, first_of}
+use Rattle.machine.specs.Sizes.{Maps}
+use Rattle.job_config.specs.OwnNodes.{OwnNodeValue}
+use Rattle.job_config.specs.Reads.{ReadsNoNode, ReadsNode}
+use Rattle.job_nodes.specs.JobNode.{JobNodeValue, alone}
+use Rattle.job_nodes.specs.Making.{IsNodeOf, IsUnmade}
+use Rattle.job_nodes.specs.Sources.{EndsUnmade}
+use Rattle.job_nodes.specs.declared.making.Unmade.{Unmade}
+use Rattle.job_parts.specs.Arguments.{is_set}
+use Rattle.job_parts.specs.Files.{Reads}
+use Rattle.job_parts.specs.Options.{GivesSizes, IsBadList}
+use Rattle.job_parts.specs.declared.faults.Fault.{Fault}
+use Rattle.job_parts.specs.declared.faults.Fault.TheVariants.{NoMemory}
+use Rattle.job_parts.specs.declared.usage.UsageFault.{UsageFault}
+use Rattle.job_parts.specs.declared.usage.UsageFault.TheVariants.{Parse, BadOption, Memory}
+use Rattle.job_rehearse.specs.Loaders.{loader_in, ports_in}
+use Rattle.job_rehearse.specs.Steps.{IsBegun}
+use Rattle.job_rehearse.specs.declared.loaders.Loader.{Loader}
+use Rattle.job_rehearse.specs.declared.places.Place.{Place}
+use Rattle.job_rehearse.specs.declared.places.Place.TheVariants.{Plain, Own}
+use Rattle.job_rehearse.specs.declared.places.PlaceWords.{PlaceWords}
+use Rattle.job_rehearse.specs.declared.places.PlaceWords.TheVariants.{Maps as HasMaps, File}
+use Rattle.job_rehearse.specs.declared.steps.Rehearsing.{Rehearsing}
+
+-- ---- words
+
+-- the file's name is the only option that says anything of the node: beside it are neither maps nor `--any`
+pub record IsOnlyFile (rows : List Row) (name : List ℕ) : Type 0 where
+  pub named : first_of (codes "node") rows ≡ Some name
+  pub no_maps : first_of (codes "maps") rows ≡ None
+  pub no_any : is_set (codes "any") rows ≡ false
+
+-- what the options say of the node
+abbrev pub GivesPlace : List Row → PlaceWords → Type 0
+GivesPlace rows (HasMaps sizes) =
+    (first_of (codes "node") rows ≡ None) × GivesSizes (first_of (codes "maps") rows) sizes
+GivesPlace rows (File name) = IsOnlyFile rows (string_bytes name)
+
+-- the options say no node: the maps are none, or something stands beside the file
+abbrev pub SpoilsPlace : List Row → Type 0
+SpoilsPlace rows = IsBadList (first_of (codes "maps") rows)
+    ⊎ ((name : List ℕ) × (first_of (codes "node") rows ≡ Some name) × ¬ IsOnlyFile rows name)
+
+-- such options, or memory was refused
+abbrev pub RefusesPlace : List Row → UsageFault → Type 0
+RefusesPlace rows Memory = Unit {0}
+RefusesPlace rows BadOption = SpoilsPlace rows
+RefusesPlace rows (Parse text) = ⊥
+
+-- ---- the node
+
+-- its maps
+abbrev pub sizes_at : Place → Maps
+sizes_at (Plain sizes) = sizes
+sizes_at (Own own) = own.sizes
+
+-- it has the port of the loader that is named
+abbrev pub has_port : Place → Option Loader → Bool
+has_port (Plain sizes) named = true
+has_port (Own own) named = nat_lt (loader_in named).port own.ports
+
+-- who loads at it: the one that is named, or port 0, initiator 67 and key 00
+abbrev pub loader_on : Place → Option Loader → Loader
+loader_on (Plain sizes) named = loader_in named
+loader_on (Own own) named = record (loader_in named) { target = own.address }
+
+-- the node is that of the configuration behind what it loads, with that program in all slots at first
+pub record IsBegunOwn (own : OwnNodeValue) (program : AcceptedValue) (r : Rehearsing) : Type 0 where
+  pub made : JobNodeValue
+  pub is_made : IsNodeOf own program made
+  pub node : r.node ≡ alone made
+  pub silent : r.reply ≡ []
+  pub unrefused : r.refused ≡ false
+
+-- the node before the first load, where the program judges in all slots at first
+abbrev pub IsBegunAt : Place → AcceptedValue → (named : Option Loader) → Rehearsing → Type 0
+IsBegunAt (Plain sizes) program named r = IsBegun program (ports_in named) r
+IsBegunAt (Own own) program named r = IsBegunOwn own program r
+
+-- why there is no such node: a load of its file is not carried out, or memory was refused
+abbrev pub IsUnbegun : Place → AcceptedValue → Fault → Type 0
+IsUnbegun (Plain sizes) program fault = fault ≡ NoMemory
+IsUnbegun (Own own) program fault = (why : Unmade) × IsUnmade own program why × EndsUnmade why fault
+
+module _ {S : Type 0} (reads : Reads S) where
+  -- the node is that of the node's file of this name, whose program is not used
+  pub record HoldsFile (name : List ℕ) (before : S) (own : OwnNodeValue) (after : S) : Type 0 where
+    pub program : AcceptedValue
+    pub read : ReadsNode reads name before own program after
+
+  -- the node is that of the words
+  abbrev pub HoldsPlace : PlaceWords → (before : S) → Place → (after : S) → Type 0
+  HoldsPlace (HasMaps sizes) before (Plain own) after = (own ≡ sizes) × (after ≡ before)
+  HoldsPlace (HasMaps sizes) before (Own own) after = ⊥
+  HoldsPlace (File name) before (Plain own) after = ⊥
+  HoldsPlace (File name) before (Own own) after = HoldsFile (string_bytes name) before own after
+
+  -- the words name a file that says no node
+  abbrev pub HoldsNoPlace : PlaceWords → (before after : S) → Fault → Type 0
+  HoldsNoPlace (HasMaps sizes) before after fault = ⊥
+  HoldsNoPlace (File name) before after fault = ReadsNoNode reads (string_bytes name) before fault after

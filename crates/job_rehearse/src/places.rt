@@ -1,0 +1,135 @@
+//! The node at which is rehearsed: one with some maps of which nothing else is said, or that of a file.
+
+ghost use Rattle.std.specs.Prelude.{◌≡◌, IfErr, IfOk};
+ghost use Rattle.clap.specs.Walk.{rows_of};
+ghost use Rattle.clap.specs.Matches.{found_of};
+ghost use Rattle.job_rehearse.specs.Places.{GivesPlace, HoldsNoPlace, HoldsPlace, IsBegunAt, IsUnbegun, RefusesPlace, has_port, loader_on, sizes_at};
+
+use crate::loaders::{Loader, loader_in, ports_in};
+use crate::steps::Rehearsing;
+use bver::Accepted;
+use clap::ArgMatches;
+use job_config::own_node::OwnNode;
+use job_config::reading::node_in;
+use job_nodes::node::JobNode;
+use job_nodes::sources::unmade;
+use job_parts::arguments::{is_set, text_of};
+use job_parts::faults::Fault;
+use job_parts::options::sizes_of;
+use job_parts::storage::Files;
+use job_parts::usage::UsageFault;
+use machine::MapSizes;
+use std::alloc::Global;
+
+/// What the words say of the node.
+#[derive(Debug, Drop)]
+pub enum PlaceWords {
+    /// Its maps; it has logical address FE and one bank, and nothing is loaded.
+    Maps(MapSizes),
+    /// The name of its file.
+    File(String),
+}
+
+/// The node.
+#[derive(Debug, Drop)]
+pub enum Place {
+    /// One with these maps, logical address FE and one bank, into which nothing is loaded.
+    Plain(MapSizes),
+    /// That of a file.
+    Own(OwnNode),
+}
+
+/// The node by the options. `BadOption` where `--node` stands beside `--maps` or `--any`, and where the maps are none.
+pub(crate) fn place_of(alloc: Global, found: &ArgMatches) -> Result<PlaceWords, UsageFault>
+    ensures ok { IfOk result (GivesPlace (rows_of (found_of found.now))) }
+    ensures err { IfErr result (RefusesPlace (rows_of (found_of found.now))) }
+{
+    let Some(name) = text_of(found, "node") else {
+        return Ok(PlaceWords::Maps(sizes_of(alloc, found)?));
+    };
+    if text_of(found, "maps").is_some() || is_set(found, "any") {
+        return Err(UsageFault::BadOption);
+    }
+    Ok(PlaceWords::File(String::from_str(alloc, name)?))
+}
+
+/// The node that the words say.
+pub(crate) fn place_in<'a, F: Files>(
+    alloc: Global,
+    words: &'a PlaceWords,
+    files: &mut F,
+) -> Result<Place, Fault<'a>>
+    ensures place { IfOk result (λ place. HoldsPlace F.reads words.now files.old place files.new) }
+    ensures none { IfErr result (HoldsNoPlace F.reads words.now files.old files.new) }
+{
+    match words {
+        PlaceWords::Maps(sizes) => Ok(Place::Plain(*sizes)),
+        PlaceWords::File(name) => {
+            let read = node_in(alloc, files, name.as_str())?;
+            Ok(Place::Own(read.node))
+        }
+    }
+}
+
+impl Place {
+    /// How many cells each map has, and of which kind it is.
+    pub fn sizes(&self) -> MapSizes
+        ensures { result ≡ sizes_at self.now }
+    {
+        match self {
+            Place::Plain(sizes) => *sizes,
+            Place::Own(own) => own.sizes(),
+        }
+    }
+
+    /// Whether the node has the port of the loader that is named.
+    pub fn has_port(&self, named: Option<Loader>) -> bool
+        ensures { result ≡ has_port self.now named }
+    {
+        match self {
+            Place::Plain(_) => true,
+            Place::Own(own) => loader_in(named).port < own.ports(),
+        }
+    }
+
+    /// Who loads at the node: the one that is named, or port 0, initiator 67 and key 00.
+    pub fn loader(&self, named: Option<Loader>) -> Loader
+        ensures { result ≡ loader_on self.now named }
+    {
+        let mut loader = loader_in(named);
+        if let Place::Own(own) = self {
+            loader.target = own.address();
+        }
+        loader
+    }
+}
+
+/// The name of the node's file, if it has one.
+fn file_of(words: &PlaceWords) -> &str {
+    match words {
+        PlaceWords::Maps(_) => "",
+        PlaceWords::File(name) => name.as_str(),
+    }
+}
+
+/// The node before the first load, where this program judges in all slots at first: behind what its file loads. The condition
+/// is a program that was accepted for its maps.
+pub(crate) fn begun_at<'a>(
+    alloc: Global,
+    words: &PlaceWords,
+    place: &Place,
+    program: Accepted,
+    named: Option<Loader>,
+) -> Result<Rehearsing, Fault<'a>>
+    requires { program.sizes ≡ sizes_at place.now }
+    ensures begun { IfOk result (IsBegunAt place.now program named) }
+    ensures none { IfErr result (IsUnbegun place.now program) }
+{
+    match place {
+        Place::Plain(_) => Ok(Rehearsing::new(alloc, program, ports_in(named))?),
+        Place::Own(own) => match JobNode::of(alloc, own, program) {
+            Ok(node) => Ok(Rehearsing::at(node)),
+            Err(why) => Err(unmade(alloc, file_of(words), why)),
+        },
+    }
+}
