@@ -160,7 +160,7 @@ ends_history {J} left reports many history = record {
 }
 
 -- What became of each port.
-pub serve_each : {J : Type 0} {starts : ℕ → Standing} {ports : ℕ} {by_port : List (List Cargo)} {banks : ℕ} {queues : List Port} {puts : List PutPass} {workers : List (Worker J SinkValue)}
+unfoldable pub serve_each : {J : Type 0} {starts : ℕ → Standing} {ports : ℕ} {by_port : List (List Cargo)} {banks : ℕ} {queues : List Port} {puts : List PutPass} {workers : List (Worker J SinkValue)}
     (desk : IsDesk starts ports by_port banks queues puts workers) (left : List (Worker J SinkValue)) (sinks : List SinkValue) (total : Report)
     → HaveServed (λ (s : SinkValue). s.sent) (λ (s : SinkValue). s.failed) banks queues workers left total → AreBeginnings puts left
     → sinks ≡ map (λ (w : Worker J SinkValue). w.sink) left → ServeEach starts ports by_port sinks total
