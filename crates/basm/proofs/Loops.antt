@@ -8,6 +8,7 @@ use Rattle.std.proofs.lemmas.List.Sorted.{sum_by-IsPermutation}
 use Rattle.std.proofs.lemmas.List.Sums.{sum_by-cons}
 use Rattle.bpf.specs.declared.loops.Loop.{Loop}
 use Rattle.bpf.specs.Program.{AreLoops}
+use Rattle.bpf.proofs.Parted.{and_true}
 
 -- ---- heads that do not fall, and begin at `least` or above
 
@@ -42,10 +43,6 @@ sum_zero f least (l ∷ ls) rises none =
 
 abbrev is_same : Loop → Loop → Bool
 is_same a b = eqb a.head b.head && (eqb a.back b.back && (eqb a.bound b.bound && eqb a.register b.register))
-
-and_true : (a b : Bool) → (a && b) ≡ true → (a ≡ true) × (b ≡ true)
-and_true true b h = (refl, h)
-and_true false b h = cc
 
 same_loop : (a b : Loop) → a.head ≡ b.head → a.back ≡ b.back → a.bound ≡ b.bound → a.register ≡ b.register → a ≡ b
 same_loop a b head back bound register =

@@ -75,7 +75,7 @@ header_made : (version : Version) (insns : List Insn) (loops : List Loop) (budge
 header_made version insns loops budget h e =
     no_fault (parts_fault (length (flat_map placed_slots insns)) loops budget) h (made version insns loops budget) e
 
-and_true : (a b : Bool) → (a && b) ≡ true → (a ≡ true) × (b ≡ true)
+pub and_true : (a b : Bool) → (a && b) ≡ true → (a ≡ true) × (b ≡ true)
 and_true true b h = (refl, h)
 and_true false b h = cc
 

@@ -97,7 +97,7 @@ or_case : (s t : Bool) → (s || t) ≡ true → (s ≡ true) ⊎ (t ≡ true)
 or_case true t e = inl refl
 or_case false t e = inr e
 
-same_number : (a b : ℕ) → (a == b) ≡ true → a ≡ b
+pub same_number : (a b : ℕ) → (a == b) ≡ true → a ≡ b
 same_number a b e = grind (arith, nat_tests)
 
 rmw_at : (d e : ℕ) → d ≡ e → is_rmw_distance e ≡ true → is_rmw_distance d ≡ true

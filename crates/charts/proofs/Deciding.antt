@@ -45,13 +45,13 @@ run_by t quota code rest told = if t then ruled quota code told (rest (λ k. tol
 abbrev decider_by : (t : Bool) → Option Quota → (n : ℕ) → (rest : (ℕ → ℕ) → Option ℕ) → (ℕ → ℕ) → Option ℕ
 decider_by t quota n rest told = if t then by_quota quota n told (rest (λ k. told (suc k))) else rest told
 
-is_below : (a b : ℕ) → nat_lt a b ≡ true → a < b
+pub is_below : (a b : ℕ) → nat_lt a b ≡ true → a < b
 is_below a b h = grind (arith, nat_tests)
 
-is_not_below : (a b : ℕ) → nat_lt a b ≡ false → b ≤ a
+pub is_not_below : (a b : ℕ) → nat_lt a b ≡ false → b ≤ a
 is_not_below a b h = grind (arith, nat_tests)
 
-not_below : (a b : ℕ) → b ≤ a → nat_lt a b ≡ false
+pub not_below : (a b : ℕ) → b ≤ a → nat_lt a b ≡ false
 not_below a b h = grind (arith, nat_tests)
 
 -- ---- the rule may decide

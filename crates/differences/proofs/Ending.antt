@@ -1,5 +1,5 @@
 -- How a course may end.
-use Rattle.std.proofs.Common.{◌≡◌, ◌≤◌, ◌<◌, ◌+◌, ◌^◌, ◌==◌, ◌&&◌, ◌||◌, ◌⊎◌, ◌++◌, inl, inr, length, max, ℕ, zero, suc, Bool, true, false, not, List, [], ◌∷◌, Option, Some, None, refl, ap, sym, subst, ◌∙◌, arith}
+use Rattle.std.proofs.Common.{◌≡◌, ◌≤◌, ◌<◌, ◌+◌, ◌^◌, ◌==◌, ◌&&◌, ◌||◌, ◌⊎◌, ◌++◌, inl, inr, length, max, ℕ, zero, suc, Bool, true, false, List, [], ◌∷◌, Option, Some, None, refl, ap, sym, subst, ◌∙◌, arith}
 use Rattle.std.specs.Prelude.{All, if◌then◌else◌, nat_lt}
 use Rattle.std.proofs.lemmas.Bool.Decides.{nat_tests}
 use Rattle.std.proofs.lemmas.List.Elements.{All-head, All-tail}
@@ -12,6 +12,8 @@ use Rattle.policy_table.specs.declared.rules.Rule.{Rule}
 use Rattle.charts.specs.Alike.{HasLimit, said}
 use Rattle.charts.specs.Tickets.{AreTicketsFrom, TicketsFollow, after, is_of, least_of, raised}
 use Rattle.differences.specs.Gains.{ends_by, is_same, least_then, may_end, passes}
+use Rattle.charts.proofs.Deciding.{not_below, is_below, is_not_below}
+use Rattle.charts.proofs.Least.{either}
 
 -- some tickets from the least on end the rules so
 pub record MayEnd (pass : Bool) (least : ℕ → ℕ → ℕ) (decide : (ℕ → ℕ) → List Call × ℕ) : Type 0 where
@@ -41,15 +43,6 @@ zero_words k = omega arith
 
 pub below : (a b : ℕ) → a < b → nat_lt a b ≡ true
 below a b h = grind (arith, nat_tests)
-
-pub not_below : (a b : ℕ) → b ≤ a → nat_lt a b ≡ false
-not_below a b h = grind (arith, nat_tests)
-
-pub is_below : (a b : ℕ) → nat_lt a b ≡ true → a < b
-is_below a b h = grind (arith, nat_tests)
-
-pub is_not_below : (a b : ℕ) → nat_lt a b ≡ false → b ≤ a
-is_not_below a b h = grind (arith, nat_tests)
 
 pub and_both : (s t : Bool) → (s && t) ≡ true → (s ≡ true) × (t ≡ true)
 and_both true t e = (refl, e)
@@ -91,10 +84,6 @@ pub passed_on : (quota : Quota) (code : ℕ) (told : ℕ → ℕ) (rest : List C
 passed_on quota code told rest e = rw e refl
 
 -- ---- tickets of a draw
-
--- one of two decisions
-abbrev pub either : Bool → (one other : List Call × ℕ) → List Call × ℕ
-either t one other = if t then one else other
 
 -- the same ticket for each draw
 abbrev pub always : ℕ → ℕ → ℕ

@@ -1,5 +1,5 @@
 -- What is gained by new rules.
-use Rattle.std.proofs.Common.{◌≡◌, ◌≤◌, ◌<◌, ◌+◌, ◌++◌, length, ◌^◌, ◌==◌, ◌&&◌, ◌||◌, ◌⊎◌, inl, inr, ℕ, zero, suc, max, Bool, true, false, not, List, [], ◌∷◌, Option, Some, None, refl, ap, sym, subst, ◌∙◌, arith}
+use Rattle.std.proofs.Common.{◌≡◌, ◌≤◌, ◌<◌, ◌+◌, ◌++◌, length, ◌^◌, ◌==◌, ◌&&◌, ◌||◌, ◌⊎◌, inl, inr, ℕ, suc, max, Bool, true, false, not, List, [], ◌∷◌, Option, Some, None, refl, ap, sym, subst, ◌∙◌, arith}
 use Rattle.std.specs.Prelude.{All, MatchBool, if◌then◌else◌, nat_lt}
 use Rattle.std.proofs.lemmas.Bool.Decides.{nat_tests}
 use Rattle.std.proofs.lemmas.List.Elements.{All-head, All-tail}
@@ -12,7 +12,10 @@ use Rattle.policy_table.specs.declared.rules.Rule.{Rule}
 use Rattle.charts.specs.Alike.{AreLimited, HasLimit, said}
 use Rattle.charts.specs.Tickets.{AreTickets, AreTicketsFrom, TicketsFollow, after, is_of, least_from, least_of, raised}
 use Rattle.differences.specs.Gains.{AreAnsweredAlike, Gains, IsSign, gains, gains_at, gains_behind, gains_by, least_then, may_end, passes, sign_with}
-use Rattle.differences.proofs.Ending.{IsNextLeast, MayEnd, always, and_both, and_joined, behind, below, either, first_told, first_words, goes_on, is_below, is_not_below, least_matches, least_there, may_end_complete, may_end_sound, next_above, next_below, next_bound, not_below, or_either, or_first, or_other}
+use Rattle.differences.proofs.Ending.{IsNextLeast, MayEnd, always, and_both, and_joined, behind, below, first_told, first_words, goes_on, least_matches, least_there, may_end_complete, may_end_sound, next_above, next_below, next_bound, or_either, or_first, or_other}
+use Rattle.charts.proofs.Least.{either}
+use Rattle.charts.proofs.Deciding.{is_not_below, is_below, not_below}
+use Rattle.charts.proofs.Admitted.{same_number}
 
 -- the same of two decisions by whatever rules, for tickets from the least on
 pub record GainsBy (least : ℕ → ℕ → ℕ) (old new : (ℕ → ℕ) → List Call × ℕ) : Type 0 where
@@ -42,9 +45,6 @@ gained old new least h = record {
 alike_last : (calls : List Call) → AreAnsweredAlike calls []
 alike_last [] = tt
 alike_last (call ∷ calls) = tt
-
-same_number : (a b : ℕ) → (a == b) ≡ true → a ≡ b
-same_number a b e = grind (arith, nat_tests)
 
 not_of : (t : Bool) → not t ≡ true → t ≡ false
 not_of true e = absurd (cc)

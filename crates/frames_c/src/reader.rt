@@ -1,7 +1,7 @@
 //! A reader of frames that takes memory only when it is made.
 
 ghost use Rattle.std.specs.Prelude.{◌≡◌, ◌≢◌, ◌≤◌, [], Some, IfOk, length};
-ghost use Rattle.frames.specs.Reading.{behind_end, came_of, comes, first_reading, in_body, in_head, is_between, is_cargo, next, step};
+ghost use Rattle.frames.specs.Reading.{behind_end, came_of, comes, first_reading, in_body, in_head, is_between, next, step};
 ghost use Rattle.frames.specs.declared.flags.Flag.TheVariants.{Last};
 ghost use Rattle.frames_c.specs.Numbers.{came_numbers, numbers_if, packet_in, put_front};
 ghost use Rattle.frames_c.specs.Taking.{take_whole, whole_in, whole_of};
@@ -43,16 +43,6 @@ fn put_front(room: &mut [u8], bytes: &[u8])
     ensures { room.new ≡ put_front room.old bytes.now }
 {
     room[..bytes.len()].copy_from_slice(bytes);
-}
-
-/// Whether such a frame carries bytes of a packet.
-fn is_cargo(flag: Flag) -> bool
-    ensures { result ≡ is_cargo flag }
-{
-    match flag {
-        Flag::Last(_) | Flag::Part => true,
-        Flag::SendTime | Flag::GotTime | Flag::Other(_) => false,
-    }
 }
 
 impl Frames {
@@ -97,7 +87,7 @@ impl Frames {
         ensures { self.new ≡ in_body self.old byte }
     {
         self.left -= 1;
-        if is_cargo(self.flag) {
+        if self.flag.is_cargo() {
             self.held.keep(byte);
         }
     }
@@ -118,7 +108,8 @@ impl Frames {
         requires { MAX_PACKET ≤ length room.old }
         ensures told { result ≡ came_numbers taken (Some (came_of (Last end) self.old.held)) }
         ensures room { room.new ≡ put_front room.old self.old.held }
-        ensures behind { self.new ≡ record { head = self.old.head; flag = self.old.flag; left = self.old.left; held = [] } }
+        ensures behind { self.new
+            ≡ record { head = self.old.head; flag = self.old.flag; left = self.old.left; held = [] } }
     {
         let bytes = self.held.bytes();
         put_front(room, bytes);
@@ -138,7 +129,8 @@ impl Frames {
     fn end(&mut self, taken: u64, room: &mut [u8]) -> Option<CameNumbers>
         requires { MAX_PACKET ≤ length room.old }
         ensures told { result ≡ numbers_if taken (whole_of (came_of self.old.flag self.old.held)) }
-        ensures room { room.new ≡ put_front room.old (packet_in (whole_of (came_of self.old.flag self.old.held))) }
+        ensures room { room.new
+            ≡ put_front room.old (packet_in (whole_of (came_of self.old.flag self.old.held))) }
         ensures behind { self.new ≡ behind_end self.old }
     {
         match self.flag {
@@ -176,7 +168,8 @@ impl Frames {
     /// came. The bytes of a packet go to the front of the room. The condition is room for the longest packet.
     pub fn take(&mut self, bytes: &[u8], room: &mut [u8]) -> CameNumbers
         requires { MAX_PACKET ≤ length room.old }
-        ensures told { result ≡ came_numbers (take_whole self.old bytes.now).count (take_whole self.old bytes.now).came }
+        ensures told { result
+            ≡ came_numbers (take_whole self.old bytes.now).count (take_whole self.old bytes.now).came }
         ensures room { room.new ≡ put_front room.old (packet_in (take_whole self.old bytes.now).came) }
         ensures read { self.new ≡ (take_whole self.old bytes.now).next }
     {

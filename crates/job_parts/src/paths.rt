@@ -1,28 +1,12 @@
 //! The bytes of a path that a router takes away.
 
 use rmap::PROTOCOL;
+use spw::behind_path;
 use std::alloc::AllocError;
-
-/// The least logical address of a node; what is below it is a port of a router, and so a byte of a path
-/// (ECSS-E-ST-50-12C, addresses).
-const FIRST_LOGICAL: u8 = 32;
-
-/// How many bytes below the logical addresses come first.
-fn count_of(bytes: &[u8]) -> usize {
-    let mut count: usize = 0;
-    for byte in bytes {
-        if *byte >= FIRST_LOGICAL {
-            return count;
-        }
-        count = count.saturating_add(1);
-    }
-    count
-}
 
 /// The bytes of a path that stand before a packet of this protocol, as it leaves its sender: no bytes, if none do.
 pub fn path_in_front(bytes: &[u8]) -> &[u8] {
-    let count = count_of(bytes).min(bytes.len());
-    let (path, packet) = bytes.split_at(count);
+    let (path, packet) = bytes.split_at(bytes.len() - behind_path(bytes).len());
     match packet {
         [_, protocol, ..] if *protocol == PROTOCOL => path,
         _ => &[],

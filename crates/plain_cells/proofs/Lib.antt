@@ -1,3 +1,3 @@
-mod Zeros
+pub mod Zeros
 mod Calls
-mod Tickets
+pub mod Tickets

@@ -9,9 +9,8 @@ ghost use Rattle.plain_cells.specs.Cells.{IsCalled, fresh_cells};
 ghost use Rattle.plain_cells.specs.Words.{AreCallsOn, IsOfCell, word_in, zero_words};
 
 use crate::answers::answered;
-use crate::log::CallLog;
 use crate::words::CellWords;
-use brun::Counters;
+use brun::{CallLog, Counters};
 use machine::{Call, Helper, MapSizes, Question};
 use std::alloc::{AllocError, Global};
 use std::marker::Model;

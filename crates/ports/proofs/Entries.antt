@@ -17,7 +17,7 @@ use Rattle.ports.specs.Due.{Judging, Deed, Standing, stand, Worked, IsBanked, Is
 use Rattle.ports.specs.Due.Deed.{Dropped, Answered, Judged}
 use Rattle.ports.specs.Laws.{HasEntered, IsByPublished, IsByShown, EntriesFollow}
 use Rattle.ports.proofs.Following.{dealt_stays, judged_by, judged_shown}
-use Rattle.ports.proofs.Keeping.{prefix_same, prefix_trans}
+use Rattle.lemmas.proofs.Prefixes.{prefix_same, prefix_trans}
 
 -- whatever the publishes are that those begin which the port had seen, the command was judged by one of them
 abbrev pub IsJudgedBehind : ℕ → Judging → PassValue → Type 0

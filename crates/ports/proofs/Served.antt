@@ -10,7 +10,7 @@ use Rattle.annals.specs.declared.deed.Link.{Link}
 use Rattle.annals.specs.Chains.{ActsGrow, Due, done_for}
 use Rattle.annals.specs.Publishes.{EntriesAreNoLoads, LoadsAreListed}
 use Rattle.target.specs.Passes.{PortPass}
-use Rattle.ports.proofs.Keeping.{prefix_trans}
+use Rattle.lemmas.proofs.Prefixes.{prefix_trans}
 use Rattle.ports.proofs.Loading.{publishes_are_all}
 use Rattle.ports.proofs.Whole.{entries_are_all}
 use Rattle.ports.specs.Worked.{standing_of}

@@ -12,7 +12,7 @@ use Rattle.node_parts.specs.Applied.{share_of}
 use Rattle.node_parts.specs.Pairs.{IsPaired, IsShareOf}
 use Rattle.node_parts.specs.Passes.{PassValue}
 use Rattle.single_node.specs.Nodes.{IsSingleNode, SingleNodeValue, covers_in, with_bank}
-use Rattle.single_node.proofs.Nodes.{at_other, at_written}
+use Rattle.lemmas.proofs.Places.{at_other, at_written}
 
 -- a share of a bank with the same counts
 share_stays : (old new : BankValue) (port : ℕ) (share : ShareValue) → new.counts ≡ old.counts → IsShareOf old port share → IsShareOf new port share

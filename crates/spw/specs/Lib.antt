@@ -2,4 +2,5 @@ pub mod Cargo
 pub mod Fault
 pub mod Feeding
 pub mod Line
+pub mod Paths
 pub mod Written

@@ -4,7 +4,7 @@ ghost use Rattle.std.specs.Prelude.{◌≡◌};
 ghost use Rattle.ports.specs.Queue.{IsPutPassOf};
 ghost use Rattle.ports.specs.Serves.{IsWorkerOf};
 
-use super::checks::same;
+use super::checks::{Tested, same};
 use super::queues::worked;
 use super::sinks::Counted;
 use super::workers::CLEAN;
@@ -170,11 +170,7 @@ fn a_gate_is_called_round_each_packet(rt: HostRuntime) -> Result<(), Fail> {
     round_each_packet::<Brand, _>(&rt, rt.alloc(), Opened::new())
 }
 
-fn round_each_packet<J: Family, R: Wait + Abort>(
-    rt: &R,
-    alloc: Global,
-    opened: Opened,
-) -> Result<(), Fail>
+fn round_each_packet<J: Family, R: Wait + Abort>(rt: &R, alloc: Global, opened: Opened) -> Tested
     requires { opened ≡ J.book }
 {
     let factory = program(alloc, 0)?;

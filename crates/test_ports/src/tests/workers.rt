@@ -2,7 +2,7 @@
 
 ghost use Rattle.std.specs.Prelude.{◌≡◌};
 
-use super::checks::same;
+use super::checks::{Tested, same};
 use super::gates::InTurn;
 use ports::{NoGate, Replies, Report};
 use std::alloc::Global;
@@ -115,11 +115,7 @@ fn a_write_beside_another_bank(rt: HostRuntime) -> Result<(), Fail> {
     write_beside::<Brand, _>(&rt, rt.alloc(), Opened::new())
 }
 
-fn write_beside<J: Family, R: Wait + Abort>(
-    rt: &R,
-    alloc: Global,
-    opened: Opened,
-) -> Result<(), Fail>
+fn write_beside<J: Family, R: Wait + Abort>(rt: &R, alloc: Global, opened: Opened) -> Tested
     requires { opened ≡ J.book }
 {
     let banks = [bank(1024), bank(1024)];

@@ -2,7 +2,7 @@
 
 ghost use Rattle.std.specs.Prelude.{◌≡◌};
 
-use super::checks::{check, same};
+use super::checks::{Tested, check, same};
 use super::marks::{begin, end, tell};
 use brun::Counters;
 use node_parts::Served;
@@ -135,11 +135,7 @@ fn compare_refused(
 
 /// A load behind a write, a ticket and a publish. Where memory was refused to it everything is as before, and the next
 /// load has the generation that it would have had.
-fn load_behind<J: Family, R: Wait + Abort + Print>(
-    rt: &R,
-    alloc: Global,
-    opened: Opened,
-) -> Result<(), Fail>
+fn load_behind<J: Family, R: Wait + Abort + Print>(rt: &R, alloc: Global, opened: Opened) -> Tested
     requires { opened ≡ J.book }
 {
     let mut loading = Loading::<J, _>::new(rt, alloc, opened)?;

@@ -1,6 +1,6 @@
 //! Memory that is refused to a node of one thread, and what it does without a request.
 
-use super::checks::{check, same};
+use super::checks::{Tested, check, same};
 use super::marks::{begin, end, tell};
 use bank::{Bank, Journal};
 use bver::Accepted;
@@ -167,11 +167,7 @@ fn load(node: &mut Solo) -> Result<(Served, [u8; 8]), Fail> {
 }
 
 /// Compares a load that was not done with what a refusal leaves, and tells its load result.
-fn compare_refused(
-    rt: &(impl Abort + Print),
-    node: &Solo,
-    load: (Served, [u8; 8]),
-) -> Result<(), Fail> {
+fn compare_refused(rt: &(impl Abort + Print), node: &Solo, load: (Served, [u8; 8])) -> Tested {
     same(
         rt,
         "its status",

@@ -1,6 +1,6 @@
 //! Memory that is refused to worlds of schedules, and to their steps.
 
-use super::checks::{check, same};
+use super::checks::{Tested, check, same};
 use super::marks::{begin, end, tell};
 use bpf::Image;
 use bver::MapSizes;
@@ -194,12 +194,7 @@ fn came(
 }
 
 /// Compares what events come to.
-fn compare(
-    rt: &(impl Abort + Print),
-    alloc: Global,
-    world: &mut World,
-    rows: &str,
-) -> Result<(), Fail> {
+fn compare(rt: &(impl Abort + Print), alloc: Global, world: &mut World, rows: &str) -> Tested {
     for row in rows.lines() {
         let (text, wanted) = row.split_once('|').ok_or("an event without an outcome")?;
         let outcome = came(rt, alloc, world, text)?;

@@ -4,7 +4,7 @@ ghost use Rattle.std.specs.Prelude.{◌≡◌, ◌<◌, IfSome, Some};
 ghost use mathlib.Core.List.{IsPrefix};
 ghost use Rattle.node_programs.specs.Published.{generation_at};
 
-use crate::tests::checks::same;
+use crate::tests::checks::{Tested, same};
 use crate::tests::publishing::program;
 use bver::MapSizes;
 use node_programs::PublishFault;
@@ -44,11 +44,7 @@ fn shown<J: Family>(reader: &mut Reader<J>, front: &mut Front<J>, slot: u8) -> O
     Some((taken.accepted().budget(), taken.generation()))
 }
 
-fn a_program_is_shown<J: Family, R: Wait + Abort>(
-    rt: &R,
-    alloc: Global,
-    opened: Opened,
-) -> Result<(), Fail>
+fn a_program_is_shown<J: Family, R: Wait + Abort>(rt: &R, alloc: Global, opened: Opened) -> Tested
     requires { opened ≡ J.book }
 {
     let sizes = MapSizes::new(&[])?;

@@ -27,11 +27,11 @@ use denote.Triple.Entry.{on_entry, alive, Args}
 use denote.Triple.Spec.{Meets, triple_of}
 use denote.Triple.Table.{entered}
 use denote.Triple.Walked.{says, stay_none_ref, Stays, walk_of, Walks, ends_at, walked, Goes-none_ref, walk_Meets}
-use Rattle.plain_cells.specs.contracts.log.CallLog.joined.Key.{name as key}
-use Rattle.plain_cells.specs.contracts.log.CallLog.joined as f
-use Rattle.plain_cells.proofs.log.CallLog.joined.Statement as stated
-use Rattle.plain_cells.proofs.log.CallLog.joined.Code as code
-use Rattle.plain_cells.specs.contracts.log.CallLog as list
+use Rattle.brun.specs.contracts.log.CallLog.joined.Key.{name as key}
+use Rattle.brun.specs.contracts.log.CallLog.joined as f
+use Rattle.brun.proofs.log.CallLog.joined.Statement as stated
+use Rattle.brun.proofs.log.CallLog.joined.Code as code
+use Rattle.brun.specs.contracts.log.CallLog as list
 
 abbrev stayed : Stays (f.ended).signature.params (f.ended).kept
 stayed = (stay_none_ref (0 ∷ []) tt (plain (λ _. list.the_row)) yes, (stay_none_ref (1 ∷ []) tt (plain (λ _. list.the_row)) yes, (stay_none_ref (2 ∷ []) tt (plain (λ _. list.the_row)) yes, tt)))

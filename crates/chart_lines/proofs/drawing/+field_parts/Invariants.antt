@@ -1,5 +1,5 @@
 use Rattle.std.proofs.Common.{◌<◌, length}
-use Rattle.chart_lines.proofs.fields.+field_parts.Given as goal
+use Rattle.chart_lines.proofs.drawing.+field_parts.Given as goal
 
 abbrev pub decreases-field_parts : goal.decreases-field_parts
 decreases-field_parts l = length l.fields.now
