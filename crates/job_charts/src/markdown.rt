@@ -72,7 +72,8 @@ fn add_chars(text: &mut String, comment: &str) -> Result<(), AllocError>
 
 /// Adds a comment, and a dash where there is none.
 fn add_comment(text: &mut String, comment: &str) -> Result<(), AllocError>
-    ensures { OnOk result (string_bytes text.new ≡ string_bytes text.old ++ comment_text comment.now) }
+    ensures { OnOk result (string_bytes text.new ≡
+        string_bytes text.old ++ comment_text comment.now) }
 {
     if comment.is_empty() {
         return text.push_str("-");

@@ -1,7 +1,7 @@
 pub mod Banks
 mod Continuing
 mod Loaded
-mod Scheduled
+pub mod Scheduled
 mod SettledNodes
 pub mod Simulating
 mod FirstWorlds

@@ -6,7 +6,14 @@ use Rattle.job_parts.specs.declared.usage.UsageFault.TheVariants.{BadOption, Mem
 use Rattle.job_packets.specs.declared.slips.PacketFault.{PacketFault}
 use Rattle.job_packets.specs.declared.slips.PacketFault.TheVariants.{Words, Memory}
 use Rattle.job_packets.specs.declared.slips.PacketWord.{PacketWord}
-use Rattle.job_packets.specs.declared.slips.Slip.TheVariants.{Bad}
+use Rattle.job_packets.specs.declared.slips.Slip.{Slip}
+use Rattle.job_packets.specs.declared.slips.Slip.TheVariants.{Missing, Bad, Foreign}
+
+-- the word of a slip
+abbrev pub word_of : Slip → PacketWord
+word_of (Missing word) = word
+word_of (Bad word) = word
+word_of (Foreign word) = word
 
 -- the fault of a word that is none that it may be
 abbrev pub bad_word : PacketWord → PacketFault

@@ -1,7 +1,7 @@
 //! What is wrong with words that order no packet.
 
 ghost use Rattle.std.specs.Prelude.{◌≡◌};
-ghost use Rattle.job_packets.specs.Slips.{bad_word, usage_fault_of};
+ghost use Rattle.job_packets.specs.Slips.{bad_word, usage_fault_of, word_of};
 ghost use Rattle.job_packets.specs.declared.slips.PacketFault.TheVariants.{Memory};
 
 use job_parts::usage::UsageFault;
@@ -72,7 +72,7 @@ impl PacketWord {
     }
 
     /// What it stands for, as the usage of the job names it.
-    pub fn name(self) -> &'static str {
+    pub fn title(self) -> &'static str {
         match self {
             PacketWord::Kind => "KIND",
             PacketWord::Address => "ADDRESS",
@@ -164,14 +164,16 @@ pub enum Slip {
 
 impl Slip {
     /// The word.
-    pub fn word(self) -> PacketWord {
+    pub fn word(self) -> PacketWord
+        ensures { result ≡ word_of self }
+    {
         match self {
             Slip::Missing(word) | Slip::Bad(word) | Slip::Foreign(word) => word,
         }
     }
 
     /// What is wanted in its place.
-    pub fn wanted(self) -> &'static str {
+    pub fn advice(self) -> &'static str {
         match self {
             Slip::Missing(word) | Slip::Bad(word) => word.form(),
             Slip::Foreign(word) => word.owner(),

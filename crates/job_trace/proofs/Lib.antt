@@ -1,4 +1,3 @@
 mod Histories
 mod LinesInTurn
-mod Scheduled
 mod Striding
