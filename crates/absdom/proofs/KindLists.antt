@@ -6,7 +6,7 @@ use Rattle.absdom_num.specs.declared.ranges.Range.{Range}
 use Rattle.absdom_num.specs.Ranges.{IsWithin}
 use Rattle.absdom_num.specs.Tables.{whole_range}
 use Rattle.absdom_stack.specs.Marks.{mark_at}
-use Rattle.absdom_stack.specs.StackWords.{all_whole}
+use Rattle.absdom_stack.specs.StackWords.{AreAllWhole, all_whole, range_in}
 use Rattle.absdom.specs.declared.kinds.AbsKind.{AbsKind}
 use Rattle.absdom.specs.declared.kinds.AbsKind.TheVariants.{Num}
 use Rattle.absdom.specs.Kinds.{IsKindBelow}
@@ -47,6 +47,16 @@ same_range r = record { above = omega arith; below = omega arith }
 pub many_words : length all_whole ≡ 64
 unfolding all_whole
 many_words = length-replicate 64 (whole_range Bits64)
+
+-- nothing is known of any word of the stack
+pub whole_word : AreAllWhole all_whole
+unfolding all_whole
+whole_word word = same_everywhere 64 word
+  where
+    same_everywhere : (count k : ℕ) → range_in (replicate count (whole_range Bits64)) k ≡ whole_range Bits64
+    same_everywhere zero k = refl
+    same_everywhere (suc count) zero = refl
+    same_everywhere (suc count) (suc k) = same_everywhere count k
 
 pub unmarked : (count place : ℕ) → mark_at (replicate count false) place ≡ false
 unmarked zero place = refl

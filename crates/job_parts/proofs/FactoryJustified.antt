@@ -14,7 +14,7 @@ use Rattle.absdom_num.specs.Ranges.{IsWithin}
 use Rattle.absdom_num.specs.Tables.{whole_range}
 use Rattle.absdom.specs.declared.kinds.AbsKind.{AbsKind}
 use Rattle.absdom.specs.declared.kinds.AbsKind.TheVariants.{Num, Unset}
-use Rattle.absdom_stack.specs.StackWords.{AreAllWhole, all_whole, range_in}
+use Rattle.absdom_stack.specs.StackWords.{all_whole, range_in}
 use Rattle.absdom.specs.State.{IsBelow, IsEntry, IsProper, IsWhole, StateValue, entry_kinds}
 use Rattle.bver_form.specs.Form.{IsAllowed}
 use Rattle.bver_form.specs.Loops.{IsLoopFormed}
@@ -25,7 +25,7 @@ use Rattle.bver.specs.Unjustified.{TellsUnjustified}
 use Rattle.bver.specs.Justified.{IsHead, IsJustified, IsPermittedAt}
 use Rattle.absdom_stack.specs.Spill.{spill_of}
 use Rattle.job_parts.specs.Factory.{factory}
-use Rattle.absdom.proofs.KindLists.{number, each_below, same_range, each_proper, many_words, proper_number, unmarked}
+use Rattle.absdom.proofs.KindLists.{number, each_below, same_range, each_proper, many_words, proper_number, unmarked, whole_word}
 
 -- ---- two states
 
@@ -50,15 +50,6 @@ table (suc (suc n)) = None
 many_marks : length no_marks ≡ 512
 unfolding no_marks
 many_marks = length-replicate 512 false
-
-whole_word : AreAllWhole all_whole
-unfolding all_whole
-whole_word word = same_everywhere 64 word
-  where
-    same_everywhere : (count k : ℕ) → range_in (replicate count (whole_range Bits64)) k ≡ whole_range Bits64
-    same_everywhere zero k = refl
-    same_everywhere (suc count) zero = refl
-    same_everywhere (suc count) (suc k) = same_everywhere count k
 
 whole : (answer : AbsKind) → IsProper answer → IsWhole (known answer)
 unfolding answer_kinds

@@ -18,25 +18,15 @@ use Rattle.absdom.specs.declared.cause.Cause.TheVariants.{UnsetStack}
 use Rattle.absdom.specs.Effect.{load_kind, with_stored}
 use Rattle.absdom_stack.specs.declared.spill.Spill.TheVariants.{Forgets}
 use Rattle.absdom_stack.specs.Marks.{all_marked, mark_at, marks_after}
-use Rattle.absdom_stack.specs.StackWords.{AreAllWhole, all_whole, is_touched, range_in, widened_from}
+use Rattle.absdom_stack.specs.StackWords.{all_whole, is_touched, range_in, widened_from}
 use Rattle.absdom.specs.State.{IsBelow, IsEntry, IsProper, IsWhole, StateValue, entry_kinds}
-use Rattle.absdom.proofs.KindLists.{number, each_below, same_range, each_proper, many_words, proper_number, unmarked}
+use Rattle.absdom.proofs.KindLists.{number, each_below, same_range, each_proper, many_words, proper_number, unmarked, whole_word}
 
 -- ---- states
 
 -- no byte of the stack is set
 pub no_marks : List Bool
 no_marks = replicate 512 false
-
--- nothing is known of any word of the stack
-whole_word : AreAllWhole all_whole
-unfolding all_whole
-whole_word word = same_everywhere 64 word
-  where
-    same_everywhere : (count k : ℕ) → range_in (replicate count (whole_range Bits64)) k ≡ whole_range Bits64
-    same_everywhere zero k = refl
-    same_everywhere (suc count) zero = refl
-    same_everywhere (suc count) (suc k) = same_everywhere count k
 
 -- the last byte of the stack is set
 pub port_marks : List Bool
