@@ -1,13 +1,13 @@
 //! Jobs for the node of a file, which says what their options would say of a node.
 
-ghost use Rattle.std.specs.Prelude.{◌≡◌, IfOk, None, Some, false, is_none, option_map, true};
+ghost use Rattle.std.specs.Prelude.{◌≡◌, IfOk, None, Some, false, is_none, option_map, string_bytes, true};
 ghost use Rattle.clap.specs.Matches.{found_of};
 ghost use Rattle.clap.specs.Simple.{app_of};
 ghost use Rattle.clap.specs.Walk.{rows_of};
 ghost use Rattle.clap.specs.declared.builder.command.Command.TheViews.{out-Command as fields_of};
 ghost use Rattle.commands.specs.OnNodes.{are_left, own_file, placed, takes_file, with_node};
 ghost use Rattle.job_config.specs.Configured.{numbers_in};
-ghost use Rattle.job_parts.specs.Inputs.{AreInputs, input};
+ghost use Rattle.job_parts.specs.Inputs.{AreInputs, input, input_value};
 ghost use Rattle.job_parts.specs.declared.inputs.Content.TheVariants.{Node};
 ghost use Rattle.node_parts.specs.Nodes.{are_within, windows_of};
 
@@ -39,7 +39,10 @@ pub struct NodeJob {
 
 impl NodeJob {
     /// What is read first of all that is read, and what is written: the node's file, the first file of the job, and its OUT.
-    pub fn inputs(&self) -> Inputs<'_> {
+    pub fn inputs(&self) -> Inputs<'_>
+        ensures { option_map input_value result.first
+            ≡ Some (input (string_bytes self.now.node) Node) }
+    {
         let own = self.job.inputs();
         Inputs {
             first: node_inputs(self.node.as_str()).first,
