@@ -3,6 +3,7 @@ use Rattle.std.proofs.Common.{◌≡◌, ◌≤◌, ◌<◌, ◌+◌, ◌^◌, �
 use Rattle.std.specs.Prelude.{All, if◌then◌else◌, nat_lt}
 use Rattle.std.proofs.lemmas.Bool.Decides.{nat_tests}
 use Rattle.std.proofs.lemmas.List.Elements.{All-head, All-tail}
+use Rattle.std.proofs.lemmas.Bool.{and_parts}
 use Rattle.machine.specs.declared.calls.Call.{Call}
 use Rattle.rmap.specs.Verdict.{verdict_number}
 use Rattle.policy_table.specs.Limits.{IsLimited}
@@ -43,10 +44,6 @@ zero_words k = omega arith
 
 pub below : (a b : ℕ) → a < b → nat_lt a b ≡ true
 below a b h = grind (arith, nat_tests)
-
-pub and_both : (s t : Bool) → (s && t) ≡ true → (s ≡ true) × (t ≡ true)
-and_both true t e = (refl, e)
-and_both false t e = absurd (cc)
 
 pub or_either : (s t : Bool) → (s || t) ≡ true → (s ≡ true) ⊎ (t ≡ true)
 or_either true t e = inl refl
@@ -96,7 +93,7 @@ true_and_false false e f = absurd (cc)
 -- the least of a cell is that of a quota of it
 pub least_there : (least : ℕ → ℕ → ℕ) (q : Quota) (map cell : ℕ) → is_of q map cell ≡ true → least map cell ≡ least q.map q.cell
 least_there least q map cell e =
-    let parts = and_both (q.map == map) (q.cell == cell) e in
+    let parts = and_parts (q.map == map) (q.cell == cell) e in
     ap (λ (n : ℕ). least n cell) (sym (same q.map map parts.0)) ∙ ap (λ (n : ℕ). least q.map n) (sym (same q.cell cell parts.1))
   where
     same : (a b : ℕ) → (a == b) ≡ true → a ≡ b
@@ -171,7 +168,7 @@ module _ (follow : TicketsFollow) where
     where
       by_either : ((is_same (passes code) pass && nat_lt (least q.map q.cell) q.limit) ≡ true) ⊎ (may ≡ true) → MayEnd pass least (behind (Some q) code rest)
       by_either (inl h) =
-          let both = and_both (is_same (passes code) pass) (nat_lt (least q.map q.cell) q.limit) h in
+          let both = and_parts (is_same (passes code) pass) (nat_lt (least q.map q.cell) q.limit) h in
           let t : ℕ = least q.map q.cell in
           record {
             told = always t;

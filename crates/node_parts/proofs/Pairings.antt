@@ -7,7 +7,7 @@ use Rattle.std.proofs.lemmas.Grind.{get_or-set_at}
 use Rattle.std.proofs.lemmas.List.FromFn.{length-map-range_with_len, get_or-map-range_with_len}
 use Rattle.std.specs.List.{range_with_len}
 use Rattle.std.proofs.Math.Seq.{map-set_same}
-use Rattle.std.proofs.lemmas.Bool.{cases_eq}
+use Rattle.std.proofs.lemmas.Bool.{cases_eq, and_parts}
 use Rattle.std.proofs.lemmas.Bool.Decides.{nat_tests}
 use Rattle.rmap.specs.declared.places.Place.{Place}
 use Rattle.rmap.specs.declared.places.Place.TheVariants.{Bank}
@@ -31,7 +31,7 @@ use Rattle.node_parts.specs.Applied.{share_of, with_share}
 use Rattle.node_parts.specs.Keeping.{AppliedSharesAgree}
 use Rattle.node_parts.specs.Pairs.{IsShareOf, IsPaired, MadeArePaired, PairedCommandsFit, OwnStaysPaired, OthersStayPaired}
 use Rattle.lemmas.proofs.Places.{at_written, at_other}
-use Rattle.bank.proofs.Banks.{both}
+use Rattle.lemmas.proofs.Options.{some_same}
 
 -- a share whose number is the bank's count of its port
 next_at : (counts : List ℕ) (port number : ℕ) → port < length counts → number ≡ get_or counts port 0 → (ltb port (length counts) && eqb number (get_or counts port 0)) ≡ true
@@ -42,13 +42,13 @@ next_at counts port number below same =
 
 next_below : (counts : List ℕ) (port number : ℕ) → (ltb port (length counts) && eqb number (get_or counts port 0)) ≡ true → port < length counts
 next_below counts port number h =
-    let test = (both (ltb port (length counts)) (eqb number (get_or counts port 0)) h).0 in
+    let test = (and_parts (ltb port (length counts)) (eqb number (get_or counts port 0)) h).0 in
     let is_below : ltb port (length counts) ≡ true = test in
     grind (arith, nat_tests)
 
 next_count : (counts : List ℕ) (port number : ℕ) → (ltb port (length counts) && eqb number (get_or counts port 0)) ≡ true → number ≡ get_or counts port 0
 next_count counts port number h =
-    let test = (both (ltb port (length counts)) (eqb number (get_or counts port 0)) h).1 in
+    let test = (and_parts (ltb port (length counts)) (eqb number (get_or counts port 0)) h).1 in
     let is_same : eqb number (get_or counts port 0) ≡ true = test in
     grind (arith, nat_tests)
 
@@ -147,9 +147,6 @@ own_stays_paired keeps banks h k j b paired port place at =
 pub others_stay_paired : ExtentsStay → OthersStayPaired
 others_stay_paired keeps banks h k share j b paired apart at =
     pair_set banks k b (after_command b share j) h at (keeps b share j) paired (other_share b share j h.port (share_of h (Bank k)) (paired.shares k b at) apart)
-
-some_same : {A : Type 0} (x y : A) → Some x ≡ Some y → x ≡ y
-some_same x y e = cc
 
 extent_at : (banks : List BankValue) (k : ℕ) (b : BankValue) (range : ℕ × ℕ) → slice_get banks k ≡ Some b → slice_get (map extent_of banks) k ≡ Some range → range ≡ extent_of b
 extent_at banks k b range at window =

@@ -5,6 +5,7 @@ use Rattle.std.specs.List.{range_with_len}
 use Rattle.std.proofs.lemmas.List.{length-map}
 use Rattle.std.proofs.lemmas.List.Elements.{filter-append}
 use Rattle.std.proofs.lemmas.Bool.Decides.{nat_tests}
+use Rattle.std.proofs.lemmas.Bool.{and_parts}
 use mathlib.Core.List.{IsPrefix}
 use Rattle.spw.specs.Cargo.{Cargo}
 use Rattle.rmap.specs.declared.places.Place.{Place}
@@ -22,7 +23,7 @@ use Rattle.annals.specs.Publishes.{publishes_of}
 use Rattle.ports.specs.Due.{Judging, Deed, Standing, stand, Worked, IsBanked, IsJudged, judgings}
 use Rattle.ports.specs.Due.Deed.{Dropped, Answered, Judged}
 use Rattle.ports.specs.Laws.{AreEntriesOf, EntriesFollow, HasEntered, IsByShown, IsEntryOf, WorkersEntriesAreAll, is_bank_of, is_entry_at, number_at}
-use Rattle.ports.proofs.Entries.{IsJudgedBehind, both_are, done_behind, entered, entries_follow}
+use Rattle.ports.proofs.Entries.{IsJudgedBehind, done_behind, entered, entries_follow}
 use Rattle.ports.proofs.Following.{bit, dealt_stays, judged_by, judged_number, judged_shown, one_at, shares_count}
 use Rattle.lemmas.proofs.Prefixes.{prefix_same, prefix_trans, prefix_length}
 
@@ -104,7 +105,7 @@ place_is k n place at here =
 left_at : (port k : ℕ) (known : List Link) (j : Judging) (h after : Standing) → j.judged.port ≡ port → IsJudgedBehind port j h.pass → IsByShown known h.front j → IsBanked j h after → is_entry_at k j ≡ true → HasLeft port k j h after
 unfolding entered
 left_at port k known j h after own by moment is here =
-    let parts = both_are j.entered (is_bank_of k j.judged.place) here in
+    let parts = and_parts j.entered (is_bank_of k j.judged.place) here in
     let behind = done_behind j h after is parts.0 in
     let done = behind.done in
     let n = is.ended.before.chain.number in
@@ -134,7 +135,7 @@ left_at port k known j h after own by moment is here =
     }
 
 windowed_none : (k : ℕ) (j : Judging) → j.entered ≡ false → is_entry_at k j ≡ true → ⊥
-windowed_none k j none here = cc (none, (both_are j.entered (is_bank_of k j.judged.place) here).0)
+windowed_none k j none here = cc (none, (and_parts j.entered (is_bank_of k j.judged.place) here).0)
 
 -- a judged command that left an entry at the bank
 judged_left : (k : ℕ) (j : Judging) (p : Cargo) (h after : Standing) → IsJudged j p h after → is_entry_at k j ≡ true → HasLeft h.pass.port k j h after

@@ -2,6 +2,7 @@
 use Rattle.std.proofs.Common.{◌≡◌, ◌<◌, ℕ, Option, None, Some, Bool, true, false, true≢false, ◌&&◌, List, length, set, get_or, refl, sym, ap, ◌∙◌, subst, arith}
 use Rattle.std.specs.Prelude.{IfSome, IfNone}
 use Rattle.std.proofs.lemmas.List.{get_or_read}
+use Rattle.std.proofs.lemmas.Bool.{and_parts}
 use mathlib.Core.List.{IsPrefix}
 use Rattle.rmap.specs.declared.places.Place.{Place}
 use Rattle.rmap.specs.declared.places.Place.TheVariants.{Bank}
@@ -19,13 +20,9 @@ use Rattle.node_programs.specs.declared.publishes.Publish.{Publish}
 use Rattle.target.specs.Finished.{AsksForEntry, IsDoneBehind, IsFinishedAt}
 use Rattle.lemmas.proofs.Prefixes.{prefix_trans}
 
-pub both_are : (a b : Bool) → (a && b) ≡ true → (a ≡ true) × (b ≡ true)
-both_are true b e = (refl, e)
-both_are false b e = absurd cc
-
 -- a command that a bank takes fits it
 pub taken_fits : (kept : KeptValue) (share : ShareValue) (j : JudgedValue) → takes kept share j ≡ true → fits kept.bank share j ≡ true
-taken_fits kept share j took = (both_are (is_place_of kept.chain.number j.place) (fits kept.bank share j) took).1
+taken_fits kept share j took = (and_parts (is_place_of kept.chain.number j.place) (fits kept.bank share j) took).1
 
 pub same_bank : (k n : ℕ) → Bank k ≡ Bank n → k ≡ n
 same_bank k n e = cc
