@@ -1,4 +1,4 @@
 mod Zeros
 mod Calls
 mod Tickets
-mod Pairs
+mod Agreeing

@@ -1,5 +1,5 @@
 -- Words beside their complements, and what helpers make of such a pair: of any pair, also one that no call leaves.
-use Rattle.std.specs.Prelude.{◌≡◌, ◌<◌, ◌+◌, ◌-◌, ◌^◌, ◌==◌, ℕ, Bool, List, [], length, map, slice_index_or, if◌then◌else◌}
+use Rattle.std.specs.Prelude.{◌<◌, ◌-◌, ◌^◌, ◌==◌, ℕ, Bool, List, [], length, map, slice_index_or, if◌then◌else◌}
 use Rattle.machine.specs.declared.calls.Question.{Question}
 use Rattle.machine.specs.declared.helpers.Helper.{Helper}
 use Rattle.plain_cells.specs.Words.{told_of_word, with_word, word_at, word_behind}

@@ -27,7 +27,7 @@ impl Model for CellPairs {
 
 impl CellPairs {
     /// A word of 0 for each cell of maps of those sizes, beside its complement.
-    #[tactic(auto, using(crate::proofs::Pairs::kept_zeros))]
+    #[tactic(auto, using(crate::proofs::Agreeing::kept_zeros))]
     pub fn new(alloc: Global, sizes: &MapSizes) -> Result<CellPairs, AllocError>
         ensures { IfOk result (λ pairs. pairs ≡ whole_pairs (zero_words sizes.now)) }
     {

@@ -1,6 +1,6 @@
 -- Each step of a sum is one to one, in the sum before and in the word.
-use Rattle.std.proofs.Common.{◌≡◌, ◌≢◌, ◌<◌, ℕ, ◌+◌, ◌*◌, ◌/◌, ◌%◌, ◌^◌, List, [], ◌∷◌, ◌++◌, arith}
-use Rattle.sums.specs.Sums.{after_word, sum_from, turned}
+use Rattle.std.proofs.Common.{◌≡◌, ◌≢◌, ◌<◌, ℕ, ◌^◌, List, [], ◌∷◌, ◌++◌, arith}
+use Rattle.sums.specs.Sums.{after_word, sum_from}
 
 low : (sum word : ℕ) → after_word sum word < 2 ^ 64
 low sum word = omega arith

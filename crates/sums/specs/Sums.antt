@@ -1,5 +1,5 @@
 -- Sums of words, in which each word that changes is seen.
-use Rattle.std.specs.Prelude.{◌≡◌, ◌≢◌, ◌<◌, ℕ, ◌+◌, ◌*◌, ◌/◌, ◌%◌, ◌^◌, List, ◌∷◌, ◌++◌, fold}
+use Rattle.std.specs.Prelude.{◌≢◌, ◌<◌, ℕ, ◌+◌, ◌*◌, ◌/◌, ◌%◌, ◌^◌, List, ◌∷◌, ◌++◌, fold}
 
 -- a sum turned by one bit to the left
 abbrev pub turned : (sum : ℕ) → ℕ

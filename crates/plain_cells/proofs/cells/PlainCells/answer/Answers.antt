@@ -1,9 +1,9 @@
 use Rattle.std.proofs.Common.{◌≡◌, ◌∙◌, subst, sym}
-use Rattle.plain_cells.specs.Cells.{CellsValue, AreInOrder, cells_of}
-use Rattle.plain_cells.specs.Pairs.{PairsValue, complements, pairs_behind}
-use Rattle.plain_cells.specs.Words.{IsOfCell, told_by_words, words_behind}
+use Rattle.plain_cells.specs.Cells.{CellsValue}
+use Rattle.plain_cells.specs.Pairs.{pairs_behind}
+use Rattle.plain_cells.specs.Words.{IsOfCell, words_behind}
 use Rattle.plain_cells.proofs.Calls.{called_in_order}
-use Rattle.plain_cells.proofs.Pairs.{kept_whole, pair_there, told_whole, words_whole}
+use Rattle.plain_cells.proofs.Agreeing.{kept_words, pair_there, told_whole, words_whole}
 use Rattle.plain_cells.proofs.Zeros.{cell_there}
 use Rattle.plain_cells.proofs.cells.PlainCells.answer.Goals as goal
 
@@ -24,5 +24,5 @@ invariant_of-self c =
     let told = c.ask-answer.ensures.told ∙ told_whole p q c.self.invariant.1 there.0 there.1 in
     let called = called_in_order c.self.inside.sizes p.words c.self.inside.log.calls q c.ask-answer.result c.self.invariant.0 of told in
     let behind : (pairs_behind p q).words ≡ words_behind p.words q = words_whole p q c.self.invariant.1 there.0 there.1 in
-    let kept = kept_whole p q c.self.invariant.1 there.0 there.1 in
+    let kept = kept_words p q c.self.invariant.1 there.0 there.1 in
     rw (c.ask-answer.ensures.behind, behind, c.with-self-inside.ensures) (called, kept)

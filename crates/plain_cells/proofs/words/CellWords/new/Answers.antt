@@ -1,6 +1,6 @@
-use Rattle.std.proofs.Common.{◌≡◌, sym, subst}
+use Rattle.std.proofs.Common.{sym, subst}
 use Rattle.plain_cells.specs.Words.{AreCells, AreZeros}
-use Rattle.plain_cells.proofs.Pairs.{ok_then}
+use Rattle.plain_cells.proofs.Agreeing.{ok_then}
 use Rattle.plain_cells.proofs.Zeros.{zero_cells, zeros}
 use Rattle.plain_cells.proofs.words.CellWords.new.Goals as goal
 

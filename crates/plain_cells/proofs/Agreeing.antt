@@ -1,18 +1,17 @@
 -- Words beside their complements.
-use Rattle.std.proofs.Common.{◌≡◌, ◌==◌, ◌<◌, ◌≤◌, ◌+◌, ◌-◌, ◌^◌, ℕ, zero, suc, Bool, true, false, List, [], ◌∷◌, length, get_or, set, Result, Ok, Err, refl, ap, sym, subst, ◌∙◌, arith}
+use Rattle.std.proofs.Common.{◌≡◌, ◌<◌, ◌-◌, ◌^◌, ℕ, zero, suc, Bool, true, List, [], ◌∷◌, length, set, Result, Ok, Err, refl, ap, sym, ◌∙◌}
 use Rattle.std.specs.Prelude.{map, replicate, IfOk, if◌then◌else◌, slice_index, slice_index_or}
 use Rattle.std.proofs.lemmas.Bool.{eq-eqb}
 use Rattle.std.proofs.lemmas.List.{get_or-map, length-map, map-set}
-use Rattle.machine.specs.Sizes.{IsInside, Maps}
+use Rattle.machine.specs.Sizes.{Maps}
 use Rattle.machine.specs.declared.calls.Question.{Question}
 use Rattle.machine.specs.declared.helpers.Helper.{Helper}
 use Rattle.plain_cells.specs.Pairs.{IsPair, PairsValue, agree, complement, complements, greatest, kept_of_pair, pairs_behind, told_by_pairs, told_of_pair, word_of_pair}
-use Rattle.plain_cells.specs.Words.{AreCells, IsOfCell, same_words, told_by_words, told_of_word, with_word, word_at, word_behind, words_behind, zero_words}
-use Rattle.plain_cells.proofs.Zeros.{cell_there}
+use Rattle.plain_cells.specs.Words.{same_words, told_by_words, told_of_word, with_word, word_at, word_behind, words_behind, zero_words}
 
 pub ok_then : {X E : Type 0} {P Q : X → Type 0} (r : Result X E) → ((x : X) → P x → Q x) → IfOk r P → IfOk r Q
-ok_then (Ok x) then is = then x is
-ok_then (Err e) then is = is
+ok_then (Ok x) gives is = gives x is
+ok_then (Err e) gives is = is
 
 -- ---- zeros
 
@@ -80,11 +79,8 @@ module _ (p : PairsValue) (q : Question) (is : p.kept ≡ complements p.words) (
       ap (λ (kept : List (List ℕ)). with_word p.words q.map q.key (word_of_pair q.helper (word_at p.words q.map q.key) (word_at kept q.map q.key) q.argument)) is
       ∙ ap (λ (w : ℕ). with_word p.words q.map q.key w) (word_agreed q.helper (word_at p.words q.map q.key) (word_at (complements p.words) q.map q.key) q.argument agrees_there)
 
-  kept_words : (pairs_behind p q).kept ≡ complements (words_behind p.words q)
+  pub kept_words : (pairs_behind p q).kept ≡ complements (words_behind p.words q)
   kept_words =
       ap (λ (kept : List (List ℕ)). with_word kept q.map q.key (kept_of_pair q.helper (word_at p.words q.map q.key) (word_at kept q.map q.key) q.argument)) is
       ∙ ap (λ (w : ℕ). with_word (complements p.words) q.map q.key w) (kept_agreed q.helper (word_at p.words q.map q.key) (word_at (complements p.words) q.map q.key) q.argument agrees_there)
       ∙ kept_with p.words q.map q.key (word_behind q.helper (word_at p.words q.map q.key) q.argument) map_there
-
-  pub kept_whole : (pairs_behind p q).kept ≡ complements (pairs_behind p q).words
-  kept_whole = kept_words ∙ sym (ap complements words_whole)
