@@ -1,3 +1,4 @@
 mod Zeros
 mod Calls
 mod Tickets
+mod Agreeing

@@ -1,0 +1,4 @@
+mod Seeing
+mod Four
+mod Broken
+mod Serving
