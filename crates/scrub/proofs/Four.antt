@@ -1,6 +1,6 @@
 -- The four slots.
-use Rattle.std.proofs.Common.{◌≡◌, ◌<◌, ℕ, zero, suc, List, [], ◌∷◌, length, Option, Some, Bool, true, false, refl, subst, sym, arith}
-use Rattle.std.specs.Prelude.{not, slice_get}
+use Rattle.std.proofs.Common.{◌≡◌, ◌<◌, ℕ, zero, suc, List, [], ◌∷◌, length, false, refl, arith}
+use Rattle.std.specs.Prelude.{slice_get}
 use Rattle.scrub.specs.declared.kept.SlotSums.{SlotSums}
 use Rattle.scrub.specs.Kept.{closed_in}
 

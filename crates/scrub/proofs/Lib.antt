@@ -1,4 +1,4 @@
 mod Seeing
 mod Four
-mod Broken
+mod FirstBroken
 mod Serving

@@ -1,8 +1,8 @@
 -- A change of one operation is seen.
-use Rattle.std.proofs.Common.{◌≡◌, ◌≢◌, ◌<◌, ◌⊎◌, ℕ, ◌^◌, ◌+◌, List, [], ◌∷◌, ◌++◌, refl, sym, ap, ◌∙◌, subst, inl, inr, append_assoc, arith}
+use Rattle.std.proofs.Common.{◌≡◌, ◌≢◌, ◌<◌, ℕ, ◌^◌, List, [], ◌∷◌, ◌++◌, refl, sym, ap, ◌∙◌, inl, inr, append_assoc, arith}
 use Rattle.std.specs.Prelude.{fold}
 use Rattle.bver_op.specs.declared.op.Op.{Op}
-use Rattle.sums.specs.Sums.{OneWordIsSeen, after_word, sum_from}
+use Rattle.sums.specs.Sums.{OneWordIsSeen, sum_from}
 use Rattle.scrub.specs.Sums.{AreWords, DifferInOneWord, after_op, head_of, sum_of}
 
 -- the words of a list of operations
@@ -11,15 +11,18 @@ words_of [] = []
 words_of (o ∷ os) = head_of o ∷ o.constant ∷ words_of os
 
 words_join : (xs ys : List Op) → words_of (xs ++ ys) ≡ words_of xs ++ words_of ys
+unfolding words_of
 words_join [] ys = refl
 words_join (o ∷ os) ys = ap (λ (ws : List ℕ). head_of o ∷ o.constant ∷ ws) (words_join os ys)
 
 by_words : (sum : ℕ) (os : List Op) → fold after_op sum os ≡ sum_from sum (words_of os)
+unfolding words_of
 by_words sum [] = refl
 by_words sum (o ∷ os) = by_words (after_op sum o) os
 
 -- the sum of a list that has the operation at a place, by words
 placed : (before after : List Op) (o : Op) → sum_of (before ++ o ∷ after) ≡ sum_from 0 (words_of before ++ (head_of o ∷ o.constant ∷ words_of after))
+unfolding words_of
 placed before after o = by_words 0 (before ++ o ∷ after) ∙ ap (sum_from 0) (words_join before (o ∷ after))
 
 -- the same with its first word on the other side

@@ -1,7 +1,6 @@
 -- Which packets come to a slot that is withdrawn, and what is kept after a packet.
-use Rattle.std.proofs.Common.{◌≡◌, ◌≢◌, ◌<◌, ℕ, List, Bool, true, false, Option, None, Some, refl, sym, ap, subst, ◌∙◌}
-use Rattle.std.specs.Prelude.{not, slice_get}
-use Rattle.bver.specs.Justified.{AcceptedValue}
+use Rattle.std.proofs.Common.{◌≡◌, ◌≢◌, ℕ, List, Bool, true, false, Option, None, Some, refl, sym, ap, subst, ◌∙◌}
+use Rattle.std.specs.Prelude.{slice_get}
 use Rattle.node_programs.specs.declared.publishes.Publish.{Publish}
 use Rattle.node_programs.specs.Published.{generation_at}
 use Rattle.scrub.specs.declared.kept.SlotSums.{SlotSums}
@@ -9,7 +8,6 @@ use Rattle.scrub.specs.Guarded.{AnswersUnread, GuardedValue, IsRemade, ScrubsFir
 use Rattle.scrub.specs.declared.guarded.Health.{Health}
 use Rattle.scrub.specs.Kept.{AreFresh, FollowAt, closed_in, is_withheld}
 use Rattle.single_node.specs.declared.served.Told.{Told}
-use Rattle.node_parts.specs.Passes.{PassValue}
 use Rattle.spw.specs.Cargo.{Cargo}
 
 -- where no slot is withdrawn, none withholds a command

@@ -1,5 +1,5 @@
 -- Sums of the operations of a program, and which program has one.
-use Rattle.std.specs.Prelude.{◌≡◌, ◌≢◌, ◌<◌, ◌⊎◌, ℕ, ◌+◌, ◌*◌, ◌^◌, List, [], ◌∷◌, ◌++◌, fold, map}
+use Rattle.std.specs.Prelude.{◌≡◌, ◌≢◌, ◌<◌, ◌⊎◌, ℕ, ◌+◌, ◌*◌, ◌^◌, List, ◌∷◌, ◌++◌, fold, map}
 use Rattle.std.specs.Int.{w16, cast_unsigned}
 use Rattle.bver.specs.Justified.{AcceptedValue}
 use Rattle.bver_op.specs.declared.op.Op.{Op}

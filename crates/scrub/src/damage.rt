@@ -18,7 +18,7 @@ pub struct Broken {
 }
 
 /// The place of the first entry that is not whole, if one is not.
-#[tactic(auto, using(crate::proofs::Broken::none_broken, crate::proofs::Broken::some_broken))]
+#[tactic(auto, using(crate::proofs::FirstBroken::none_broken))]
 fn broken_place(entries: &[Entry]) -> Option<usize>
     ensures { result ≡ broken_place entries.now }
 {

@@ -14,7 +14,7 @@ ghost use Rattle.scrub.specs.Kept.{AreFresh, AreGenerations, Follow, FollowAt, c
 use crate::damage::{Broken, broken_of, sizes_sum};
 use crate::kept::{SlotSums, is_closed_at, set_sums, sums_at};
 use crate::made::made_again;
-use crate::sums::program_sum;
+use crate::op_sums::program_sum;
 use bver::Accepted;
 use node_parts::Served;
 use node_programs::PublishFault;

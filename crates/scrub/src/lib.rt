@@ -11,9 +11,9 @@ mod damage;
 mod guarded;
 mod kept;
 mod made;
-mod sums;
+mod op_sums;
 
 pub use damage::Broken;
 pub use guarded::{GuardedNode, Health, Scrubbed};
 pub use kept::{OPEN, SlotSums};
-pub use sums::one_change_is_seen;
+pub use op_sums::one_change_is_seen;

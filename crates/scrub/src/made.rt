@@ -4,7 +4,7 @@ ghost use Rattle.std.specs.Prelude.{◌≡◌, IfSome};
 ghost use Rattle.scrub.specs.Guarded.{IsMadeAgain};
 
 use crate::kept::SlotSums;
-use crate::sums::program_sum;
+use crate::op_sums::program_sum;
 use bver::{Accepted, verify};
 use std::alloc::Global;
 

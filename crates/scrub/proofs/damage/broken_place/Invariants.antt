@@ -1,4 +1,4 @@
-use Rattle.scrub.proofs.Broken.{AreWholeBelow}
+use Rattle.scrub.proofs.FirstBroken.{AreWholeBelow}
 use Rattle.scrub.proofs.damage.broken_place.Given as goal
 
 abbrev pub invariant-loop-place : goal.invariant-loop-place

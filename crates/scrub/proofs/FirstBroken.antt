@@ -14,6 +14,9 @@ none_broken (e ∷ es) whole =
     ap (λ (w : Bool). place_with w (broken_place es)) (whole 0 e (omega arith))
     ∙ ap (λ (r : Option ℕ). place_with true r) (none_broken es (λ k m low. whole (suc k) m (omega (arith, low))))
 
+one_more : (place : ℕ) → place + 1 ≡ suc place
+one_more place = omega arith
+
 pub some_broken : (es : List EntryValue) (place : ℕ) (m : EntryValue) → place < length es → AreWholeBelow es place → is_whole (slice_index_or es place m) ≡ false
     → broken_place es ≡ Some place
 some_broken [] place m low whole broken = absurd (omega (arith, low))
@@ -21,3 +24,13 @@ some_broken (e ∷ es) zero m low whole broken = ap (λ (w : Bool). place_with w
 some_broken (e ∷ es) (suc place) m low whole broken =
     ap (λ (w : Bool). place_with w (broken_place es)) (whole 0 e (omega arith))
     ∙ ap (λ (r : Option ℕ). place_with true r) (some_broken es place m (omega (arith, low)) (λ k n below. whole (suc k) n (omega (arith, below))) broken)
+    ∙ ap (λ (n : ℕ). Some n) (one_more place)
+
+pub more_whole : (es : List EntryValue) (place : ℕ) (m : EntryValue) → place < length es → AreWholeBelow es place → is_whole (slice_index_or es place m) ≡ true
+    → (k : ℕ) (e : EntryValue) → k < place + 1 → is_whole (slice_index_or es k e) ≡ true
+more_whole [] place m low whole is k n below = absurd (omega (arith, low))
+more_whole (e ∷ es) zero m low whole is zero n below = is
+more_whole (e ∷ es) zero m low whole is (suc k) n below = absurd (omega (arith, below))
+more_whole (e ∷ es) (suc place) m low whole is zero n below = whole 0 n (omega arith)
+more_whole (e ∷ es) (suc place) m low whole is (suc k) n below =
+    more_whole es place m (omega (arith, low)) (λ j i less. whole (suc j) i (omega (arith, less))) is k n (omega (arith, below))
