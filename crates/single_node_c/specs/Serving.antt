@@ -35,9 +35,9 @@ room_behind Unread number node = 0
 room_behind (Done applied) number node = room_of (slice_get node.banks number)
 room_behind (Window status) number node = 0
 
--- the packet was served at that port as a node of one thread serves it (`ServesTold`). Its reply stands at the front of
--- the room, with the rest of it as before, and the numbers are those of what became of the packet, of what its command
--- asked for, and of the room that the journal of its bank then has
+-- the packet was served at that port as a node whose programs are scrubbed serves it (`ServesScrubbed`), which also says
+-- what stands in the room. The numbers are those of what became of the packet, of what its command asked for, and of the
+-- room that the journal of its bank then has
 pub record ServesPacket (port : ℕ) (packet : Cargo) (before after : GuardedValue) (room left : List ℕ)
     (numbers : ServedNumbers) : Type 0 where
   pub told : Told

@@ -101,6 +101,7 @@ fn restore_if(alloc: Global, guarded: &mut GuardedNode, health: Health, image: &
 }
 
 /// Of the programs of a node what a scrub found, a bit a slot, and whether the slot of the boot window was given the program that was lent.
+#[derive(Clone, Copy)]
 pub struct Programs {
     mended: u8,
     withdrawn: u8,
