@@ -527,16 +527,19 @@ static uint32_t bytes_of(enum region region) {
   return count;
 }
 
-/* The cells by their words, the stacks by the table that the program of slot 1 leaves at their ends, and the buffers by what
- * was last in them. */
+/* The cells by their words and the complements of these, the stacks by the table that the program of slot 1 leaves at their
+ * ends, and the buffers by what was last in them. */
 static void mark_found(void) {
   static const uint8_t table[4] = {0x68, 0x69, 0x6A, 0x6B};
   for (uint8_t map = 0; map < MAPS; map += 1) {
-    uint64_t words[256];
-    for (uint16_t cell = 0; cell < maps[map].cells; cell += 1)
+    uint64_t words[256], kept[256];
+    for (uint16_t cell = 0; cell < maps[map].cells; cell += 1) {
       if (sandbar_word(node, map, cell, &words[cell]) != SANDBAR_OK) fail("no cell");
+      kept[cell] = ~words[cell];
+    }
     size_t size = 8 * (size_t)maps[map].cells;
     if (mark_bytes(words, size, 0, size, CELLS) != 1) fail("the cells of map %u are not found", map);
+    if (mark_bytes(kept, size, 0, size, CELLS) != 1) fail("the complements of map %u are not found", map);
   }
   if (mark_bytes(table, sizeof table, STACK - sizeof table, STACK, STACKS) != PORTS) fail("the stacks are not found");
   if (mark_bytes(reply, last_reply, 0, SANDBAR_MAX_REPLY, BUFFERS) == 0) fail("the buffer of a reply is not found");
