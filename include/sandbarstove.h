@@ -63,7 +63,8 @@ enum sandbar_code {
   SANDBAR_NO_ENTRY = 12,  /**< the journal has no such entry */
   SANDBAR_IS_OPEN = 13,   /**< the node, or the reader of frames, is open */
   SANDBAR_NO_CELL = 14,   /**< the node has no such map or cell */
-  SANDBAR_DAMAGED = 15    /**< a bit of memory flipped: the entry is not as it was made */
+  SANDBAR_DAMAGED = 15,   /**< a bit of memory flipped: the entry is not as it was made */
+  SANDBAR_NO_PART = 16    /**< the number is no ::sandbar_part */
 };
 
 enum {
@@ -89,6 +90,14 @@ enum sandbar_command {
   SANDBAR_READ = 1,
   SANDBAR_WRITE = 2,
   SANDBAR_RMW = 3 /**< read-modify-write */
+};
+
+/** A part of a node that is scrubbed. */
+enum sandbar_part {
+  SANDBAR_PROGRAMS = 0, /**< the programs of the slots */
+  SANDBAR_SIZES = 1,    /**< the numbers of ports and banks, the range of each bank, and the cells of each map */
+  SANDBAR_JOURNALS = 2, /**< the entries of the journals */
+  SANDBAR_ALL = 3       /**< all of these */
 };
 
 /** The place at which a command ended. */
@@ -144,6 +153,19 @@ typedef struct sandbar_served {
   uint8_t place;         /**< ::sandbar_place (at 31) */
   uint8_t extended;      /**< its extended address: the number of the bank, or 255 for the boot window (at 32) */
 } sandbar_served;
+
+/**
+ * What a scrub found. A bit a slot: 1 for slot 0, then 2, 4 and 8. A bit a bank: 1 for bank 0, then 2, 4 and so on. What is
+ * not scrubbed is 0. 16 bytes.
+ */
+typedef struct sandbar_scrubbed {
+  uint64_t first;    /**< the place of the first damaged entry of the first journal that has one (at 0) */
+  uint8_t mended;    /**< a bit a slot: its program was damaged, and was made again of its image (at 8) */
+  uint8_t withdrawn; /**< a bit a slot: its program was damaged and not mended, or it was withdrawn before (at 9) */
+  uint8_t restored;  /**< 1: the image that was lent is now the program of slot 3, which was withdrawn; else 0 (at 10) */
+  uint8_t sizes;     /**< 1: the sizes are others than in the opening: do not call the node again; else 0 (at 11) */
+  uint8_t journals;  /**< a bit a bank: its journal has an entry that ::sandbar_entry_at calls damaged (at 12) */
+} sandbar_scrubbed;
 
 /** An entry of a bank's journal, without its packet. 32 bytes. */
 typedef struct sandbar_entry {
@@ -256,6 +278,29 @@ uint32_t sandbar_poke(sandbar_node *node, uint8_t bank, uint32_t address, const 
  */
 SANDBAR_CALL
 uint32_t sandbar_word(sandbar_node *node, uint8_t map, uint16_t cell, uint64_t *word);
+
+/**
+ * Compares a part of the node, a ::sandbar_part, with what was kept of it.
+ *
+ * Of programs: each slot's program, as it is run, with the sum that was kept when it was published. A program that differs is
+ * made again of its image, by the next generation, if the verifier accepts it and it has that sum. It asks for memory for
+ * that. Else its slot is withdrawn: each command for it is answered by a general error (status 1, ::SANDBAR_ANSWERED) until a
+ * load publishes another program. If slot 3 is withdrawn, no load is permitted: so the program of @p image is then published
+ * for it, if it may judge. An image of no bytes is none.
+ *
+ * Of sizes and journals it reports what differs, and changes nothing. Journals take as long as reading all entries.
+ * Codes: ::SANDBAR_NO_NODE, ::SANDBAR_NO_PART.
+ */
+SANDBAR_CALL
+uint32_t sandbar_scrub(sandbar_node *node, uint8_t part, const uint8_t *image, size_t image_length,
+                       sandbar_scrubbed *scrubbed);
+
+/**
+ * From now on scrubs the program that judges a packet, before each packet of that number: 1 is each, 2 each second one. At 0,
+ * with which a node is opened, it scrubs none. Codes: ::SANDBAR_NO_NODE.
+ */
+SANDBAR_CALL
+uint32_t sandbar_scrub_each(sandbar_node *node, uint32_t each);
 
 /** The CRC of RMAP, for packets that are made. */
 SANDBAR_CALL

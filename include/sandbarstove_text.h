@@ -35,6 +35,7 @@ static SANDBAR_INLINE const char *sandbar_text(uint32_t code) {
     case SANDBAR_IS_OPEN: return "the node, or the reader of frames, is open";
     case SANDBAR_NO_CELL: return "the node has no such map or cell";
     case SANDBAR_DAMAGED: return "what memory holds is not what was written there: a bit of it flipped";
+    case SANDBAR_NO_PART: return "the number is no part of a node that is scrubbed";
     default: return "no code of this library";
   }
 }

@@ -75,6 +75,17 @@ static void *counting(void *unused) {
   return unused;
 }
 
+static void *scrubbing(void *unused) {
+  sandbar_scrubbed scrubbed;
+  if (sandbar_scrub(&node, SANDBAR_ALL, no, sizeof no, &scrubbed) != SANDBAR_OK) exit(EXIT_FAILURE);
+  return unused;
+}
+
+static void *choosing(void *unused) {
+  if (sandbar_scrub_each(&node, 0) != SANDBAR_OK) exit(EXIT_FAILURE);
+  return unused;
+}
+
 static void *summing(void *unused) {
   packet[0] = sandbar_crc(packet, length);
   return unused;
@@ -148,6 +159,7 @@ static int print_calls(size_t thread) {
       {"sandbar_serve", serving, put_reading},   {"sandbar_serve", serving, put_image}, {"sandbar_serve", serving, put_control},
       {"sandbar_journal_of", telling, NULL},     {"sandbar_entry_at", reading, NULL},   {"sandbar_peek", peeking, NULL},
       {"sandbar_rotate", turning, NULL},         {"sandbar_poke", poking, NULL},        {"sandbar_word", counting, NULL},
+      {"sandbar_scrub", scrubbing, NULL},        {"sandbar_scrub_each", choosing, NULL},
       {"sandbar_crc", summing, NULL},            {"sandbar_close", closing, NULL},      {"sandbar_frames_head", heading, NULL},
       {"sandbar_frames_open", framing, NULL},    {"sandbar_frames_take", taking, NULL}, {"sandbar_frames_close", unframing, NULL},
   };

@@ -1,12 +1,16 @@
 /* Upsets: one bit of a node's memory flips between two packets, and what comes then is compared with what comes if none flips.
  *
  *   upsets IMAGES                       the regions of the node's memory, and how many bytes each has
- *   upsets IMAGES REGION TRIALS SEED    a line a trial: region, place, bit, class, first other packet, what was done at its end
+ *   upsets IMAGES REGION TRIALS SEED [EACH]
+ *                                       a line a trial: region, place, bit, class, first other packet, what was done at its end
+ *   upsets IMAGES scrubs                scrubs packets and sizes that changed, and programs, of which none can be mended
  *
  * IMAGES has the programs of slots 0 to 3, a line of digits each: those of tests/cases/upsets.cases, which `rules` says again.
- * REGION is a name of the first form, `any` for all of them by their bytes, or `none`: then nothing flips. Each trial is a
- * process, so that it may end as it likes. The node's memory lies between pages that nobody may touch. The same seed gives the
- * same flips. `link/upsets` makes the table of docs/TESTING.md of the lines. It wants a system with fork and signals. */
+ * With EACH the program that judges is scrubbed before each packet of so many. Generations are then not compared: a program
+ * that is mended has a new one. REGION is a name of the first form, `any` for all of them by their bytes, or `none`: then nothing
+ * flips. Each trial is a process, so that it may end as it likes. The node's memory lies between pages that nobody may touch. The
+ * same seed gives the same flips. `link/upsets` makes the table of docs/TESTING.md of the lines. It wants a system with fork and
+ * signals. */
 #include "packets.h"
 #include "sandbarstove_heap.h"
 #ifdef SOURCE
@@ -67,6 +71,7 @@ static sandbar_node *node;
 static struct block blocks[MOST_BLOCKS];
 static uint32_t block_count, top;
 static bool freed_twice;
+static size_t most = SIZE_MAX; /* a larger block is refused */
 
 static void open_arena(void) {
   const int private = MAP_PRIVATE | MAP_ANONYMOUS | MAP_NORESERVE;
@@ -96,6 +101,7 @@ static struct block *block_at(const void *at) {
 rattle_block rattle_alloc(size_t size, size_t align) {
   static char nowhere;
   if (size == 0) size = align;
+  if (size > most) return (rattle_block){false, &nowhere};
   for (uint32_t k = 0; k < block_count; k += 1)
     if (!blocks[k].live && size < ARENA && whole(blocks[k].size) == whole(size)) return taken(&blocks[k], size);
   if (block_count == MOST_BLOCKS || size > ARENA - APART - 16 - top) return (rattle_block){false, &nowhere};
@@ -290,7 +296,8 @@ struct answer {
 };
 
 struct end {
-  uint32_t banks, words, journals[BANKS]; /* how many entries, how many programs were loaded */
+  uint32_t banks, words, journals[BANKS]; /* how many entries */
+  uint32_t loaded;                        /* how many programs were loaded or mended */
   uint32_t entries[BANKS][ROOM];          /* a sum of each */
   bool damaged[BANKS][ROOM];              /* it is reported as damaged */
 };
@@ -303,6 +310,13 @@ static uint32_t sum_of(const void *bytes, size_t length, uint32_t sum) {
   return sum;
 }
 
+static uint32_t each; /* a scrub before each packet of so many; 0: none */
+
+/* Whether a reply has a generation: that of a read of the load result. */
+static bool has_generation(const struct packet *packet) {
+  return packet->length >= 16 && packet->bytes[7] == 0xFF && number(packet->bytes + 8, 4) == 0x10000;
+}
+
 static struct answer serve(const struct packet *packet) {
   static uint8_t paint[SANDBAR_MAX_REPLY];
   struct answer answer;
@@ -311,10 +325,11 @@ static struct answer serve(const struct packet *packet) {
   memset(&answer, 0, sizeof answer);
   answer.code = sandbar_serve(node, packet->port, packet->bytes, packet->length, packet->end, reply, SANDBAR_MAX_REPLY,
                               &answer.served);
+  if (each != 0) answer.served.generation = 0;
   uint32_t length = answer.served.reply_length;
   if (length > SANDBAR_MAX_REPLY) length = 0;
-  answer.sum = sum_of(reply, length, 2166136261u);
   last_reply = length;
+  answer.sum = sum_of(reply, each != 0 && has_generation(packet) ? 0 : length, 2166136261u);
   answer.spilled = memcmp(reply + length, paint, SANDBAR_MAX_REPLY - length) != 0;
   return answer;
 }
@@ -327,12 +342,14 @@ static void read_entries(uint8_t bank, struct end *end) {
   static uint8_t packet[SANDBAR_MAX_PACKET];
   sandbar_journal journal = {0};
   uint32_t code = sandbar_journal_of(node, bank, &journal);
-  end->journals[bank] = sum_of(&journal.entries, sizeof journal.entries, code + journal.loaded);
+  end->journals[bank] = sum_of(&journal.entries, sizeof journal.entries, code + (each == 0 ? journal.loaded : 0));
+  end->loaded = journal.loaded;
   for (uint32_t k = 0; k < journal.entries && k < ROOM; k += 1) {
     sandbar_entry entry;
     memset(&entry, 0, sizeof entry);
     code = sandbar_entry_at(node, bank, k, packet, sizeof packet, &entry);
     end->damaged[bank][k] = code == SANDBAR_DAMAGED;
+    if (each != 0) entry.generation = 0;
     uint32_t sum = sum_of(&entry, sizeof entry, code);
     if (entry.packet_length <= sizeof packet) sum = sum_of(packet, entry.packet_length, sum);
     end->entries[bank][k] = sum;
@@ -510,16 +527,19 @@ static uint32_t bytes_of(enum region region) {
   return count;
 }
 
-/* The cells by their words, the stacks by the table that the program of slot 1 leaves at their ends, and the buffers by what
- * was last in them. */
+/* The cells by their words and the complements of these, the stacks by the table that the program of slot 1 leaves at their
+ * ends, and the buffers by what was last in them. */
 static void mark_found(void) {
   static const uint8_t table[4] = {0x68, 0x69, 0x6A, 0x6B};
   for (uint8_t map = 0; map < MAPS; map += 1) {
-    uint64_t words[256];
-    for (uint16_t cell = 0; cell < maps[map].cells; cell += 1)
+    uint64_t words[256], kept[256];
+    for (uint16_t cell = 0; cell < maps[map].cells; cell += 1) {
       if (sandbar_word(node, map, cell, &words[cell]) != SANDBAR_OK) fail("no cell");
+      kept[cell] = ~words[cell];
+    }
     size_t size = 8 * (size_t)maps[map].cells;
     if (mark_bytes(words, size, 0, size, CELLS) != 1) fail("the cells of map %u are not found", map);
+    if (mark_bytes(kept, size, 0, size, CELLS) != 1) fail("the complements of map %u are not found", map);
   }
   if (mark_bytes(table, sizeof table, STACK - sizeof table, STACK, STACKS) != PORTS) fail("the stacks are not found");
   if (mark_bytes(reply, last_reply, 0, SANDBAR_MAX_REPLY, BUFFERS) == 0) fail("the buffer of a reply is not found");
@@ -585,6 +605,7 @@ static void begin(void) {
   sandbar_why why;
   uint32_t code = sandbar_open(node, 0xFE, PORTS, banks, BANKS, maps, MAPS, yes, sizeof yes, &why);
   if (code != SANDBAR_OK) fail("the node is not opened: %u", code);
+  if (each != 0 && sandbar_scrub_each(node, each) != SANDBAR_OK) fail("nothing is scrubbed");
   note(OPENING);
   mark_pages();
   note(SERVING);
@@ -626,7 +647,7 @@ static const char *const moments[] = {"packets", "looking", "closing", "ended"};
 /* What a trial leaves, as it went on: its own process may be gone. */
 struct seen {
   volatile int moment, signal;
-  volatile bool wrote, denied, over_quota, spilled, memory, words, entries, reported, closing;
+  volatile bool wrote, denied, over_quota, spilled, memory, words, entries, reported, mended, closing;
   volatile uint32_t first; /* the first packet whose answer is another; AFTER: none */
   volatile bool refused;   /* that answer refuses */
 };
@@ -683,6 +704,7 @@ static void go_wrong(void) {
   seen->words = end->words != wanted_end->words;
   seen->entries = are_other_entries(end, wanted_end);
   seen->reported = is_reported(end);
+  seen->mended = end->loaded != wanted_end->loaded;
   if (is_spilled()) seen->spilled = true;
   seen->moment = IN_CLOSING;
   if (sandbar_close(node) != SANDBAR_OK || freed_twice) seen->closing = true;
@@ -705,7 +727,8 @@ static const char *class_of(void) {
   if (seen->memory || seen->words) return "memory";
   if (seen->entries) return "entry";
   if (seen->reported) return "reported";
-  return in_closing || seen->closing ? "closing" : "nothing";
+  if (in_closing || seen->closing) return "closing";
+  return seen->mended ? "mended" : "nothing";
 }
 
 /* Flips a bit of the byte at a place, unless nothing is to flip. */
@@ -760,12 +783,127 @@ static void run_unflipped(void) {
   if (child < 0 || waitpid(child, &status, 0) != child || status != 0) fail("the run without a flip");
 }
 
+/* ---- scrubs of what changed */
+
+static const uint8_t yes_image[] = IMAGE_OF(0);
+
+static void check(bool holds, const char *what) {
+  if (!holds) fail("scrubs: %s", what);
+}
+
+/* Which entries sandbar_entry_at calls damaged, as a scrub of the journals reports them. */
+static sandbar_scrubbed damaged_now(void) {
+  static uint8_t packet[SANDBAR_MAX_PACKET];
+  sandbar_scrubbed told = {0};
+  for (uint8_t bank = 0; bank < BANKS; bank += 1) {
+    sandbar_journal journal;
+    sandbar_entry entry;
+    uint32_t k = 0;
+    if (sandbar_journal_of(node, bank, &journal) != SANDBAR_OK) fail("no journal");
+    while (k < journal.entries && sandbar_entry_at(node, bank, k, packet, sizeof packet, &entry) != SANDBAR_DAMAGED) k += 1;
+    if (k == journal.entries) continue;
+    if (told.journals == 0) told.first = k;
+    told.journals |= (uint8_t)(1u << bank);
+  }
+  return told;
+}
+
+/* A bit of each byte of the packets that the journals keep flips, and back: a scrub reports what sandbar_entry_at reports. */
+static void damage_packets(void) {
+  uint32_t reported = 0;
+  for (uint32_t at = 0; at < ARENA; at += 1) {
+    if (region_of[at] != PACKETS) continue;
+    sandbar_scrubbed told;
+    arena[at] ^= 1;
+    check(sandbar_scrub(node, SANDBAR_JOURNALS, yes_image, 0, &told) == SANDBAR_OK, "journals");
+    sandbar_scrubbed wanted_told = damaged_now();
+    check(told.journals == wanted_told.journals && told.first == wanted_told.first, "another entry is damaged");
+    check(told.mended == 0 && told.withdrawn == 0 && told.sizes == 0, "what is not scrubbed is reported");
+    reported += told.journals != 0;
+    arena[at] ^= 1;
+  }
+  check(reported > 0, "no entry is damaged");
+}
+
+/* A bit of the first address of each bank flips, and back. */
+static void damage_sizes(void) {
+  uint32_t reported = 0;
+  for (uint32_t at = 0; at + 4 <= ARENA; at += 1)
+    for (uint8_t bank = 0; bank < BANKS; bank += 1) {
+      sandbar_scrubbed told;
+      if (region_of[at] != CONTROL || memcmp(arena + at, &banks[bank].base, 4) != 0) continue;
+      arena[at] ^= 1;
+      check(sandbar_scrub(node, SANDBAR_SIZES, yes_image, 0, &told) == SANDBAR_OK, "sizes");
+      check(told.mended == 0 && told.withdrawn == 0 && told.journals == 0, "what is not scrubbed is reported");
+      reported += told.sizes;
+      arena[at] ^= 1;
+    }
+  check(reported >= BANKS, "no other size");
+}
+
+/* How many entries the journals have. */
+static uint64_t entries_now(void) {
+  uint64_t count = 0;
+  for (uint8_t bank = 0; bank < BANKS; bank += 1) {
+    sandbar_journal journal;
+    if (sandbar_journal_of(node, bank, &journal) != SANDBAR_OK) fail("no journal");
+    count += journal.entries;
+  }
+  return count;
+}
+
+/* Flips a bit of each program's operations. */
+static void flip_each(void) {
+  for (uint32_t k = 0; k < piece_count; k += 1)
+    if (region_of[pieces[k].at] == OPERATIONS) arena[pieces[k].at + 16] ^= 1;
+}
+
+/* All four programs change, and there is memory for packets alone: each slot is withdrawn, and nothing that comes is judged. Then the
+ * image that is lent is the program of slot 3, and lets others be loaded. */
+static void withdraw(void) {
+  sandbar_scrubbed told;
+  uint64_t before = entries_now();
+  flip_each();
+  most = 1100;
+  check(sandbar_scrub(node, SANDBAR_PROGRAMS, yes_image, 0, &told) == SANDBAR_OK, "the scrub");
+  check(told.mended == 0 && told.withdrawn == 15 && told.restored == 0, "not all slots are");
+  for (uint32_t k = 0; k < AFTER; k += 1) {
+    struct answer answer = serve(&packets[BEFORE + k]);
+    if (packets[BEFORE + k].length > most) continue;
+    check(answer.code == SANDBAR_OK && answer.served.kind != SANDBAR_JUDGED, "a command is judged");
+    check(answer.served.verdict == 0 && answer.served.generation == 0, "a command has a verdict");
+  }
+  check(entries_now() == before, "a journal has one more entry");
+  most = SIZE_MAX;
+  check(sandbar_scrub(node, SANDBAR_PROGRAMS, yes_image, sizeof yes_image, &told) == SANDBAR_OK, "the second scrub");
+  check(told.mended == 0 && told.withdrawn == 15 && told.restored == 1, "slot 3 is not restored");
+  for (uint8_t slot = 0; slot < SLOTS; slot += 1) {
+    struct packet two[2];
+    put_load(two, slot, slot);
+    struct answer staged = serve(&two[0]), loaded = serve(&two[1]);
+    check(is_done(&staged) && is_done(&loaded), "a load");
+  }
+  check(sandbar_scrub(node, SANDBAR_PROGRAMS, yes_image, 0, &told) == SANDBAR_OK, "the third scrub");
+  check(told.mended == 0 && told.withdrawn == 0 && told.restored == 0, "a slot is withdrawn after its load");
+  struct answer answer = serve(&packets[BEFORE - 1]);
+  check(is_done(&answer), "the last read");
+  check(sandbar_close(node) == SANDBAR_OK && !freed_twice, "the closing");
+}
+
 int main(int count, char **words) {
-  if (count != 2 && count != 5) fail("IMAGES, or IMAGES REGION TRIALS SEED");
+  if (count < 2 || count == 4 || count > 6) fail("IMAGES, or IMAGES REGION TRIALS SEED [EACH], or IMAGES scrubs");
+  if (count == 6) each = (uint32_t)strtoul(words[5], NULL, 10);
   prepare(words[1]);
   if (count == 2) {
     for (int region = HANDLE; region < ANY; region += 1)
       if (bytes_of((enum region)region) != 0) printf("%s %u\n", names[region], bytes_of((enum region)region));
+    return 0;
+  }
+  if (count == 3) {
+    if (strcmp(words[2], "scrubs") != 0) fail("no %s", words[2]);
+    damage_packets();
+    damage_sizes();
+    withdraw();
     return 0;
   }
   enum region region = HANDLE;

@@ -342,6 +342,31 @@ uint32_t sandbar_word(sandbar_node *node, uint8_t map, uint16_t cell, uint64_t *
   return code;
 }
 
+/* ---- scrubbing */
+
+uint32_t sandbar_scrub(sandbar_node *node, uint8_t part, const uint8_t *image, size_t image_length,
+                       sandbar_scrubbed *scrubbed) {
+  struct inside *inside = inside_of(node);
+  if (inside == NULL) return SANDBAR_NO_NODE;
+  module *it = &inside->it;
+  size_t length = at_most(image_length, IMAGE_ROOM);
+  put(it, inside->packet, image, length);
+  uint32_t code = Z_sandbarZ_sandbar_scrub(it, inside->node, part, inside->packet, length, inside->small);
+  if (code != SANDBAR_OK) return code;
+  scrubbed->first = number(it, inside->small, 8);
+  scrubbed->mended = (uint8_t)number(it, inside->small + 8, 1);
+  scrubbed->withdrawn = (uint8_t)number(it, inside->small + 9, 1);
+  scrubbed->restored = (uint8_t)number(it, inside->small + 10, 1);
+  scrubbed->sizes = (uint8_t)number(it, inside->small + 11, 1);
+  scrubbed->journals = (uint8_t)number(it, inside->small + 12, 1);
+  return code;
+}
+
+uint32_t sandbar_scrub_each(sandbar_node *node, uint32_t each) {
+  struct inside *inside = inside_of(node);
+  return inside == NULL ? SANDBAR_NO_NODE : Z_sandbarZ_sandbar_scrub_each(&inside->it, inside->node, each);
+}
+
 /* ---- frames */
 
 static struct inside *reader_of(const sandbar_frames *frames) {

@@ -12,10 +12,10 @@ from .files import NodeFileFault
 from .library import LibraryFault
 from .links import BadLine, Discarded, Frames, Lines, LinkFault
 from .loads import LoadFault, load
-from .node import YES, Bank, Entry, Map, Node, NodeFault, Served, verify
+from .node import YES, Bank, Entry, Map, Node, NodeFault, Scrubbed, Served, verify
 from .packets import Reply, command, crc, load_packets, reply
 
 __all__ = [
     "BadLine", "Bank", "Discarded", "Entry", "Frames", "LibraryFault", "Lines", "LinkFault", "LoadFault", "Map", "Node",
-    "NodeFault", "NodeFileFault", "Reply", "Served", "YES", "command", "crc", "load", "load_packets", "reply", "verify",
+    "NodeFault", "NodeFileFault", "Reply", "Scrubbed", "Served", "YES", "command", "crc", "load", "load_packets", "reply", "verify",
 ]

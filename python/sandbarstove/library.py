@@ -30,6 +30,7 @@ TEXTS = {
     13: "the node, or the reader of frames, is open",
     14: "the node has no such map or cell",
     15: "what memory holds is not what was written there: a bit of it flipped",
+    16: "the number is no part of a node that is scrubbed",
 }
 
 
@@ -59,6 +60,11 @@ class ServedRecord(Structure):
                 ("place", c_uint8), ("extended", c_uint8)]
 
 
+class ScrubbedRecord(Structure):
+    _fields_ = [("first", c_uint64), ("mended", c_uint8), ("withdrawn", c_uint8), ("restored", c_uint8), ("sizes", c_uint8),
+                ("journals", c_uint8)]
+
+
 class EntryRecord(Structure):
     _fields_ = [("number", c_uint64), ("verdict", c_uint64), ("generation", c_uint32), ("packet_length", c_uint32),
                 ("port", c_uint8), ("status", c_uint8), ("end", c_uint8)]
@@ -70,7 +76,7 @@ class JournalRecord(Structure):
 
 #: The structs by their names in the header.
 STRUCTS = {"sandbar_node": NodeHandle, "sandbar_bank": BankConfig, "sandbar_map": MapConfig, "sandbar_why": Why,
-           "sandbar_served": ServedRecord, "sandbar_entry": EntryRecord, "sandbar_journal": JournalRecord}
+           "sandbar_served": ServedRecord, "sandbar_scrubbed": ScrubbedRecord, "sandbar_entry": EntryRecord, "sandbar_journal": JournalRecord}
 
 _NODE, _BYTES = POINTER(NodeHandle), POINTER(c_uint8)
 _MAPS = [POINTER(MapConfig), c_size_t]
@@ -86,6 +92,8 @@ _CALLS = {
     "peek": [_NODE, c_uint8, c_uint32, _BYTES, c_size_t],
     "poke": [_NODE, c_uint8, c_uint32, c_char_p, c_size_t, c_uint32],
     "word": [_NODE, c_uint8, c_uint16, POINTER(c_uint64)],
+    "scrub": [_NODE, c_uint8, c_char_p, c_size_t, POINTER(ScrubbedRecord)],
+    "scrub_each": [_NODE, c_uint32],
 }
 
 _loaded: dict[str, CDLL] = {}

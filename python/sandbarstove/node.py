@@ -18,6 +18,7 @@ _KINDS = ("discarded", "answered", "judged")
 _COMMANDS = (None, "read", "write", "rmw")
 _PLACES = (None, "bank", "window")
 _BAD_IMAGE, _REFUSED = 5, 6
+_ALL = 3
 
 
 class NodeFault(Exception):
@@ -77,6 +78,22 @@ class Entry:
     status: int
     packet: bytes
     end: str = "EOP"
+
+
+@dataclass(frozen=True)
+class Scrubbed:
+    """What a scrub found: the slots whose programs were mended, those that are withdrawn, and whether slot 3 was restored; whether the
+    node's sizes are others; the banks whose journals have a damaged entry, and the place of the first one."""
+    mended: tuple[int, ...]
+    withdrawn: tuple[int, ...]
+    restored: bool
+    sizes: bool
+    journals: tuple[int, ...]
+    first: int
+
+
+def _places(bits: int) -> tuple[int, ...]:
+    return tuple(place for place in range(8) if bits >> place & 1)
 
 
 def _array(kind: type, rows: Sequence[tuple]):
@@ -197,6 +214,18 @@ class Node:
         told = c_uint64()
         self._done(self._c.sandbar_word(byref(self._node), _byte("map", map), _checked("cell", cell, 0xFFFF), byref(told)))
         return told.value
+
+    def scrub(self, image: bytes = b"") -> Scrubbed:
+        """Compares each slot's program with the sum that was kept of it. A program that differs is made again, or its slot is withdrawn.
+        The program of an image that is given is published for slot 3 if that is withdrawn. Of sizes and journals it says what differs."""
+        told = c.ScrubbedRecord()
+        self._done(self._c.sandbar_scrub(byref(self._node), _ALL, image, len(image), byref(told)))
+        return Scrubbed(_places(told.mended), _places(told.withdrawn), bool(told.restored), bool(told.sizes),
+                        _places(told.journals), told.first)
+
+    def scrub_each(self, packets: int) -> None:
+        """From now on scrubs the program that judges a packet before each packet of so many; before none where it is 0."""
+        self._done(self._c.sandbar_scrub_each(byref(self._node), _checked("packets", packets, 0xFFFFFFFF)))
 
     def close(self) -> None:
         """Gives all memory back. Closing twice does nothing."""

@@ -22,7 +22,7 @@ names_placed found job (Once own) names (same, none) = (
 )
 names_placed found job (OnNode own) names (same, named, left) = (
   subst (λ (j : Job). NamesPlain found (Once j)) (sym same) names,
-  (refl, (subst (λ (j : Job). own_file j found.1 ≡ Some (string_bytes own.node)) (sym same) named, left)),
+  (refl, subst (λ (j : Job). own_file j found.1 ≡ Some (string_bytes own.node)) (sym same) named, left),
 )
 names_placed found job (Live words) names placed = absurd placed
 

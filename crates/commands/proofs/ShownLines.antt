@@ -1,5 +1,5 @@
 -- Lines that are told in turn.
-use Rattle.std.proofs.Common.{◌≡◌, ◌+◌, ℕ, suc, Bool, true, refl, sym, subst, arith}
+use Rattle.std.proofs.Common.{◌≡◌, ◌+◌, ℕ, suc, Bool, true, refl, subst, arith}
 use Rattle.job_live.specs.Talking.{Comes, Misses, Sends}
 use Rattle.job_parts.specs.declared.stops.Halt.{Halt}
 use Rattle.commands.specs.ShownTalk.{BreaksShow, IsUntold, Shows, ShowsOne}

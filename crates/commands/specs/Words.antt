@@ -1,5 +1,5 @@
 -- The words of the subcommands.
-use Rattle.std.specs.Prelude.{◌≡◌, ◌≢◌, ℕ, List, codes}
+use Rattle.std.specs.Prelude.{◌≢◌, ℕ, List, codes}
 use Rattle.commands.specs.declared.word.Word.{Word}
 use Rattle.commands.specs.declared.word.Word.TheVariants.{Asm, Dis, Verify, Judge, Policy, Serve, Sim, Live, Explain, Why, Weigh, Node, Packet, Show, Decide, Trace, Compare, Map, Rehearse}
 

@@ -17,6 +17,7 @@ use commands::{
 };
 use folders::Folder;
 use std::alloc::{AllocError, Global};
+use std::io::Write;
 
 /// The name of standard input.
 pub const STANDARD_INPUT: &str = "-";

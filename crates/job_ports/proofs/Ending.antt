@@ -160,7 +160,7 @@ ends_history {J} left reports many history = record {
 }
 
 -- What became of each port.
-unfoldable pub serve_each : {J : Type 0} {starts : ℕ → Standing} {ports : ℕ} {by_port : List (List Cargo)} {banks : ℕ} {queues : List Port} {puts : List PutPass} {workers : List (Worker J SinkValue)}
+pub serve_each : {J : Type 0} {starts : ℕ → Standing} {ports : ℕ} {by_port : List (List Cargo)} {banks : ℕ} {queues : List Port} {puts : List PutPass} {workers : List (Worker J SinkValue)}
     (desk : IsDesk starts ports by_port banks queues puts workers) (left : List (Worker J SinkValue)) (sinks : List SinkValue) (total : Report)
     → HaveServed (λ (s : SinkValue). s.sent) (λ (s : SinkValue). s.failed) banks queues workers left total → AreBeginnings puts left
     → sinks ≡ map (λ (w : Worker J SinkValue). w.sink) left → ServeEach starts ports by_port sinks total
@@ -180,6 +180,14 @@ serve_each {J} {starts} {ports} {by_port} {banks} {queues} {puts} {workers} desk
       sinks_are = is ∙ sym (ends_sinks left served.reports many);
       report_is = served.sum ∙ ap total_of (sym (ends_reports left served.reports many));
     }
+
+-- These are the ends of the ports.
+pub each_ends : {J : Type 0} {starts : ℕ → Standing} {ports : ℕ} {by_port : List (List Cargo)} {banks : ℕ} {queues : List Port} {puts : List PutPass} {workers : List (Worker J SinkValue)}
+    (desk : IsDesk starts ports by_port banks queues puts workers) (left : List (Worker J SinkValue)) (sinks : List SinkValue) (total : Report)
+    → (served : HaveServed (λ (s : SinkValue). s.sent) (λ (s : SinkValue). s.failed) banks queues workers left total) (begins : AreBeginnings puts left)
+    (is : sinks ≡ map (λ (w : Worker J SinkValue). w.sink) left) → (serve_each desk left sinks total served begins is).ends ≡ ends_of left served.reports
+unfolding serve_each
+each_ends desk left sinks total served begins is = refl
 
 -- The packets that came to each port are few.
 pub few_each : (lines : List (List ℕ)) (ports : ℕ) (by_port : List (List Cargo)) → ArriveAll lines ports by_port → AreFew by_port

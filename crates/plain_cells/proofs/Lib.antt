@@ -1,3 +1,4 @@
 pub mod Zeros
 mod Calls
 pub mod Tickets
+mod Agreeing

@@ -30,6 +30,10 @@ word_in words map key = word_of (slice_get words map) key
 abbrev pub with_word : List (List ℕ) → (map key word : ℕ) → List (List ℕ)
 with_word words map key word = slice_set words map (slice_set (slice_index_or words map []) key word)
 
+-- that word for each cell of those maps
+abbrev pub same_words : Maps → (word : ℕ) → List (List ℕ)
+same_words sizes word = map (λ count. replicate count word) sizes.cells
+
 -- a word of 0 for each cell of those maps
 abbrev pub zero_words : Maps → List (List ℕ)
 zero_words sizes = map (λ count. replicate count 0) sizes.cells

@@ -1,6 +1,7 @@
 //! What a helper makes of the word of a cell.
 
 ghost use Rattle.std.specs.Prelude.{◌≡◌};
+ghost use Rattle.plain_cells.specs.Pairs.{complement, kept_of_pair, told_of_pair, word_of_pair};
 ghost use Rattle.plain_cells.specs.Words.{told_of_word, word_behind};
 
 use machine::Helper;
@@ -17,5 +18,45 @@ pub fn answered(helper: Helper, word: u64, argument: u64) -> (u64, u64)
             let greater = word.max(argument);
             (greater, greater)
         }
+    }
+}
+
+/// What a helper makes of the word of a cell and of what is kept beside it, its complement.
+#[derive(Clone, Copy, Debug)]
+pub struct PairAnswer {
+    /// What it tells.
+    pub told: u64,
+    /// The word behind that.
+    pub word: u64,
+    /// What is kept beside it then.
+    pub kept: u64,
+}
+
+/// The complement of a word.
+pub fn complement(word: u64) -> u64
+    ensures { result ≡ complement word }
+{
+    u64::MAX - word
+}
+
+/// What a helper makes of a pair, asked with that argument. A pair that does not agree is spent: it tells the greatest word, and
+/// stays as it is.
+pub fn answered_pair(helper: Helper, word: u64, kept: u64, argument: u64) -> PairAnswer
+    ensures told { result.told ≡ told_of_pair helper word kept argument }
+    ensures word { result.word ≡ word_of_pair helper word kept argument }
+    ensures kept { result.kept ≡ kept_of_pair helper word kept argument }
+{
+    if kept == complement(word) {
+        let (told, behind) = answered(helper, word, argument);
+        return PairAnswer {
+            told,
+            word: behind,
+            kept: complement(behind),
+        };
+    }
+    PairAnswer {
+        told: u64::MAX,
+        word,
+        kept,
     }
 }

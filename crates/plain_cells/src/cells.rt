@@ -8,29 +8,30 @@ ghost use Rattle.machine.specs.declared.kinds.MapKind.TheVariants.{Counter, Peak
 ghost use Rattle.plain_cells.specs.Cells.{IsCalled, fresh_cells};
 ghost use Rattle.plain_cells.specs.Words.{AreCallsOn, IsOfCell, word_in, zero_words};
 
-use crate::answers::answered;
-use crate::words::CellWords;
+use crate::pairs::CellPairs;
 use brun::{CallLog, Counters};
 use machine::{Call, Helper, MapSizes, Question};
 use std::alloc::{AllocError, Global};
 use std::marker::Model;
 
-/// The cells of a node of one thread: a plain word for each. Contracts see the maps, the words, and the calls so far.
+/// The cells of a node of one thread: a plain word for each, beside its complement. Contracts see the maps, the words, and the calls so far.
 #[derive(Drop)]
 pub struct PlainCells {
     sizes: MapSizes,
-    words: CellWords,
+    pairs: CellPairs,
     log: CallLog,
 }
 
 impl Model for PlainCells {
+    ghost use Rattle.std.specs.Prelude.{◌≡◌};
     ghost use Rattle.plain_cells.specs.Cells.{AreInOrder, CellsValue, cells_of};
+    ghost use Rattle.plain_cells.specs.Pairs.{complements};
 
     ghost Value = { CellsValue };
 
-    ghost view = { λ c. cells_of c.sizes c.words c.log.calls };
+    ghost view = { λ c. cells_of c.sizes c.pairs.words c.log.calls };
 
-    ghost invariant = { λ c. AreInOrder (cells_of c.sizes c.words c.log.calls) };
+    ghost invariant = { λ c. AreInOrder (cells_of c.sizes c.pairs.words c.log.calls) × (c.pairs.kept ≡ complements c.pairs.words) };
 }
 
 impl PlainCells {
@@ -40,7 +41,7 @@ impl PlainCells {
     {
         Ok(PlainCells {
             sizes: *sizes,
-            words: CellWords::new(alloc, sizes)?,
+            pairs: CellPairs::new(alloc, sizes)?,
             log: CallLog::none(),
         })
     }
@@ -51,7 +52,7 @@ impl PlainCells {
         ensures value { result ≡ word_in self.now.words map key }
         ensures inside { IsSome result ↔ IsInside self.now.sizes map key }
     {
-        self.words.get(map, key)
+        self.pairs.word(map, key)
     }
 
     /// The calls so far, for proofs.
@@ -66,7 +67,7 @@ impl PlainCells {
         ensures { AreCallsOn self.now.sizes (zero_words self.now.sizes)
             self.now.asked self.now.words }
     {
-        let _ = &self.words;
+        let _ = &self.pairs;
     }
 
     /// Answers a question for a cell that is there, in a map of a kind of which its helper may ask.
@@ -74,9 +75,7 @@ impl PlainCells {
         requires { IsOfCell self.old.sizes asked }
         ensures { IsCalled asked result self.old self.new }
     {
-        let word = self.words.word(asked.map, asked.key);
-        let (answer, behind) = answered(asked.helper, word, asked.argument);
-        self.words.set(asked.map, asked.key, behind);
+        let answer = self.pairs.ask(asked);
         let call = Call {
             question: asked,
             answer,

@@ -1,7 +1,7 @@
 //! The words of a node's cells.
 
 ghost use Rattle.std.specs.Prelude.{◌≡◌, ◌<◌, IfOk, ℕ, List, [], length, replicate, slice_get, slice_index, slice_index_or, slice_set};
-ghost use Rattle.plain_cells.specs.Words.{AreCells, AreZeros, with_word, word_at, word_in, zero_words};
+ghost use Rattle.plain_cells.specs.Words.{AreCells, AreZeros, same_words, with_word, word_at, word_in, zero_words};
 
 use machine::MapSizes;
 use std::alloc::{AllocError, Global};
@@ -22,12 +22,12 @@ impl Model for Words {
 }
 
 impl Words {
-    /// So many words of 0.
-    fn zeros(alloc: Global, count: u16) -> Result<Words, AllocError>
-        ensures { IfOk result (λ made. made ≡ replicate count 0) }
+    /// That word so many times.
+    fn same(alloc: Global, count: u16, word: u64) -> Result<Words, AllocError>
+        ensures { IfOk result (λ made. made ≡ replicate count word) }
     {
         Ok(Words {
-            words: vec![in alloc; 0; usize::from(count)]?,
+            words: vec![in alloc; word; usize::from(count)]?,
         })
     }
 
@@ -70,18 +70,25 @@ impl Model for CellWords {
 }
 
 impl CellWords {
+    /// That word for each cell of maps of those sizes.
+    pub(crate) fn same(alloc: Global, sizes: &MapSizes, word: u64) -> Result<CellWords, AllocError>
+        ensures { IfOk result (λ words. words ≡ same_words sizes.now word) }
+    {
+        let mut maps = Vec::with_capacity(alloc, usize::from(sizes.maps()))?;
+        for map in 0..sizes.maps() {
+            let count = sizes.cells(map).unwrap();
+            maps.push(Words::same(alloc, count, word)?)?;
+        }
+        Ok(CellWords { maps })
+    }
+
     /// A word of 0 for each cell of maps of those sizes.
     pub fn new(alloc: Global, sizes: &MapSizes) -> Result<CellWords, AllocError>
         ensures words { IfOk result (λ words. words ≡ zero_words sizes.now) }
         ensures cells { IfOk result (AreCells sizes.now) }
         ensures zeros { IfOk result AreZeros }
     {
-        let mut maps = Vec::with_capacity(alloc, usize::from(sizes.maps()))?;
-        for map in 0..sizes.maps() {
-            let count = sizes.cells(map).unwrap();
-            maps.push(Words::zeros(alloc, count)?)?;
-        }
-        Ok(CellWords { maps })
+        CellWords::same(alloc, sizes, 0)
     }
 
     /// The word of a cell, if there is one.

@@ -2,6 +2,9 @@
 //! standard streams of this machine. docs/COMMANDS.md says what it does.
 #![tactic(auto)]
 
+ghost use Rattle.std.specs.Prelude.{◌≡◌, IfOk, true};
+ghost use Rattle.node_parts.specs.Nodes.{are_within};
+
 use commands::{
     Asked, Configuration, Course, DumpTalk, Fault, HostLink, HostTalk, Job, JobEnd, NodeJob,
     NodeSource, Noted, OWN_SOURCE, ShowWords, Status, ToldFiles, ToldTalk, UsageFault,
@@ -104,13 +107,16 @@ fn refuse_node<R: Print + Eprint>(
     status
 }
 
-/// The configuration of the node's file of this name, of which the job is told, or the exit status where it has a fault.
+/// The configuration of the node's file of this name, of which the job is told, or the exit status if it has a fault. Its banks are
+/// some that a node may have.
 fn read_node<R: rt::Files + Input + Print + Eprint>(
     rt: &R,
     alloc: Global,
     job: &Job,
     node: &str,
-) -> Result<Configuration, u8> {
+) -> Result<Configuration, u8>
+    ensures { IfOk result (λ own. are_within own.banks.items ≡ true) }
+{
     let mut files = ToldFiles::new(rt, node_inputs(node));
     match configuration_in(alloc, &mut files, node) {
         Ok(configuration) => Ok(configuration),

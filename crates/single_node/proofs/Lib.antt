@@ -6,3 +6,5 @@ mod Nodes
 mod Handing
 mod Ending
 mod Running
+mod Growing
+mod Asked

@@ -1,18 +1,28 @@
 -- A node of one thread, as its contracts see it.
 use Rattle.std.specs.Prelude.{◌≡◌, ◌≤◌, ℕ, List, length, Option, None, Some, Bool, false, slice_get, slice_set}
+use Rattle.std.specs.Option.{option_map}
 use mathlib.Core.List.{IsPrefix}
 use base.Stored.{gnil}
 use Rattle.bank.specs.Records.{BankValue, JournalValue, after_rotation, after_setting, base_of, covers}
 use Rattle.bank.specs.Records.{empty_journal, memory_of, replay}
 use Rattle.bver.specs.Justified.{AcceptedValue}
 use Rattle.node_programs.specs.declared.publishes.Publish.{Publish}
+use Rattle.node_programs.specs.Histories.{longer_history}
 use Rattle.node_programs.specs.Published.{sizes_of}
 use Rattle.node_programs.specs.Staged.{Staged}
 use Rattle.node_parts.specs.declared.config.NodeConfig.{NodeConfig}
 use Rattle.node_parts.specs.Nodes.{first_passes, first_programs, fresh_banks}
 use Rattle.node_parts.specs.Pairs.{ArePaired}
 use Rattle.node_parts.specs.Passes.{PassValue}
+use Rattle.node_parts.specs.Slots.{slot_of}
 use Rattle.plain_cells.specs.Words.{zero_words}
+use Rattle.rmap.specs.Checks.{header_line}
+use Rattle.rmap.specs.Command.{CommandValue, command_kind, command_of, discard_of}
+use Rattle.rmap.specs.Windows.{WindowsValue, place_of}
+use Rattle.rmap.specs.declared.discard.Discard.{Discard}
+use Rattle.rmap.specs.declared.places.Place.{Place}
+use Rattle.rmap.specs.declared.status.Status.{Status}
+use Rattle.spw.specs.Cargo.{Cargo}
 
 -- a node of one thread: its banks, the word of each cell, by map and key, the list of what was published, which begins
 -- with the factory program, and what each port has
@@ -53,6 +63,25 @@ abbrev pub staging_in : Option PassValue → Option Staged
 staging_in None = None
 staging_in (Some h) = Some h.staging
 
+-- the slot whose program judges a command, by the first check of its header that stops it, if one does, and by its place
+abbrev pub slot_past : (line : Option Status) → (place : Option Place) → CommandValue → Option ℕ
+slot_past None place c = option_map (slot_of (command_kind c)) place
+slot_past (Some status) place c = None
+
+-- the same by why the packet is no command, if it is none
+abbrev pub slot_unless : (discard : Option Discard) → WindowsValue → CommandValue → Option ℕ
+slot_unless None windows c = slot_past (header_line c windows) (place_of c windows) c
+slot_unless (Some discard) windows c = None
+
+-- the slot whose program judges the command of a packet under those windows, if one does
+abbrev pub slot_asked : WindowsValue → Cargo → Option ℕ
+slot_asked windows p = slot_unless (discard_of p.bytes) windows (command_of p)
+
+-- the same at a port, if there is that port
+abbrev pub slot_in : Option PassValue → Cargo → Option ℕ
+slot_in None p = None
+slot_in (Some h) p = slot_asked h.windows p
+
 -- so many bytes from an address on lie in the bank, if there is one
 abbrev pub covers_in : Option BankValue → (address count : ℕ) → Bool
 covers_in None address count = false
@@ -66,6 +95,10 @@ room_in (Some b) = b.journal.room
 -- the node with another bank of that number
 abbrev pub with_bank : SingleNodeValue → (number : ℕ) → BankValue → SingleNodeValue
 with_bank node number bank = record node { banks = slice_set node.banks number bank }
+
+-- the node with one publish more
+abbrev pub with_program : SingleNodeValue → (slot : ℕ) → AcceptedValue → SingleNodeValue
+with_program node slot program = record node { programs = longer_history node.programs slot program }
 
 -- the bank of that number has the new journal, which begins with the memory of now; the old one came out, whose replay
 -- on the base before is that memory; nothing else changed

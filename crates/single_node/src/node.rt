@@ -1,15 +1,19 @@
 //! The node.
 
-ghost use Rattle.std.specs.Prelude.{◌≡◌, ◌<◌, ◌≤◌, ◌+◌, ◌↔◌, [], IfErr, IfOk, IsSome, None, Some, length, slice_get, true};
+ghost use Rattle.std.specs.Prelude.{◌≡◌, ◌<◌, ◌≤◌, ◌+◌, ◌↔◌, [], IfErr, IfOk, IfSome, IsSome, None, OnErr, OnOk, OnSome, Some, length, slice_get, true};
 ghost use Rattle.bver.specs.Justified.{AcceptedValue};
 ghost use base.Stored.{gnil};
 ghost use Rattle.machine.specs.Sizes.{IsInside};
-ghost use Rattle.node_programs.specs.Published.{generation_at, sizes_of};
+ghost use Rattle.node_programs.specs.Published.{generation_at, program_at, sizes_of};
+ghost use Rattle.node_programs.specs.Codes.{IsUnpublished};
 ghost use Rattle.node_parts.specs.Nodes.{AreSharesOf, IsNodeFault, first_passes, first_programs, limit_fault};
 ghost use Rattle.plain_cells.specs.Words.{word_in};
-ghost use Rattle.single_node.specs.Nodes.{IsFresh, IsSingleNode, Rotates, RotatesTo, SetsBytes, SetsMemory, covers_in, room_in, staging_in};
+ghost use Rattle.single_node.specs.Nodes.{IsFresh, IsSingleNode, Rotates, RotatesTo, SetsBytes, SetsMemory, covers_in, room_in, slot_in, staging_in, with_program};
+ghost use Rattle.rmap.specs.Command.{command_of, discard_of};
+ghost use Rattle.rmap.specs.Reply.{reply_of};
+ghost use Rattle.rmap.specs.declared.status.Status.TheVariants.{GeneralError};
 ghost use Rattle.rmap.specs.declared.reply.TheConstants.{MAX_REPLY};
-ghost use Rattle.single_node.specs.Serving.{Serves, ServesInto, ServesTold};
+ghost use Rattle.single_node.specs.Serving.{Serves, ServesInto, ServesTold, put_front};
 
 use crate::context::PortContext;
 use crate::port::SinglePort;
@@ -22,9 +26,9 @@ use machine::MapSizes;
 use node_parts::{
     Banks, NodeConfig, NodeFault, PortShares, Served, made_are_paired, packets_keep_pairs,
 };
-use node_programs::Staging;
+use node_programs::{PublishFault, Staging};
 use plain_cells::PlainCells;
-use rmap::{MAX_BANKS, ReplyBuf};
+use rmap::{Command, MAX_BANKS, ReplyBuf, Status, put_reply};
 use spw::{PORTS, Packet};
 use std::alloc::{AllocError, Global};
 use std::marker::Model;
@@ -279,6 +283,67 @@ impl SingleNode {
         ensures { generation_at self.now.programs slot ≡ Some result }
     {
         self.programs.shown(slot).generation()
+    }
+
+    /// The program of a slot: the last that was published for it. The condition is a slot below 4.
+    pub fn program(&self, slot: u8) -> &Accepted
+        requires { slot < 4 }
+        ensures value { program_at self.now.programs slot ≡ Some result.now }
+        ensures sizes { result.now.sizes ≡ sizes_of self.now.programs }
+    {
+        self.programs.shown(slot).program()
+    }
+
+    /// Publishes a program for a slot, without a command that asks for it: its generation. The conditions are a slot below 4,
+    /// and a program that was accepted for the maps of the node.
+    ///
+    /// # Errors
+    ///
+    /// `GenerationsFull` after 4,294,967,295 publishes, else `Memory` where memory was refused. The node stays.
+    pub fn publish(
+        &mut self,
+        alloc: Global,
+        slot: u8,
+        program: Accepted,
+    ) -> Result<u32, PublishFault>
+        requires slot { slot ≤ 3 }
+        requires sizes { program.sizes ≡ sizes_of self.old.programs }
+        ensures published { OnOk result (self.new ≡ with_program self.old slot program) }
+        ensures generation { IfOk result (λ n. n ≡ length self.old.programs) }
+        ensures same { OnErr result (self.new ≡ self.old) }
+        ensures refused { IfErr result (IsUnpublished (length self.old.programs)) }
+    {
+        let _list = self.programs.list();
+        self.programs.install(alloc, slot, program)
+    }
+
+    /// The slot whose program judges the command of a packet that came in at a port. `None` if it is no command, or a check of
+    /// its header stops it. The condition is a port of the node.
+    pub fn slot_for(&self, port: u8, packet: &Packet) -> Option<u8>
+        requires { port < length self.now.passes }
+        ensures slot { result ≡ slot_in (slice_get self.now.passes port) packet.now }
+        ensures few { IfSome result (λ slot. slot < 4) }
+        ensures command { OnSome result (discard_of packet.now.bytes ≡ None) }
+    {
+        self.ports[usize::from(port)].slot_for(packet)
+    }
+
+    /// Answers the command of a packet that no program judges: its reply, a general error, at the front of the room, where the
+    /// rest stays. The number is how many bytes the reply has. Conditions: it is a command, and there is room for any reply.
+    pub fn unread_into(&mut self, packet: &Packet, room: &mut [u8]) -> usize
+        requires command { discard_of packet.now.bytes ≡ None }
+        requires room { MAX_REPLY ≤ length room.old }
+        ensures reply { room.new
+            ≡ put_front room.old (reply_of (command_of packet.now) GeneralError []) }
+        ensures size { result ≡ length (reply_of (command_of packet.now) GeneralError []) }
+        ensures few { result ≤ MAX_REPLY }
+        ensures node { self.new ≡ self.old }
+    {
+        let reply = &mut self.reply;
+        put_reply(reply, &Command::again(packet), Status::GeneralError, &[]);
+        let bytes = reply.bytes();
+        put_front(room, bytes);
+        bytes.len()
     }
 
     /// How many programs were loaded.

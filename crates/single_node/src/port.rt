@@ -1,6 +1,6 @@
 //! What a port of a node of one thread has.
 
-ghost use Rattle.std.specs.Prelude.{◌≡◌, ◌<◌, length, true};
+ghost use Rattle.std.specs.Prelude.{◌≡◌, ◌<◌, IfSome, None, OnSome, length, true};
 ghost use mathlib.Core.List.{IsPrefix};
 ghost use Rattle.bank.specs.Records.{fits};
 ghost use Rattle.node_programs.specs.Published.{sizes_of};
@@ -9,7 +9,8 @@ ghost use Rattle.node_parts.specs.Loaded.{IsLoadEnd};
 ghost use Rattle.node_parts.specs.Passes.{pass_of};
 ghost use Rattle.node_parts.specs.Served.{IsStagedAt};
 ghost use Rattle.node_parts.specs.Stagings.{IsStagingPlace};
-ghost use Rattle.single_node.specs.Nodes.{IsInformed};
+ghost use Rattle.rmap.specs.Command.{discard_of};
+ghost use Rattle.single_node.specs.Nodes.{IsInformed, slot_asked};
 ghost use Rattle.single_node.specs.Judging.{JudgesByLast};
 
 use crate::context::PortContext;
@@ -19,7 +20,8 @@ use bank::{Admitted, Applied, Bank, Judged, Share};
 use node_parts::{answer_staged, load, slot};
 use node_programs::{Staging, published_programs};
 use plain_cells::PlainCells;
-use rmap::{Place, ReplyBuf, Status, Windows};
+use rmap::{Command, Place, ReplyBuf, Status, Windows, checked_place};
+use spw::Packet;
 use std::alloc::Global;
 use std::marker::Model;
 
@@ -71,6 +73,22 @@ impl SinglePort {
         ensures { result.now ≡ self.now.staging }
     {
         &self.staging
+    }
+
+    /// The slot whose program judges the command of a packet. `None` if it is no command, or a check of its header stops it.
+    #[tactic(auto, using(crate::proofs::Asked::asked_discarded, crate::proofs::Asked::asked_stopped, crate::proofs::Asked::asked_passed))]
+    pub fn slot_for(&self, packet: &Packet) -> Option<u8>
+        ensures slot { result ≡ slot_asked self.now.windows packet.now }
+        ensures few { IfSome result (λ slot. slot < 4) }
+        ensures command { OnSome result (discard_of packet.now.bytes ≡ None) }
+    {
+        let Ok(command) = Command::view(packet) else {
+            return None;
+        };
+        let Ok(place) = checked_place(&command, self.windows()) else {
+            return None;
+        };
+        Some(slot(command.kind(), place))
     }
 
     /// Judges an admitted command by the program of the slot of its place: one run on its header, which asks the cells.

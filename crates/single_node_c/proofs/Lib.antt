@@ -1,3 +1,4 @@
 pub mod Values
 pub mod Faults
 mod Found
+mod Unread

@@ -19,7 +19,7 @@ use Rattle.single_node_c.specs.Held.{mark}
 use Rattle.single_node_c.specs.declared.handle.Handle.{Handle}
 use Rattle.single_node_c.specs.contracts.handle.Handle.{the_row as H, the_type}
 use Rattle.single_node_c.proofs.handle.Handle.TheLaws.{lowers}
-use Rattle.single_node.specs.contracts.node.SingleNode.{the_row as C}
+use Rattle.scrub.specs.contracts.guarded.GuardedNode.{the_row as C}
 
 abbrev pub word : Ptr → ℕ → Val
 word p n = vstruct (vcons (ptr_val p) (vcons (vint w32 n) vnil))

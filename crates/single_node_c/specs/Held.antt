@@ -1,5 +1,6 @@
 -- What a handle of a node holds, and what a call does to its node.
 use Rattle.std.specs.Prelude.{◌≡◌, ◌⊎◌, ℕ, Option, None, Some}
+use Rattle.scrub.specs.Guarded.{GuardedValue}
 use Rattle.single_node.specs.Nodes.{SingleNodeValue}
 use Rattle.single_node_c.specs.declared.codes.TheConstants.{OK, NO_MEMORY, NO_NODE}
 
@@ -17,17 +18,30 @@ IsCode (Some fault) code = code ≡ fault
 IsCode None code = (code ≡ OK) ⊎ (code ≡ NO_MEMORY)
 
 -- the first test that fails of a call on the node of a handle: that there is one, then those of the node
-abbrev pub test_on : Option SingleNodeValue → (SingleNodeValue → Option ℕ) → Option ℕ
+abbrev pub test_on : Option GuardedValue → (SingleNodeValue → Option ℕ) → Option ℕ
 test_on None test = Some NO_NODE
-test_on (Some node) test = test node
+test_on (Some guarded) test = test guarded.node
 
 -- the code of a call on the node of a handle that takes no memory
-abbrev pub code_on : Option SingleNodeValue → (SingleNodeValue → ℕ) → ℕ
+abbrev pub code_on : Option GuardedValue → (SingleNodeValue → ℕ) → ℕ
 code_on None code = NO_NODE
-code_on (Some node) code = code node
+code_on (Some guarded) code = code guarded.node
 
--- the handle held a node and holds one, which stand so to each other
-abbrev pub Becomes : (SingleNodeValue → SingleNodeValue → Type 0) → (old new : Option SingleNodeValue) → Type 0
-Becomes Relates None new = ⊥
-Becomes Relates (Some before) None = ⊥
-Becomes Relates (Some before) (Some after) = Relates before after
+-- what is told of the node of a handle, if it holds one
+abbrev pub IfNode : Option GuardedValue → (SingleNodeValue → Type 0) → Type 0
+IfNode None Tells = Unit {0}
+IfNode (Some guarded) Tells = Tells guarded.node
+
+-- the handle held a node and holds one, which stand so to each other, with what is kept of its programs
+abbrev pub BecomesGuarded : (GuardedValue → GuardedValue → Type 0) → (old new : Option GuardedValue) → Type 0
+BecomesGuarded Relates None new = ⊥
+BecomesGuarded Relates (Some before) None = ⊥
+BecomesGuarded Relates (Some before) (Some after) = Relates before after
+
+-- the nodes stand so to each other, and what is kept of their programs is the same
+abbrev pub IsBeside : (SingleNodeValue → SingleNodeValue → Type 0) → (before after : GuardedValue) → Type 0
+IsBeside Relates before after = Relates before.node after.node × (after ≡ record before { node = after.node })
+
+-- the handle held a node and holds one, which stand so to each other; what is kept of its programs stays
+abbrev pub Becomes : (SingleNodeValue → SingleNodeValue → Type 0) → (old new : Option GuardedValue) → Type 0
+Becomes Relates old new = BecomesGuarded (IsBeside Relates) old new

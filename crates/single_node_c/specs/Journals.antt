@@ -2,6 +2,7 @@
 use Rattle.std.specs.Prelude.{◌≡◌, ◌+◌, ℕ, List, [], length, nat_le, nat_lt, not, Option, Some, None, Result, Ok, Err, if◌then◌else◌, slice_get}
 use Rattle.bank.specs.Limits.{is_room}
 use Rattle.bank.specs.Records.{BankValue, EntryValue, is_whole}
+use Rattle.scrub.specs.Guarded.{GuardedValue}
 use Rattle.single_node.specs.Nodes.{SingleNodeValue, room_in}
 use Rattle.single_node_c.specs.Numbers.{entry_numbers}
 use Rattle.single_node.specs.Serving.{put_front}
@@ -62,6 +63,6 @@ rotate_test number room node =
 
 -- how many entries the journal of the bank of that number has room for in all, of the node of a handle; 0 where there is
 -- no node or no such bank
-abbrev pub room_at : Option SingleNodeValue → (number : ℕ) → ℕ
+abbrev pub room_at : Option GuardedValue → (number : ℕ) → ℕ
 room_at None number = 0
-room_at (Some node) number = room_in (slice_get node.banks number)
+room_at (Some guarded) number = room_in (slice_get guarded.node.banks number)

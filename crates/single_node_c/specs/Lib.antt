@@ -1,6 +1,7 @@
 pub mod Held
 pub mod Numbers
 pub mod Parts
+pub mod Scrubbing
 pub mod Serving
 pub mod Journals
 pub mod Memory

@@ -26,7 +26,7 @@ abbrev pub kind_of_stop : Stop → ℕ
 kind_of_stop (Discarded discard) = DISCARDED
 kind_of_stop (Answered status) = ANSWERED
 
--- the kind of what became of a packet. A node of one thread leaves none unread
+-- the kind of what became of a packet. One that is left unread is answered: its slot is withdrawn
 abbrev pub kind_of : Served → ℕ
 kind_of (Stopped stop) = kind_of_stop stop
 kind_of Unread = ANSWERED
@@ -38,7 +38,7 @@ abbrev pub status_of_stop : Stop → ℕ
 status_of_stop (Discarded discard) = discard_code discard
 status_of_stop (Answered status) = status_code status
 
--- the number of a discard, or the status of a reply. A node of one thread leaves none unread
+-- the number of a discard, or the status of a reply. That of a packet that is left unread is a general error
 abbrev pub status_of : Served → ℕ
 status_of (Stopped stop) = status_of_stop stop
 status_of Unread = 1

@@ -14,6 +14,7 @@ use Rattle.bver_form.specs.declared.refusal.Refusal.TheVariants.{Memory as Refus
 use Rattle.bver_form.specs.declared.refusal.Refused.{Refused}
 use Rattle.machine.specs.Runs.{IsSafe}
 use Rattle.machine.specs.Sizes.{Maps, AreSizes}
+use Rattle.scrub.specs.Guarded.{GuardedValue, IsGuarded}
 use Rattle.single_node.specs.Nodes.{SingleNodeValue, IsFresh}
 use Rattle.single_node_c.specs.Numbers.{bank_of, maps_of}
 use Rattle.single_node_c.specs.declared.codes.TheConstants.{OK, NO_MEMORY, BAD_CONFIG, BAD_MAPS, BAD_IMAGE, REFUSED}
@@ -136,10 +137,11 @@ pub record IsMade (address ports : ℕ) (banks : List BankNumbers) (numbers : Li
   pub accepted : IsAccepted (maps_of numbers) image factory
   pub opened : IsOpened address ports banks factory node
 
--- what is told of an opening: the handle holds the node that was made; or why it holds none
+-- what is told of an opening: the handle holds the node that was made, with the sums of its programs; or why it holds none
 pub data TellsOpening (address ports : ℕ) (banks : List BankNumbers) (numbers : List MapNumbers) (image : List ℕ)
-    (kept : Option SingleNodeValue) (code : ℕ) (why : Why) : Type 0 where
-  opened : (node : SingleNodeValue) → IsMade address ports banks numbers image node → kept ≡ Some node → code ≡ OK
-      → why ≡ no_why → TellsOpening address ports banks numbers image kept code why
+    (kept : Option GuardedValue) (code : ℕ) (why : Why) : Type 0 where
+  opened : (guarded : GuardedValue) → IsMade address ports banks numbers image guarded.node
+      → IsGuarded guarded.node guarded → kept ≡ Some guarded → code ≡ OK → why ≡ no_why
+      → TellsOpening address ports banks numbers image kept code why
   unopened : (fault : Unfit) → IsUnopened ports banks numbers image fault → kept ≡ None → code ≡ code_of fault
       → why ≡ why_of fault → TellsOpening address ports banks numbers image kept code why

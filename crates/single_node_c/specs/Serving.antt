@@ -2,8 +2,8 @@
 use Rattle.std.specs.Prelude.{◌≡◌, ℕ, List, length, nat_le, nat_lt, Option, Some, None, if◌then◌else◌, is_none, slice_get}
 use Rattle.bank.specs.Records.{BankValue, room_left}
 use Rattle.rmap.specs.declared.reply.TheConstants.{MAX_REPLY}
+use Rattle.scrub.specs.Guarded.{GuardedValue, ServesScrubbed}
 use Rattle.single_node.specs.Nodes.{SingleNodeValue}
-use Rattle.single_node.specs.Serving.{ServesTold, put_front}
 use Rattle.single_node.specs.declared.served.Told.{Told}
 use Rattle.single_node_c.specs.Numbers.{end_of, served_numbers}
 use Rattle.single_node_c.specs.Parts.{served_parts}
@@ -35,22 +35,20 @@ room_behind Unread number node = 0
 room_behind (Done applied) number node = room_of (slice_get node.banks number)
 room_behind (Window status) number node = 0
 
--- the packet was served at that port as a node of one thread serves it (`ServesTold`). Its reply stands at the front of
--- the room, with the rest of it as before, and the numbers are those of what became of the packet, of what its command
--- asked for, and of the room that the journal of its bank then has
-pub record ServesPacket (port : ℕ) (packet : Cargo) (before after : SingleNodeValue) (room left : List ℕ)
+-- the packet was served at that port as a node whose programs are scrubbed serves it (`ServesScrubbed`), which also says
+-- what stands in the room. The numbers are those of what became of the packet, of what its command asked for, and of the
+-- room that the journal of its bank then has
+pub record ServesPacket (port : ℕ) (packet : Cargo) (before after : GuardedValue) (room left : List ℕ)
     (numbers : ServedNumbers) : Type 0 where
   pub told : Told
-  pub reply : List ℕ
-  pub serves : ServesTold told port packet before after reply
-  pub left_is : left ≡ put_front room reply
+  pub size : ℕ
+  pub serves : ServesScrubbed told size port packet before after room left
   pub numbers_are : numbers
-      ≡ served_numbers told (served_parts packet) (room_behind told.served (served_parts packet).extended after)
-      (length reply)
+      ≡ served_numbers told (served_parts packet) (room_behind told.served (served_parts packet).extended after.node) size
 
 -- a packet of those bytes, with the end of that number, was served at that port (`ServesPacket`)
 pub record ServesBytes (port : ℕ) (bytes : List ℕ) (end : ℕ) (room left : List ℕ) (numbers : ServedNumbers)
-    (before after : SingleNodeValue) : Type 0 where
+    (before after : GuardedValue) : Type 0 where
   pub packet : Cargo
   pub bytes_are : packet.bytes ≡ bytes
   pub end_is : end_of end ≡ Some packet.end

@@ -47,3 +47,6 @@ pub const NO_CELL: u32 = 14;
 
 /// What memory holds is not what was written there: a bit of it flipped.
 pub const DAMAGED: u32 = 15;
+
+/// The number is no part of a node that is scrubbed.
+pub const NO_PART: u32 = 16;

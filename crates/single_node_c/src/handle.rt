@@ -2,10 +2,10 @@
 
 ghost use Rattle.std.specs.Prelude.{◌≡◌, MatchOption, Option};
 ghost use Rattle.std.specs.declared.option.Option.TheVariants.{None, Some};
-ghost use Rattle.single_node.specs.Nodes.{SingleNodeValue};
+ghost use Rattle.scrub.specs.Guarded.{GuardedValue};
 
 use loose::Loose;
-use single_node::SingleNode;
+use scrub::GuardedNode;
 use std::alloc::Global;
 use std::marker::Model;
 use std::ptr::null_mut;
@@ -20,13 +20,13 @@ const LIVE: u32 = 0x3A9;
 pub struct Handle {
     inside: *mut u8,
     live: u32,
-    pub ghost kept: { Option SingleNodeValue },
+    pub ghost kept: { Option GuardedValue },
 }
 
 impl Model for Handle {
     ghost use Rattle.loose.specs.Held.{held};
     ghost use Rattle.single_node_c.specs.Held.{mark};
-    ghost use Rattle.single_node.specs.contracts.node.SingleNode.{the_row};
+    ghost use Rattle.scrub.specs.contracts.guarded.GuardedNode.{the_row};
 
     ghost also_owns = { λ h. held mark the_row h.inside h.live h.kept };
 }
@@ -43,7 +43,7 @@ impl Handle {
     }
 
     /// The handle of a block.
-    fn of_loose(loose: Loose<SingleNode, Global>) -> Handle
+    fn of_loose(loose: Loose<GuardedNode, Global>) -> Handle
         ensures { result.kept ≡ Some loose.value }
     {
         let Loose { at, alloc: _ } = loose;
@@ -54,13 +54,13 @@ impl Handle {
     }
 
     /// The block of a handle, if it holds one.
-    fn into_loose(self, alloc: Global) -> Option<Loose<SingleNode, Global>>
+    fn into_loose(self, alloc: Global) -> Option<Loose<GuardedNode, Global>>
         ensures { MatchOption result (self.kept ≡ None) (λ loose. self.kept ≡ Some loose.value) }
     {
         let Handle { inside, live } = self;
         if live == LIVE {
             Some(Loose {
-                at: inside as *mut SingleNode,
+                at: inside as *mut GuardedNode,
                 alloc,
             })
         } else {
@@ -69,14 +69,14 @@ impl Handle {
     }
 
     /// The handle of a node.
-    pub fn of(node: Box<SingleNode>) -> Handle
+    pub fn of(node: Box<GuardedNode>) -> Handle
         ensures { result.kept ≡ Some node.value }
     {
         Handle::of_loose(Loose::of(node))
     }
 
     /// The node again, if there is one.
-    pub fn into_box(self, alloc: Global) -> Option<Box<SingleNode>>
+    pub fn into_box(self, alloc: Global) -> Option<Box<GuardedNode>>
         ensures { MatchOption result (self.kept ≡ None) (λ node. self.kept ≡ Some node.value) }
     {
         match self.into_loose(alloc) {

@@ -6,12 +6,12 @@ ghost use Rattle.single_node_c.specs.declared.codes.TheConstants.{NO_NODE, OK};
 
 use crate::codes::{NO_NODE, OK};
 use crate::handle::Handle;
-use single_node::SingleNode;
+use scrub::GuardedNode;
 use std::alloc::Global;
 use std::mem::replace;
 
 /// The node of a handle, which then holds none.
-pub fn take(alloc: Global, handle: &mut Handle) -> Option<Box<SingleNode>>
+pub fn take(alloc: Global, handle: &mut Handle) -> Option<Box<GuardedNode>>
     ensures node { MatchOption result (handle.old.kept ≡ None)
         (λ node. handle.old.kept ≡ Some node.value) }
     ensures left { handle.new.kept ≡ None }
@@ -20,7 +20,7 @@ pub fn take(alloc: Global, handle: &mut Handle) -> Option<Box<SingleNode>>
 }
 
 /// Gives a handle a node; one that it held is ended.
-pub fn put(alloc: Global, handle: &mut Handle, node: Box<SingleNode>)
+pub fn put(alloc: Global, handle: &mut Handle, node: Box<GuardedNode>)
     ensures { handle.new.kept ≡ Some node.value }
 {
     let _ended = replace(handle, Handle::of(node)).into_box(alloc);

@@ -1,7 +1,7 @@
 //! The journals of the banks.
 
-ghost use Rattle.std.specs.Prelude.{◌≡◌, ◌≢◌, ◌<◌, ◌≤◌, Err, IfErr, IfSome, MatchResult, Ok, length, slice_get};
-ghost use Rattle.single_node_c.specs.Held.{Becomes, IsCode, code_on, test_on};
+ghost use Rattle.std.specs.Prelude.{◌≡◌, ◌≢◌, ◌<◌, ◌≤◌, Err, IfErr, MatchResult, Ok, length, slice_get};
+ghost use Rattle.single_node_c.specs.Held.{Becomes, IsCode, IfNode, code_on, test_on};
 ghost use Rattle.single_node_c.specs.Journals.{TellsEntry, TellsJournal, bank_code, entry_at, entry_code, room_at, room_code, rotate_test};
 ghost use Rattle.single_node_c.specs.Numbers.{entry_numbers};
 ghost use Rattle.single_node.specs.Nodes.{RotatesTo, room_in};
@@ -49,15 +49,15 @@ pub extern "C" fn sandbar_journal_of(
     numbers: &mut JournalNumbers,
 ) -> u32
     ensures code { result ≡ code_on handle.old.kept (bank_code bank) }
-    ensures told { result ≡ OK → IfSome handle.old.kept (TellsJournal bank numbers.new) }
+    ensures told { result ≡ OK → IfNode handle.old.kept (TellsJournal bank numbers.new) }
     ensures numbers { result ≢ OK → numbers.new ≡ numbers.old }
     ensures node { handle.new.kept ≡ handle.old.kept }
 {
-    let Some(node) = take(alloc, handle) else {
+    let Some(guarded) = take(alloc, handle) else {
         return NO_NODE;
     };
-    let code = tell_journal(&node, bank, numbers);
-    put(alloc, handle, node);
+    let code = tell_journal(&guarded.node, bank, numbers);
+    put(alloc, handle, guarded);
     code
 }
 
@@ -129,16 +129,16 @@ pub extern "C" fn sandbar_entry_at(
 ) -> u32
     ensures code { result ≡ code_on handle.old.kept (entry_code bank place (length packet.old)) }
     ensures told { result ≡ OK
-        → IfSome handle.old.kept (TellsEntry bank place packet.old packet.new numbers.new) }
+        → IfNode handle.old.kept (TellsEntry bank place packet.old packet.new numbers.new) }
     ensures packet { result ≢ OK → packet.new ≡ packet.old }
     ensures numbers { result ≢ OK → numbers.new ≡ numbers.old }
     ensures node { handle.new.kept ≡ handle.old.kept }
 {
-    let Some(node) = take(alloc, handle) else {
+    let Some(guarded) = take(alloc, handle) else {
         return NO_NODE;
     };
-    let code = tell_entry(&node, bank, place, packet, numbers);
-    put(alloc, handle, node);
+    let code = tell_entry(&guarded.node, bank, place, packet, numbers);
+    put(alloc, handle, guarded);
     code
 }
 
@@ -176,10 +176,10 @@ pub extern "C" fn sandbar_rotate(alloc: Global, handle: &mut Handle, bank: u8, r
     ensures rotated { result ≡ OK → Becomes (RotatesTo bank room) handle.old.kept handle.new.kept }
     ensures node { result ≢ OK → handle.new.kept ≡ handle.old.kept }
 {
-    let Some(mut node) = take(alloc, handle) else {
+    let Some(mut guarded) = take(alloc, handle) else {
         return NO_NODE;
     };
-    let code = rotate(alloc, &mut node, bank, room);
-    put(alloc, handle, node);
+    let code = rotate(alloc, &mut guarded.node, bank, room);
+    put(alloc, handle, guarded);
     code
 }

@@ -14,6 +14,7 @@ mod memory;
 mod numbers;
 mod opening;
 mod parts;
+mod scrubbing;
 mod serving;
 mod unfit;
 mod version;

@@ -1,12 +1,12 @@
 //! The memory of the banks, as the instrument reads and writes it beside all commands; and the CRC.
 
-ghost use Rattle.std.specs.Prelude.{◌≡◌, ◌≢◌, ◌<◌, ◌≤◌, ◌+◌, ◌^◌, ℕ, IfSome, Some, length, slice_get, true};
+ghost use Rattle.std.specs.Prelude.{◌≡◌, ◌≢◌, ◌<◌, ◌≤◌, ◌+◌, ◌^◌, ℕ, Some, length, slice_get, true};
 ghost use Rattle.bank.specs.Records.{byte_in, covers};
 ghost use Rattle.bank.specs.declared.bank.TheConstants.{MAX_SIZE};
 ghost use Rattle.rcrc.specs.Crc.{crc_of};
 ghost use Rattle.rcrc.specs.Polynomial.{IsRemainder};
 ghost use Rattle.single_node.specs.Nodes.{SetsBytes, room_in};
-ghost use Rattle.single_node_c.specs.Held.{Becomes, IsCode, code_on, test_on};
+ghost use Rattle.single_node_c.specs.Held.{Becomes, IsCode, IfNode, code_on, test_on};
 ghost use Rattle.single_node_c.specs.Journals.{room_at};
 ghost use Rattle.single_node_c.specs.Memory.{TellsBytes, peek_code, poke_test};
 ghost use Rattle.single_node_c.specs.declared.codes.TheConstants.{NO_MEMORY, OK};
@@ -82,16 +82,16 @@ pub extern "C" fn sandbar_peek(
     bytes: &mut [u8],
 ) -> u32
     ensures code { result ≡ code_on handle.old.kept (peek_code bank address (length bytes.old)) }
-    ensures told { result ≡ OK → IfSome handle.old.kept (TellsBytes bank address bytes.new) }
+    ensures told { result ≡ OK → IfNode handle.old.kept (TellsBytes bank address bytes.new) }
     ensures length { length bytes.new ≡ length bytes.old }
     ensures bytes { result ≢ OK → bytes.new ≡ bytes.old }
     ensures node { handle.new.kept ≡ handle.old.kept }
 {
-    let Some(node) = take(alloc, handle) else {
+    let Some(guarded) = take(alloc, handle) else {
         return NO_NODE;
     };
-    let code = peek(&node, bank, address, bytes);
-    put(alloc, handle, node);
+    let code = peek(&guarded.node, bank, address, bytes);
+    put(alloc, handle, guarded);
     code
 }
 
@@ -149,11 +149,11 @@ pub extern "C" fn sandbar_poke(
         → Becomes (SetsBytes bank address bytes.now room) handle.old.kept handle.new.kept }
     ensures node { result ≢ OK → handle.new.kept ≡ handle.old.kept }
 {
-    let Some(mut node) = take(alloc, handle) else {
+    let Some(mut guarded) = take(alloc, handle) else {
         return NO_NODE;
     };
-    let code = poke(alloc, &mut node, bank, address, bytes, room);
-    put(alloc, handle, node);
+    let code = poke(alloc, &mut guarded.node, bank, address, bytes, room);
+    put(alloc, handle, guarded);
     code
 }
 

@@ -72,6 +72,19 @@ pub struct JournalNumbers {
     pub loaded: u32,
 }
 
+/// What a scrub found: of programs a bit a slot, and whether the slot of the boot window was given the program that was lent; whether
+/// the sizes are others; of journals a bit a bank, and the place of the first entry that is not whole.
+#[repr(C)]
+#[derive(Clone, Copy)]
+pub struct ScrubbedNumbers {
+    pub first: u64,
+    pub mended: u8,
+    pub withdrawn: u8,
+    pub restored: u8,
+    pub sizes: u8,
+    pub journals: u8,
+}
+
 /// The kind of a packet that is no command.
 pub const DISCARDED: u8 = 0;
 

@@ -4,6 +4,7 @@ ghost use Rattle.std.specs.Prelude.{◌≡◌, ◌≢◌, ◌↔◌, IfErr, IfOk
 ghost use Rattle.std.specs.declared.option.Option.TheVariants.{None};
 ghost use Rattle.bpf.specs.Program.{image_bytes};
 ghost use Rattle.machine.specs.Sizes.{Maps};
+ghost use Rattle.scrub.specs.Guarded.{IsGuarded};
 ghost use Rattle.single_node_c.specs.Numbers.{maps_of};
 ghost use Rattle.single_node_c.specs.Opening.{AreMaps, IsAccepted, IsConfigFault, IsImageUnfit, IsMade, IsOpened, IsUnfit, IsUnopened, TellsFit, TellsOpening, is_config, unfit_of};
 ghost use Rattle.single_node_c.specs.declared.codes.TheConstants.{IS_OPEN, OK};
@@ -19,6 +20,7 @@ use bpf::{Image, ImageFault};
 use bver::{Accepted, MapSizes, Refusal, verify};
 use node_parts::{BankConfig, NodeConfig, NodeFault};
 use rmap::MAX_BANKS;
+use scrub::GuardedNode;
 use single_node::SingleNode;
 use std::alloc::Global;
 
@@ -62,7 +64,7 @@ fn image_of(alloc: Global, bytes: &[u8]) -> Result<Image, Unfit>
 }
 
 /// The program of an image, accepted for those maps.
-fn program_of(alloc: Global, image: &[u8], sizes: &MapSizes) -> Result<Accepted, Unfit>
+pub fn program_of(alloc: Global, image: &[u8], sizes: &MapSizes) -> Result<Accepted, Unfit>
     ensures { MatchResult result (IsAccepted sizes.now image.now) (IsImageUnfit sizes.now image.now) }
 {
     let image = image_of(alloc, image)?;
@@ -129,8 +131,9 @@ fn fresh(
     ports: u8,
     banks: &[BankNumbers],
     factory: Accepted,
-) -> Result<Box<SingleNode>, Unfit>
-    ensures node { IfOk result (λ node. IsOpened address ports banks.now factory node.value) }
+) -> Result<Box<GuardedNode>, Unfit>
+    ensures node { IfOk result (λ node. IsOpened address ports banks.now factory node.value.node) }
+    ensures sums { IfOk result (λ node. IsGuarded node.value.node node.value) }
     ensures fault { IfErr result (IsConfigFault (is_config ports banks.now)) }
 {
     if banks.len() > MAX_BANKS {
@@ -143,7 +146,7 @@ fn fresh(
         Err(NodeFault::Memory) => return Err(Unfit::Memory),
         Err(NodeFault::Ports | NodeFault::Banks) => return Err(Unfit::Config),
     };
-    let Ok(node) = Box::new(alloc, node) else {
+    let Ok(node) = Box::new(alloc, GuardedNode::new(node)) else {
         return Err(Unfit::Memory);
     };
     Ok(node)
@@ -157,8 +160,9 @@ fn made(
     banks: &[BankNumbers],
     maps: &[MapNumbers],
     image: &[u8],
-) -> Result<Box<SingleNode>, Unfit>
-    ensures made { IfOk result (λ node. IsMade address ports banks.now maps.now image.now node.value) }
+) -> Result<Box<GuardedNode>, Unfit>
+    ensures made { IfOk result (λ node. IsMade address ports banks.now maps.now image.now node.value.node) }
+    ensures sums { IfOk result (λ node. IsGuarded node.value.node node.value) }
     ensures fault { IfErr result (IsUnopened ports banks.now maps.now image.now) }
 {
     let factory = accepted(alloc, maps, image)?;

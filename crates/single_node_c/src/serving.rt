@@ -2,7 +2,7 @@
 
 ghost use Rattle.std.specs.Prelude.{◌≡◌, ◌≢◌, ◌<◌, ◌≤◌, IfOk, Some, length, slice_get};
 ghost use Rattle.rmap.specs.declared.reply.TheConstants.{MAX_REPLY};
-ghost use Rattle.single_node_c.specs.Held.{Becomes, IsCode, test_on};
+ghost use Rattle.single_node_c.specs.Held.{BecomesGuarded, IsCode, test_on};
 ghost use Rattle.single_node_c.specs.Numbers.{end_of};
 ghost use Rattle.single_node_c.specs.Serving.{ServesBytes, ServesPacket, room_behind, room_of, serve_test};
 ghost use Rattle.single_node_c.specs.declared.codes.TheConstants.{OK};
@@ -15,6 +15,7 @@ use crate::numbers::{ServedNumbers, end_of};
 use crate::parts::ServedParts;
 use node_parts::Served;
 use rmap::MAX_REPLY;
+use scrub::GuardedNode;
 use single_node::SingleNode;
 use spw::{End, MAX_PACKET, Packet};
 use std::alloc::{AllocError, Global};
@@ -56,42 +57,42 @@ fn room_behind(node: &SingleNode, served: Served, number: u8) -> u32
 /// Serves a packet of these bytes, and puts its reply at the front of the room for it.
 fn serve_packet(
     alloc: Global,
-    node: &mut SingleNode,
+    guarded: &mut GuardedNode,
     port: u8,
     packet: Packet,
     bytes: &[u8],
     room: &mut [u8],
 ) -> ServedNumbers
-    requires port { port < length node.old.passes }
+    requires port { port < length guarded.old.node.passes }
     requires bytes { packet.bytes ≡ bytes.now }
     requires room { MAX_REPLY ≤ length room.old }
-    ensures { ServesPacket port packet node.old node.new room.old room.new result }
+    ensures { ServesPacket port packet guarded.old guarded.new room.old room.new result }
 {
     let end = packet.end();
-    let (told, size) = node.serve_into(alloc, port, packet, room);
+    let (told, size) = guarded.serve(alloc, port, packet, room);
     let parts = ServedParts::of(told.served, bytes, end);
-    let left = room_behind(node, told.served, parts.extended);
+    let left = room_behind(&guarded.node, told.served, parts.extended);
     ServedNumbers::of(told, parts, left, size as u32)
 }
 
 /// Serves the bytes of a packet, where the node may: a code.
 fn serve(
     alloc: Global,
-    node: &mut SingleNode,
+    guarded: &mut GuardedNode,
     port: u8,
     bytes: &[u8],
     end: u8,
     room: &mut [u8],
     served: &mut ServedNumbers,
 ) -> u32
-    ensures code { IsCode (serve_test port (length bytes.now) end (length room.old) node.old) result }
+    ensures code { IsCode (serve_test port (length bytes.now) end (length room.old) guarded.old.node) result }
     ensures served { result ≡ OK
-        → ServesBytes port bytes.now end room.old room.new served.new node.old node.new }
-    ensures node { result ≢ OK → node.new ≡ node.old }
+        → ServesBytes port bytes.now end room.old room.new served.new guarded.old guarded.new }
+    ensures node { result ≢ OK → guarded.new ≡ guarded.old }
     ensures room { result ≢ OK → room.new ≡ room.old }
     ensures numbers { result ≢ OK → served.new ≡ served.old }
 {
-    if port >= node.ports() {
+    if port >= guarded.node.ports() {
         return NO_PORT;
     }
     let Some(end) = end_of(end) else {
@@ -106,7 +107,7 @@ fn serve(
     let Ok(packet) = packet_of(alloc, bytes, end) else {
         return NO_MEMORY;
     };
-    *served = serve_packet(alloc, node, port, packet, bytes, room);
+    *served = serve_packet(alloc, guarded, port, packet, bytes, room);
     OK
 }
 
@@ -124,16 +125,16 @@ pub extern "C" fn sandbar_serve(
     ensures code { IsCode (test_on handle.old.kept
         (serve_test port (length packet.now) end (length reply.old))) result }
     ensures served { result ≡ OK
-        → Becomes (ServesBytes port packet.now end reply.old reply.new served.new)
+        → BecomesGuarded (ServesBytes port packet.now end reply.old reply.new served.new)
         handle.old.kept handle.new.kept }
     ensures node { result ≢ OK → handle.new.kept ≡ handle.old.kept }
     ensures reply { result ≢ OK → reply.new ≡ reply.old }
     ensures numbers { result ≢ OK → served.new ≡ served.old }
 {
-    let Some(mut node) = take(alloc, handle) else {
+    let Some(mut guarded) = take(alloc, handle) else {
         return NO_NODE;
     };
-    let code = serve(alloc, &mut node, port, packet, end, reply, served);
-    put(alloc, handle, node);
+    let code = serve(alloc, &mut guarded, port, packet, end, reply, served);
+    put(alloc, handle, guarded);
     code
 }

@@ -1,8 +1,8 @@
 //! The words of the cells of a node.
 
-ghost use Rattle.std.specs.Prelude.{◌≡◌, ◌≢◌, IfSome, Some};
+ghost use Rattle.std.specs.Prelude.{◌≡◌, ◌≢◌, Some};
 ghost use Rattle.plain_cells.specs.Words.{word_in};
-ghost use Rattle.single_node_c.specs.Held.{code_on};
+ghost use Rattle.single_node_c.specs.Held.{IfNode, code_on};
 ghost use Rattle.single_node_c.specs.Words.{TellsWord, word_code};
 ghost use Rattle.single_node_c.specs.declared.codes.TheConstants.{OK};
 
@@ -38,14 +38,14 @@ pub extern "C" fn sandbar_word(
     word: &mut u64,
 ) -> u32
     ensures code { result ≡ code_on handle.old.kept (word_code map cell) }
-    ensures told { result ≡ OK → IfSome handle.old.kept (TellsWord map cell word.new) }
+    ensures told { result ≡ OK → IfNode handle.old.kept (TellsWord map cell word.new) }
     ensures word { result ≢ OK → word.new ≡ word.old }
     ensures node { handle.new.kept ≡ handle.old.kept }
 {
-    let Some(node) = take(alloc, handle) else {
+    let Some(guarded) = take(alloc, handle) else {
         return NO_NODE;
     };
-    let code = tell_word(&node, map, cell, word);
-    put(alloc, handle, node);
+    let code = tell_word(&guarded.node, map, cell, word);
+    put(alloc, handle, guarded);
     code
 }

@@ -4,8 +4,10 @@ use Rattle.ports.specs.Serves.{HaveServed}
 use Rattle.ports.specs.Sinks.{SentReply, SinkValue}
 use Rattle.ports.specs.declared.port.Port.{Port}
 use Rattle.ports.specs.declared.worker.Report.{Report}
+use Rattle.job_ports.specs.Ends.{PortEnd}
 use Rattle.job_ports.specs.Queues.{AreOfPorts}
-use Rattle.job_ports.proofs.Ending.{left_of_ports, left_seated, serve_each}
+use Rattle.job_ports.specs.Quotas.{QuotasAreKept}
+use Rattle.job_ports.proofs.Ending.{each_ends, left_of_ports, left_seated, serve_each}
 use Rattle.job_ports.proofs.Seating.{cells_sizes, own_quotas}
 use Rattle.job_ports.proofs.queues.serve_arrivals.Goals as goal
 
@@ -43,5 +45,7 @@ returns g c =
       starts = own.starts;
       are_starts = own.are_starts;
       served = serve_each own.desk _ _ _ here c.in_ok-sinks.ensures.all c.in_ok-sinks.ensures.sinks;
-      quotas = own_quotas own c.quotas_hold_in_threads.ensures _ _ _ here c.in_ok-sinks.ensures.back c.tell_tickets.ensures.numbered;
+      quotas = subst (λ (ends : List PortEnd). QuotasAreKept c.args.own.now.sizes ends)
+          (sym (each_ends own.desk _ _ _ here c.in_ok-sinks.ensures.all c.in_ok-sinks.ensures.sinks))
+          (own_quotas own c.quotas_hold_in_threads.ensures _ _ _ here c.in_ok-sinks.ensures.back c.tell_tickets.ensures.numbered);
     }

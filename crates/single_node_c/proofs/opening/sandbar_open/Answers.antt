@@ -3,7 +3,7 @@ use Rattle.single_node_c.specs.Opening.{opened, unopened}
 use Rattle.single_node_c.proofs.opening.sandbar_open.Goals as goal
 
 pub returns-in-Ok-clause-told : goal.returns-in-Ok-clause-told
-returns-in-Ok-clause-told c = λ _. opened c.in-Ok.node.value c.in-Ok.ensures.made c.put-in-Ok.ensures refl c.no_why.ensures
+returns-in-Ok-clause-told c = λ _. opened c.in-Ok.node.value c.in-Ok.ensures.made c.in-Ok.ensures.sums c.put-in-Ok.ensures refl c.no_why.ensures
 
 pub returns-in-Err-clause-told : goal.returns-in-Err-clause-told
 returns-in-Err-clause-told c = λ _.

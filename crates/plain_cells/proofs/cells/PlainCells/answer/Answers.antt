@@ -1,15 +1,28 @@
-use Rattle.std.proofs.Common.{◌≡◌, ◌∙◌, ap, subst, sym}
+use Rattle.std.proofs.Common.{◌≡◌, ◌∙◌, subst, sym}
 use Rattle.plain_cells.specs.Cells.{CellsValue}
-use Rattle.plain_cells.specs.Words.{IsOfCell, told_by_words, told_of_word, with_word, word_behind, words_behind}
+use Rattle.plain_cells.specs.Pairs.{pairs_behind}
+use Rattle.plain_cells.specs.Words.{IsOfCell, words_behind}
 use Rattle.plain_cells.proofs.Calls.{called_in_order}
+use Rattle.plain_cells.proofs.Agreeing.{kept_words, pair_there, told_whole, words_whole}
+use Rattle.plain_cells.proofs.Zeros.{cell_there}
 use Rattle.plain_cells.proofs.cells.PlainCells.answer.Goals as goal
+
+pub ask-answer-requires : goal.ask-answer-requires
+ask-answer-requires c =
+    let q = c.args.asked in
+    let p = c.self.inside.pairs in
+    let of = subst (λ (cells : CellsValue). IsOfCell cells.sizes q) (sym c.self.view_is) c.requires in
+    let there = cell_there c.self.inside.sizes p.words q.map q.key of.inside c.self.invariant.0.cells in
+    pair_there p q.map q.key c.self.invariant.1 there.0 there.1
 
 pub invariant_of-self : goal.invariant_of-self
 invariant_of-self c =
     let q = c.args.asked in
-    let words = c.self.inside.words in
-    let word = c.word-word.ensures in
+    let p = c.self.inside.pairs in
     let of = subst (λ (cells : CellsValue). IsOfCell cells.sizes q) (sym c.self.view_is) c.requires in
-    let told : c.answered-answer.result.0 ≡ told_by_words words q = c.answered-answer.ensures.told ∙ ap (λ w. told_of_word q.helper w q.argument) word in
-    let behind : c.set.new.self ≡ words_behind words q = c.set.ensures ∙ ap (λ w. with_word words q.map q.key w) (c.answered-answer.ensures.behind ∙ ap (λ w. word_behind q.helper w q.argument) word) in
-    rw (behind, c.with-self-inside.ensures) (called_in_order c.self.inside.sizes words c.self.inside.log.calls q c.answered-answer.result.0 c.self.invariant of told)
+    let there = cell_there c.self.inside.sizes p.words q.map q.key of.inside c.self.invariant.0.cells in
+    let told = c.ask-answer.ensures.told ∙ told_whole p q c.self.invariant.1 there.0 there.1 in
+    let called = called_in_order c.self.inside.sizes p.words c.self.inside.log.calls q c.ask-answer.result c.self.invariant.0 of told in
+    let behind : (pairs_behind p q).words ≡ words_behind p.words q = words_whole p q c.self.invariant.1 there.0 there.1 in
+    let kept = kept_words p q c.self.invariant.1 there.0 there.1 in
+    rw (c.ask-answer.ensures.behind, behind, c.with-self-inside.ensures) (called, kept)

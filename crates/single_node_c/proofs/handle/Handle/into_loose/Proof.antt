@@ -31,7 +31,7 @@ use Rattle.std.proofs.raw_atomic.Walks.{proved_at, leaves}
 use Rattle.std_alloc.proofs.ResultValues.{and_tt}
 use Rattle.loose.proofs.Values.{Loose, closed, fit, heap_al, holds, parts}
 use Rattle.single_node_c.specs.contracts.handle.Handle.{the_row as R}
-use Rattle.single_node.specs.contracts.node.SingleNode.{the_row as C}
+use Rattle.scrub.specs.contracts.guarded.GuardedNode.{the_row as C}
 use Rattle.single_node_c.specs.Held.{mark}
 use Rattle.single_node_c.proofs.Values.{word, handle_out}
 use Rattle.single_node_c.specs.contracts.handle.Handle.into_loose as f

@@ -17,7 +17,7 @@ use Rattle.core.specs.declared.option.Option.TheVariants.{None}
 use Rattle.std.proofs.raw_atomic.Walks.{proved_at, leaves}
 use Rattle.loose.specs.Held.{held}
 use Rattle.single_node_c.specs.Held.{mark}
-use Rattle.single_node.specs.contracts.node.SingleNode.{the_row as C}
+use Rattle.scrub.specs.contracts.guarded.GuardedNode.{the_row as C}
 use Rattle.single_node_c.proofs.Values.{word, handle_in}
 use Rattle.single_node_c.specs.contracts.handle.Handle.none as f
 use Rattle.single_node_c.proofs.handle.Handle.none.Statement.{statement}

@@ -24,7 +24,7 @@ use Rattle.std.proofs.raw_atomic.Walks.{proved_at, leaves}
 use Rattle.loose.proofs.Values.{Loose, fit, opened, parts}
 use Rattle.loose.specs.Held.{held}
 use Rattle.single_node_c.specs.Held.{mark}
-use Rattle.single_node.specs.contracts.node.SingleNode.{the_row as C}
+use Rattle.scrub.specs.contracts.guarded.GuardedNode.{the_row as C}
 use Rattle.single_node_c.proofs.Values.{word, handle_in}
 use Rattle.single_node_c.specs.contracts.handle.Handle.of_loose as f
 use Rattle.single_node_c.proofs.handle.Handle.of_loose.Statement.{statement}

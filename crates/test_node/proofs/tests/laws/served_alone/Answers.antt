@@ -13,5 +13,5 @@ pub returns : goal.returns
 returns c =
     let came = c.loop-turn.invariant in record {
       came = came;
-      quotas = λ map key limit count few matches. c.quotas_hold_alone.ensures _ _ came.first _ came.way map key limit count came.fresh few matches;
+      quotas = λ map key limit count few matches. c.quotas_hold_alone.ensures c.args.config.now c.args.factory came.first _ came.way map key limit count came.fresh few matches;
     }

@@ -5,6 +5,7 @@ use Rattle.ports.specs.Due.{Standing}
 use Rattle.ports.specs.Worked.{standing_of}
 use Rattle.target.specs.Lines.{CountsAllOf}
 use Rattle.target.specs.Passes.{PortPass}
+use Rattle.test_ports.specs.Accounts.{IsAccounted}
 use Rattle.test_ports.proofs.Prefixes.{both_begin}
 use Rattle.test_ports.proofs.tests.accounts.accounted.Goals as goal
 
@@ -16,7 +17,7 @@ returns g c =
     let knows : IsPrefix after.front known = subst (λ (front : List _). IsPrefix front known) c.again-known.ensures c.tell.ensures.known in
     let counts : CountsAllOf after.pass known = c.knows_entries.ensures.entries in
     let own : done_for after.pass.port known ≡ after.asked = both_begin (done_for after.pass.port known) after.asked c.knows_entries.ensures.begins c.tell.ensures.told in
-    record {
+    let all : IsAccounted (standing_of c.args.worker.now) after known = record {
       packets = worked.packets;
       deeds = worked.served.deeds;
       worked = worked.served.worked;
@@ -25,4 +26,5 @@ returns g c =
       follow = c.workers_entries_follow.ensures _ _ _ _ worked.served.worked;
       entries = c.workers_entries_are_all.ensures _ _ _ _ known worked.served.worked knows counts;
       publishes = c.workers_publishes_are_all.ensures _ _ _ _ known worked.served.worked own;
-    }
+    } in
+    rw (c.knows_entries.ensures.same) all

@@ -1,0 +1,63 @@
+-- Words beside their complements, and what helpers make of such a pair: of any pair, also one that no call leaves.
+use Rattle.std.specs.Prelude.{◌<◌, ◌-◌, ◌^◌, ◌==◌, ℕ, Bool, List, [], length, map, slice_index_or, if◌then◌else◌}
+use Rattle.machine.specs.declared.calls.Question.{Question}
+use Rattle.machine.specs.declared.helpers.Helper.{Helper}
+use Rattle.plain_cells.specs.Words.{told_of_word, with_word, word_at, word_behind}
+
+-- the greatest word
+abbrev pub greatest : ℕ
+greatest = 2 ^ 64 - 1
+
+-- the complement of a word: each of its 64 bits is the other one
+abbrev pub complement : (word : ℕ) → ℕ
+complement word = 2 ^ 64 - 1 - word
+
+-- the second number of a pair is the complement of the first
+abbrev pub agree : (word kept : ℕ) → Bool
+agree word kept = kept == complement word
+
+-- what a helper tells of a cell: of a pair that does not agree the greatest word, as of a cell that is spent
+abbrev pub told_of_pair : Helper → (word kept argument : ℕ) → ℕ
+told_of_pair helper word kept argument = if agree word kept then told_of_word helper word argument else greatest
+
+-- the word behind that: of a pair that does not agree as it was
+abbrev pub word_of_pair : Helper → (word kept argument : ℕ) → ℕ
+word_of_pair helper word kept argument = if agree word kept then word_behind helper word argument else word
+
+-- and its complement
+abbrev pub kept_of_pair : Helper → (word kept argument : ℕ) → ℕ
+kept_of_pair helper word kept argument =
+    if agree word kept then complement (word_behind helper word argument) else kept
+
+-- the words of cells and what is kept beside each, by map and key
+pub record PairsValue : Type 0 where
+  pub words : List (List ℕ)
+  pub kept : List (List ℕ)
+
+-- the complements of words
+abbrev pub complements : List (List ℕ) → List (List ℕ)
+complements words = map (λ row. map complement row) words
+
+-- what the pairs tell to a question
+abbrev pub told_by_pairs : PairsValue → Question → ℕ
+told_by_pairs p q = told_of_pair q.helper (word_at p.words q.map q.key) (word_at p.kept q.map q.key) q.argument
+
+-- the pairs behind a question
+abbrev pub pairs_behind : PairsValue → Question → PairsValue
+pairs_behind p q = record {
+  words = with_word p.words q.map q.key
+      (word_of_pair q.helper (word_at p.words q.map q.key) (word_at p.kept q.map q.key) q.argument);
+  kept = with_word p.kept q.map q.key
+      (kept_of_pair q.helper (word_at p.words q.map q.key) (word_at p.kept q.map q.key) q.argument);
+}
+
+-- there is such a pair
+pub record IsPair (p : PairsValue) (map key : ℕ) : Type 0 where
+  pub word_map : map < length p.words
+  pub word_key : key < length (slice_index_or p.words map [])
+  pub kept_map : map < length p.kept
+  pub kept_key : key < length (slice_index_or p.kept map [])
+
+-- the words, each beside its complement
+abbrev pub whole_pairs : List (List ℕ) → PairsValue
+whole_pairs words = record { words = words; kept = complements words }

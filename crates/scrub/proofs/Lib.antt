@@ -1,0 +1,4 @@
+mod Seeing
+mod Four
+mod FirstBroken
+mod Serving

@@ -1,0 +1,67 @@
+-- Which packets come to a slot that is withdrawn, and what is kept after a packet.
+use Rattle.std.proofs.Common.{◌≡◌, ◌≢◌, ℕ, List, Bool, true, false, Option, None, Some, refl, sym, ap, subst, ◌∙◌}
+use Rattle.std.specs.Prelude.{slice_get}
+use Rattle.node_programs.specs.declared.publishes.Publish.{Publish}
+use Rattle.node_programs.specs.Published.{generation_at}
+use Rattle.scrub.specs.declared.kept.SlotSums.{SlotSums}
+use Rattle.scrub.specs.Guarded.{AnswersUnread, GuardedValue, IsRemade, ScrubsFirst, ScrubsSlot, ServesBy, ServesOpen}
+use Rattle.scrub.specs.declared.guarded.Health.{Health}
+use Rattle.scrub.specs.Kept.{AreFresh, FollowAt, closed_in, is_withheld}
+use Rattle.single_node.specs.declared.served.Told.{Told}
+use Rattle.spw.specs.Cargo.{Cargo}
+
+-- where no slot is withdrawn, none withholds a command
+pub none_withheld : (sums : List SlotSums) → ((slot : ℕ) → closed_in (slice_get sums slot) ≡ false) → (asked : Option ℕ) → is_withheld sums asked ≡ false
+none_withheld sums opened None = refl
+none_withheld sums opened (Some slot) = opened slot
+
+-- a slot whose program stays
+pub follow_same : (before after : List Publish) (slot old new : ℕ) (kept : SlotSums) → generation_at before slot ≡ Some old → generation_at after slot ≡ Some new → new ≡ old
+    → FollowAt before after slot (Some kept) (Some kept)
+follow_same before after slot old new kept was is same = record {
+  stay = λ e. refl;
+  fresh = λ other. absurd (other (is ∙ ap (λ (n : ℕ). Some n) same ∙ sym was));
+}
+
+-- a slot that has another program
+pub follow_other : (before after : List Publish) (slot old new : ℕ) (kept left : SlotSums) → generation_at before slot ≡ Some old → generation_at after slot ≡ Some new → new ≢ old
+    → AreFresh after slot (Some left) → FollowAt before after slot (Some kept) (Some left)
+follow_other before after slot old new kept left was is other fresh = record {
+  stay = λ e. absurd (other (cc (was, is, e)));
+  fresh = λ _. fresh;
+}
+
+-- the same of what was found at a place
+pub follow_found : (before after : List Publish) (slot : ℕ) (old : Option SlotSums) (kept left : SlotSums) → old ≡ Some kept → FollowAt before after slot (Some kept) (Some left)
+    → FollowAt before after slot old (Some left)
+follow_found before after slot old kept left found follow = subst (λ (o : Option SlotSums). FollowAt before after slot o (Some left)) (sym found) follow
+
+-- what becomes of a packet, by whether its slot is withdrawn
+pub by_withheld : (withheld : Bool) (told : Told) (size port : ℕ) (packet : Cargo) (before after : GuardedValue) (room left : List ℕ) → withheld ≡ true → AnswersUnread told size packet before after room left
+    → ServesBy withheld told size port packet before after room left
+by_withheld true told size port packet before after room left is answers = answers
+by_withheld false told size port packet before after room left is answers = absurd (cc is)
+
+pub by_open : (withheld : Bool) (told : Told) (size port : ℕ) (packet : Cargo) (before after : GuardedValue) (room left : List ℕ) → withheld ≡ false → ServesOpen told size port packet before after room left
+    → ServesBy withheld told size port packet before after room left
+by_open true told size port packet before after room left is serves = absurd (cc is)
+by_open false told size port packet before after room left is serves = serves
+
+-- a program that is made again changes no port
+pub remade_ports : (slot : ℕ) (kept : SlotSums) (before after : GuardedValue) → IsRemade slot kept before after → after.node.passes ≡ before.node.passes
+remade_ports slot kept before after is = ap (λ (g : GuardedValue). g.node.passes) is.after_is
+
+-- which slot is scrubbed first
+pub first_not : (due : Bool) (slot : Option ℕ) (before after : GuardedValue) → due ≡ false → after ≡ before → ScrubsFirst due slot before after
+first_not true slot before after is same = absurd (cc is)
+first_not false slot before after is same = same
+
+pub first_none : (due : Bool) (slot : Option ℕ) (before after : GuardedValue) → due ≡ true → slot ≡ None → after ≡ before → ScrubsFirst due slot before after
+first_none false slot before after is none same = absurd (cc is)
+first_none true None before after is none same = same
+first_none true (Some s) before after is none same = absurd (cc none)
+
+pub first_some : (due : Bool) (slot : Option ℕ) (s : ℕ) (health : Health) (before after : GuardedValue) → due ≡ true → slot ≡ Some s → ScrubsSlot health s before after → ScrubsFirst due slot before after
+first_some false slot s health before after is some scrubs = absurd (cc is)
+first_some true slot s health before after is some scrubs =
+    subst (λ (o : Option ℕ). ScrubsFirst true o before after) (sym some) (health, scrubs)

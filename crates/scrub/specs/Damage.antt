@@ -1,0 +1,95 @@
+-- Which entries of a node's journals are not whole, and the sum of its sizes.
+use Rattle.std.specs.Prelude.{◌+◌, ℕ, Bool, false, true, List, [], ◌∷◌, length, Option, None, Some, slice_get}
+use Rattle.std.specs.Option.{option_map}
+use Rattle.bank.specs.Records.{BankValue, EntryValue, is_whole}
+use Rattle.machine.specs.Sizes.{Maps}
+use Rattle.node_programs.specs.Published.{sizes_of}
+use Rattle.scrub.specs.declared.damage.Broken.{Broken}
+use Rattle.single_node.specs.Nodes.{SingleNodeValue}
+use Rattle.sums.specs.Sums.{after_word}
+
+-- ---- journals
+
+-- the first place of an entry that is not whole: of one that may be, and of those behind it
+abbrev pub place_with : (whole : Bool) → (behind : Option ℕ) → Option ℕ
+place_with false behind = Some 0
+place_with true behind = option_map (λ place. place + 1) behind
+
+-- the place of the first entry of a list that is not whole, if one is not
+abbrev pub broken_place : List EntryValue → Option ℕ
+broken_place [] = None
+broken_place (e ∷ es) = place_with (is_whole e) (broken_place es)
+
+-- the same of the journal of a bank, if there is that bank
+abbrev pub broken_in : Option BankValue → Option ℕ
+broken_in None = None
+broken_in (Some b) = broken_place b.journal.entries
+
+-- the bit of a bank if it has such a place, else 0
+abbrev pub broken_bit : (place : Option ℕ) → (bit : ℕ) → ℕ
+broken_bit None bit = 0
+broken_bit (Some place) bit = bit
+
+-- the first place, if there is one, else the next
+abbrev pub first_of : (first next : Option ℕ) → Option ℕ
+first_of None next = next
+first_of (Some place) next = Some place
+
+-- no entry that is not whole
+abbrev pub no_broken : Broken
+no_broken = record { banks = 0; first = None }
+
+-- what is told with one more bank, of that bit
+abbrev pub with_bank : Broken → Option BankValue → (bit : ℕ) → Broken
+with_bank told bank bit = record {
+  banks = told.banks + broken_bit (broken_in bank) bit;
+  first = first_of told.first (broken_in bank);
+}
+
+-- what is told of the first four banks
+abbrev pub broken_low : List BankValue → Broken
+broken_low banks =
+    with_bank (with_bank (with_bank (with_bank no_broken
+    (slice_get banks 0) 1) (slice_get banks 1) 2) (slice_get banks 2) 4) (slice_get banks 3) 8
+
+-- what is told of the banks, of which there are at most eight: a bit for each that has an entry that is not whole, and the
+-- place of the first one of the first such bank
+abbrev pub broken_of : List BankValue → Broken
+broken_of banks =
+    with_bank (with_bank (with_bank (with_bank (broken_low banks)
+    (slice_get banks 4) 16) (slice_get banks 5) 32) (slice_get banks 6) 64) (slice_get banks 7) 128
+
+-- ---- sizes
+
+-- the sum after where a bank lies, if there is that bank
+abbrev pub after_range : (sum : ℕ) → Option BankValue → ℕ
+after_range sum None = sum
+after_range sum (Some b) = after_word (after_word sum b.first) (length b.bytes)
+
+-- the sum after where the banks lie, of which there are at most eight
+abbrev pub after_ranges : (sum : ℕ) → List BankValue → ℕ
+after_ranges sum banks =
+    after_range (after_range (after_range (after_range
+    (after_range (after_range (after_range (after_range sum
+    (slice_get banks 0)) (slice_get banks 1)) (slice_get banks 2)) (slice_get banks 3))
+    (slice_get banks 4)) (slice_get banks 5)) (slice_get banks 6)) (slice_get banks 7)
+
+-- the sum after the cells of a map, if there is that map
+abbrev pub after_cells : (sum : ℕ) → Option ℕ → ℕ
+after_cells sum None = sum
+after_cells sum (Some cells) = after_word sum cells
+
+-- the sum after the cells of the maps, of which there are at most eight
+abbrev pub after_maps : (sum : ℕ) → Maps → ℕ
+after_maps sum sizes =
+    after_cells (after_cells (after_cells (after_cells
+    (after_cells (after_cells (after_cells (after_cells sum
+    (slice_get sizes.cells 0)) (slice_get sizes.cells 1)) (slice_get sizes.cells 2)) (slice_get sizes.cells 3))
+    (slice_get sizes.cells 4)) (slice_get sizes.cells 5)) (slice_get sizes.cells 6)) (slice_get sizes.cells 7)
+
+-- the sum of what a node's sizes are from its opening on: how many ports and banks it has, where the banks lie, and how
+-- many cells its maps have
+abbrev pub sizes_sum : SingleNodeValue → ℕ
+sizes_sum node =
+    after_maps (after_ranges (after_word (after_word 0 (length node.passes)) (length node.banks)) node.banks)
+    (sizes_of node.programs)

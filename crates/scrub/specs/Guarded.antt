@@ -1,0 +1,188 @@
+-- A node whose programs are scrubbed.
+use Rattle.std.specs.Prelude.{◌≡◌, ◌<◌, ◌⊎◌, ◌==◌, ◌-◌, ℕ, nat_le, Bool, false, true, List, [], length, Option, None, Some, slice_get, slice_set, if◌then◌else◌}
+use Rattle.bver.specs.Justified.{AcceptedValue}
+use Rattle.node_parts.specs.declared.served.Served.TheVariants.{Unread}
+use Rattle.node_programs.specs.Published.{program_at}
+use Rattle.rmap.specs.Command.{command_of}
+use Rattle.rmap.specs.Reply.{reply_of}
+use Rattle.rmap.specs.declared.status.Status.TheVariants.{GeneralError}
+use Rattle.single_node.specs.Nodes.{SingleNodeValue, slot_in, with_program}
+use Rattle.single_node.specs.Serving.{ServesInto, put_front}
+use Rattle.single_node.specs.declared.served.Told.{Told}
+use Rattle.spw.specs.Cargo.{Cargo}
+use Rattle.scrub.specs.declared.guarded.GuardedNode.{GuardedNode}
+use Rattle.scrub.specs.declared.guarded.Health.{Health}
+use Rattle.scrub.specs.declared.guarded.Health.TheVariants.{Whole, Mended, Withdrawn}
+use Rattle.scrub.specs.declared.guarded.Scrubbed.{Scrubbed}
+use Rattle.scrub.specs.declared.kept.SlotSums.{SlotSums}
+use Rattle.scrub.specs.Damage.{sizes_sum}
+use Rattle.scrub.specs.Kept.{AreFresh, Follow, fresh_sums, has_sum, is_open, is_withheld, withdrawn_sums}
+use Rattle.scrub.specs.Sums.{IsSummed}
+
+-- a node whose programs are scrubbed
+abbrev pub GuardedValue : Type 0
+GuardedValue = GuardedNode
+
+-- the node with that kept of a slot
+abbrev pub with_sums : GuardedValue → (slot : ℕ) → SlotSums → GuardedValue
+with_sums g slot s = record g { sums = slice_set g.sums slot s }
+
+-- the node with one publish more, of a program that has that sum
+abbrev pub with_made : GuardedValue → (slot : ℕ) → AcceptedValue → (sum : ℕ) → GuardedValue
+with_made g slot program sum = record g {
+  node = with_program g.node slot program;
+  sums = slice_set g.sums slot (fresh_sums sum);
+}
+
+-- ---- a scrub
+
+-- the operations of the program that judges at the slot have that sum
+pub record HasSumAt (g : GuardedValue) (slot sum : ℕ) : Type 0 where
+  pub program : AcceptedValue
+  pub shown : program_at g.node.programs slot ≡ Some program
+  pub summed : IsSummed program sum
+
+-- the slot may judge, and its program's sum is none of those that are kept
+pub record IsDamaged (g : GuardedValue) (slot : ℕ) (kept : SlotSums) : Type 0 where
+  pub sum : ℕ
+  pub has : HasSumAt g slot sum
+  pub open_is : is_open kept ≡ true
+  pub differs : has_sum kept sum ≡ false
+
+-- the program of the same image, for the same maps, and its sum is one of those that are kept
+pub record IsMadeAgain (program : AcceptedValue) (kept : SlotSums) (made : AcceptedValue) (sum : ℕ) : Type 0 where
+  pub same : made.program ≡ program.program
+  pub sizes : made.sizes ≡ program.sizes
+  pub summed : IsSummed made sum
+  pub agrees : has_sum kept sum ≡ true
+
+-- the program is as it was published: nothing changed, but that both sums are now its own
+pub record StaysWhole (slot : ℕ) (before after : GuardedValue) : Type 0 where
+  pub kept : SlotSums
+  pub at : slice_get before.sums slot ≡ Some kept
+  pub open_is : is_open kept ≡ true
+  pub sum : ℕ
+  pub has : HasSumAt before slot sum
+  pub agrees : has_sum kept sum ≡ true
+  pub after_is : after ≡ with_sums before slot (fresh_sums sum)
+
+-- a program that was made again of the image of the slot's program is published for the slot
+pub record IsRemade (slot : ℕ) (kept : SlotSums) (before after : GuardedValue) : Type 0 where
+  pub program : AcceptedValue
+  pub shown : program_at before.node.programs slot ≡ Some program
+  pub made : AcceptedValue
+  pub sum : ℕ
+  pub again : IsMadeAgain program kept made sum
+  pub after_is : after ≡ with_made before slot made sum
+
+-- the program was damaged, and was made again
+pub record IsMended (slot : ℕ) (before after : GuardedValue) : Type 0 where
+  pub kept : SlotSums
+  pub at : slice_get before.sums slot ≡ Some kept
+  pub damaged : IsDamaged before slot kept
+  pub remade : IsRemade slot kept before after
+
+-- the slot was withdrawn before, or its program was damaged; it is withdrawn, and nothing else changed
+pub record IsWithdrawn (slot : ℕ) (before after : GuardedValue) : Type 0 where
+  pub kept : SlotSums
+  pub at : slice_get before.sums slot ≡ Some kept
+  pub reason : (is_open kept ≡ false) ⊎ IsDamaged before slot kept
+  pub after_is : after ≡ with_sums before slot (withdrawn_sums kept)
+
+-- what a scrub of a slot does
+abbrev pub ScrubsSlot : Health → (slot : ℕ) → (before after : GuardedValue) → Type 0
+ScrubsSlot Whole slot before after = StaysWhole slot before after
+ScrubsSlot Mended slot before after = IsMended slot before after
+ScrubsSlot Withdrawn slot before after = IsWithdrawn slot before after
+
+-- a scrub of the four slots, one after the other
+pub record Scrubs (told : Scrubbed) (before after : GuardedValue) : Type 0 where
+  pub one : GuardedValue
+  pub two : GuardedValue
+  pub three : GuardedValue
+  pub reads : ScrubsSlot told.reads 0 before one
+  pub writes : ScrubsSlot told.writes 1 one two
+  pub rmws : ScrubsSlot told.rmws 2 two three
+  pub window : ScrubsSlot told.window 3 three after
+
+-- ---- publishes
+
+-- the node, with the sums of its programs, each of which may judge, and of its sizes
+pub record IsGuarded (node : SingleNodeValue) (g : GuardedValue) : Type 0 where
+  pub node_is : g.node ≡ node
+  pub fresh : (slot : ℕ) → slot < 4 → AreFresh node.programs slot (slice_get g.sums slot)
+  pub sizes_are : g.sizes ≡ sizes_sum node
+
+-- the program was published for the slot, which may judge, and its sum is kept
+pub record IsInstalled (slot : ℕ) (program : AcceptedValue) (before after : GuardedValue) : Type 0 where
+  pub sum : ℕ
+  pub summed : IsSummed program sum
+  pub after_is : after ≡ with_made before slot program sum
+
+-- ---- packets
+
+-- what is told of a command that no program judges
+abbrev pub unread : Told
+unread = record { served = Unread; generation = 0; verdict = 0 }
+
+-- the command of the packet is for a slot that is withdrawn: it is answered by a general error, and nothing changed
+pub record AnswersUnread (told : Told) (size : ℕ) (packet : Cargo) (before after : GuardedValue) (room left : List ℕ) :
+    Type 0 where
+  pub told_is : told ≡ unread
+  pub left_is : left ≡ put_front room (reply_of (command_of packet) GeneralError [])
+  pub size_is : size ≡ length (reply_of (command_of packet) GeneralError [])
+  pub after_is : after ≡ before
+
+-- the packet is served as the node serves it, and the sums follow what was published
+pub record ServesOpen (told : Told) (size port : ℕ) (packet : Cargo) (before after : GuardedValue) (room left : List ℕ) :
+    Type 0 where
+  pub serves : ServesInto told size port packet before.node after.node room left
+  pub follow : Follow before.node.programs after.node.programs before.sums after.sums
+  pub each_is : after.each ≡ before.each
+  pub left_over : after.left ≡ before.left
+  pub sizes_are : after.sizes ≡ before.sizes
+
+-- by whether the slot of its command is withdrawn
+abbrev pub ServesBy : (withheld : Bool) → (told : Told) → (size port : ℕ) → Cargo → (before after : GuardedValue)
+    → (room left : List ℕ) → Type 0
+ServesBy true told size port packet before after room left = AnswersUnread told size packet before after room left
+ServesBy false told size port packet before after room left = ServesOpen told size port packet before after room left
+
+-- what becomes of a packet at a port
+abbrev pub ServesGuarded : (told : Told) → (size port : ℕ) → Cargo → (before after : GuardedValue)
+    → (room left : List ℕ) → Type 0
+ServesGuarded told size port packet before after room left =
+    ServesBy (is_withheld before.sums (slot_in (slice_get before.node.passes port) packet)) told size port packet before
+    after room left
+
+-- ---- a scrub before each packet of a number
+
+-- a scrub is due before this packet: it is the last of so many, if they are counted
+abbrev pub is_due : (each left : ℕ) → Bool
+is_due each left = if each == 0 then false else nat_le left 1
+
+-- how many packets are left, with this one
+abbrev pub after_packet : (each left : ℕ) → ℕ
+after_packet each left = if each == 0 then left else if nat_le left 1 then each else left - 1
+
+-- the node that counted a packet
+abbrev pub counted : GuardedValue → GuardedValue
+counted g = record g { left = after_packet g.each g.left }
+
+-- the node that scrubs before each packet of so many
+abbrev pub scrubbing_each : GuardedValue → (each : ℕ) → GuardedValue
+scrubbing_each g each = record g { each = each; left = each }
+
+-- if a scrub is due and a program judges the packet, the slot of that program is scrubbed
+abbrev pub ScrubsFirst : (due : Bool) → (slot : Option ℕ) → (before after : GuardedValue) → Type 0
+ScrubsFirst false slot before after = after ≡ before
+ScrubsFirst true None before after = after ≡ before
+ScrubsFirst true (Some slot) before after = (health : Health) × ScrubsSlot health slot before after
+
+-- what becomes of a packet at a port, after a scrub if one is due
+pub record ServesScrubbed (told : Told) (size port : ℕ) (packet : Cargo) (before after : GuardedValue)
+    (room left : List ℕ) : Type 0 where
+  pub between : GuardedValue
+  pub scrubs : ScrubsFirst (is_due before.each before.left)
+      (slot_in (slice_get before.node.passes port) packet) (counted before) between
+  pub serves : ServesGuarded told size port packet between after room left

@@ -1,0 +1,5 @@
+pub mod Numbers
+pub mod Sums
+pub mod Kept
+pub mod Damage
+pub mod Guarded

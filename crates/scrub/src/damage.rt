@@ -1,0 +1,166 @@
+//! Damage that is found and not mended: entries of journals that are not whole, and sizes that are others than they were.
+
+ghost use Rattle.std.specs.Prelude.{◌≡◌, ◌<◌, ◌≤◌, ◌*◌, slice_get};
+ghost use Rattle.scrub.specs.Damage.{after_cells, after_maps, after_range, after_ranges, broken_bit, broken_in, broken_low, broken_of, broken_place, first_of, no_broken, sizes_sum, with_bank};
+
+use bank::Entry;
+use machine::MapSizes;
+use single_node::SingleNode;
+use sums::after_word;
+
+/// Which entries of a node's journals are not whole (`Entry::is_whole` of `bank`).
+#[derive(Clone, Copy, Debug, PartialEq, Eq)]
+pub struct Broken {
+    /// A bit for each bank that has one: 1 for bank 0, then 2, 4 and so on.
+    pub banks: u8,
+    /// The place of the first one of the first such bank, 0 for the oldest entry.
+    pub first: Option<usize>,
+}
+
+/// The place of the first entry that is not whole, if one is not.
+#[tactic(auto, using(crate::proofs::FirstBroken::none_broken))]
+fn broken_place(entries: &[Entry]) -> Option<usize>
+    ensures { result ≡ broken_place entries.now }
+{
+    for place in 0..entries.len() {
+        if !entries[place].is_whole() {
+            return Some(place);
+        }
+    }
+    None
+}
+
+/// The same of the journal of a bank, if there is that bank.
+fn broken_in(node: &SingleNode, bank: u8) -> Option<usize>
+    ensures { result ≡ broken_in (slice_get node.now.banks bank) }
+{
+    if bank >= node.banks() {
+        return None;
+    }
+    broken_place(node.bank(bank).entries())
+}
+
+/// No entry that is not whole.
+fn no_broken() -> Broken
+    ensures { result ≡ no_broken }
+{
+    Broken {
+        banks: 0,
+        first: None,
+    }
+}
+
+/// The first place, if there is one, else the next.
+fn first_of(first: Option<usize>, next: Option<usize>) -> Option<usize>
+    ensures { result ≡ first_of first next }
+{
+    match first {
+        Some(place) => Some(place),
+        None => next,
+    }
+}
+
+/// The bit of a bank if it has such a place, else 0.
+fn broken_bit(place: Option<usize>, bit: u8) -> u8
+    ensures value { result ≡ broken_bit place bit }
+    ensures few { result ≤ bit }
+{
+    match place {
+        Some(_place) => bit,
+        None => 0,
+    }
+}
+
+/// What is told with one more bank. The conditions are a bit, and that those of the banks before are below it.
+fn with_bank(told: Broken, node: &SingleNode, bank: u8, bit: u8) -> Broken
+    requires bit { bit ≤ 128 }
+    requires below { told.banks < bit }
+    ensures told { result ≡ with_bank told (slice_get node.now.banks bank) bit }
+    ensures below { result.banks < 2 * bit }
+{
+    let place = broken_in(node, bank);
+    Broken {
+        banks: told.banks + broken_bit(place, bit),
+        first: first_of(told.first, place),
+    }
+}
+
+/// What is told of the first four banks.
+fn broken_low(node: &SingleNode) -> Broken
+    ensures told { result ≡ broken_low node.now.banks }
+    ensures below { result.banks < 16 }
+{
+    let one = with_bank(no_broken(), node, 0, 1);
+    let two = with_bank(one, node, 1, 2);
+    let three = with_bank(two, node, 2, 4);
+    with_bank(three, node, 3, 8)
+}
+
+/// Which entries of a node's journals are not whole.
+pub(crate) fn broken_of(node: &SingleNode) -> Broken
+    ensures { result ≡ broken_of node.now.banks }
+{
+    let five = with_bank(broken_low(node), node, 4, 16);
+    let six = with_bank(five, node, 5, 32);
+    let seven = with_bank(six, node, 6, 64);
+    with_bank(seven, node, 7, 128)
+}
+
+/// The sum after where a bank lies, if there is that bank.
+fn after_range(sum: u64, node: &SingleNode, bank: u8) -> u64
+    ensures { result ≡ after_range sum (slice_get node.now.banks bank) }
+{
+    if bank >= node.banks() {
+        return sum;
+    }
+    let (first, size) = node.bank(bank).range();
+    after_word(after_word(sum, u64::from(first)), u64::from(size))
+}
+
+/// The sum after where the banks lie.
+fn after_ranges(sum: u64, node: &SingleNode) -> u64
+    ensures { result ≡ after_ranges sum node.now.banks }
+{
+    let one = after_range(sum, node, 0);
+    let two = after_range(one, node, 1);
+    let three = after_range(two, node, 2);
+    let four = after_range(three, node, 3);
+    let five = after_range(four, node, 4);
+    let six = after_range(five, node, 5);
+    let seven = after_range(six, node, 6);
+    after_range(seven, node, 7)
+}
+
+/// The sum after the cells of a map, if there is that map.
+fn after_cells(sum: u64, sizes: &MapSizes, map: u8) -> u64
+    ensures { result ≡ after_cells sum (slice_get sizes.now.cells map) }
+{
+    match sizes.cells(map) {
+        Some(cells) => after_word(sum, u64::from(cells)),
+        None => sum,
+    }
+}
+
+/// The sum after the cells of the maps.
+fn after_maps(sum: u64, sizes: &MapSizes) -> u64
+    ensures { result ≡ after_maps sum sizes.now }
+{
+    let one = after_cells(sum, sizes, 0);
+    let two = after_cells(one, sizes, 1);
+    let three = after_cells(two, sizes, 2);
+    let four = after_cells(three, sizes, 3);
+    let five = after_cells(four, sizes, 4);
+    let six = after_cells(five, sizes, 5);
+    let seven = after_cells(six, sizes, 6);
+    after_cells(seven, sizes, 7)
+}
+
+/// The sum of what a node's sizes are from its opening on: how many ports and banks it has, where the banks lie, and how many
+/// cells its maps have.
+pub(crate) fn sizes_sum(node: &SingleNode) -> u64
+    ensures { result ≡ sizes_sum node.now }
+{
+    let ports = after_word(0, u64::from(node.ports()));
+    let banks = after_word(ports, u64::from(node.banks()));
+    after_maps(after_ranges(banks, node), &node.sizes())
+}

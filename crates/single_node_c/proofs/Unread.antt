@@ -1,0 +1,52 @@
+-- What became of a packet says whether it is a command.
+use Rattle.std.proofs.Common.{◌≡◌, ℕ, List, Bool, true, false, Option, None, Some, refl, sym, ap, ◌∙◌}
+use Rattle.std.specs.Prelude.{slice_get}
+use Rattle.node_parts.specs.declared.served.Served.{Served}
+use Rattle.node_parts.specs.declared.served.Served.TheVariants.{Stopped, Unread, Done, Window}
+use Rattle.node_parts.specs.declared.stop.Stop.TheVariants.{Discarded, Answered}
+use Rattle.node_parts.specs.Passes.{PassValue}
+use Rattle.node_parts.specs.Served.{IsAnswered, PartsValue}
+use Rattle.rmap.specs.Command.{CommandValue, command_of, discard_of}
+use Rattle.rmap.specs.Windows.{WindowsValue}
+use Rattle.rmap.specs.declared.discard.Discard.{Discard}
+use Rattle.scrub.specs.Guarded.{GuardedValue, ServesBy, ServesScrubbed}
+use Rattle.scrub.specs.declared.kept.SlotSums.{SlotSums}
+use Rattle.scrub.specs.Kept.{is_withheld}
+use Rattle.single_node.specs.Nodes.{slot_in, slot_unless}
+use Rattle.single_node.specs.declared.served.Told.{Told}
+use Rattle.single_node_c.specs.Parts.{discard_in}
+use Rattle.spw.specs.Cargo.{Cargo}
+
+of_answered : (served : Served) (p : Cargo) (old new : PartsValue) (h after : PassValue) (reply : List ℕ) → IsAnswered served p old new h after reply
+    → discard_of p.bytes ≡ discard_in served
+of_answered (Stopped (Discarded d)) p old new h after reply is = is.0.0
+of_answered (Stopped (Answered status)) p old new h after reply is = is.0.0.command
+of_answered Unread p old new h after reply is = is.0.allowed.command
+of_answered (Done result) p old new h after reply is = is.judgement.judged_for.placed.command
+of_answered (Window status) p old new h after reply is = is.judgement.judged_for.placed.command
+
+-- a packet that a program would judge is a command
+asked_unless : (discard : Option Discard) (w : WindowsValue) (c : CommandValue) (slot : ℕ) → slot_unless discard w c ≡ Some slot → discard ≡ None
+asked_unless None w c slot is = refl
+asked_unless (Some d) w c slot is = absurd (cc is)
+
+asked_in : (o : Option PassValue) (p : Cargo) (slot : ℕ) → slot_in o p ≡ Some slot → discard_of p.bytes ≡ None
+asked_in None p slot is = absurd (cc is)
+asked_in (Some h) p slot is = asked_unless (discard_of p.bytes) h.windows (command_of p) slot is
+
+withheld_asked : (sums : List SlotSums) (asked : Option ℕ) (o : Option PassValue) (p : Cargo) → slot_in o p ≡ asked → is_withheld sums asked ≡ true → discard_of p.bytes ≡ None
+withheld_asked sums None o p is withheld = absurd (cc withheld)
+withheld_asked sums (Some slot) o p is withheld = asked_in o p slot is
+
+of_served : (withheld : Bool) (told : Told) (size port : ℕ) (p : Cargo) (before after : GuardedValue) (room left : List ℕ) (o : Option PassValue)
+    → is_withheld before.sums (slot_in o p) ≡ withheld → ServesBy withheld told size port p before after room left → discard_of p.bytes ≡ discard_in told.served
+of_served true told size port p before after room left o is serves =
+    withheld_asked before.sums (slot_in o p) o p refl is ∙ ap (λ (t : Told). discard_in t.served) (sym serves.told_is)
+of_served false told size port p before after room left o is serves =
+    let it = serves.serves.serves.serves in
+    of_answered told.served p _ _ it.holder it.left serves.serves.reply it.answered
+
+pub discards : (told : Told) (size port : ℕ) (p : Cargo) (before after : GuardedValue) (room left : List ℕ) → ServesScrubbed told size port p before after room left
+    → discard_of p.bytes ≡ discard_in told.served
+discards told size port p before after room left s =
+    of_served (is_withheld s.between.sums (slot_in (slice_get s.between.node.passes port) p)) told size port p s.between after room left (slice_get s.between.node.passes port) refl s.serves

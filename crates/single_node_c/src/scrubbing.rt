@@ -1,0 +1,240 @@
+//! Scrubbing of a node.
+
+ghost use Rattle.std.specs.Prelude.{◌≡◌, ◌≢◌, ◌≤◌};
+ghost use Rattle.scrub.specs.Guarded.{scrubbing_each};
+ghost use Rattle.single_node_c.specs.Held.{BecomesGuarded, code_on};
+ghost use Rattle.single_node_c.specs.Scrubbing.{Restores, RestoresIf, ScrubsAll, ScrubsIf, ScrubsPart, asks, broken_if, mended_bit, mended_bits, part_code, place_number, sizes_if, withdrawn_bit, withdrawn_bits};
+ghost use Rattle.single_node_c.specs.declared.codes.TheConstants.{OK};
+
+use crate::codes::{NO_NODE, NO_PART, OK};
+use crate::handle::Handle;
+use crate::held::{put, take};
+use crate::numbers::ScrubbedNumbers;
+use crate::opening::program_of;
+use scrub::{Broken, GuardedNode, Health, Scrubbed};
+use std::alloc::Global;
+
+/// The slot of the program that judges commands to the boot window.
+const WINDOW: u8 = 3;
+
+/// The programs of the slots.
+pub const PROGRAMS: u8 = 0;
+
+/// How many ports and banks there are, where the banks lie, and how many cells the maps have.
+pub const SIZES: u8 = 1;
+
+/// The entries of the journals.
+pub const JOURNALS: u8 = 2;
+
+/// All of these.
+pub const ALL: u8 = 3;
+
+/// The code of a scrub of that part.
+fn part_code(what: u8) -> u32
+    ensures { result ≡ part_code what }
+{
+    if what <= ALL { OK } else { NO_PART }
+}
+
+/// The bit of a slot whose program was mended, else 0.
+fn mended_bit(health: Health, bit: u8) -> u8
+    ensures value { result ≡ mended_bit health bit }
+    ensures few { result ≤ bit }
+{
+    match health {
+        Health::Mended => bit,
+        Health::Whole | Health::Withdrawn => 0,
+    }
+}
+
+/// The bit of a slot that is withdrawn, else 0.
+fn withdrawn_bit(health: Health, bit: u8) -> u8
+    ensures value { result ≡ withdrawn_bit health bit }
+    ensures few { result ≤ bit }
+{
+    match health {
+        Health::Withdrawn => bit,
+        Health::Whole | Health::Mended => 0,
+    }
+}
+
+/// The bits of the slots whose programs were mended.
+fn mended_bits(told: Scrubbed) -> u8
+    ensures { result ≡ mended_bits told }
+{
+    let banks = mended_bit(told.reads, 1) + mended_bit(told.writes, 2) + mended_bit(told.rmws, 4);
+    banks + mended_bit(told.window, 8)
+}
+
+/// The bits of the slots that are withdrawn.
+fn withdrawn_bits(told: Scrubbed) -> u8
+    ensures { result ≡ withdrawn_bits told }
+{
+    let banks = withdrawn_bit(told.reads, 1)
+        + withdrawn_bit(told.writes, 2)
+        + withdrawn_bit(told.rmws, 4);
+    banks + withdrawn_bit(told.window, 8)
+}
+
+/// Publishes the program of an image for the slot of the boot window: 1 if it did, else 0.
+fn restore(alloc: Global, guarded: &mut GuardedNode, image: &[u8]) -> u8
+    ensures { Restores image.now result guarded.old guarded.new }
+{
+    let sizes = guarded.node.sizes();
+    let Ok(program) = program_of(alloc, image, &sizes) else {
+        return 0;
+    };
+    match guarded.install(alloc, WINDOW, program) {
+        Ok(_generation) => 1,
+        Err(_fault) => 0,
+    }
+}
+
+/// The same where a scrub left that slot withdrawn.
+fn restore_if(alloc: Global, guarded: &mut GuardedNode, health: Health, image: &[u8]) -> u8
+    ensures { RestoresIf health image.now result guarded.old guarded.new }
+{
+    match health {
+        Health::Withdrawn => restore(alloc, guarded, image),
+        Health::Whole | Health::Mended => 0,
+    }
+}
+
+/// Of the programs of a node what a scrub found, a bit a slot, and whether the slot of the boot window was given the program that was lent.
+#[derive(Clone, Copy)]
+pub struct Programs {
+    mended: u8,
+    withdrawn: u8,
+    restored: u8,
+}
+
+/// Scrubs the programs of a node, and publishes the program of an image for the slot of the boot window if that is withdrawn.
+fn scrub_programs(alloc: Global, guarded: &mut GuardedNode, image: &[u8]) -> Programs
+    ensures { ScrubsAll image.now result guarded.old guarded.new }
+{
+    let told = guarded.scrub(alloc);
+    let restored = restore_if(alloc, guarded, told.window, image);
+    Programs {
+        mended: mended_bits(told),
+        withdrawn: withdrawn_bits(told),
+        restored,
+    }
+}
+
+/// The same if programs are asked for.
+fn scrub_if(alloc: Global, guarded: &mut GuardedNode, asked: bool, image: &[u8]) -> Programs
+    ensures { ScrubsIf asked image.now result guarded.old guarded.new }
+{
+    if asked {
+        return scrub_programs(alloc, guarded, image);
+    }
+    Programs {
+        mended: 0,
+        withdrawn: 0,
+        restored: 0,
+    }
+}
+
+/// 1 if sizes are asked for and are others than they were, else 0.
+fn sizes_if(guarded: &GuardedNode, asked: bool) -> u8
+    ensures { result ≡ sizes_if asked guarded.now }
+{
+    if asked && !guarded.has_sizes() {
+        return 1;
+    }
+    0
+}
+
+/// Which entries are not whole, if journals are asked for.
+fn broken_if(guarded: &GuardedNode, asked: bool) -> Broken
+    ensures { result ≡ broken_if asked guarded.now }
+{
+    if asked {
+        return guarded.broken();
+    }
+    Broken {
+        banks: 0,
+        first: None,
+    }
+}
+
+/// The number of a place, or 0 where there is none.
+fn place_number(place: Option<usize>) -> u64
+    ensures { result ≡ place_number place }
+{
+    match place {
+        Some(place) => place as u64,
+        None => 0,
+    }
+}
+
+/// Whether that part is asked for.
+fn asks(what: u8, part: u8) -> bool
+    ensures { result ≡ asks what part }
+{
+    what == part || what == ALL
+}
+
+/// Scrubs a part of a node.
+fn scrub(alloc: Global, guarded: &mut GuardedNode, what: u8, image: &[u8]) -> ScrubbedNumbers
+    ensures { ScrubsPart what image.now result guarded.old guarded.new }
+{
+    let programs = scrub_if(alloc, guarded, asks(what, PROGRAMS), image);
+    let sizes = sizes_if(guarded, asks(what, SIZES));
+    let broken = broken_if(guarded, asks(what, JOURNALS));
+    ScrubbedNumbers {
+        first: place_number(broken.first),
+        mended: programs.mended,
+        withdrawn: programs.withdrawn,
+        restored: programs.restored,
+        sizes,
+        journals: broken.banks,
+    }
+}
+
+/// Compares a part of a node with what was kept of it, or all of these.
+///
+/// Of programs, the operations of that of each slot with the sums that were kept of them. A program that differs is made again of its
+/// image, or its slot is withdrawn. If the slot of the boot window is withdrawn, the program of the image that is lent is published
+/// for it, if it may judge. It asks for memory only for a program that it makes. Of sizes and of journals it tells what differs.
+#[unsafe(no_mangle)]
+pub extern "C" fn sandbar_scrub(
+    alloc: Global,
+    handle: &mut Handle,
+    what: u8,
+    image: &[u8],
+    scrubbed: &mut ScrubbedNumbers,
+) -> u32
+    ensures code { result ≡ code_on handle.old.kept (λ _. part_code what) }
+    ensures scrubbed { result ≡ OK
+        → BecomesGuarded (ScrubsPart what image.now scrubbed.new) handle.old.kept handle.new.kept }
+    ensures node { result ≢ OK → handle.new.kept ≡ handle.old.kept }
+    ensures numbers { result ≢ OK → scrubbed.new ≡ scrubbed.old }
+{
+    let Some(mut guarded) = take(alloc, handle) else {
+        return NO_NODE;
+    };
+    let code = part_code(what);
+    if code == OK {
+        *scrubbed = scrub(alloc, &mut guarded, what, image);
+    }
+    put(alloc, handle, guarded);
+    code
+}
+
+/// From now on scrubs the program that judges a packet before each packet of so many; before none where it is 0, as in a node
+/// that was opened.
+#[unsafe(no_mangle)]
+pub extern "C" fn sandbar_scrub_each(alloc: Global, handle: &mut Handle, each: u32) -> u32
+    ensures code { result ≡ code_on handle.old.kept (λ _. OK) }
+    ensures set { result ≡ OK → BecomesGuarded (λ before after. after ≡ scrubbing_each before each)
+        handle.old.kept handle.new.kept }
+    ensures node { result ≢ OK → handle.new.kept ≡ handle.old.kept }
+{
+    let Some(mut guarded) = take(alloc, handle) else {
+        return NO_NODE;
+    };
+    guarded.scrub_each(each);
+    put(alloc, handle, guarded);
+    OK
+}
