@@ -1,7 +1,7 @@
 //! What is wrong with words that order no packet.
 
 ghost use Rattle.std.specs.Prelude.{◌≡◌};
-ghost use Rattle.job_packets.specs.Slips.{bad_word, usage_fault_of, word_of};
+ghost use Rattle.job_packets.specs.Slips.{bad_word, is_flag, usage_fault_of, word_id, word_of};
 ghost use Rattle.job_packets.specs.declared.slips.PacketFault.TheVariants.{Memory};
 
 use job_parts::usage::UsageFault;
@@ -50,7 +50,9 @@ pub enum PacketWord {
 
 impl PacketWord {
     /// By which name the command line has it.
-    pub fn id(self) -> &'static str {
+    pub fn id(self) -> &'static str
+        ensures { result.now ≡ word_id self }
+    {
         match self {
             PacketWord::Kind => "kind",
             PacketWord::Address => "address",
@@ -143,7 +145,9 @@ impl PacketWord {
     }
 
     /// Whether it is a flag, which has no value.
-    pub fn is_flag(self) -> bool {
+    pub fn is_flag(self) -> bool
+        ensures { result ≡ is_flag self }
+    {
         matches!(
             self,
             PacketWord::Verify | PacketWord::NoReply | PacketWord::NoIncrement | PacketWord::Final

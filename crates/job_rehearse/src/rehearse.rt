@@ -1,17 +1,18 @@
 //! The job `rehearse`.
 
-ghost use Rattle.std.specs.Prelude.{◌≡◌, ◌≤◌, ◌++◌, ◌∷◌, [], IfErr, IfOk, OnOk, codes, false, length, option_map, None, Some, string_bytes};
+ghost use Rattle.std.specs.Prelude.{◌≡◌, ◌≤◌, ◌++◌, ◌∷◌, [], IfErr, IfOk, MatchOption, OnOk, codes, false, length, option_map, None, Some, string_bytes};
 ghost use Rattle.clap.specs.Simple.{app_of};
 ghost use Rattle.clap.specs.declared.builder.command.Command.TheViews.{out-Command as fields_of};
 ghost use Rattle.clap.specs.Walk.{first_of, rows_of};
 ghost use Rattle.clap.specs.Matches.{found_of};
+ghost use Rattle.job_parts.specs.Inputs.{AreInputs};
 ghost use Rattle.job_parts.specs.Printed.{Prints};
 ghost use Rattle.job_parts.specs.Stops.{StopsBy};
 ghost use Rattle.rmap.specs.declared.boot.TheConstants.{STAGING_SIZE};
 ghost use Rattle.job_parts.specs.declared.faults.Fault.TheVariants.{NoMemory};
 ghost use Rattle.job_rehearse.specs.RehearseJob.{GivesSlots, NamesRehearse, RefusesRehearse, RefusesSlots, rehearse_app};
 ghost use Rattle.job_rehearse.specs.Loaders.{loader_text};
-ghost use Rattle.job_rehearse.specs.Places.{sizes_at};
+ghost use Rattle.job_rehearse.specs.Places.{first_read, maps_in, second_read, sizes_at};
 ghost use Rattle.job_rehearse.specs.declared.policies.NoPolicy.TheVariants.{Ended};
 ghost use Rattle.job_rehearse.specs.Rehearsed.{AsksAny, DoesAny, DoesAt, DoesOne, IsNotRehearsed, IsStuck, IsUnasked, IsUndone, IsUndoneAt, Rehearses, RehearsesFile, TellsBad, any_end, back_line, there_line};
 
@@ -54,7 +55,10 @@ pub struct RehearseWords {
 impl RehearseWords {
     /// What the job reads: the old policy, and then the new one; before them the node's file, if there is one, and behind that
     /// the files that it names.
-    pub fn inputs(&self) -> Inputs<'_> {
+    pub fn inputs(&self) -> Inputs<'_>
+        ensures { AreInputs (Some (first_read self.now.place (string_bytes self.now.old)))
+            (second_read self.now.place (string_bytes self.now.new)) None result }
+    {
         if let PlaceWords::File(name) = &self.place {
             return Inputs::one(name.as_str(), Content::Node);
         }
@@ -66,7 +70,10 @@ impl RehearseWords {
     }
 
     /// How many cells each map of the node has, where no file says it.
-    pub fn sizes(&self) -> Option<&MapSizes> {
+    pub fn sizes(&self) -> Option<&MapSizes>
+        ensures { MatchOption result (maps_in self.now.place ≡ None)
+            (λ sizes. maps_in self.now.place ≡ Some sizes.now) }
+    {
         match &self.place {
             PlaceWords::Maps(sizes) => Some(sizes),
             PlaceWords::File(_) => None,
