@@ -3,15 +3,16 @@
 ghost use Rattle.std.specs.Prelude.{◌≡◌, ◌≢◌, ◌≤◌, [], Some, IfOk, length};
 ghost use Rattle.frames.specs.Reading.{behind_end, came_of, comes, first_reading, in_body, in_head, is_between, next, step};
 ghost use Rattle.frames.specs.declared.flags.Flag.TheVariants.{Last};
-ghost use Rattle.frames_c.specs.Numbers.{came_numbers, numbers_if, packet_in, put_front};
+ghost use Rattle.frames_c.specs.Numbers.{came_numbers, numbers_if, packet_in};
 ghost use Rattle.frames_c.specs.Taking.{take_whole, whole_in, whole_of};
+ghost use Rattle.spw.specs.Rooms.{put_front};
 ghost use Rattle.spw.specs.declared.packets.TheConstants.{MAX_PACKET};
 
 use crate::numbers::{BRIDGE, CameNumbers, PACKET, TIME};
 use crate::room::PacketRoom;
 use arrayvec::ArrayVec;
 use frames::{Flag, HEAD_LENGTH, Head};
-use spw::{End, MAX_PACKET};
+use spw::{End, MAX_PACKET, put_front};
 use std::alloc::{AllocError, Global};
 use std::marker::Model;
 
@@ -35,14 +36,6 @@ impl Model for Frames {
     ghost view = { λ r. record { head = r.head.items; flag = r.flag; left = r.left; held = r.held } };
 
     ghost invariant = { λ r. length r.head.items < HEAD_LENGTH };
-}
-
-/// Puts bytes at the front of a room, and leaves what is behind them. The condition is that there is room for them.
-fn put_front(room: &mut [u8], bytes: &[u8])
-    requires { length bytes.now ≤ length room.old }
-    ensures { room.new ≡ put_front room.old bytes.now }
-{
-    room[..bytes.len()].copy_from_slice(bytes);
 }
 
 impl Frames {

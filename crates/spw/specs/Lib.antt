@@ -3,4 +3,5 @@ pub mod Fault
 pub mod Feeding
 pub mod Line
 pub mod Paths
+pub mod Rooms
 pub mod Written

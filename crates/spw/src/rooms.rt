@@ -1,7 +1,7 @@
 //! Rooms for bytes that go out.
 
 ghost use Rattle.std.specs.Prelude.{◌≡◌, ◌≤◌, length};
-ghost use Rattle.single_node.specs.Serving.{put_front};
+ghost use Rattle.spw.specs.Rooms.{put_front};
 
 /// Puts bytes at the front of a room, and leaves what is behind them. The condition is that there is room for them.
 pub fn put_front(room: &mut [u8], bytes: &[u8])
