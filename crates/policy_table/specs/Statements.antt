@@ -1,8 +1,9 @@
 -- The lines of a table of version 2: what stands before a comment is nothing, a range that has a name, or a rule with or
 -- without a port.
-use Rattle.std.specs.Prelude.{◌≡◌, ℕ, Bool, true, false, ◌&&◌, ◌==◌, nat_lt, bytes_eq, is_none, IsSome}
+use Rattle.std.specs.Prelude.{◌≡◌, ℕ, Bool, true, false, ◌&&◌, nat_lt, bytes_eq, is_none, IsSome}
 use Rattle.std.specs.Prelude.{if◌then◌else◌, List, [], ◌∷◌, length, codes, Option, Some, None}
 use Rattle.std.specs.List.{before_first}
+use Rattle.basm_lex.specs.Lines.{is_semicolon}
 use Rattle.spw.specs.Line.{WritesPort, words_of}
 use Rattle.policy_table.specs.Fields.{IsAddress}
 use Rattle.policy_table.specs.Ranges.{RangeText, is_name, range_named}
@@ -19,10 +20,6 @@ use Rattle.policy_table.specs.declared.statements.Span.{Span}
 use Rattle.policy_table.specs.declared.words.RuleWord.{RuleWord}
 
 -- ---- words
-
--- the semicolon that begins a comment
-abbrev pub is_semicolon : ℕ → Bool
-is_semicolon c = c == 59
 
 -- the words of a line before its comment
 abbrev pub statement_words : (line : List ℕ) → List (List ℕ)
