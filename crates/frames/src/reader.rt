@@ -7,7 +7,7 @@ ghost use Rattle.frames.specs.Reading.{behind_end, came_of, first_reading, in_he
 
 use crate::came::Came;
 use crate::flags::Flag;
-use crate::heads::{HEAD_LENGTH, Head};
+use crate::heads::{HEAD_LENGTH, take_head};
 use arrayvec::ArrayVec;
 use spw::{Feed, behind_path};
 use std::alloc::{AllocError, Global};
@@ -77,14 +77,7 @@ impl FrameReader {
         requires { self.old.left ≡ 0 }
         ensures { self.new ≡ in_head self.old byte }
     {
-        self.head.push(byte);
-        if self.head.len() < HEAD_LENGTH {
-            return;
-        }
-        let head = Head::read(self.head.as_slice());
-        self.head.clear();
-        self.flag = head.flag;
-        self.left = head.length;
+        take_head(&mut self.head, &mut self.flag, &mut self.left, byte);
     }
 
     /// Takes bytes of a body, as many as are left of it, or are there, and gives how many.

@@ -11,7 +11,7 @@ ghost use Rattle.spw.specs.declared.packets.TheConstants.{MAX_PACKET};
 use crate::numbers::{BRIDGE, CameNumbers, PACKET, TIME};
 use crate::room::PacketRoom;
 use arrayvec::ArrayVec;
-use frames::{Flag, HEAD_LENGTH, Head};
+use frames::{Flag, HEAD_LENGTH, take_head};
 use spw::{End, MAX_PACKET, put_front};
 use std::alloc::{AllocError, Global};
 use std::marker::Model;
@@ -64,14 +64,7 @@ impl Frames {
         requires { self.old.left ≡ 0 }
         ensures { self.new ≡ in_head self.old byte }
     {
-        self.head.push(byte);
-        if self.head.len() < HEAD_LENGTH {
-            return;
-        }
-        let head = Head::read(self.head.as_slice());
-        self.head.clear();
-        self.flag = head.flag;
-        self.left = head.length;
+        take_head(&mut self.head, &mut self.flag, &mut self.left, byte);
     }
 
     /// Takes a byte of a body.

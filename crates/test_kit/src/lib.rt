@@ -11,8 +11,8 @@ mod runs;
 
 pub use images::image_of_text;
 pub use nodes::{
-    BASE, LOAD, PLAIN_READ, PLAIN_REPLY, PLAIN_WRITE, READS, STAGE, SpareBank, bank, packet,
-    program,
+    BASE, LOAD, PLAIN_READ, PLAIN_REPLY, PLAIN_WRITE, READS, STAGE, SpareBank, bank, node_config,
+    packet, program, small_bank,
 };
 pub use plain_node::PlainNode;
 pub use random::Random;

@@ -3,7 +3,7 @@
 use crate::images::image_of_text;
 use bank::{Bank, Journal, Judged, Share};
 use bver::{Accepted, MapSizes, verify};
-use node_parts::BankConfig;
+use node_parts::{BankConfig, NodeConfig};
 use rmap::{ReplyBuf, Status};
 use spw::{Packet, read_line};
 use std::alloc::Global;
@@ -47,6 +47,25 @@ pub fn bank(room: u32) -> BankConfig {
         base: BASE,
         size: 65_536,
         room,
+    }
+}
+
+/// A small bank beside that one, whose journal has room for one entry.
+pub fn small_bank() -> BankConfig {
+    BankConfig {
+        base: 0x1000,
+        size: 300,
+        room: 1,
+    }
+}
+
+/// The configuration of a node of logical address 0xFE, with so many ports, those banks, and maps of these sizes.
+pub fn node_config<'a>(ports: u8, banks: &'a [BankConfig], sizes: MapSizes) -> NodeConfig<'a> {
+    NodeConfig {
+        address: 0xFE,
+        ports,
+        banks,
+        sizes,
     }
 }
 

@@ -3,12 +3,12 @@
 ghost use Rattle.std.specs.Prelude.{◌≡◌};
 
 use bver::{Accepted, verify};
-use node_parts::{BankConfig, NodeConfig};
+use node_parts::BankConfig;
 use std::alloc::Global;
 use std::sync::Wait;
 use std::test::Fail;
 use target::{Family, Line, Node, Opened, Pass};
-use test_kit::{image_of_text, sizes};
+use test_kit::{image_of_text, node_config, sizes};
 
 /// The program of a text, with that budget, for maps of those sizes.
 pub fn accepted(alloc: Global, text: &str, budget: u32, maps: &str) -> Result<Accepted, Fail> {
@@ -42,12 +42,7 @@ pub(crate) fn node_and_line<J: Family, R: Wait + Drop>(
 ) -> Result<(Node<J, R>, Vec<Pass<J>>, Line<J>), Fail>
     requires { opened ≡ J.book }
 {
-    let config = NodeConfig {
-        address: 0xFE,
-        ports,
-        banks,
-        sizes: factory.sizes(),
-    };
+    let config = node_config(ports, banks, factory.sizes());
     let (node, _cells, passes, line) = Node::with_cells(alloc, rt, opened, &config, factory)?;
     Ok((node, passes, line))
 }

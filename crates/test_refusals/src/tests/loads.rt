@@ -107,13 +107,8 @@ fn published(generation: u8) -> (Served, [u8; 8]) {
     )
 }
 
-/// Compares a load that was not done with what a refusal leaves, and tells its load result.
-fn compare_refused(
-    rt: &(impl Abort + Print),
-    load: (Served, [u8; 8]),
-    before: &Parts,
-    after: &Parts,
-) -> Result<(), Fail> {
+/// Compares the answer to a load that was not done with those of a refusal, and tells its load result.
+pub fn compare_refusal(rt: &(impl Abort + Print), load: (Served, [u8; 8])) -> Tested {
     same(
         rt,
         "its status",
@@ -129,6 +124,17 @@ fn compare_refused(
     }
     let is_told = CODES.iter().any(|(number, _)| code == *number);
     check(rt, "the code", is_told);
+    Ok(())
+}
+
+/// Compares a load that was not done with what a refusal leaves, and tells its load result.
+fn compare_refused(
+    rt: &(impl Abort + Print),
+    load: (Served, [u8; 8]),
+    before: &Parts,
+    after: &Parts,
+) -> Tested {
+    compare_refusal(rt, load)?;
     check(rt, "what stands after a refusal", before == after);
     Ok(())
 }
