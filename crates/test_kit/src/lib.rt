@@ -17,4 +17,4 @@ pub use nodes::{
 pub use plain_node::PlainNode;
 pub use random::Random;
 pub use rows::{Row, counts, hexadecimals, sizes, word};
-pub use runs::{FRONT, TAIL, by_turns, turns_on, verdict};
+pub use runs::{FRONT, TAIL, turns_on, verdict};

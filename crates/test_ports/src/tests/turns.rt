@@ -171,8 +171,8 @@ fn a_gate_is_called_round_each_packet(rt: HostRuntime) -> Result<(), Fail> {
 fn round_each_packet<J: Family, R: Wait + Abort>(rt: &R, alloc: Global, opened: Opened) -> Tested
     requires { opened ≡ J.book }
 {
-    let factory = program(alloc, 0)?;
     let taken = AtomicU64::new(0);
+    let factory = program(alloc, 0)?;
     let (node, mut passes) = shared_node::<J, _>(rt, alloc, opened, 2, &[bank(1024)], factory)?;
     let pass = passes.pop().ok_or("no pass")?;
     let gate = Looking {

@@ -66,8 +66,8 @@ fn nobody<J: Family + Send + Sync + 'static, R: Threads + Wait + Abort + Sync>(
 ) -> Result<(), Fail>
     requires { opened ≡ J.book }
 {
-    let factory = program(alloc, 0)?;
     let one = [bank(1024)];
+    let factory = program(alloc, 0)?;
     let served = served_ports::<J, _, _>(rt, alloc, opened, 1, &one, factory, 1, &[], &NoGate)?;
     let found = (served.workers.len(), served.report);
     same(rt, "nobody", found, (0, Ok(CLEAN)));
@@ -151,9 +151,9 @@ fn full_journal<J: Family + Send + Sync + 'static, R: Threads + Wait + Abort + S
 ) -> Result<(), Fail>
     requires { opened ≡ J.book }
 {
-    let factory = program(alloc, 0)?;
     let one = [bank(1)];
     let lines: [&[&str]; 1] = [&[PLAIN_WRITE, PLAIN_WRITE, WRITE_ZEROS]];
+    let factory = program(alloc, 0)?;
     let served = served_ports::<J, _, _>(rt, alloc, opened, 1, &one, factory, 4, &lines, &NoGate)?;
     same(rt, "the report", served.report, Ok(CLEAN));
     let found = text_of(alloc, served.replies(0)?)?;

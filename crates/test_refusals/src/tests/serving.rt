@@ -96,9 +96,9 @@ fn two_served<J: Family + Send + Sync + 'static, R: Threads + Wait + Abort + Pri
 ) -> Result<(), Fail>
     requires { opened ≡ J.book }
 {
+    let lines: [&[&str]; 2] = [&LINES, &LINES];
     let factory = program(alloc, 0)?;
     let (node, passes) = shared_node::<J, _>(rt, alloc, opened, 2, &[bank(1024)], factory)?;
-    let lines: [&[&str]; 2] = [&LINES, &LINES];
     let (ports, mut put_passes, workers) = filled_desks(rt, alloc, &node, passes, 4, &lines)?;
     begin(alloc)?;
     let (workers, report) = serve(rt, alloc, &node, &ports, workers, &NoGate);

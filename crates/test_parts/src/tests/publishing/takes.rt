@@ -46,8 +46,8 @@ fn shown<J: Family>(reader: &mut Reader<J>, front: &mut Front<J>, slot: u8) -> O
 fn a_program_is_shown<J: Family, R: Wait + Abort>(rt: &R, alloc: Global, opened: Opened) -> Tested
     requires { opened ≡ J.book }
 {
-    let factory = factory(alloc)?;
     let mut front = opened.front::<J>();
+    let factory = factory(alloc)?;
     let (mut publisher, mut readers, mut line) = Programs::new::<J, _>(
         alloc, rt, opened, factory, 1,
     )?;
@@ -87,8 +87,8 @@ fn another_publish_is_shown<J: Family, R: Wait + Abort>(
 ) -> Result<(), Fail>
     requires { opened ≡ J.book }
 {
-    let factory = factory(alloc)?;
     let mut front = opened.front::<J>();
+    let factory = factory(alloc)?;
     let (mut publisher, mut readers, mut line) = Programs::new::<J, _>(
         alloc, rt, opened, factory, 2,
     )?;
@@ -118,8 +118,8 @@ fn another_publish_is_shown<J: Family, R: Wait + Abort>(
 fn no_more_is_shown<J: Family, R: Wait + Abort>(rt: &R, alloc: Global, opened: Opened) -> Tested
     requires { opened ≡ J.book }
 {
-    let factory = factory(alloc)?;
     let mut front = opened.front::<J>();
+    let factory = factory(alloc)?;
     let (publisher, mut readers, _line) = Programs::new::<J, _>(alloc, rt, opened, factory, 1)?;
     let mut reader = readers.pop().ok_or("a reader")?;
     mem::forget(reader.take(&mut front, 0));
