@@ -36,7 +36,7 @@ replicated zero k x = refl
 replicated (suc n) zero x = refl
 replicated (suc n) (suc k) x = replicated n k x
 
-nothing : StateValue
+pub nothing : StateValue
 nothing = record { kinds = replicate 11 Unset; marks = replicate STACK_SIZE false; ranges = replicate 64 (whole_range Bits64) }
 
 nothing_whole : IsWhole nothing
@@ -62,7 +62,7 @@ words_below a h w = subst (λ (r : Range). IsWithin (range_in a.ranges w) r) (re
 
 -- ---- what stands at heads
 
-stands_at : List Loop → ℕ → StateValue
+pub stands_at : List Loop → ℕ → StateValue
 stands_at [] slot = marked []
 stands_at (l ∷ ls) slot = if l.head == slot then alone l.register (Num (1, l.bound)) else stands_at ls slot
 
@@ -81,6 +81,7 @@ other_head l slot other apart = by_test (l.head == slot) refl
     by_test false is = refl
 
 elsewhere : (ls : List Loop) (slot : ℕ) → All (λ l. l.head ≢ slot) ls → stands_at ls slot ≡ marked []
+unfolding stands_at
 elsewhere [] slot apart = refl
 elsewhere (l ∷ ls) slot apart =
     other_head l slot (stands_at ls slot) (apart 0 l (omega arith)) ∙ elsewhere ls slot (λ k d low. apart (suc k) d (omega (arith, low)))
@@ -93,6 +94,7 @@ above slots least (l ∷ ls) (suc k) d loops low = omega (arith, loops.0, above 
 
 at_head : (slots least : ℕ) (ls : List Loop) (k : ℕ) (d : Loop) → AreLoops slots least ls → k < length ls
     → stands_at ls (slice_index_or ls k d).head ≡ alone (slice_index_or ls k d).register (Num (1, (slice_index_or ls k d).bound))
+unfolding stands_at
 at_head slots least [] k d loops low = absurd (omega (arith, low))
 at_head slots least (l ∷ ls) zero d loops low = first_head l l.head (stands_at ls l.head) refl
 at_head slots least (l ∷ ls) (suc k) d loops low =

@@ -66,7 +66,7 @@ unset_top (Num range) = tt
 unset_top (Ptr region offsets) = tt
 unset_top (Map index) = tt
 
-unfoldable padded : ℕ → AbsKind → List AbsKind
+unfoldable pub padded : ℕ → AbsKind → List AbsKind
 padded zero k = k ∷ []
 padded (suc r) k = Unset ∷ padded r k
 
@@ -87,7 +87,7 @@ padded_at zero k = refl
 padded_at (suc r) k = padded_at r k
 
 -- that kind of one register, and nothing else
-pub alone : ℕ → AbsKind → StateValue
+unfoldable pub alone : ℕ → AbsKind → StateValue
 alone r k = record { kinds = padded r k; marks = []; ranges = [] }
 
 pub below_alone : (a : StateValue) (r : ℕ) (k : AbsKind) → AreWords a.ranges → IsKindBelow (kind_at a r) k → IsBelow a (alone r k)
@@ -140,7 +140,7 @@ kind_less transitive j k l g h =
         each (suc r) = tt
 
 -- those marks, and nothing else
-pub marked : List Bool → StateValue
+unfoldable pub marked : List Bool → StateValue
 marked marks = record { kinds = []; marks = marks; ranges = [] }
 
 pub below_marked : (a : StateValue) (marks : List Bool) → AreWords a.ranges → AreMarkedIn marks a.marks → IsBelow a (marked marks)

@@ -165,7 +165,7 @@ bound_after least q t bound le below map cell = by_cell (is_of q map cell)
     by_cell false = omega (arith, below map cell)
 
 -- one of two decisions
-abbrev either : Bool → (one other : List Call × ℕ) → List Call × ℕ
+abbrev pub either : Bool → (one other : List Call × ℕ) → List Call × ℕ
 either t one other = if t then one else other
 
 module _ (least : ℕ → ℕ → ℕ) (quota : Quota) (code : ℕ) (told : ℕ → ℕ) (rest : List Call × ℕ) where
