@@ -6,7 +6,8 @@ use Rattle.annals.specs.declared.deed.Link.{Link}
 use Rattle.annals.specs.Publishes.{PublishesGrow, publishes_of}
 use Rattle.annals.specs.Shown.{IsTakenAt}
 use Rattle.publish.specs.Reached.{Known, known}
-use Rattle.lemmas.proofs.Prefixes.{prefix_same, prefix_trans, prefix_whole, prefix_length}
+pub use Rattle.lemmas.proofs.Prefixes.{prefix_same}
+use Rattle.lemmas.proofs.Prefixes.{prefix_trans, prefix_whole, prefix_length}
 
 -- what stands in a beginning stands in the whole, at the same place
 pub prefix_get : {A : Type 0} (xs ys : List A) (k : ℕ) (x : A) → IsPrefix xs ys → slice_get xs k ≡ Some x → slice_get ys k ≡ Some x
