@@ -1,3 +1,4 @@
 mod Histories
 mod LinesInTurn
+mod Scheduled
 mod Striding
