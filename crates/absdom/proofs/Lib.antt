@@ -11,3 +11,4 @@ pub mod GrowState
 pub mod GrowEdges
 pub mod Narrowing
 pub mod Leaving
+pub mod KindLists

@@ -9,7 +9,7 @@ use Rattle.bpf_parts.specs.declared.operation.Width.TheVariants.{Bits32, Bits64}
 use Rattle.bpf_parts.specs.declared.operation.AluOp.{AluOp}
 use Rattle.bpf_parts.specs.declared.operation.AluOp.TheVariants.{Add, Sub, Mul, Div, SignedDiv, Or, And, Lsh, Rsh, Mod, SignedMod, Xor, Mov, Arsh}
 use Rattle.machine.specs.Words.{bits_of, modulus, low_part, signed_value, residue, wrapped_number, quotient, remainder, signed_quotient, signed_remainder, alu_low}
-use Rattle.absdom_num.proofs.Cases.{by_eq}
+use Rattle.lemmas.proofs.Cases.{by_eq}
 
 pub modulus_pos : (width : Width) → 0 < modulus width
 modulus_pos Bits32 = omega arith

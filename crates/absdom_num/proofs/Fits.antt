@@ -14,7 +14,7 @@ use Rattle.machine.specs.Words.{modulus, low_part, signed_value, wrapped_number,
 use Rattle.absdom_num.specs.declared.ranges.Range.{Range}
 use Rattle.absdom_num.specs.Ranges.{IsIn}
 use Rattle.absdom_num.specs.Tables.{single_range, is_single, whole_range, sign_weight, low_range, sum_range, difference_range, product_range, quotient_range, remainder_range, and_range, or_range, xor_range, distance, left_range, right_range, signed_right_range, row, alu_range}
-use Rattle.absdom_num.proofs.Cases.{by_lt, by_le, by_eq}
+use Rattle.lemmas.proofs.Cases.{by_lt, by_le, by_eq}
 use Rattle.absdom_num.proofs.Quotients.{quotient_grows, shift_grows}
 use Rattle.absdom_num.proofs.Bounds.{modulus_most, mod_once, mod_small, residue_small, alu_low_small, low_small}
 use Rattle.absdom_num.proofs.Ones.{ones_of}

@@ -16,7 +16,7 @@ use Rattle.absdom_num.specs.declared.ranges.Range.{Range}
 use Rattle.absdom_num.specs.Ranges.{IsRange, IsIn, IsWithin}
 use Rattle.absdom_num.specs.Tables.{single_range, is_single, whole_range, sign_weight, low_range, sum_range, difference_range, product_range, quotient_range, remainder_range, ones_over, or_range, xor_range, distance, left_range, right_range, signed_right_range, row, alu_range, negated_range, sign_bit, extended_range, greatest_number, swapped_range}
 use Rattle.absdom_num.specs.Laws.{AluGrows, NegateGrows, MoveSignedGrows, ByteSwapGrows}
-use Rattle.absdom_num.proofs.Cases.{by_lt, by_le, by_eq}
+use Rattle.lemmas.proofs.Cases.{by_lt, by_le, by_eq}
 use Rattle.absdom_num.proofs.Quotients.{quotient_grows, shift_grows}
 use Rattle.absdom_num.proofs.Bounds.{modulus_pos, modulus_most}
 use Rattle.absdom_num.proofs.Ones.{ones_of, ones_least}

@@ -1,6 +1,5 @@
 pub mod Shifts
 pub mod Ones
-pub mod Cases
 pub mod Quotients
 pub mod Bounds
 pub mod Fits

@@ -13,7 +13,7 @@ use Rattle.absdom_num.specs.Ranges.{IsIn}
 use Rattle.absdom_num.specs.Tables.{sign_weight}
 use Rattle.absdom_num.specs.Refinement.{edge, range_without, range_apart, when_equal, when_not_equal, when_less, when_at_most, when_greater, when_at_least, when_taken, when_not_taken, reach, refined_ranges}
 use Rattle.absdom_num.specs.Laws.{followed_edge, AreIn}
-use Rattle.absdom_num.proofs.Cases.{by_test, by_lt, by_le, by_eq}
+use Rattle.lemmas.proofs.Cases.{by_test, by_lt, by_le, by_eq}
 use Rattle.absdom_num.proofs.Fits.{signed_small, half_less}
 
 edge_fits : (a b : Range) (n m : ℕ) → IsIn n a → IsIn m b → AreIn n m (edge a b)

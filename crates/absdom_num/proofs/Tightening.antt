@@ -10,7 +10,7 @@ use Rattle.absdom_num.specs.declared.refinement.Operands.{Operands}
 use Rattle.absdom_num.specs.Ranges.{IsWithin}
 use Rattle.absdom_num.specs.Refinement.{edge, range_without, range_apart, when_equal, when_not_equal, when_less, when_at_most, when_greater, when_at_least, when_taken, when_not_taken, reach, refined_ranges}
 use Rattle.absdom_num.specs.Laws.{IsBelow, AreBelow, RefineGrows, RefineShrinks}
-use Rattle.absdom_num.proofs.Cases.{by_lt, by_le, by_eq}
+use Rattle.lemmas.proofs.Cases.{by_lt, by_le, by_eq}
 use Rattle.absdom_num.proofs.Order.{within_same, only_within}
 use Rattle.absdom_num.proofs.Refining.{both, same}
 

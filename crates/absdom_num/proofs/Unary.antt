@@ -16,7 +16,7 @@ use Rattle.machine.specs.Words.{modulus, low_part, negation, sign_extension, swa
 use Rattle.absdom_num.specs.declared.ranges.Range.{Range}
 use Rattle.absdom_num.specs.Ranges.{IsIn}
 use Rattle.absdom_num.specs.Tables.{single_range, whole_range, negated_range, sign_bit, extended_range, greatest_number, swapped_range}
-use Rattle.absdom_num.proofs.Cases.{by_lt, by_eq}
+use Rattle.lemmas.proofs.Cases.{by_lt, by_eq}
 use Rattle.absdom_num.proofs.Bounds.{modulus_most, mod_small, residue_small}
 
 only_fits : (k j : ℕ) → k ≡ j → k < 2 ^ 64 → IsIn k (single_range j)

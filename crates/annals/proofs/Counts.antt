@@ -1,18 +1,12 @@
 -- The numbers of a port's entries in a chain.
-use Rattle.std.proofs.Common.{◌≡◌, Option, Some, None, ℕ, ◌+◌, ◌-◌, ◌≤◌, ◌<◌, ◌++◌, ◌∷◌, [], List, Bool, true, false, eqb, ltb, ◌&&◌, length, get_or, set, zero, refl, sym, ap, ◌∙◌, subst, arith, inl, inr}
+use Rattle.std.proofs.Common.{◌≡◌, Option, Some, None, ℕ, ◌+◌, ◌-◌, ◌<◌, ◌++◌, ◌∷◌, [], List, Bool, true, false, length, get_or, set, zero, refl, sym, ap, ◌∙◌, subst, arith, inl, inr}
 use Rattle.std.specs.Prelude.{if◌then◌else◌, map, replicate}
 use Rattle.std.specs.Option.{is_some}
 use Rattle.bank.specs.Effect.{memory_at}
 use Rattle.std.specs.List.{range_with_len}
-use Rattle.std.proofs.lemmas.List.{length-set, length-replicate, get_or-replicate, get_or-set_same, get_or-set_other, map-append, map-id, append-nil}
-use Rattle.std.proofs.lemmas.List.Elements.{filter-append}
-use Rattle.std.proofs.lemmas.List.FromFn.{map-range_with_len_more}
+use Rattle.std.proofs.lemmas.List.{length-set, length-replicate, get_or-replicate, get_or-set_same, get_or-set_other, append-nil}
 use Rattle.std.proofs.lemmas.Bool.{cases_eq}
-use Rattle.std.proofs.lemmas.Bool.Decides.{nat_tests}
-use Rattle.rmap.specs.Command.{command_of}
-use Rattle.rmap.specs.Windows.{lies_inside}
-use Rattle.bank.specs.Records.{BankValue, ShareValue, JudgedValue, EntryValue, numbers_of, entry_of, fits, is_bank_place, is_next, after_command, after_record, answer_of, has_room, next_share, number_left, JournalValue, fresh_bank}
-use Rattle.annals.specs.declared.deed.Act.{Act}
+use Rattle.bank.specs.Records.{BankValue, ShareValue, JudgedValue, EntryValue, numbers_of, fits, after_command, after_record, answer_of, has_room, next_share, number_left, JournalValue, fresh_bank}
 use Rattle.annals.specs.declared.deed.Act.TheVariants.{Leaves, Sets, Rotates, Publishes}
 use Rattle.annals.specs.declared.deed.Deed.{Deed}
 use Rattle.annals.specs.declared.deed.Deed.TheVariants.{Opens, Does, Asks, Shows}
@@ -20,45 +14,8 @@ use Rattle.annals.specs.declared.deed.Link.{Link}
 use Rattle.annals.specs.Chains.{ChainValue, LineValue, at_bank, chain_of, line_with, link}
 use Rattle.annals.specs.Banks.{CountsOn, numbers_at, with_entry, entries_in, entries_of, memory_after, zeros, IsKept}
 use Rattle.annals.proofs.Dues.{at_append, at_other, at_own, numbers_append, own_snoc}
-
-range_more : (start n next : ℕ) → start + n ≡ next → range_with_len start n ++ next ∷ [] ≡ range_with_len start (n + 1)
-range_more start n next last =
-    sym (sym (map-id (range_with_len start (n + 1))) ∙ map-range_with_len_more (λ (x : ℕ). x) start n next last ∙ ap (λ (l : List ℕ). l ++ next ∷ []) (map-id (range_with_len start n)))
-
--- the numbers of a port with one more entry
-numbers_of-same : (port : ℕ) (entries : List EntryValue) (e : EntryValue) → e.port ≡ port → numbers_of port (entries ++ e ∷ []) ≡ numbers_of port entries ++ e.number ∷ []
-numbers_of-same port entries e same =
-    let test : eqb e.port port ≡ true = grind (arith, nat_tests) in
-    rw (filter-append (λ (x : EntryValue). eqb x.port port) entries (e ∷ []), test, map-append) refl
-
-numbers_of-other : (port : ℕ) (entries : List EntryValue) (e : EntryValue) → (e.port ≡ port → ⊥) → numbers_of port (entries ++ e ∷ []) ≡ numbers_of port entries
-numbers_of-other port entries e other =
-    let test : eqb e.port port ≡ false = grind (arith, nat_tests) in
-    rw (filter-append (λ (x : EntryValue). eqb x.port port) entries (e ∷ []), test, append-nil) refl
-
-both : (a b : Bool) → (a && b) ≡ true → (a ≡ true) × (b ≡ true)
-both true b e = (refl, e)
-both false b e = absurd cc
-
--- what a share that fits says
-pub record Fitting (b : BankValue) (share : ShareValue) (judged : JudgedValue) : Type 0 where
-  pub port : share.port ≡ judged.port
-  pub below : judged.port < length b.counts
-  pub number : share.number ≡ get_or b.counts judged.port 0
-
-pub fitting : (b : BankValue) (share : ShareValue) (judged : JudgedValue) → fits b share judged ≡ true → Fitting b share judged
-fitting b share judged h =
-    let placed = both (eqb share.port judged.port && is_next b share && is_bank_place judged.place) (lies_inside b.first (length b.bytes) (command_of judged.packet)) h in
-    let inside = both (eqb share.port judged.port && is_next b share) (is_bank_place judged.place) placed.0 in
-    let ports = both (eqb share.port judged.port) (is_next b share) inside.0 in
-    let next = both (ltb share.port (length b.counts)) (eqb share.number (get_or b.counts share.port 0)) ports.1 in
-    let same : eqb share.port judged.port ≡ true = ports.0 in
-    let few : ltb share.port (length b.counts) ≡ true = next.0 in
-    let count : eqb share.number (get_or b.counts share.port 0) ≡ true = next.1 in
-    let port : share.port ≡ judged.port = grind (arith, nat_tests) in
-    let below : share.port < length b.counts = grind (arith, nat_tests) in
-    let number : share.number ≡ get_or b.counts share.port 0 = grind (arith, nat_tests) in
-    record { port = port; below = rw (← port) below; number = rw (← port) number }
+use Rattle.bank.proofs.Banks.{numbers_of-same, numbers_of-other, range_more}
+use Rattle.bank.proofs.Banks.{fitting}
 
 with_append : (d : Deed) (xs ys : List EntryValue) → with_entry d (xs ++ ys) ≡ with_entry d xs ++ ys
 with_append (Opens x) xs ys = refl

@@ -14,7 +14,7 @@ use Rattle.annals.specs.declared.deed.Deed.TheVariants.{Opens, Does, Asks, Shows
 use Rattle.annals.specs.declared.deed.Link.{Link}
 use Rattle.annals.specs.Chains.{AreAsked, Due, IsDue, asked_by, asked_in, at_bank, at_chain, chain_of, done_for, left_in, line_of, link, owner_of, with_asked, with_done, with_left}
 use Rattle.annals.specs.Banks.{entries_in, entries_of, numbers_at, with_entry}
-use Rattle.annals.proofs.Fronts.{prefix_trans, prefix_self, prefix_whole, prefix_length}
+use Rattle.lemmas.proofs.Prefixes.{prefix_trans, prefix_self, prefix_whole, prefix_length}
 
 -- ---- chains
 

@@ -10,7 +10,7 @@ use Rattle.annals.specs.Chains.{AreHome, chain_of}
 use Rattle.annals.specs.Publishes.{publishes_of}
 use Rattle.annals.specs.Rule.{AreChained, Counts, Raises, shown_word, showing}
 use Rattle.annals.specs.Shown.{shown_in}
-use Rattle.annals.proofs.Fronts.{prefix_length, prefix_self}
+use Rattle.lemmas.proofs.Prefixes.{prefix_length, prefix_self}
 use Rattle.annals.proofs.Dues.{none_asked}
 use Rattle.annals.proofs.Listing.{listed_snoc, shown_append}
 use Rattle.annals.proofs.Publishings.{publishes_begin}

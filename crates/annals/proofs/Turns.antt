@@ -13,7 +13,7 @@ use Rattle.annals.specs.Rule.{AreChained, shown_word}
 use Rattle.annals.specs.Shown.{shows}
 use Rattle.annals.specs.Banks.{memory_after, after_link, after_deed, zeros, entries_of, entries_in, with_entry}
 use Rattle.std.specs.Prelude.{fold}
-use Rattle.annals.proofs.Fronts.{prefix_trans, prefix_length, prefix_whole}
+use Rattle.lemmas.proofs.Prefixes.{prefix_trans, prefix_length, prefix_whole}
 use Rattle.annals.proofs.Dues.{LeavesNone, between_same, chain_prefix, chain_snoc, none_asked, own_snoc, still_asked}
 use Rattle.annals.proofs.Listing.{due_quiet, listed_quiet, none_listed, shown_quiet}
 

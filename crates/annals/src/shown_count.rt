@@ -1,10 +1,10 @@
 //! The word that says how many programs readers see.
 
-ghost use Rattle.std.specs.Prelude.{◌≡◌, ◌+◌, ◌<◌, ◌≤◌, true, length};
+ghost use Rattle.std.specs.Prelude.{◌≡◌, ◌+◌, ◌<◌, ◌≤◌, None, true, length};
 ghost use mathlib.Core.List.{IsPrefix};
 ghost use Rattle.annals.specs.Chains.{word_of};
 ghost use Rattle.annals.specs.Publishes.{publishes_of};
-ghost use Rattle.annals.specs.Rule.{shown_word};
+ghost use Rattle.annals.specs.Rule.{Counts, Raises, showing, shown_word};
 ghost use Rattle.annals.specs.Shown.{shown_in, AreListed, IsTakenAt};
 
 use crate::chains::{Chained, Family, Front, Nothing};
@@ -16,8 +16,6 @@ use std::marker::PhantomData;
 struct Count;
 
 impl Play<Link, u64> for Count {
-    ghost use Rattle.annals.specs.Rule.{Counts};
-
     ghost then = { Counts };
 }
 
@@ -25,15 +23,10 @@ impl Play<Link, u64> for Count {
 struct Raise;
 
 impl Play<Link, u64> for Raise {
-    ghost use Rattle.annals.specs.Rule.{Raises};
-
     ghost then = { Raises };
 }
 
 impl Plain<(), Link, u64> for Raise {
-    ghost use Rattle.std.specs.Prelude.{None};
-    ghost use Rattle.annals.specs.Rule.{showing};
-
     ghost ask = { λ _. showing };
 
     ghost state = { λ _. None };

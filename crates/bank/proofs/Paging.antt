@@ -6,7 +6,7 @@ use Rattle.std.specs.List.{concat}
 use Rattle.std.proofs.Math.Nat.{mod-lt, div-le_self}
 use Rattle.std.proofs.Math.Seq.{take-append-add, take-append_seam, take-add}
 use Rattle.std.proofs.lemmas.Nat.{div-add-mod'}
-use Rattle.std.proofs.lemmas.Bool.{cases_lt, cases_eq}
+use Rattle.std.proofs.lemmas.Bool.{cases_lt, cases_eq, and_parts}
 use Rattle.std.proofs.lemmas.Bool.Decides.{nat_tests}
 use Rattle.std.proofs.lemmas.Grind.{same_number_lists}
 use Rattle.std.proofs.lemmas.List.{same_lists, get_or_default, length-map, append-nil, length-replicate, replicate-append-replicate, drop-drop, take_min, take-append-drop, take-append-le, length-append, length-set, length-take, length-drop, get_or-take, get_or-drop, get_or_append_left, get_or-append_right, get_or-set_same, get_or-set_other}
@@ -259,10 +259,6 @@ page_some (p ∷ []) (suc k) are below = absurd (omega arith)
 page_some (p ∷ q ∷ ps) zero are below = omega (arith, are.0)
 page_some (p ∷ q ∷ ps) (suc k) are below = page_some (q ∷ ps) k are.1 (omega arith)
 
-both : (a b : Bool) → (a && b) ≡ true → (a ≡ true) × (b ≡ true)
-both true b e = (refl, e)
-both false b e = absurd cc
-
 -- the page in which a command begins
 pub record IsInPage (first : ℕ) (ps : List (List ℕ)) (c : CommandValue) (k : ℕ) : Type 0 where
   pub start : ℕ
@@ -271,8 +267,8 @@ pub record IsInPage (first : ℕ) (ps : List (List ℕ)) (c : CommandValue) (k :
 
 pub in_page : (first : ℕ) (ps : List (List ℕ)) (c : CommandValue) (address : ℕ) → address ≡ address_of c → ArePages ps → lies_inside first (length (concat ps)) c ≡ true → IsAdmissible c → IsInPage first ps c ((address - first) / 4096)
 in_page first ps c address is are inside admitted =
-    let parts = both (leb first (address_of c) && ltb (address_of c) (first + length (concat ps))) _ inside in
-    let two = both (leb first (address_of c)) (ltb (address_of c) (first + length (concat ps))) parts.0 in
+    let parts = and_parts (leb first (address_of c) && ltb (address_of c) (first + length (concat ps))) _ inside in
+    let two = and_parts (leb first (address_of c)) (ltb (address_of c) (first + length (concat ps))) parts.0 in
     let low : leb first (address_of c) ≡ true = two.0 in
     let high : ltb (address_of c) (first + length (concat ps)) ≡ true = two.1 in
     let above : first ≤ address_of c = grind (arith, nat_tests) in

@@ -11,6 +11,7 @@ use Rattle.basm_lex.specs.Numbers.{IsDecimal, WritesNumber}
 use Rattle.basm_lex.specs.Operands.{WritesRegister}
 use Rattle.basm.specs.Relation.{Four, WritesEnd}
 use Rattle.basm.proofs.OperandReadings.{both_of, one_value}
+use Rattle.basm_lex.proofs.Readings.{first_same}
 
 -- an end that is no name is a number
 pub end_number : (names : List ℕ → Option ℕ) (word : List ℕ) (slot : ℕ) → is_name word ≡ false → WritesEnd names word slot → WritesNumber word (pos slot)
@@ -74,9 +75,6 @@ digit_low c digit = grind arith
 left_true : (a b : Bool) → (a && b) ≡ true → a ≡ true
 left_true true b both = refl
 left_true false b both = absurd (true≢false (sym both))
-
-first_same : (a b : ℕ) (xs ys : List ℕ) → a ∷ xs ≡ b ∷ ys → a ≡ b
-first_same a b xs ys same = cc
 
 no_number : (word : List ℕ) (value : ℤ) → WritesNumber word value → is_name word ≡ true → ⊥
 no_number [] value w name = true≢false (sym name)

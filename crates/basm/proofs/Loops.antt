@@ -2,7 +2,7 @@
 use Rattle.std.proofs.Common.{◌≡◌, ℕ, suc, ◌+◌, ◌≤◌, ◌<◌, Bool, true, false, ◌&&◌, cond, List, [], ◌∷◌, length, get_or, refl, sym, ap, ◌∙◌, arith, inl, inr, eqb, ltb}
 use Rattle.std.specs.List.{sum_by}
 use Rattle.std.specs.List.Sorted.{IsNonDecreasingBy, IsPermutation}
-use Rattle.std.proofs.lemmas.Bool.{cases_Bool, cond-true, cond-false, eqb-true, eq-eqb, false_from_ne_true}
+use Rattle.std.proofs.lemmas.Bool.{cases_Bool, cond-true, cond-false, eqb-true, eq-eqb, false_from_ne_true, and_parts}
 use Rattle.std.proofs.lemmas.Bool.Decides.{nat_tests}
 use Rattle.std.proofs.lemmas.List.Sorted.{sum_by-IsPermutation}
 use Rattle.std.proofs.lemmas.List.Sums.{sum_by-cons}
@@ -43,10 +43,6 @@ sum_zero f least (l ∷ ls) rises none =
 abbrev is_same : Loop → Loop → Bool
 is_same a b = eqb a.head b.head && (eqb a.back b.back && (eqb a.bound b.bound && eqb a.register b.register))
 
-and_true : (a b : Bool) → (a && b) ≡ true → (a ≡ true) × (b ≡ true)
-and_true true b h = (refl, h)
-and_true false b h = cc
-
 same_loop : (a b : Loop) → a.head ≡ b.head → a.back ≡ b.back → a.bound ≡ b.bound → a.register ≡ b.register → a ≡ b
 same_loop a b head back bound register =
     let one : a ≡ record { head = b.head; back = a.back; bound = a.bound; register = a.register } = ap (λ (n : ℕ). record { head = n; back = a.back; bound = a.bound; register = a.register }) head in
@@ -57,16 +53,16 @@ same_loop a b head back bound register =
 
 same_from : (a b : Loop) → is_same a b ≡ true → a ≡ b
 same_from a b same =
-    let head = and_true _ _ same in
-    let back = and_true _ _ head.1 in
-    let bound = and_true _ _ back.1 in
+    let head = and_parts _ _ same in
+    let back = and_parts _ _ head.1 in
+    let bound = and_parts _ _ back.1 in
     same_loop a b (eqb-true _ _ head.0) (eqb-true _ _ back.0) (eqb-true _ _ bound.0) (eqb-true _ _ bound.1)
 
 is_same-self : (a : Loop) → is_same a a ≡ true
 is_same-self a = rw (eq-eqb a.head a.head refl, eq-eqb a.back a.back refl, eq-eqb a.bound a.bound refl, eq-eqb a.register a.register refl) refl
 
 other_head : (a b : Loop) → a.head < b.head → is_same a b ≡ false
-other_head a b lt = false_from_ne_true (is_same a b) (λ same. let heads : a.head ≡ b.head = eqb-true _ _ (and_true _ _ same).0 in absurd (omega arith))
+other_head a b lt = false_from_ne_true (is_same a b) (λ same. let heads : a.head ≡ b.head = eqb-true _ _ (and_parts _ _ same).0 in absurd (omega arith))
 
 -- ---- loops with the same sums
 

@@ -46,10 +46,6 @@ pub no_words : (words : List (Bor (List ℕ))) → texts words ≡ [] → words 
 no_words [] none = refl
 no_words (a ∷ words) none = absurd (cc none)
 
--- an error is no value
-pub no_value : {T E : Type 0} (e : E) (x : T) → Err e ≡ Ok x → ⊥
-no_value e x same = cc same
-
 -- both results
 pub both_of : {A B E : Type 0} (first : Result A E) (second : Result B E) (r : Result (A × B) E) (a : A) (b : B) → IfOk first (λ x. IfOk second (λ y. r ≡ Ok (x, y)))
     → first ≡ Ok a → second ≡ Ok b → r ≡ Ok (a, b)

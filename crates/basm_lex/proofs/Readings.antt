@@ -24,7 +24,7 @@ wide_at_decimal word r other read value (inr (inl w)) = read value (inr w)
 wide_at_decimal word r other read value (inr (inr bits)) = absurd (other bits.digits bits.prefix)
 
 -- texts that begin alike
-first_same : (a b : ℕ) (xs ys : List ℕ) → a ∷ xs ≡ b ∷ ys → a ≡ b
+pub first_same : (a b : ℕ) (xs ys : List ℕ) → a ∷ xs ≡ b ∷ ys → a ≡ b
 first_same a b xs ys same = cc
 
 rest_same : (a b : ℕ) (xs ys : List ℕ) → a ∷ xs ≡ b ∷ ys → xs ≡ ys

@@ -47,7 +47,8 @@ fn is_bare(text: &str) -> bool
     }
 }
 
-fn before_comment(line: &str) -> &str
+/// What a line says before its comment.
+pub fn before_comment(line: &str) -> &str
     ensures { result.now ≡ before_first is_semicolon line.now }
 {
     match line.split_once(';') {

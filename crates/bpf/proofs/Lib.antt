@@ -7,3 +7,4 @@ pub mod Weighed
 pub mod Parted
 pub mod Named
 pub mod SlotReads
+pub mod SecondSlots

@@ -3,6 +3,7 @@ use Rattle.std.proofs.Common.{◌≡◌, ℕ, suc, ◌+◌, ◌≤◌, ◌<◌, 
 use Rattle.std.proofs.lemmas.Bool.Decides.{nat_tests}
 use Rattle.std.proofs.Math.Seq.{drop-cons}
 use Rattle.std.specs.List.{flat_map}
+use Rattle.std.proofs.lemmas.Bool.{and_parts}
 use Rattle.bpf_insn.specs.declared.insn.Insn.{Insn}
 use Rattle.bpf_insn.specs.Spelling.{IsInsn, second_immediate}
 use Rattle.bpf.specs.declared.header.Header.{Header}
@@ -75,10 +76,6 @@ header_made : (version : Version) (insns : List Insn) (loops : List Loop) (budge
 header_made version insns loops budget h e =
     no_fault (parts_fault (length (flat_map placed_slots insns)) loops budget) h (made version insns loops budget) e
 
-and_true : (a b : Bool) → (a && b) ≡ true → (a ≡ true) × (b ≡ true)
-and_true true b h = (refl, h)
-and_true false b h = cc
-
 le_true : (a b : ℕ) → nat_le a b ≡ true → a ≤ b
 le_true a b h = grind (arith, nat_tests)
 
@@ -91,29 +88,29 @@ none_of false x e h = cc
 
 count_kept : (loops slots : ℕ) → is_count loops slots 0 ≡ true → (loops ≤ 8) × IsSlotCount slots
 count_kept loops slots h =
-    let p = and_true _ _ h in
-    let q = and_true _ _ p.0 in
-    let r = and_true _ _ q.0 in
+    let p = and_parts _ _ h in
+    let q = and_parts _ _ p.0 in
+    let r = and_parts _ _ q.0 in
     (le_true _ _ r.0, (le_true _ _ r.1, le_true _ _ q.1))
 
 budget_kept : (budget : ℕ) → is_budget budget ≡ true → IsBudget budget
 budget_kept budget h =
-    let p = and_true _ _ h in
+    let p = and_parts _ _ h in
     (le_true _ _ p.0, le_true _ _ p.1)
 
 loop_kept : (slots : ℕ) (l : Loop) → is_loop slots l ≡ true → IsLoop slots l
 loop_kept slots l h =
-    let f = and_true _ _ h in
-    let e = and_true _ _ f.0 in
-    let d = and_true _ _ e.0 in
-    let c = and_true _ _ d.0 in
+    let f = and_parts _ _ h in
+    let e = and_parts _ _ f.0 in
+    let d = and_parts _ _ e.0 in
+    let c = and_parts _ _ d.0 in
     record { ordered = lt_true _ _ c.0; within = lt_true _ _ c.1; low = le_true _ _ d.1; high = le_true _ _ e.1; register = le_true _ _ f.1 }
 
 pub loops_kept : (slots least : ℕ) (ls : List Loop) → are_loops slots least ls ≡ true → AreLoops slots least ls
 loops_kept slots least [] h = tt
 loops_kept slots least (l ∷ ls) h =
-    let p = and_true _ _ h in
-    let q = and_true _ _ p.0 in
+    let p = and_parts _ _ h in
+    let q = and_parts _ _ p.0 in
     (le_true _ _ q.0, loop_kept slots l q.1, loops_kept slots (l.head + 1) ls p.1)
 
 kept : (version : Version) (budget : ℕ) (loops : List Loop) (slots : List (Option Insn)) → parts_fault (length slots) loops budget ≡ None → AreSlots false slots → IsProgram (program version budget loops slots)

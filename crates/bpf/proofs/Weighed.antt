@@ -46,7 +46,7 @@ weight_step w loops slots i x total lt item so_far =
     let next : drop (i + 1) slots ≡ drop (suc i) slots = ap (λ (k : ℕ). drop k slots) (add-one i) in
     ap (λ (d : List (Option Insn)). saturated_weight (saturated_weight (w + saturated_weight (part_of loops i x)) + weight_from loops (i + 1) d)) next ∙ two ∙ sym one ∙ so_far
 
-drop_end : {X : Type 0} (xs : List X) (i : ℕ) → length xs ≤ i → drop i xs ≡ []
+pub drop_end : {X : Type 0} (xs : List X) (i : ℕ) → length xs ≤ i → drop i xs ≡ []
 drop_end [] zero h = refl
 drop_end [] (suc i) h = refl
 drop_end (x ∷ xs) zero h = absurd (omega arith)

@@ -21,3 +21,4 @@ pub use image::Image;
 pub use laws::image_laws;
 pub use loops::{Loop, MAX_BOUND};
 pub use version::Version;
+pub use weight::times;

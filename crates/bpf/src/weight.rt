@@ -32,8 +32,8 @@ fn part(loops: &[Loop], slot: u16, insn: &Option<Insn>) -> u64
     }
 }
 
-/// The product of the bounds of the loops that hold the slot, or 2^64 - 1 where it is above.
-fn times(loops: &[Loop], slot: u16) -> u64
+/// How often a run passes the slot at most: the product of the bounds of the loops that hold it, or 2^64 - 1 where it is above.
+pub fn times(loops: &[Loop], slot: u16) -> u64
     ensures { result ≡ saturated_weight (times_at loops.now slot) }
 {
     let mut times = 1u64;

@@ -1,5 +1,6 @@
 -- What a fault says of the bytes that have it.
 use Rattle.std.proofs.Common.{◌≡◌, ◌≢◌, ℕ, zero, suc, ◌/◌, ◌%◌, ◌<◌, ℤ, pos, Bool, true, false, ◌&&◌, ◌||◌, not, List, Option, Some, None, Result, Ok, Err, refl, sym, ap, ◌∙◌, arith, nat_le, nat_eq, is_some, if◌then◌else◌, ◌⊎◌, inl, inr, IfErr, slice_index, subst}
+use Rattle.std.proofs.lemmas.Bool.{and_parts}
 use Rattle.std.proofs.lemmas.Bool.Decides.{nat_tests}
 use Rattle.std.specs.Option.{ok_or, option_map}
 use Rattle.bpf_parts.specs.declared.operation.Width.{Width}
@@ -184,11 +185,6 @@ abbrev pub all_below : ℕ → (ℕ → Bool) → Bool
 all_below zero p = true
 all_below (suc n) p = p n && all_below n p
 
-both : (a b : Bool) → (a && b) ≡ true → (a ≡ true) × (b ≡ true)
-both true true h = (refl, refl)
-both true false h = cc
-both false b h = cc
-
 one_of : (a b : Bool) → (a || b) ≡ true → (a ≡ true) ⊎ (b ≡ true)
 one_of true b h = inl refl
 one_of false b h = inr h
@@ -200,8 +196,8 @@ negated false h = refl
 all_below_at : (k : ℕ) (p : ℕ → Bool) (n : ℕ) → n < k → all_below k p ≡ true → p n ≡ true
 all_below_at zero p n h all = absurd (omega arith)
 all_below_at (suc k) p n h all =
-    let here : p k ≡ true = (both (p k) (all_below k p) all).0 in
-    by_test (nat_eq n k) refl here (λ below. all_below_at k p n below (both (p k) (all_below k p) all).1)
+    let here : p k ≡ true = (and_parts (p k) (all_below k p) all).0 in
+    by_test (nat_eq n k) refl here (λ below. all_below_at k p n below (and_parts (p k) (all_below k p) all).1)
   where
     by_test : (b : Bool) → nat_eq n k ≡ b → p k ≡ true → (n < k → p n ≡ true) → p n ≡ true
     by_test true e here below = let same : n ≡ k = grind (arith, nat_tests) in rw same here
@@ -265,7 +261,7 @@ known n d s o m g h = by_table (one_of _ _ (all_below_at 256 (settled d s o m g)
 
 unused_fault : (bytes : List ℕ) (next : Option (List ℕ)) (i : Insn) → opcode_of i ≡ slice_index bytes 0 → is_fine i (slice_index bytes 1 % 16) (slice_index bytes 1 / 16) (option_map fields_in next) ≡ true → ((spelled : Insn) → Spells bytes next spelled → ⊥) → IsFault bytes next faults.Unused
 unused_fault bytes next i same fine none =
-    let h = both _ _ fine in
+    let h = and_parts _ _ fine in
     (i, same, negated _ h.0, λ two. second (second_immediate i) two h.1, none)
   where
     second : (z : Option ℤ) → is_some z ≡ true → (not (is_some z) || is_some (option_map fields_in next)) ≡ true → is_some next ≡ true
@@ -278,8 +274,8 @@ no_next (Some x) h = cc
 
 half_fault : (bytes : List ℕ) (next : Option (List ℕ)) (i : Insn) → opcode_of i ≡ slice_index bytes 0 → explains i (slice_index bytes 1 % 16) (slice_index bytes 1 / 16) (option_map fields_in next) (Err faults.Half) ≡ true → IsFault bytes next faults.Half
 half_fault bytes next i same fits =
-    let h = both _ _ fits in
-    let k = both _ _ h.0 in
+    let h = and_parts _ _ fits in
+    let k = and_parts _ _ h.0 in
     (i, same, negated _ k.0, k.1, no_next next h.1)
 
 -- how a fault came from what the used fields mean

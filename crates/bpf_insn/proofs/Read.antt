@@ -1,5 +1,6 @@
 -- What is read from the bytes of a slot is an instruction that they spell.
-use Rattle.std.proofs.Common.{◌≡◌, ℕ, ◌^◌, ◌<◌, ◌≤◌, ℤ, pos, Bool, true, false, ◌&&◌, List, Option, Some, None, Result, Ok, Err, refl, sym, ap, ◌∙◌, arith, FitsSigned, IfSome, IfOk, if◌then◌else◌, nat_eq, nat_le}
+use Rattle.std.proofs.Common.{◌≡◌, ℕ, ◌^◌, ◌<◌, ◌≤◌, ℤ, pos, Bool, true, false, List, Option, Some, None, Result, Ok, Err, refl, sym, ap, ◌∙◌, arith, FitsSigned, IfSome, IfOk, if◌then◌else◌, nat_eq, nat_le}
+use Rattle.std.proofs.lemmas.Bool.{and_parts}
 use Rattle.std.proofs.lemmas.Bool.Decides.{nat_tests, Decides-int_eq}
 use Rattle.std.proofs.lemmas.Result.{IfOk-at_ok}
 use Rattle.std.proofs.Math.Facts.{Fits-of_lt, Fits-of_z, sfits_lit, sfits_to_z}
@@ -180,11 +181,6 @@ meant_is f next fits more =
 
 -- ---- and it has the bytes
 
-both : (a b : Bool) → (a && b) ≡ true → (a ≡ true) × (b ≡ true)
-both true true h = (refl, refl)
-both true false h = cc
-both false b h = cc
-
 numbers_same : (m n : ℕ) → nat_eq m n ≡ true → m ≡ n
 numbers_same m n h = grind (arith, nat_tests)
 
@@ -193,10 +189,10 @@ parts_same o o' d d' s s' a a' b b' p q r t u = cc
 
 fields_same : (f g : Fields) → same_fields f g ≡ true → f ≡ g
 fields_same f g h =
-    let a = both _ _ h in
-    let b = both _ _ a.0 in
-    let c = both _ _ b.0 in
-    let d = both _ _ c.0 in
+    let a = and_parts _ _ h in
+    let b = and_parts _ _ a.0 in
+    let c = and_parts _ _ b.0 in
+    let d = and_parts _ _ c.0 in
     parts_same f.opcode g.opcode f.dst g.dst f.src g.src f.offset g.offset f.immediate g.immediate
     (numbers_same _ _ d.0) (numbers_same _ _ d.1) (numbers_same _ _ c.1) ((Decides-int_eq f.offset g.offset).0 b.1) ((Decides-int_eq f.immediate g.immediate).0 a.1)
 
@@ -221,7 +217,7 @@ is_spelled bytes next i are after read =
     let f = fields_in bytes in
     let g = option_map fields_in next in
     let own = own_fields f g (meant_of f g) i read in
-    let tests = both (same_fields (first_fields i) f) (same_second (second_immediate i) g) own.1 in
+    let tests = and_parts (same_fields (first_fields i) f) (same_second (second_immediate i) g) own.1 in
     record {
       is_insn = IfOk-at_ok IsInsn own.0 (meant_is f g (numbers_fit bytes are) (next_fit next after)).is;
       first = sym (bytes_of-fields_in bytes are.0 are.1) ∙ ap bytes_of (sym (fields_same (first_fields i) f tests.0));

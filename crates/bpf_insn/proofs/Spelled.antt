@@ -1,5 +1,6 @@
 -- Between fields and bytes: what is read from bytes has them, and the bytes of an instruction are read as it.
 use Rattle.std.proofs.Common.{◌≡◌, ℕ, ℤ, pos, Bool, true, false, ◌&&◌, List, Option, Some, None, Result, Ok, Err, refl, sym, ap, ◌∙◌, arith, FitsSigned, IfSome, if◌then◌else◌, nat_eq, IfOk, lit<, subst}
+use Rattle.std.proofs.lemmas.Bool.{and_parts}
 use Rattle.std.proofs.lemmas.Bool.Decides.{nat_tests, Decides-int_eq}
 use Rattle.std.specs.Int.{w32}
 use Rattle.std.specs.Option.{option_map}
@@ -14,11 +15,6 @@ use Rattle.bpf_insn.proofs.SlotBytes.{fields_in-bytes_of}
 use Rattle.bpf_insn.proofs.Meant.{means}
 use Rattle.bpf_insn.proofs.Fit.{fields_fit, second_fits}
 use Rattle.std.proofs.Math.Facts.{sfits_lit}
-
-both : (a b : Bool) → (a && b) ≡ true → (a ≡ true) × (b ≡ true)
-both true true h = (refl, refl)
-both true false h = cc
-both false b h = cc
 
 ints_same : (x y : ℤ) → int_eq x y ≡ true → x ≡ y
 ints_same x y h = (Decides-int_eq x y).0 h
@@ -38,10 +34,10 @@ parts_same o o' d d' s s' a a' b b' p q r t u = cc
 -- fields that the derived `==` finds equal
 fields_same : (f g : Fields) → (nat_eq f.opcode g.opcode && (nat_eq f.dst g.dst && (nat_eq f.src g.src && (int_eq f.offset g.offset && int_eq f.immediate g.immediate)))) ≡ true → f ≡ g
 fields_same f g h =
-    let a = both _ _ h in
-    let b = both _ _ a.1 in
-    let c = both _ _ b.1 in
-    let d = both _ _ c.1 in
+    let a = and_parts _ _ h in
+    let b = and_parts _ _ a.1 in
+    let c = and_parts _ _ b.1 in
+    let d = and_parts _ _ c.1 in
     parts_same f.opcode g.opcode f.dst g.dst f.src g.src f.offset g.offset f.immediate g.immediate
     (numbers_same _ _ a.0) (numbers_same _ _ b.0) (numbers_same _ _ c.0) (ints_same _ _ d.0) (ints_same _ _ d.1)
 

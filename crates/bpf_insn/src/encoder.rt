@@ -149,13 +149,10 @@ fn jump_fields(comparison: Comparison, offset: i16) -> Fields
     ensures value { result ≡ first_fields (Insn.Jump comparison offset) }
     ensures registers { RegistersFit result }
 {
-    let Comparison {
-        condition,
-        width,
-        dst,
-        src,
-    } = comparison;
-    let opcode = width.jump_class() + src.source_bit() + condition.code() * 16;
+    let (dst, src) = (comparison.dst, comparison.src);
+    let opcode = comparison.width.jump_class()
+        + src.source_bit()
+        + comparison.condition.code() * 16;
     Fields::new(
         opcode,
         dst.number(),

@@ -1,7 +1,6 @@
-//! The calls that a run would have made. They exist in proofs alone: they have no bytes, and what is done with them does
-//! nothing.
+//! The calls of a run. They exist in proofs alone: they have no bytes, and what is done with them does nothing.
 
-ghost use Rattle.std.specs.Prelude.{◌≡◌, ◌++◌, ◌∷◌, List, []};
+ghost use Rattle.std.specs.Prelude.{◌≡◌, ◌++◌, ◌∷◌, List, [], drop, length};
 ghost use base.Fml.{ftrue};
 ghost use Rattle.machine.specs.declared.calls.Call.{Call};
 
@@ -10,7 +9,7 @@ use std::marker::Model;
 
 /// Calls, in order, for proofs.
 #[derive(Drop)]
-pub(crate) struct CallLog {
+pub struct CallLog {
     pub ghost calls: { List Call },
 }
 
@@ -31,5 +30,21 @@ impl CallLog {
         ensures { result.calls ≡ self.now.calls ++ _call.now ∷ [] }
     {
         CallLog {}
+    }
+
+    /// These calls, and those by which `_after` is longer than `_before`.
+    pub fn joined(&self, _before: &CallLog, _after: &CallLog) -> CallLog
+        ensures { result.calls
+            ≡ self.now.calls ++ drop (length _before.now.calls) _after.now.calls }
+    {
+        CallLog {}
+    }
+
+    /// The same.
+    pub fn again(&self) -> CallLog
+        ensures { result.calls ≡ self.now.calls }
+    {
+        let none = CallLog::none();
+        none.joined(&none, self)
     }
 }

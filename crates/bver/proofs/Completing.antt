@@ -37,7 +37,7 @@ use Rattle.bver.proofs.Ahead.{ahead, ahead_from, ahead_next}
 use Rattle.bver.proofs.Below.{IsRefusedBack, Order, StaysBelow, below_none, below_skip, below_wider, closed_next, comes_whole, head_in, here_covered, opened_in, visit_told}
 use Rattle.bver.proofs.Circles.{IsCircle, IsTurningIfAny, circle_next, circle_none, circle_skip, comes_none, comes_round, formed_in, widened_round}
 use Rattle.bver.proofs.Closing.{back_covered}
-use Rattle.bver_pass.proofs.Keeping.{to_head}
+use Rattle.bver_form.proofs.Entering.{to_head}
 use Rattle.bver.proofs.Rings.{IsBehind}
 use Rattle.bver.proofs.Rounds.{IsRound}
 use Rattle.bver.proofs.Slots.{has_next}

@@ -1,28 +1,20 @@
 -- Which slots have an entry in the table, and what is known there.
-use Rattle.std.proofs.Common.{◌≡◌, ◌≢◌, ℕ, ◌-◌, ◌<◌, inl, inr, ℤ, Option, None, Some, length, refl, sym, subst}
+use Rattle.std.proofs.Common.{◌≡◌, ◌≢◌, ℕ, ◌<◌, inl, inr, ℤ, Option, None, Some, length, refl, sym, subst}
 use Rattle.std.specs.Prelude.{IsSome}
 use Rattle.std.proofs.lemmas.Bool.{cases_lt, false≢true}
 use Rattle.std.proofs.lemmas.List.{get_or_past}
 use Rattle.bpf.specs.Program.{Program, IsProgram}
-use Rattle.bpf_insn.specs.declared.insn.Insn.{Insn}
 use Rattle.machine.specs.Step.{insn_at}
 use Rattle.absdom.specs.State.{StateValue}
-use Rattle.bver_form.specs.Jumps.{first_slot, jump_distance, target}
-use Rattle.bver_form.specs.Targets.{IsKept, landing_by, landing_from, place_at}
+use Rattle.bver_form.specs.Jumps.{first_slot, target}
+use Rattle.bver_form.specs.Targets.{IsKept, place_at}
 use Rattle.bver_pass.specs.Table.{TableValue, AreEntries, HasEntry, knowledge_in}
-use Rattle.bver.proofs.Visiting.{begins_first, lands_first}
-use Rattle.bver_pass.proofs.Keeping.{begins_inside}
+use Rattle.bver.proofs.Visiting.{begins_first}
+use Rattle.bver_form.proofs.Kept.{lands_first}
+use Rattle.bver_form.proofs.Kept.{begins_inside}
+use Rattle.bver_form.proofs.Kept.{jumps_first}
 
 -- ---- where jumps lead
-
--- a jump leads to where an instruction begins
-pub jumps_first : (p : Program) (from slot : ℕ) (o : Option Insn) → landing_from p from o ≡ Some slot → IsSome (insn_at p slot)
-jumps_first p from slot None is = absurd cc
-jumps_first p from slot (Some insn) is = by_distance (jump_distance insn) is
-  where
-    by_distance : (d : Option ℤ) → landing_by p from d ≡ Some slot → IsSome (insn_at p slot)
-    by_distance None is = absurd cc
-    by_distance (Some distance) is = lands_first p (target from distance) slot is
 
 pub lands_inside : (p : Program) (z : ℤ) (slot : ℕ) → first_slot p z ≡ Some slot → slot < length p.slots
 lands_inside p z slot is = begins_inside p slot (lands_first p z slot is)

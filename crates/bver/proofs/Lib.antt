@@ -20,3 +20,4 @@ pub mod Circles
 pub mod Closing
 pub mod Completing
 pub mod Bare
+pub mod Open

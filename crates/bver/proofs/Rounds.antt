@@ -1,6 +1,6 @@
 -- What is known in a loop says all that its head says of what the loop does not write. So an edge back to the head
 -- that lowers nothing is covered there.
-use Rattle.std.proofs.Common.{◌≡◌, ◌≢◌, ℕ, zero, suc, ◌-◌, Bool, true, false, List, [], ◌∷◌, Option, Some, ◌⊎◌, inl, inr, refl, sym, subst, arith}
+use Rattle.std.proofs.Common.{◌≡◌, ◌≢◌, ℕ, zero, suc, ◌-◌, Bool, true, false, List, [], ◌∷◌, Option, Some, ◌⊎◌, inl, inr, refl, sym, ap, subst, arith}
 use Rattle.std.specs.Prelude.{IsTrue, ◌==◌, if◌then◌else◌}
 use Rattle.std.proofs.lemmas.Bool.{false≢true}
 use Rattle.bpf.specs.declared.loops.Loop.{Loop}
@@ -18,6 +18,7 @@ use Rattle.absdom_stack.specs.StackWords.{AreAllWhole, AreRangesWithin}
 use Rattle.absdom.specs.State.{StateValue, IsBelow, IsWhole, IsProper, kind_at, kind_in}
 use Rattle.absdom.specs.Laws.{BelowIsTransitive, IsLeftBy}
 use Rattle.bver_form.specs.Loops.{holds}
+use Rattle.bver.specs.Told.{IsBelowBut}
 use Rattle.bver_pass.specs.Heads.{is_number}
 use Rattle.bver_pass.specs.Justified.{HasStore, IsHead, IsOpen, IsStoreAt, IsWrittenBy, IsWrittenIn}
 
@@ -65,7 +66,7 @@ unset_top (Num range) = tt
 unset_top (Ptr region offsets) = tt
 unset_top (Map index) = tt
 
-unfoldable padded : ℕ → AbsKind → List AbsKind
+unfoldable pub padded : ℕ → AbsKind → List AbsKind
 padded zero k = k ∷ []
 padded (suc r) k = Unset ∷ padded r k
 
@@ -86,7 +87,7 @@ padded_at zero k = refl
 padded_at (suc r) k = padded_at r k
 
 -- that kind of one register, and nothing else
-pub alone : ℕ → AbsKind → StateValue
+unfoldable pub alone : ℕ → AbsKind → StateValue
 alone r k = record { kinds = padded r k; marks = []; ranges = [] }
 
 pub below_alone : (a : StateValue) (r : ℕ) (k : AbsKind) → AreWords a.ranges → IsKindBelow (kind_at a r) k → IsBelow a (alone r k)
@@ -99,6 +100,30 @@ below_alone a r k words h = record { kinds = padded_above a.kinds r k h; marks =
 pub kind_alone : (a : StateValue) (r : ℕ) (k : AbsKind) → IsBelow a (alone r k) → IsKindBelow (kind_at a r) k
 unfolding alone
 kind_alone a r k h = subst (λ (j : AbsKind). IsKindBelow (kind_at a r) j) (padded_at r k) (h.kinds r)
+
+padded_but : (r : ℕ) (k : AbsKind) (q : ℕ) → q ≢ r → kind_in (padded r k) q ≡ Unset
+unfolding padded
+padded_but zero k zero other = absurd (other refl)
+padded_but zero k (suc q) other = refl
+padded_but (suc r) k zero other = refl
+padded_but (suc r) k (suc q) other = padded_but r k q (λ same. other (ap (λ n. suc n) same))
+
+pub kind_alone_at : (r : ℕ) (k : AbsKind) → kind_at (alone r k) r ≡ k
+unfolding alone
+kind_alone_at r k = padded_at r k
+
+pub kind_alone_but : (r : ℕ) (k : AbsKind) (q : ℕ) → q ≢ r → kind_at (alone r k) q ≡ Unset
+unfolding alone
+kind_alone_but r k q other = padded_but r k q other
+
+-- what covers every state but in one register
+pub but_alone : (a : StateValue) (r : ℕ) (k : AbsKind) → AreWords a.ranges → IsBelowBut r a (alone r k)
+unfolding alone
+but_alone a r k words = record {
+  kinds = λ q other. subst (λ (j : AbsKind). IsKindBelow (kind_at a q) j) (sym (padded_but r k q other)) (unset_top (kind_at a q));
+  marks = λ place is. absurd (false≢true is);
+  ranges = words;
+}
 
 pub kind_less : BelowIsTransitive → (j k l : AbsKind) → IsKindBelow j k → IsKindBelow k l → IsKindBelow j l
 kind_less transitive j k l g h =
@@ -115,7 +140,7 @@ kind_less transitive j k l g h =
         each (suc r) = tt
 
 -- those marks, and nothing else
-pub marked : List Bool → StateValue
+unfoldable pub marked : List Bool → StateValue
 marked marks = record { kinds = []; marks = marks; ranges = [] }
 
 pub below_marked : (a : StateValue) (marks : List Bool) → AreWords a.ranges → AreMarkedIn marks a.marks → IsBelow a (marked marks)

@@ -1,6 +1,6 @@
 -- From one visit to the next, and from the last to a program that is judged.
-use Rattle.std.proofs.Common.{◌≡◌, ◌≢◌, ℕ, zero, suc, ◌+◌, ◌<◌, ◌≤◌, inl, inr, ℤ, pos, negsuc, Bool, true, false, Option, None, Some, List, [], ◌∷◌, length, refl, sym, ap, subst, ◌∙◌, arith, below_more, get_or-set_same, get_or-set_other}
-use Rattle.std.specs.Prelude.{slice_index_or, slice_set, All, IfSome, IsSome, is_some, if◌then◌else◌}
+use Rattle.std.proofs.Common.{◌≡◌, ◌≢◌, ℕ, zero, suc, ◌+◌, ◌<◌, ◌≤◌, inl, inr, true, false, Option, None, Some, List, [], ◌∷◌, length, refl, sym, ap, subst, ◌∙◌, arith, below_more, get_or-set_same, get_or-set_other}
+use Rattle.std.specs.Prelude.{slice_index_or, slice_set, All, IfSome, IsSome}
 use Rattle.std.proofs.lemmas.Bool.{cases_lt, false≢true}
 use Rattle.std.proofs.lemmas.List.{get_or_past}
 use Rattle.bpf.specs.declared.loops.Loop.{Loop}
@@ -13,7 +13,6 @@ use Rattle.absdom.specs.State.{StateValue, IsEntry, IsWhole}
 use Rattle.absdom.specs.Laws.{BelowIsTransitive}
 use Rattle.absdom_stack.specs.Spill.{spill_of}
 use Rattle.bver_form.specs.Form.{IsFormed}
-use Rattle.bver_form.specs.Jumps.{first_slot}
 use Rattle.bver_pass.specs.Heads.{AreHeadsAt, IsDeclared}
 use Rattle.bver_pass.specs.Justified.{IsCovered, IsCoveredIfAny, IsEntered, IsHead, IsPermittedAt, IsJudged, region_at}
 use Rattle.bver_pass.specs.Visit.{AreWhole, IsGrown, IsPlaced, IsExtended, AreEntered, AreHeadsBefore, AreVisited, ArePermitted}
@@ -28,15 +27,6 @@ use Rattle.bver_pass.proofs.Covering.{covered_more}
 -- a table that grew after a slot grew from it on
 pub extended_before : (slot : ℕ) (old new : TableValue) → IsExtended (slot + 1) old new → IsExtended slot old new
 extended_before slot old new f = record { program = f.program; grown = f.grown; kept = λ k below. f.kept k (omega (arith, below)); whole = f.whole }
-
--- where a jump lands an instruction begins
-pub lands_first : (p : Program) (z : ℤ) (slot : ℕ) → first_slot p z ≡ Some slot → IsSome (insn_at p slot)
-lands_first p (pos k) slot is = by_begin (is_some (insn_at p k)) refl is
-  where
-    by_begin : (b : Bool) → is_some (insn_at p k) ≡ b → (if b then Some k else None) ≡ Some slot → IsSome (insn_at p slot)
-    by_begin true begins same = let here : k ≡ slot = cc in subst (λ (i : ℕ). IsSome (insn_at p i)) here begins
-    by_begin false begins same = absurd cc
-lands_first p (negsuc n) slot is = absurd cc
 
 -- ---- what is known, slot by slot
 

@@ -1,15 +1,16 @@
 -- What being justified is worth.
-use Rattle.std.specs.Prelude.{List, Option}
-use Rattle.bpf.specs.Program.{Program}
+use Rattle.std.specs.Prelude.{ℕ, List, Option}
+use Rattle.bpf.specs.Program.{IsProgram, Program}
 use Rattle.machine.specs.declared.regions.Region.{Region}
 use Rattle.machine.specs.Sizes.{Maps}
 use Rattle.machine.specs.Runs.{IsSafe}
 use Rattle.absdom.specs.State.{StateValue}
+use Rattle.bver_form.specs.Form.{IsFormed}
 use Rattle.bver_form.specs.declared.refusal.Refused.{Refused}
 use Rattle.bver_pass.specs.Justified.{IsJustified, IsJudged}
 use Rattle.bver.specs.Costs.{IsSafeForCosts}
 use Rattle.bver.specs.Resolved.{IsResolved}
-use Rattle.bver.specs.Told.{TellsKnown}
+use Rattle.bver.specs.Told.{IsClosed, TellsKnown}
 
 -- a justified program is safe: no run of it traps, and each ends within the budget
 abbrev pub JustifiedIsSafe : Type 0
@@ -30,3 +31,9 @@ abbrev pub ToldIsUnjustified : Type 0
 ToldIsUnjustified =
     (program : Program) (maps : Maps) (a : StateValue) (refused : Refused) → TellsKnown program maps a refused
     → IsJustified program maps → ⊥
+
+-- of a program that has its form something is closed: so what has to be assumed of it says something
+abbrev pub SomethingIsClosed : Type 0
+SomethingIsClosed =
+    (program : Program) → IsProgram program → IsFormed program
+    → (comes : ℕ → Option StateValue) × (stands : ℕ → Option StateValue) × IsClosed program comes stands

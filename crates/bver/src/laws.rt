@@ -1,10 +1,10 @@
 //! What being justified is worth. Each function does nothing: its contract is the law.
 
-ghost use Rattle.bver.specs.Laws.{JudgedIsResolved, JustifiedIsSafe, JustifiedIsSafeForCosts, ToldIsUnjustified};
+ghost use Rattle.bver.specs.Laws.{JudgedIsResolved, JustifiedIsSafe, JustifiedIsSafeForCosts, SomethingIsClosed, ToldIsUnjustified};
 
 use absdom::{
-    after_call_fits, after_call_grows, apply_fits, apply_grows, entry_fits, forgets_all,
-    order_of_states, refine_fits, refine_grows,
+    after_call_fits, after_call_grows, apply_fits, apply_grows, apply_leaves, entry_fits,
+    forgets_all, order_of_states, refine_fits, refine_grows, refine_shrinks,
 };
 use bver_form::loops_are_counted;
 use machine::{steps_leave, steps_perform};
@@ -35,4 +35,14 @@ pub(crate) fn told_programs()
     refine_grows();
     after_call_grows();
     forgets_all();
+}
+
+/// A law and no work: of a program that has its form something is closed. So what is told of a refusal (`TellsKnown`) has to be
+/// assumed of something.
+pub fn something_is_closed()
+    ensures { SomethingIsClosed }
+{
+    order_of_states();
+    apply_leaves();
+    refine_shrinks();
 }

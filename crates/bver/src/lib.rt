@@ -14,5 +14,5 @@ pub use absdom::{Region, State};
 pub use accepted::{Accepted, explain, verify};
 pub use bver_form::{Refusal, Refused};
 pub use bver_op::{Accessed, Code, Op};
-pub use laws::justified_programs;
+pub use laws::{justified_programs, something_is_closed};
 pub use machine::{MapSizes, TooMany};

@@ -9,7 +9,8 @@ use Rattle.bver_form.specs.Form.{IsFormed}
 use Rattle.bver_form.specs.Loops.{IsCounted, IsEdge, IsNestedOrApart, executions_left, holds}
 use Rattle.bver_form.specs.Laws.{BeginsWithinWeight, EachStepTakesItsCost, ItsCostIsLeft, LoopsAreEntered, WeightIsOfOnes}
 use Rattle.bver_form.proofs.Fitting.{each_loop, loop_at}
-use Rattle.bver_form.proofs.Left.{AreLaid, by_test, head_all, left_ahead, left_before, left_out, left_within, further_else, rounds, tail_all, times_in, times_out}
+use Rattle.bver_form.proofs.Left.{AreLaid, head_all, left_ahead, left_before, left_out, left_within, further_else, rounds, tail_all, times_in, times_out}
+use Rattle.lemmas.proofs.Cases.{by_test}
 use Rattle.bver_form.proofs.Steps.{goes_back, goes_onward}
 use Rattle.bver_form.proofs.Sums.{ones, sum_here, sum_takes, sum_weighs}
 use Rattle.bver_form.proofs.Entering.{comes_in, goes_back_to}

@@ -1,11 +1,11 @@
 -- Who comes into a declared loop, and where a jump backward leads.
-use Rattle.std.proofs.Common.{◌≡◌, inl, inr, ℕ, zero, suc, ◌+◌, ◌-◌, ◌<◌, ◌≤◌, ℤ, pos, negsuc, Bool, true, false, Option, None, Some, List, [], ◌∷◌, refl, sym, subst, ap, ◌∙◌, arith}
-use Rattle.std.specs.Prelude.{IfSome, IsSome, is_some, slice_index_or, ◌+ℤ◌, ◌==◌, ◌&&◌}
+use Rattle.std.proofs.Common.{◌≡◌, inl, inr, ℕ, suc, ◌+◌, ◌-◌, ◌<◌, ◌≤◌, ℤ, pos, negsuc, true, false, Option, None, Some, List, [], ◌∷◌, refl, sym, subst, ap, ◌∙◌, arith}
+use Rattle.std.specs.Prelude.{IfSome, IsSome, is_some, ◌+ℤ◌, ◌==◌, ◌&&◌}
 use Rattle.std.specs.List.{list_any}
 use Rattle.std.proofs.lemmas.Bool.{cases_eq, cases_Bool, true≢false, and_parts, eqb-true}
 use Rattle.std.proofs.lemmas.Int.{ints}
 use Rattle.bpf.specs.declared.loops.Loop.{Loop}
-use Rattle.bpf.specs.Program.{Program, AreSlots, IsProgram, insn_at}
+use Rattle.bpf.specs.Program.{Program, IsProgram, insn_at}
 use Rattle.bpf_insn.specs.Flow.{flow_of}
 use Rattle.bpf_insn.specs.Spelling.{second_immediate, slots_in}
 use Rattle.bpf_insn.specs.declared.flow.Flow.{Flow}
@@ -16,25 +16,7 @@ use Rattle.bver_form.specs.Jumps.{IsAfter, IsBackToHead, IsFirstSlot, IsJump, fl
 use Rattle.bver_form.specs.Loops.{ComesIn, EntersAtHead, GoesTo, IsEdge, IsLoopFormed, back_jump, step_down}
 use Rattle.bver_form.proofs.Left.{low, high, outside}
 use Rattle.bver_form.proofs.Steps.{IsBackOf}
-
--- ---- second slots
-
--- the second slot of an instruction has none
-hidden_head : (xs : List (Option Insn)) → AreSlots true xs → slice_index_or xs 0 None ≡ None
-hidden_head [] h = refl
-hidden_head (None ∷ xs) h = refl
-hidden_head (Some x ∷ xs) h = absurd h
-
-hidden : (second : Bool) (xs : List (Option Insn)) (k : ℕ) (insn : Insn) → AreSlots second xs → slice_index_or xs k None ≡ Some insn → is_some (second_immediate insn) ≡ true → slice_index_or xs (suc k) None ≡ None
-hidden second [] k insn h is two = refl
-hidden true (None ∷ xs) zero insn h is two = absurd cc
-hidden true (None ∷ xs) (suc k) insn h is two = hidden false xs k insn h is two
-hidden true (Some x ∷ xs) k insn h is two = absurd h
-hidden false (None ∷ xs) k insn h is two = absurd h
-hidden false (Some x ∷ xs) zero insn h is two =
-    let same : x ≡ insn = cc in
-    hidden_head xs (subst (λ (b : Bool). AreSlots b xs) (ap (λ (i : Insn). is_some (second_immediate i)) same ∙ two) h.1)
-hidden false (Some x ∷ xs) (suc k) insn h is two = hidden (is_some (second_immediate x)) xs k insn h.1 is two
+use Rattle.bpf.proofs.SecondSlots.{hidden}
 
 -- no instruction begins at the second slot of another
 begins_apart : (p : Program) (k other : ℕ) (insn : Insn) → IsProgram p → insn_at p k ≡ Some insn → is_some (second_immediate insn) ≡ true → other ≡ suc k → IsSome (insn_at p other) → ⊥
@@ -64,7 +46,7 @@ way p slot next edge = way_of edge.insn slot next (flow_of edge.insn) refl edge.
 -- ---- a declared loop
 
 -- a back jump leads to the head
-to_head : (head back : ℕ) → head ≤ back → pos (back + 1) +ℤ negsuc (back - head) ≡ pos head
+pub to_head : (head back : ℕ) → head ≤ back → pos (back + 1) +ℤ negsuc (back - head) ≡ pos head
 to_head head back ordered = omega (arith, ints)
 
 -- so an instruction begins at the head, and none of two slots steps over it

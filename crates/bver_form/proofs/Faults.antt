@@ -26,7 +26,7 @@ use Rattle.bver_form.specs.Form.{AreAllowed, IsAllowed, IsAllowedAt, IsFaultAt, 
 use Rattle.bver_form.specs.Laws.{FaultIsKnown, FaultRefutesForm, FirstFaultIsOne}
 use Rattle.bver_form.proofs.Fitting.{loop_at}
 use Rattle.bver_form.proofs.Kept.{begins_inside}
-use Rattle.bver_form.proofs.Left.{by_eq}
+use Rattle.lemmas.proofs.Cases.{by_eq}
 
 -- ---- what may stand at its slot has no fault there
 

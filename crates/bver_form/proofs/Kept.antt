@@ -13,7 +13,7 @@ use Rattle.bver_form.specs.Targets.{AreKept, IsKept, IsMarked, IsNumbered, IsNum
 -- ---- where jumps lead
 
 -- where a jump lands an instruction begins
-lands_first : (p : Program) (z : ℤ) (slot : ℕ) → first_slot p z ≡ Some slot → IsSome (insn_at p slot)
+pub lands_first : (p : Program) (z : ℤ) (slot : ℕ) → first_slot p z ≡ Some slot → IsSome (insn_at p slot)
 lands_first p (pos k) slot is = by_begin (is_some (insn_at p k)) refl is
   where
     by_begin : (b : Bool) → is_some (insn_at p k) ≡ b → (if b then Some k else None) ≡ Some slot → IsSome (insn_at p slot)

@@ -1,25 +1,11 @@
 -- How much is left, for one instruction: what a step takes from it.
-use Rattle.std.proofs.Common.{◌≡◌, ◌≢◌, ◌⊎◌, inl, inr, ℕ, zero, suc, ◌+◌, ◌-◌, ◌*◌, ◌<◌, ◌≤◌, Bool, true, false, List, [], ◌∷◌, refl, sym, subst, ◌∙◌, arith}
-use Rattle.std.specs.Prelude.{All, nat_le, nat_lt, ◌==◌, if◌then◌else◌}
-use Rattle.std.proofs.lemmas.Bool.{cases_lt, and_parts, and_from, leb-true, leb-false, ltb-true, ltb-false, eqb-true, eqb-false, true≢false}
+use Rattle.std.proofs.Common.{◌≡◌, ◌≢◌, ◌⊎◌, inl, inr, ℕ, zero, suc, ◌+◌, ◌-◌, ◌*◌, ◌<◌, ◌≤◌, true, false, List, [], ◌∷◌, refl, sym, subst, ◌∙◌, arith}
+use Rattle.std.specs.Prelude.{All, nat_le, nat_lt, if◌then◌else◌}
+use Rattle.std.proofs.lemmas.Bool.{cases_lt, and_parts, and_from, leb-true, true≢false}
 use Rattle.bpf.specs.declared.loops.Loop.{Loop}
 use Rattle.bpf.specs.Weight.{times_at}
 use Rattle.bver_form.specs.Loops.{further_passes, holds, executions_left}
-
--- ---- tests with what they tell
-
-pub by_test : (P : Bool → Type 0) (t : Bool) → (t ≡ true → P true) → (t ≡ false → P false) → P t
-by_test P true f g = f refl
-by_test P false f g = g refl
-
-pub by_lt : (P : Bool → Type 0) (x y : ℕ) → (x < y → P true) → (y ≤ x → P false) → P (nat_lt x y)
-by_lt P x y f g = by_test P (nat_lt x y) (λ e. f (ltb-true x y e)) (λ e. g (ltb-false x y e))
-
-pub by_le : (P : Bool → Type 0) (x y : ℕ) → (x ≤ y → P true) → (y < x → P false) → P (nat_le x y)
-by_le P x y f g = by_test P (nat_le x y) (λ e. f (leb-true x y e)) (λ e. g (leb-false x y e))
-
-pub by_eq : (P : Bool → Type 0) (x y : ℕ) → (x ≡ y → P true) → ((x ≡ y → ⊥) → P false) → P (x == y)
-by_eq P x y f g = by_test P (x == y) (λ e. f (eqb-true x y e)) (λ e. g (eqb-false x y e))
+use Rattle.lemmas.proofs.Cases.{by_test, by_lt, by_le, by_eq}
 
 -- ---- a loop and a slot
 

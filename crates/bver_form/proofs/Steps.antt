@@ -5,7 +5,8 @@ use Rattle.std.proofs.lemmas.Bool.{cases_eq, true≢false}
 use Rattle.bpf.specs.declared.loops.Loop.{Loop}
 use Rattle.bpf.specs.Weight.{times_at}
 use Rattle.bver_form.specs.Loops.{ComesIn, IsCounted, further_passes, holds, executions_left}
-use Rattle.bver_form.proofs.Left.{by_test, by_le, low, high, held, not_before, before, within, behind, place, outside, left_out, left_before, left_behind, left_within, further_back, further_else, more_times, rounds, tail_all, head_all, AreLaid, left_ahead, left_here}
+use Rattle.bver_form.proofs.Left.{low, high, held, not_before, before, within, behind, place, outside, left_out, left_before, left_behind, left_within, further_back, further_else, more_times, rounds, tail_all, head_all, AreLaid, left_ahead, left_here}
+use Rattle.lemmas.proofs.Cases.{by_test, by_le}
 
 -- one is taken from the instruction at the slot, and nothing has to be from the others
 abbrev pub IsTaken : (i k e : ℕ) → Type 0

@@ -16,7 +16,7 @@ use Rattle.bver_form.specs.Loops.{LeavesCounterAt, holds}
 
 -- ---- bits
 
-from_eqb : (m n : ℕ) → eqb m n ≡ true → m ≡ n
+pub from_eqb : (m n : ℕ) → eqb m n ≡ true → m ≡ n
 from_eqb m n same = grind (arith, nat_tests, same)
 
 -- no register is among those of 0

@@ -1,9 +1,8 @@
 -- Which slots have an entry in the table, and what is known there.
-use Rattle.std.proofs.Common.{◌≡◌, ◌≢◌, ℕ, ◌+◌, ◌-◌, ◌<◌, ◌≤◌, inl, inr, ℤ, pos, negsuc, ◌+ℤ◌, Bool, Option, None, Some, List, length, refl, sym, ap, subst, ◌∙◌, arith, get_or-set_same, get_or-set_other}
+use Rattle.std.proofs.Common.{◌≡◌, ◌≢◌, ℕ, ◌-◌, ◌<◌, ◌≤◌, inl, inr, ℤ, pos, negsuc, Bool, Option, None, Some, List, length, refl, sym, ap, subst, ◌∙◌, arith, get_or-set_same, get_or-set_other}
 use Rattle.std.specs.Prelude.{slice_index_or, slice_set, All, IfSome, IsSome}
-use Rattle.std.proofs.lemmas.Bool.{cases_eq, cases_lt, false≢true}
+use Rattle.std.proofs.lemmas.Bool.{cases_eq, cases_lt}
 use Rattle.std.proofs.lemmas.Bool.Decides.{nat_tests}
-use Rattle.std.proofs.lemmas.Int.{ints}
 use Rattle.std.proofs.lemmas.List.{get_or_default, get_or_past}
 use Rattle.std.proofs.Math.ListN.{length-set}
 use Rattle.bpf.specs.declared.loops.Loop.{Loop}
@@ -21,20 +20,13 @@ use Rattle.bver_pass.specs.Visit.{AreWhole}
 use Rattle.absdom.specs.Laws.{BelowIsReflexive}
 use Rattle.bver_pass.proofs.Covering.{covers_itself}
 use Rattle.bver_pass.proofs.Loops.{loop_in}
+use Rattle.bver_form.proofs.Entering.{to_head}
 
 -- ---- where jumps lead
 
 -- where a jump leads is kept
 pub kept_by : (p : Program) (from landing : ℕ) (z : ℤ) → landing_from p from (insn_at p from) ≡ first_slot p z → first_slot p z ≡ Some landing → IsKept p landing
 kept_by p from landing z leads is = inr (record { from = from; jumps = leads ∙ is })
-
--- an instruction begins inside the code
-pub begins_inside : (p : Program) (slot : ℕ) → IsSome (insn_at p slot) → slot < length p.slots
-begins_inside p slot some =
-    elim (cases_lt slot (length p.slots)) [
-      | inl below ↦ below
-      | inr past ↦ absurd (false≢true (subst (λ (o : Option Insn). IsSome o) (get_or_past p.slots slot None past) some))
-    ]
 
 -- ---- the entries
 
@@ -149,10 +141,6 @@ pub known_plain : (t : TableValue) (slot : ℕ) → AreEntries t → (IsKept t.p
 known_plain t slot h plain = known_nowhere t slot (λ has. plain (h.only slot has))
 
 -- ---- heads
-
--- a back jump leads to the head
-pub to_head : (head back : ℕ) → head ≤ back → pos (back + 1) +ℤ negsuc (back - head) ≡ pos head
-to_head head back ordered = omega (arith, ints)
 
 pub head_kept : (p : Program) (l : Loop) → IsFormed p → IsLoopFormed p l → l.head ≤ l.back → IsKept p l.head
 head_kept p l form formed ordered =

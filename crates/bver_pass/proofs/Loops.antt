@@ -1,5 +1,5 @@
 -- Where a declared loop lies, and which slots it holds.
-use Rattle.std.proofs.Common.{◌≡◌, ℕ, zero, suc, ◌+◌, ◌<◌, ◌≤◌, true, List, [], ◌∷◌, length, arith, eqb}
+use Rattle.std.proofs.Common.{◌≡◌, ℕ, zero, suc, ◌+◌, ◌<◌, ◌≤◌, true, List, [], ◌∷◌, length, arith}
 use Rattle.std.specs.Prelude.{IsTrue, slice_index_or}
 use Rattle.std.proofs.lemmas.Bool.Decides.{nat_tests}
 use Rattle.bpf.specs.declared.loops.Loop.{Loop}
@@ -13,9 +13,6 @@ loop_in slots least (l ∷ ls) zero d h below = (h.0, h.1)
 loop_in slots least (l ∷ ls) (suc k) d h below =
     let rest = loop_in slots (l.head + 1) ls k d h.2 (omega arith) in
     (omega (arith, h.0, rest.0), rest.1)
-
-pub from_eqb : (m n : ℕ) → eqb m n ≡ true → m ≡ n
-from_eqb m n same = grind (arith, nat_tests, same)
 
 pub inside_of : (l : Loop) (k : ℕ) → IsTrue (holds l k) → (l.head ≤ k) × (k ≤ l.back)
 inside_of l k inside = grind (arith, nat_tests, inside)

@@ -2,14 +2,8 @@
 use Rattle.absdom.specs.declared.cause.Cause.{Cause}
 use Rattle.absdom.specs.declared.cause.Cause.TheVariants as causes
 use Rattle.bver_form.specs.declared.refusal.Refusal.{Refusal}
-use Rattle.bver_form.specs.declared.refusal.Refusal.TheVariants.{
-  Unset,
-  KindMismatch,
-  OutOfRegion,
-  UnsetStack,
-  HeaderWrite,
-  PointerRange,
-}
+use Rattle.bver_form.specs.declared.refusal.Refusal.TheVariants.{Unset, KindMismatch, OutOfRegion, UnsetStack}
+use Rattle.bver_form.specs.declared.refusal.Refusal.TheVariants.{HeaderWrite, PointerRange}
 
 -- the refusal for the cause by which a state refuses an instruction
 abbrev pub refusal_of : Cause → Refusal

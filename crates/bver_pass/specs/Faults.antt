@@ -1,35 +1,10 @@
 -- Why an instruction is refused with what is known at its slot: the first of its tests that fails, in the order of its
 -- operands (a choice of this project).
-use Rattle.std.specs.Prelude.{
-  ◌≡◌,
-  ℕ,
-  nat_lt,
-  if◌then◌else◌,
-  Option,
-  Some,
-  None,
-  Result,
-  Ok,
-  Err,
-  MatchResult,
-  slice_index,
-}
+use Rattle.std.specs.Prelude.{◌≡◌, ℕ, nat_lt, if◌then◌else◌, Option, Some, None, Result, Ok, Err, MatchResult}
+use Rattle.std.specs.Prelude.{slice_index}
 use Rattle.bpf_insn.specs.declared.insn.Insn.{Insn}
-use Rattle.bpf_insn.specs.declared.insn.Insn.TheVariants.{
-  Alu,
-  Negate,
-  MoveSigned,
-  ByteSwap,
-  Load,
-  Store,
-  Jump,
-  Goto,
-  Wide,
-  LoadMap,
-  LoadAddress,
-  Call,
-  Exit,
-}
+use Rattle.bpf_insn.specs.declared.insn.Insn.TheVariants.{Alu, Negate, MoveSigned, ByteSwap, Load, Store, Jump}
+use Rattle.bpf_insn.specs.declared.insn.Insn.TheVariants.{Goto, Wide, LoadMap, LoadAddress, Call, Exit}
 use Rattle.machine.specs.Sizes.{Maps, kind_of_map}
 use Rattle.machine.specs.Step.{is_map}
 use Rattle.machine.specs.declared.helpers.Helper.{Helper}

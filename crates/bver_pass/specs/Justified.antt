@@ -1,46 +1,13 @@
 -- When a program may judge (a choice of this project, since RFC 9669 leaves verification to the
 -- implementation): it has its form, and there is a table of what is known at its slots under which no
 -- instruction can go wrong.
-use Rattle.std.specs.Prelude.{
-  ◌≡◌,
-  ◌≢◌,
-  ◌<◌,
-  ℕ,
-  ◌+◌,
-  ℤ,
-  pos,
-  negsuc,
-  List,
-  Option,
-  Some,
-  None,
-  Result,
-  Ok,
-  Err,
-  IsTrue,
-  IfSome,
-  All,
-  slice_index,
-  slice_index_or,
-}
+use Rattle.std.specs.Prelude.{◌≡◌, ◌≢◌, ◌<◌, ℕ, ◌+◌, ℤ, pos, negsuc, List, Option, Some, None, Result, Ok, Err}
+use Rattle.std.specs.Prelude.{IsTrue, IfSome, All, slice_index, slice_index_or}
 use Rattle.bpf.specs.declared.loops.Loop.{Loop}
 use Rattle.bpf.specs.Program.{Program, IsProgram}
 use Rattle.bpf_insn.specs.declared.insn.Insn.{Insn}
-use Rattle.bpf_insn.specs.declared.insn.Insn.TheVariants.{
-  Alu,
-  Negate,
-  MoveSigned,
-  ByteSwap,
-  Load,
-  Store,
-  Jump,
-  Goto,
-  Wide,
-  LoadMap,
-  LoadAddress,
-  Call,
-  Exit,
-}
+use Rattle.bpf_insn.specs.declared.insn.Insn.TheVariants.{Alu, Negate, MoveSigned, ByteSwap, Load, Store, Jump}
+use Rattle.bpf_insn.specs.declared.insn.Insn.TheVariants.{Goto, Wide, LoadMap, LoadAddress, Call, Exit}
 use Rattle.bpf_insn.specs.Flow.{accessed_base, is_written}
 use Rattle.bpf_parts.specs.Operands.{distance_of}
 use Rattle.bpf_parts.specs.declared.operation.Width.TheVariants.{Bits64}

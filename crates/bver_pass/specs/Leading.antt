@@ -1,41 +1,11 @@
 -- Where an instruction leads, with what is known at its slot, and why its visit is refused.
-use Rattle.std.specs.Prelude.{
-  ◌≡◌,
-  ◌≢◌,
-  ℕ,
-  ◌+◌,
-  Bool,
-  List,
-  Option,
-  Some,
-  None,
-  Result,
-  Ok,
-  Err,
-  All,
-  IfSome,
-  ◌≤◌,
-  ◌⊎◌,
-  IsTrue,
-}
+use Rattle.std.specs.Prelude.{◌≡◌, ◌≢◌, ℕ, ◌+◌, Bool, List, Option, Some, None, Result, Ok, Err, All, IfSome, ◌≤◌}
+use Rattle.std.specs.Prelude.{◌⊎◌, IsTrue}
 use Rattle.bpf.specs.declared.loops.Loop.{Loop}
 use Rattle.bpf.specs.Program.{Program}
 use Rattle.bpf_insn.specs.declared.insn.Insn.{Insn}
-use Rattle.bpf_insn.specs.declared.insn.Insn.TheVariants.{
-  Alu,
-  Negate,
-  MoveSigned,
-  ByteSwap,
-  Load,
-  Store,
-  Jump,
-  Goto,
-  Wide,
-  LoadMap,
-  LoadAddress,
-  Call,
-  Exit,
-}
+use Rattle.bpf_insn.specs.declared.insn.Insn.TheVariants.{Alu, Negate, MoveSigned, ByteSwap, Load, Store, Jump}
+use Rattle.bpf_insn.specs.declared.insn.Insn.TheVariants.{Goto, Wide, LoadMap, LoadAddress, Call, Exit}
 use Rattle.bpf_insn.specs.Spelling.{slots_of}
 use Rattle.bpf_parts.specs.Operands.{distance_of}
 use Rattle.absdom.specs.declared.cause.Cause.{Cause}

@@ -1,20 +1,6 @@
 -- The verifier's table: what is known at slot 0 and at the slots to which the program jumps, and nowhere else.
-use Rattle.std.specs.Prelude.{
-  ◌≡◌,
-  ◌<◌,
-  ℕ,
-  Bool,
-  ◌&&◌,
-  ◌==◌,
-  nat_lt,
-  if◌then◌else◌,
-  List,
-  length,
-  slice_index_or,
-  Option,
-  Some,
-  None,
-}
+use Rattle.std.specs.Prelude.{◌≡◌, ◌<◌, ℕ, Bool, ◌&&◌, ◌==◌, nat_lt, if◌then◌else◌, List, length, slice_index_or}
+use Rattle.std.specs.Prelude.{Option, Some, None}
 use Rattle.bpf.specs.Program.{Program}
 use Rattle.absdom.specs.State.{StateValue}
 use Rattle.bver_form.specs.Targets.{IsKept, NumbersSlot, place_at}

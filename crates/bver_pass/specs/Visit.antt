@@ -1,24 +1,6 @@
 -- How the verifier's table grows while it passes over the slots.
-use Rattle.std.specs.Prelude.{
-  All,
-  ◌≡◌,
-  ◌<◌,
-  ℕ,
-  ◌+◌,
-  ℤ,
-  Bool,
-  if◌then◌else◌,
-  List,
-  length,
-  slice_index_or,
-  Option,
-  Some,
-  None,
-  IsSome,
-  IsTrue,
-  IfSome,
-  Result,
-}
+use Rattle.std.specs.Prelude.{All, ◌≡◌, ◌<◌, ℕ, ◌+◌, ℤ, Bool, if◌then◌else◌, List, length, slice_index_or, Option}
+use Rattle.std.specs.Prelude.{Some, None, IsSome, IsTrue, IfSome, Result}
 use Rattle.bpf.specs.declared.header.TheConstants.{MAX_SLOTS}
 use Rattle.bpf.specs.Program.{Program}
 use Rattle.bpf_insn.specs.declared.insn.Insn.{Insn}
@@ -34,16 +16,8 @@ use Rattle.absdom.specs.Edges.{Edges}
 use Rattle.absdom.specs.State.{StateValue, IsBelow, IsWhole}
 use Rattle.absdom_stack.specs.Spill.{spill_of}
 use Rattle.bver_form.specs.Jumps.{first_slot, target}
-use Rattle.bver_pass.specs.Justified.{
-  AreEdgesCovered,
-  IsHead,
-  IsCovered,
-  IsCoveredIfAny,
-  IsEntered,
-  IsPermittedAt,
-  region_at,
-  knowledge_at,
-}
+use Rattle.bver_pass.specs.Justified.{AreEdgesCovered, IsHead, IsCovered, IsCoveredIfAny, IsEntered, IsPermittedAt}
+use Rattle.bver_pass.specs.Justified.{region_at, knowledge_at}
 use Rattle.bver_pass.specs.Heads.{AreHeadsAt}
 use Rattle.bver_pass.specs.Table.{TableValue, knowledge_beside, knowledge_in, knowledge_next}
 use Rattle.bver_form.specs.Targets.{IsPlain, landing_from}

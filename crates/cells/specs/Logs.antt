@@ -1,29 +1,6 @@
 -- What seats log: the answers of `count`, of `ticket` and of `peak`, and what each was told.
-use Rattle.std.specs.Prelude.{
-  ℕ,
-  suc,
-  ◌+◌,
-  ◌-◌,
-  ◌≤◌,
-  ◌≡◌,
-  ◌==◌,
-  ◌&&◌,
-  ◌<◌,
-  All,
-  Bool,
-  true,
-  false,
-  List,
-  [],
-  ◌∷◌,
-  map,
-  filter,
-  sum,
-  take,
-  count_by,
-  cond,
-  nat_lt,
-}
+use Rattle.std.specs.Prelude.{ℕ, suc, ◌+◌, ◌-◌, ◌≤◌, ◌≡◌, ◌==◌, ◌&&◌, ◌<◌, All, Bool, true, false, List, [], ◌∷◌}
+use Rattle.std.specs.Prelude.{map, filter, sum, take, count_by, cond, nat_lt}
 use Rattle.machine.specs.Sizes.{Maps, kind_of_map}
 use Rattle.machine.specs.declared.calls.Call.{Call}
 use Rattle.machine.specs.declared.helpers.Helper.{Helper}

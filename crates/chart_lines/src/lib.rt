@@ -6,11 +6,6 @@
 
 mod boxes;
 mod drawing;
-mod edges;
-mod fields;
-mod groups;
-mod labels;
 mod parts;
-mod tiles;
 
 pub use drawing::{comparison_of, map_of};

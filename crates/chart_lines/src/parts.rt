@@ -1,8 +1,64 @@
-//! Parts of a chart.
+//! What is told of a point, and parts of a chart.
 
-use crate::labels::Label;
-use charts::Line;
-use regions::{Kinds, Point, Region};
+ghost use Rattle.std.specs.Prelude.{◌≡◌, false};
+ghost use Rattle.charts.specs.Points.{AreAlike};
+
+use charts::{alike, holds_at};
+use policy_table::Rule;
+use regions::{Point, Region};
+
+/// What is told of a point: the rules that the tables ask there, a bit for each by its place; or nothing.
+#[derive(Clone, Copy, Debug, PartialEq, Eq)]
+pub(crate) struct Label {
+    /// Whether something is told.
+    pub(crate) told: bool,
+    old: u64,
+    new: u64,
+}
+
+/// Two tables, and whether each point is told, or those at which they differ.
+#[derive(Clone, Copy)]
+pub(crate) struct Tables<'a> {
+    pub(crate) old: &'a [Rule],
+    pub(crate) new: &'a [Rule],
+    pub(crate) all: bool,
+}
+
+/// The rules that a table asks at a point, up to the first without quota: a bit for each by its place.
+fn asked_bits(rules: &[Rule], point: &Point) -> u64 {
+    let mut bits = 0;
+    let mut bit = 1;
+    for rule in rules {
+        if holds_at(rule, point) {
+            bits |= bit;
+            if rule.quota.is_none() {
+                return bits;
+            }
+        }
+        bit <<= 1;
+    }
+    bits
+}
+
+impl Tables<'_> {
+    /// What is told of a point.
+    pub(crate) fn label(&self, point: &Point) -> Label
+        ensures { result.told ≡ false → AreAlike self.now.old.now self.now.new.now point.now }
+    {
+        if !self.all && alike(self.old, self.new, point) {
+            return Label {
+                told: false,
+                old: 0,
+                new: 0,
+            };
+        }
+        Label {
+            told: true,
+            old: asked_bits(self.old, point),
+            new: asked_bits(self.new, point),
+        }
+    }
+}
 
 /// What is told of some points.
 #[derive(Clone, Copy, Debug)]
@@ -15,65 +71,4 @@ pub(crate) struct Part {
     pub(crate) label: Label,
     /// One of them.
     pub(crate) point: Point,
-}
-
-impl Part {
-    /// Whether the other part tells the same of the same points.
-    fn is(&self, other: &Part) -> bool {
-        self.region == other.region && self.rest == other.rest && self.label == other.label
-    }
-
-    /// The line of the part.
-    pub(crate) fn line(&self) -> Line {
-        Line {
-            region: self.region,
-            rest: self.rest,
-            point: self.point,
-        }
-    }
-}
-
-/// Whether parts tell the same of the same points, in the same order.
-pub(crate) fn are_same(ones: &[Part], others: &[Part]) -> bool {
-    if ones.len() != others.len() {
-        return false;
-    }
-    for (one, other) in ones.iter().zip(others) {
-        if !one.is(other) {
-            return false;
-        }
-    }
-    true
-}
-
-/// The points whose fields but for addresses are each one of either set.
-pub(crate) fn joined(one: &Region, other: &Region) -> Region {
-    Region {
-        kinds: Kinds {
-            read: one.kinds.read || other.kinds.read,
-            write: one.kinds.write || other.kinds.write,
-            rmw: one.kinds.rmw || other.kinds.rmw,
-        },
-        keys: one.keys.with(&other.keys),
-        initiators: one.initiators.with(&other.initiators),
-        extended: one.extended.with(&other.extended),
-        first: one.first,
-        last: one.last,
-    }
-}
-
-/// The points whose fields but for addresses are each one of both sets.
-pub(crate) fn narrowed(one: &Region, other: &Region) -> Region {
-    Region {
-        kinds: Kinds {
-            read: one.kinds.read && other.kinds.read,
-            write: one.kinds.write && other.kinds.write,
-            rmw: one.kinds.rmw && other.kinds.rmw,
-        },
-        keys: one.keys.both(&other.keys),
-        initiators: one.initiators.both(&other.initiators),
-        extended: one.extended.both(&other.extended),
-        first: one.first,
-        last: one.last,
-    }
 }

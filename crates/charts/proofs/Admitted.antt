@@ -3,6 +3,7 @@ use Rattle.std.proofs.Common.{◌⊎◌, inl, inr, ◌≡◌, ◌≤◌, ◌<◌
 use Rattle.std.specs.Prelude.{All, if◌then◌else◌, is_none, nat_le, nat_lt, option_map, slice_get}
 use Rattle.std.proofs.lemmas.Bool.Decides.{nat_tests}
 use Rattle.std.proofs.lemmas.Option.{get_or_from_slice_get, slice_get_within}
+use Rattle.std.proofs.lemmas.Bool.{and_parts}
 use Rattle.machine.specs.Memory.{header}
 use Rattle.rmap.specs.declared.boot.TheConstants.{BOOT_WINDOW, CONTROL_SIZE, LOAD_REGISTER, LOAD_RESULT_SIZE, STAGING_SIZE}
 use Rattle.rmap.specs.declared.checks.TheConstants.{MAX_DATA, VERIFY_BUFFER}
@@ -17,10 +18,6 @@ use Rattle.rmap.specs.Instruction.{is_used}
 use Rattle.rmap.specs.Windows.{WindowsValue, bank_place, boot_place, is_register, is_staged, lies_inside, place_of, load_register_of}
 use Rattle.charts.specs.Same.{MayBeJudged}
 use Rattle.charts.specs.Judged.{EndsInTime, HasBytesAlone, NodesDecideAlike}
-
-both_parts : (s t : Bool) → (s && t) ≡ true → (s ≡ true) × (t ≡ true)
-both_parts true t e = (refl, e)
-both_parts false t e = absurd (cc)
 
 negated : (t : Bool) → not t ≡ false → t ≡ true
 negated true e = refl
@@ -46,8 +43,8 @@ within_end false n end e h = absurd (cc)
 
 inside : (base size : ℕ) (c : CommandValue) → base + size ≤ 2 ^ 32 → lies_inside base size c ≡ true → LiesInTime c
 inside base size c ends e =
-    let parts = both_parts (nat_le base (address_of c) && nat_lt (address_of c) (base + size)) (not (increments c) || nat_le (address_of c + length_of c) (base + size)) e in
-    let below = both_parts (nat_le base (address_of c)) (nat_lt (address_of c) (base + size)) parts.0 in
+    let parts = and_parts (nat_le base (address_of c) && nat_lt (address_of c) (base + size)) (not (increments c) || nat_le (address_of c + length_of c) (base + size)) e in
+    let below = and_parts (nat_le base (address_of c)) (nat_lt (address_of c) (base + size)) parts.0 in
     let lt : address_of c < base + size = less (address_of c) (base + size) below.1 in
     (omega arith, λ h. omega (arith, within_end (increments c) (address_of c + length_of c) (base + size) parts.1 h))
   where
@@ -56,8 +53,8 @@ inside base size c ends e =
 
 at_register : (size : ℕ) (c : CommandValue) → size ≤ 4096 → is_register size c ≡ true → LiesInTime c
 at_register size c few e =
-    let parts = both_parts (address_of c == LOAD_REGISTER && length_of c == size) (increments c) e in
-    let fields = both_parts (address_of c == LOAD_REGISTER) (length_of c == size) parts.0 in
+    let parts = and_parts (address_of c == LOAD_REGISTER && length_of c == size) (increments c) e in
+    let fields = and_parts (address_of c == LOAD_REGISTER) (length_of c == size) parts.0 in
     let a : address_of c ≡ LOAD_REGISTER = equal (address_of c) LOAD_REGISTER fields.0 in
     let n : length_of c ≡ size = equal (length_of c) size fields.1 in
     (omega (arith, a), λ h. omega (arith, a, n))
@@ -76,7 +73,7 @@ in_register Rmw c e = absurd (cc)
 in_register Unused c e = absurd (cc)
 
 in_boot : (t : Bool) (c : CommandValue) (place : Place) → is_staged c ≡ t → is_none (if t then Some place else load_register_of (command_kind c) c) ≡ false → LiesInTime c
-in_boot true c place s e = inside 0 STAGING_SIZE c (omega arith) (both_parts (is_used (command_kind c)) (lies_inside 0 STAGING_SIZE c) s).1
+in_boot true c place s e = inside 0 STAGING_SIZE c (omega arith) (and_parts (is_used (command_kind c)) (lies_inside 0 STAGING_SIZE c) s).1
 in_boot false c place s e = in_register (command_kind c) c e
 
 in_bank : (t : Bool) (base size : ℕ) (c : CommandValue) (place : Place) → base + size ≤ 2 ^ 32 → lies_inside base size c ≡ t → is_none (if t then Some place else None) ≡ false → LiesInTime c
@@ -97,7 +94,7 @@ or_case : (s t : Bool) → (s || t) ≡ true → (s ≡ true) ⊎ (t ≡ true)
 or_case true t e = inl refl
 or_case false t e = inr e
 
-same_number : (a b : ℕ) → (a == b) ≡ true → a ≡ b
+pub same_number : (a b : ℕ) → (a == b) ≡ true → a ≡ b
 same_number a b e = grind (arith, nat_tests)
 
 rmw_at : (d e : ℕ) → d ≡ e → is_rmw_distance e ≡ true → is_rmw_distance d ≡ true

@@ -4,6 +4,7 @@ use Rattle.std.specs.Prelude.{All, MatchBool, MatchOption, if◌then◌else◌, 
 use Rattle.std.proofs.lemmas.Bool.Decides.{nat_tests}
 use Rattle.std.proofs.lemmas.List.{append-nil}
 use Rattle.std.proofs.lemmas.List.Elements.{All-head, All-tail}
+use Rattle.std.proofs.lemmas.Bool.{and_parts}
 use Rattle.machine.specs.declared.calls.Call.{Call}
 use Rattle.rmap.specs.Verdict.{verdict_number}
 use Rattle.policy_table.specs.Limits.{IsLimited}
@@ -21,10 +22,6 @@ use Rattle.charts.proofs.RuleShapes.{alike_of}
 use Rattle.charts.proofs.Sameness.{HoldsAlike, same_decision}
 
 -- ---- one rule and those behind it
-
-both_parts : (s t : Bool) → (s && t) ≡ true → (s ≡ true) × (t ≡ true)
-both_parts true t e = (refl, e)
-both_parts false t e = absurd (cc)
 
 -- the least tickets behind a rule, where it holds
 abbrev IsLeastNext : (t : Bool) → Option Quota → (least next : ℕ → ℕ → ℕ) → Type 0
@@ -45,13 +42,13 @@ run_by t quota code rest told = if t then ruled quota code told (rest (λ k. tol
 abbrev decider_by : (t : Bool) → Option Quota → (n : ℕ) → (rest : (ℕ → ℕ) → Option ℕ) → (ℕ → ℕ) → Option ℕ
 decider_by t quota n rest told = if t then by_quota quota n told (rest (λ k. told (suc k))) else rest told
 
-is_below : (a b : ℕ) → nat_lt a b ≡ true → a < b
+pub is_below : (a b : ℕ) → nat_lt a b ≡ true → a < b
 is_below a b h = grind (arith, nat_tests)
 
-is_not_below : (a b : ℕ) → nat_lt a b ≡ false → b ≤ a
+pub is_not_below : (a b : ℕ) → nat_lt a b ≡ false → b ≤ a
 is_not_below a b h = grind (arith, nat_tests)
 
-not_below : (a b : ℕ) → b ≤ a → nat_lt a b ≡ false
+pub not_below : (a b : ℕ) → b ≤ a → nat_lt a b ≡ false
 not_below a b h = grind (arith, nat_tests)
 
 -- ---- the rule may decide
@@ -124,7 +121,7 @@ decides_so zero passed (rule ∷ rules) p n bound limits high below few e =
     let own = here (holds_at rule p) rule.quota passed n (verdict_number rule.verdict) (decision_at rules p) (decider_from (suc n) rules p) (All-head HasLimit rule rules limits) e in
     record { told = own.told; words = own.words; run_told = own.run_told; decides = own.decides ∙ ap Some (omega arith) }
 decides_so (suc places) passed (rule ∷ rules) p n bound limits high below few e =
-    let parts = both_parts (not (holds_at rule p) || lets_pass rule.quota) (may_decide (passed ++ held p (rule ∷ [])) places rules p) e in
+    let parts = and_parts (not (holds_at rule p) || lets_pass rule.quota) (may_decide (passed ++ held p (rule ∷ [])) places rules p) e in
     let limited : HasLimit rule = All-head HasLimit rule rules limits in
     let more = decides_so places (passed ++ held p (rule ∷ [])) rules p (suc n) (suc bound) (All-tail HasLimit rule rules limits) (omega (arith, high))
     (bound_next (holds_at rule p) rule.quota (least_from 0 passed) _ bound (least_next_of passed rule p) limited high below) (omega (arith, few)) parts.1 in

@@ -3,6 +3,7 @@ use Rattle.std.proofs.Common.{◌≡◌, ◌≤◌, ◌<◌, ◌+◌, ◌^◌, �
 use Rattle.std.specs.Prelude.{if◌then◌else◌, nat_lt}
 use Rattle.std.proofs.lemmas.Bool.Decides.{nat_tests}
 use Rattle.std.proofs.lemmas.List.Elements.{All-cons, All-head, All-nil, All-tail}
+use Rattle.std.proofs.lemmas.Bool.{and_parts}
 use Rattle.machine.specs.declared.calls.Call.{Call}
 use Rattle.rmap.specs.Verdict.{verdict_number}
 use Rattle.policy_table.specs.Meaning.{AreWords, draw, ruled}
@@ -13,10 +14,6 @@ use Rattle.charts.specs.Tickets.{AreTickets, AreTicketsFrom, IsBelow, IsFrom, Ti
 
 pub none_told : (least : ℕ → ℕ → ℕ) → AreTicketsFrom least []
 none_told least = record { from = All-nil (IsFrom least); tickets = tt }
-
-pub and_parts : (s t : Bool) → (s && t) ≡ true → (s ≡ true) × (t ≡ true)
-and_parts true t e = (refl, e)
-and_parts false t e = absurd (cc)
 
 pub same_number : (a b : ℕ) → (a == b) ≡ true → a ≡ b
 same_number a b e = grind (arith, nat_tests)
@@ -168,7 +165,7 @@ bound_after least q t bound le below map cell = by_cell (is_of q map cell)
     by_cell false = omega (arith, below map cell)
 
 -- one of two decisions
-abbrev either : Bool → (one other : List Call × ℕ) → List Call × ℕ
+abbrev pub either : Bool → (one other : List Call × ℕ) → List Call × ℕ
 either t one other = if t then one else other
 
 module _ (least : ℕ → ℕ → ℕ) (quota : Quota) (code : ℕ) (told : ℕ → ℕ) (rest : List Call × ℕ) where

@@ -1,7 +1,7 @@
 -- The test whether two courses are the same is exact.
 use Rattle.std.proofs.Common.{◌≡◌, ◌≤◌, ◌<◌, ◌+◌, ◌^◌, ◌⊎◌, ◌==◌, inl, inr, ℕ, suc, max, get_or, take, drop, drop-cons, add-one, Bool, true, false, ◌&&◌, ◌||◌, List, [], ◌∷◌, ◌++◌, length, Option, Some, None, refl, ap, sym, ◌∙◌, subst, arith}
 use Rattle.std.specs.Prelude.{All, MatchBool, if◌then◌else◌, nat_le, nat_lt}
-use Rattle.std.proofs.lemmas.Bool.{le-ltb, lt-ltb}
+use Rattle.std.proofs.lemmas.Bool.{le-ltb, lt-ltb, and_parts}
 use Rattle.std.proofs.lemmas.Bool.Decides.{nat_tests}
 use Rattle.std.proofs.lemmas.List.{append-nil, take_more}
 use Rattle.std.proofs.lemmas.List.Elements.{All-cons, All-head, All-tail}
@@ -16,7 +16,7 @@ use Rattle.charts.specs.Points.{AreAlike, decision_at, holds_at}
 use Rattle.regions.specs.declared.points.Point.{Point}
 use Rattle.policy_table.specs.declared.rules.Quota.{Quota}
 use Rattle.policy_table.specs.declared.rules.Rule.{Rule}
-use Rattle.charts.proofs.Least.{ahead, ahead_told, ahead_words, and_parts, both_above, both_below, cell_of, drawn_first, drawn_rest, drawn_told, from_start, least_next, none_told, rising, rising_is, rising_told, rising_words, same_number, weaker}
+use Rattle.charts.proofs.Least.{ahead, ahead_told, ahead_words, both_above, both_below, cell_of, drawn_first, drawn_rest, drawn_told, from_start, least_next, none_told, rising, rising_is, rising_told, rising_words, same_number, weaker}
 
 -- it ends so, it matches with this draw, it goes on behind this draw
 abbrev ends : ℕ → List Call × ℕ

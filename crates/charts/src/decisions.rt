@@ -4,24 +4,12 @@ ghost use Rattle.std.specs.Prelude.{◌≡◌, ◌≤◌, [], MatchBool, MatchOp
 ghost use Rattle.charts.specs.Alike.{DifferWithinLimits, IsNext, alike_behind, alike_said, held, same_steps, stop, stops_with};
 ghost use Rattle.charts.specs.Points.{AreAlike, holds_at};
 ghost use Rattle.charts.specs.Tickets.{is_of, least_of};
-ghost use Rattle.policy_table.specs.Meaning.{agrees, has_kind};
+ghost use Rattle.policy_table.specs.Meaning.{agrees};
 
 use crate::leasts::{is_of_one_cell, least_ticket};
-use policy_table::{Quota, Rule, RuleKind};
+use policy_table::{Quota, Rule, has_kind};
 use regions::Point;
-use rmap::{Kind, Verdict};
-
-/// Whether a rule's kind agrees with what a command asks for.
-pub fn has_kind(wanted: RuleKind, kind: Kind) -> bool
-    ensures { result ≡ has_kind wanted kind }
-{
-    match wanted {
-        RuleKind::Any => true,
-        RuleKind::Read => kind == Kind::Read,
-        RuleKind::Write => kind == Kind::Write,
-        RuleKind::Rmw => kind == Kind::Rmw,
-    }
-}
+use rmap::Verdict;
 
 /// Whether a field agrees with a byte.
 pub fn agrees(wanted: Option<u8>, byte: u8) -> bool

@@ -19,7 +19,7 @@ mod told;
 mod walks;
 
 pub use comparisons::first_difference;
-pub use decisions::{alike, has_kind, holds_at};
+pub use decisions::{alike, holds_at};
 pub use laws::{
     charts_are_read, courses, differences_have_headers, nodes_decide_alike, tickets_follow,
 };

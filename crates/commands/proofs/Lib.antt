@@ -2,4 +2,4 @@ mod Apart
 mod Matching
 mod Placing
 mod ShownLines
-mod Stopping
+pub mod Stopping

@@ -1,5 +1,5 @@
 -- The command line of rmapctl, as clap reads it, and what its matches name: a job over files, or a talk.
-use Rattle.std.specs.Prelude.{◌≡◌, ◌≢◌, ◌⊎◌, List, [], Option, Some, None, true, false, codes, string_bytes}
+use Rattle.std.specs.Prelude.{◌≡◌, ◌≢◌, ◌⊎◌, List, [], Option, Some, None, true, false, codes, string_bytes, Bool, not, ◌||◌}
 use Rattle.clap.specs.Walk.{Row, Text, first_of}
 use Rattle.clap.specs.Simple.{App, Shape, new_app, on_top, with_subcommand, subcommand_of}
 use Rattle.clap.specs.Faults.{fault_of}
@@ -30,26 +30,9 @@ use Rattle.job_weigh.specs.WeighJob.{weigh_app, NamesWeigh, SpoilsWeigh}
 use Rattle.commands.specs.declared.asked.Asked.{Asked}
 use Rattle.commands.specs.declared.asked.Asked.TheVariants.{Named, Told}
 use Rattle.commands.specs.declared.jobs.Job.{Job}
-use Rattle.commands.specs.declared.jobs.Job.TheVariants.{
-  Assemble,
-  Disassemble,
-  Verify,
-  Judge,
-  Policy,
-  Serve,
-  Simulate,
-  Explain,
-  Why,
-  Weigh,
-  Node,
-  Packet,
-  Show,
-  Decide,
-  Trace,
-  Compare,
-  Map,
-  Rehearse,
-}
+use Rattle.commands.specs.declared.jobs.Job.TheVariants.{Judge, Serve, Simulate, Trace, Assemble, Disassemble}
+use Rattle.commands.specs.declared.jobs.Job.TheVariants.{Verify, Policy, Explain, Why, Weigh, Node, Packet, Show}
+use Rattle.commands.specs.declared.jobs.Job.TheVariants.{Decide, Compare, Map, Rehearse}
 use Rattle.commands.specs.OnNodes.{are_left, own_file, with_node}
 use Rattle.commands.specs.Words.{name_of}
 use Rattle.commands.specs.declared.word.Word.{Word}
@@ -227,3 +210,9 @@ NamesNone words (Parse text) = ¬ AreTaken words
 abbrev pub AsksFor : List Text → Asked → Type 0
 AsksFor words (Named work) = NamesWork words work
 AsksFor words (Told text) = Unit {0}
+
+-- the words ask for a work that waits for standard input: a talk in lines, or any work if no word was given
+abbrev pub waits : Asked → (without_words : Bool) → Bool
+waits (Named (Live words)) without_words = not words.frames || without_words
+waits (Named (Once job)) without_words = without_words
+waits (Told text) without_words = false

@@ -1,27 +1,13 @@
 -- What is noted of the files that a job reads.
-use Rattle.std.specs.Prelude.{Bool, false}
+use Rattle.std.specs.Prelude.{Bool, false, ℕ, ◌+◌}
+use Rattle.job_parts.specs.declared.inputs.Content.{Content}
+use Rattle.job_parts.specs.declared.inputs.Content.TheVariants as content
 use Rattle.commands.specs.declared.jobs.Job.{Job}
-use Rattle.commands.specs.declared.jobs.Job.TheVariants.{
-  Assemble,
-  Disassemble,
-  Verify,
-  Judge,
-  Policy,
-  Serve,
-  Simulate,
-  Explain,
-  Why,
-  Weigh,
-  Node,
-  Packet,
-  Show,
-  Decide,
-  Trace,
-  Compare,
-  Map,
-  Rehearse,
-}
+use Rattle.commands.specs.declared.jobs.Job.TheVariants.{Judge, Serve, Simulate, Trace, Assemble, Disassemble}
+use Rattle.commands.specs.declared.jobs.Job.TheVariants.{Verify, Policy, Explain, Why, Weigh, Node, Packet, Show}
+use Rattle.commands.specs.declared.jobs.Job.TheVariants.{Decide, Compare, Map, Rehearse}
 use Rattle.commands.specs.declared.noted.Noted.{Noted}
+use Rattle.commands.specs.declared.noted.TheConstants.{MAX_TEXT}
 
 -- whether the lines that the job reads are those of a dump, which are read as its packet lines
 abbrev pub is_dump : Job → Bool
@@ -47,3 +33,13 @@ is_dump (Rehearse words) = false
 -- whether the lines that are read next are those of a dump
 abbrev pub reads_dump : Noted → Bool
 reads_dump noted = noted.is_dump
+
+-- how many bytes are read of a file that has to be that: one that has as many is too long, or has enough
+abbrev pub most_of : Content → ℕ
+most_of content.Lines = 18446744073709551615
+most_of content.Text = MAX_TEXT + 1
+most_of content.Table = MAX_TEXT + 1
+most_of content.ImageOrText = MAX_TEXT + 1
+most_of content.Node = MAX_TEXT + 1
+most_of content.Image = 8192
+most_of (content.Bytes enough) = enough

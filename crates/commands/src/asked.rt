@@ -1,10 +1,9 @@
 //! What the words of a command line ask for: a work, or a text.
 
-ghost use Rattle.std.specs.Prelude.{IfOk};
+ghost use Rattle.std.specs.Prelude.{◌≡◌, IfOk, is_some};
 ghost use Rattle.clap.specs.Walk.{texts};
-ghost use Rattle.commands.specs.CommandLine.{AsksFor};
+ghost use Rattle.commands.specs.CommandLine.{AsksFor, waits};
 
-use crate::slips::help;
 use crate::usage::{command_line, words};
 use crate::work::Work;
 use clap::error::ErrorKind;
@@ -52,6 +51,26 @@ fn text_asked(alloc: Global, given: &[&str], text: String) -> Result<Asked, Usag
     }
 }
 
+/// The text of `--help` for these words: of all commands, or of the one that they name. What `clap` refuses of them is
+/// `Parse`.
+fn help(alloc: Global, words: &[&str]) -> Result<String, UsageFault> {
+    let mut asking = Vec::from_slice(alloc, words)?;
+    asking.push("--help")?;
+    match command_line(alloc)?.try_get_matches_from(asking.as_slice()) {
+        Ok(_) => Err(UsageFault::BadOption),
+        Err(refusal) => {
+            let Ok(text) = refusal.to_string(alloc) else {
+                return Err(UsageFault::Memory);
+            };
+            if refusal.kind() == ErrorKind::DisplayHelp {
+                Ok(text)
+            } else {
+                Err(UsageFault::Parse(text))
+            }
+        }
+    }
+}
+
 /// What the words of a command line ask for, without the program's own name: `help` and `help WORD` for the text of
 /// `--help`.
 ///
@@ -72,7 +91,9 @@ pub fn asked_of(alloc: Global, given: &[&str]) -> Result<Asked, UsageFault>
 
 /// What is told of what words ask for before it waits for standard input, where that is a terminal: of a talk, and where no word
 /// was given.
-pub fn told_wait(asked: &Asked, without_words: bool) -> Option<&'static str> {
+pub fn told_wait(asked: &Asked, without_words: bool) -> Option<&'static str>
+    ensures { is_some result ≡ waits asked.now without_words }
+{
     match asked {
         Asked::Named(Work::Live(words)) if !words.frames => Some(LIVE_WAITS),
         Asked::Named(_) if without_words => Some(JUDGE_WAITS),

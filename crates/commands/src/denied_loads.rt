@@ -28,7 +28,7 @@ fn changes_judge(words: &PacketWords) -> bool {
 /// # Errors
 ///
 /// Where memory was refused.
-pub fn told_denied(
+pub fn advice(
     alloc: Global,
     words: &PacketWords,
     image: &[u8],

@@ -1,6 +1,6 @@
 //! Lines of a dump: each has the bytes of a packet alone, without port and marker.
 
-ghost use Rattle.std.specs.Prelude.{⊤};
+ghost use Rattle.std.specs.Prelude.{◌≡◌, ⊤};
 
 use job_live::talk::Talk;
 use job_parts::storage::Cannot;
@@ -37,7 +37,10 @@ pub struct DumpTalk<T: Drop> {
 
 impl<T: Talk + Drop> DumpTalk<T> {
     /// The talk, whose lines are those of a dump or are told as they are.
-    pub fn new(alloc: Global, talk: T, is_dump: bool) -> DumpTalk<T> {
+    pub fn new(alloc: Global, talk: T, is_dump: bool) -> DumpTalk<T>
+        ensures talk { result.talk ≡ talk }
+        ensures dump { result.is_dump ≡ is_dump }
+    {
         DumpTalk {
             talk,
             is_dump,
@@ -46,7 +49,9 @@ impl<T: Talk + Drop> DumpTalk<T> {
     }
 
     /// The talk alone.
-    pub fn into_talk(self) -> T {
+    pub fn into_talk(self) -> T
+        ensures { result ≡ self.talk }
+    {
         self.talk
     }
 }

@@ -1,12 +1,11 @@
 //! What is told on standard error of a job that ended, after what it printed.
 
-use crate::denied_loads::told_denied;
-use crate::hints::told_fault;
 use crate::jobs::{Job, JobEnd};
 use crate::line_paths::LinePaths;
 use crate::noted::{Cause, Noted};
-use crate::shut_doors::{told_loaders, told_shut};
-use crate::slips::{told_misuse, told_output};
+use crate::shut_doors::{self, told_loaders};
+use crate::slips::{self, told_output};
+use crate::{denied_loads, hints};
 use job_codes::forms::form_line;
 use job_config::sources::NodeSource;
 use job_packets::orders::Order;
@@ -57,7 +56,7 @@ fn add_bad_line(
     let code = bad.number();
     let told = match (job, bad) {
         (Job::Simulate(_), BadLine::Line(LineFault::BadMarker)) => WHOLE_MARKER,
-        _ => bad.told(),
+        _ => bad.title(),
     };
     write!(text, "    line {number} fault {code}: {told}\n")
 }
@@ -85,7 +84,10 @@ fn add_failed(
         Some(Fault::BadNode { place, .. }) => add_place(text, place.as_str()),
         Some(Fault::BadImage(_)) => add_form(text, alloc, noted.last()),
         Some(Fault::BadText(_) | Fault::BadTable(_)) | None => match noted.text() {
-            Some(read) => text.push_str(told_fault(alloc, job, read, noted.is_on_node())?.as_str()),
+            Some(read) => {
+                let more = hints::advice(alloc, job, read, noted.is_on_node())?;
+                text.push_str(more.as_str())
+            }
             None => Ok(()),
         },
         Some(Fault::Refused(_) | Fault::NoMemory) => Ok(()),
@@ -138,7 +140,7 @@ fn add_load(
 ) -> Result<(), AllocError> {
     add_form(text, alloc, image)?;
     match image {
-        Some(image) => text.push_str(told_denied(alloc, words, image)?),
+        Some(image) => text.push_str(denied_loads::advice(alloc, words, image)?),
         None => Ok(()),
     }
 }
@@ -156,7 +158,7 @@ fn add_done(
             add_load(text, alloc, words, noted.last())
         }
         (Job::Policy(words), Some(table)) if !words.is_final => {
-            text.push_str(told_shut(alloc, table)?)
+            text.push_str(shut_doors::advice(alloc, table)?)
         }
         (Job::Map(_), Some(table)) => text.push_str(told_loaders(alloc, table)?.as_str()),
         _ => Ok(()),
@@ -179,7 +181,7 @@ pub fn told_end(
     let mut text = String::new(alloc);
     match end.status {
         Status::Done => add_done(&mut text, alloc, job, noted)?,
-        Status::Misused => text.push_str(told_misuse(job))?,
+        Status::Misused => text.push_str(slips::advice(job))?,
         Status::Failed => add_failed(&mut text, alloc, job, &end.fault, noted)?,
     }
     if let Some(lines) = noted.lines() {

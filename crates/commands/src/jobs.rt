@@ -97,7 +97,7 @@ impl Job {
             Job::Compare(words) => words.inputs(),
             Job::Map(words) => words.inputs(),
             Job::Rehearse(words) => words.inputs(),
-            Job::Explain(_) => Inputs::none(),
+            Job::Explain(_) => Inputs::of(None, None),
         }
     }
 }

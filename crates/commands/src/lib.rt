@@ -5,7 +5,6 @@ mod asked;
 mod denied_loads;
 mod dumps;
 mod ends;
-mod further_faults;
 mod hints;
 mod jobs;
 mod line_paths;

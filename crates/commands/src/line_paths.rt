@@ -1,7 +1,9 @@
 //! The paths that stand before the packets of lines.
 
+ghost use Rattle.std.specs.Prelude.{◌≡◌};
+
 use initiator::Seen;
-use job_parts::paths::{add_path, path_in_front};
+use job_show::paths::{add_path, path_in_front};
 use rmap::Flaw;
 use spw::{Packet, first_word, read_part};
 use std::alloc::{AllocError, Global};
@@ -39,7 +41,10 @@ fn path_before(packet: &Packet) -> &[u8] {
 
 impl LinePaths {
     /// No line came yet.
-    pub fn new() -> LinePaths {
+    pub fn new() -> LinePaths
+        ensures number { result.number ≡ 0 }
+        ensures held { result.held ≡ 0 }
+    {
         LinePaths { number: 0, held: 0 }
     }
 

@@ -1,12 +1,14 @@
 //! Jobs for the node of a file, which says what their options would say of a node.
 
-ghost use Rattle.std.specs.Prelude.{◌≡◌, IfOk, false, is_none, option_map, true};
+ghost use Rattle.std.specs.Prelude.{◌≡◌, IfOk, None, Some, false, is_none, option_map, string_bytes, true};
 ghost use Rattle.clap.specs.Matches.{found_of};
 ghost use Rattle.clap.specs.Simple.{app_of};
 ghost use Rattle.clap.specs.Walk.{rows_of};
 ghost use Rattle.clap.specs.declared.builder.command.Command.TheViews.{out-Command as fields_of};
 ghost use Rattle.commands.specs.OnNodes.{are_left, own_file, placed, takes_file, with_node};
 ghost use Rattle.job_config.specs.Configured.{numbers_in};
+ghost use Rattle.job_parts.specs.Inputs.{AreInputs, input, input_value};
+ghost use Rattle.job_parts.specs.declared.inputs.Content.TheVariants.{Node};
 ghost use Rattle.node_parts.specs.Nodes.{are_within, windows_of};
 
 use crate::jobs::Job;
@@ -19,7 +21,7 @@ use job_decide::decide::DecideWords;
 use job_packets::packet::PacketWords;
 use job_packets::packet_options::HeaderWords;
 use job_parts::arguments::text_of;
-use job_parts::inputs::{Content, InputFile, Inputs};
+use job_parts::inputs::{Content, Inputs};
 use job_texts::images::ImageArgs;
 use job_texts::policies::PolicyWords;
 use job_weigh::weigh::WeighWords;
@@ -37,7 +39,10 @@ pub struct NodeJob {
 
 impl NodeJob {
     /// What is read first of all that is read, and what is written: the node's file, the first file of the job, and its OUT.
-    pub fn inputs(&self) -> Inputs<'_> {
+    pub fn inputs(&self) -> Inputs<'_>
+        ensures { option_map input_value result.first
+            ≡ Some (input (string_bytes self.now.node) Node) }
+    {
         let own = self.job.inputs();
         Inputs {
             first: node_inputs(self.node.as_str()).first,
@@ -48,8 +53,10 @@ impl NodeJob {
 }
 
 /// What is read of the node's file of this name: it alone, and none of the files that it names.
-pub fn node_inputs(node: &str) -> Inputs<'_> {
-    Inputs::one(InputFile::new(node, Content::Node))
+pub fn node_inputs(node: &str) -> Inputs<'_>
+    ensures { AreInputs (Some (input node.now Node)) None None result }
+{
+    Inputs::one(node, Content::Node)
 }
 
 /// The subcommand with the option `--node`.

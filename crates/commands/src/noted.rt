@@ -1,7 +1,7 @@
 //! What is noted of the files that a job reads: why one could not be read or written, and what was read last.
 
-ghost use Rattle.std.specs.Prelude.{◌≡◌, IfOk, false};
-ghost use Rattle.commands.specs.Notes.{is_dump, reads_dump};
+ghost use Rattle.std.specs.Prelude.{◌≡◌, IfOk, IfSome, Some, false, option_copied, option_map, string_bytes};
+ghost use Rattle.commands.specs.Notes.{is_dump, most_of, reads_dump};
 
 use crate::dumps::dump_lines;
 use crate::jobs::Job;
@@ -46,12 +46,14 @@ pub struct Noted<'a> {
 }
 
 /// Whether bytes begin as those of an image do.
-pub fn is_image(bytes: &[u8]) -> bool {
+fn is_image(bytes: &[u8]) -> bool {
     bytes.starts_with(MAGIC)
 }
 
 /// How many bytes are read of a file at most: one that has more is longer than its content may be.
-pub fn most_of(content: Content) -> u64 {
+pub fn most_of(content: Content) -> u64
+    ensures { result ≡ most_of content }
+{
     match content {
         Content::Lines => u64::MAX,
         Content::Text | Content::Table | Content::ImageOrText | Content::Node => MAX_TEXT + 1,
@@ -139,27 +141,39 @@ impl<'a> Noted<'a> {
     }
 
     /// Whether a node's file says the maps of the job.
-    pub fn is_on_node(&self) -> bool {
+    pub fn is_on_node(&self) -> bool
+        ensures { result ≡ self.now.is_on_node }
+    {
         self.is_on_node
     }
 
     /// Why the last file could not be read or written, if it could not.
-    pub fn cause(&self) -> Option<&Cause> {
+    pub fn cause(&self) -> Option<&Cause>
+        ensures { option_copied result ≡ self.now.cause }
+    {
         self.cause.as_ref()
     }
 
     /// The lines that were read, if they are not more than a text has.
-    pub fn lines(&self) -> Option<&str> {
+    pub fn lines(&self) -> Option<&str>
+        ensures { option_map (λ text. text.now) result ≡ option_map string_bytes self.now.lines }
+    {
         self.lines.as_deref()
     }
 
     /// The bytes of the file that was read last, if it is none of lines.
-    pub fn last(&self) -> Option<&[u8]> {
+    pub fn last(&self) -> Option<&[u8]>
+        ensures { option_map (λ bytes. bytes.now) result
+            ≡ option_map (λ bytes. bytes.items) self.now.last }
+    {
         self.last.as_deref()
     }
 
     /// The text that was read last, if it is one.
-    pub fn text(&self) -> Option<&str> {
+    pub fn text(&self) -> Option<&str>
+        ensures { IfSome result
+            (λ text. option_map (λ bytes. bytes.items) self.now.last ≡ Some text.now) }
+    {
         match self.last() {
             Some(bytes) if !is_image(bytes) => str::from_utf8(bytes).ok(),
             _ => None,

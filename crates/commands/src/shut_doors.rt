@@ -149,7 +149,7 @@ fn is_open(alloc: Global, rules: &[PortRule]) -> Result<bool, AllocError> {
 /// # Errors
 ///
 /// Where memory was refused.
-pub fn told_shut(alloc: Global, table: &str) -> Result<&'static str, AllocError> {
+pub fn advice(alloc: Global, table: &str) -> Result<&'static str, AllocError> {
     let Ok(policy) = Policy::read(alloc, table) else {
         return Ok("");
     };

@@ -4,8 +4,7 @@ use crate::jobs::Job;
 use crate::node_jobs::beside_file;
 use crate::usage::command_line;
 use clap::ArgMatches;
-use clap::error::ErrorKind;
-use job_codes::explain::codes_of;
+use job_codes::topics::{CodeKind, KINDS};
 use job_config::sources::beside_node;
 use job_packets::orders::Order;
 use job_packets::packet::packet_words;
@@ -78,8 +77,8 @@ fn line_of(
 
 /// The line of the slip of words of `packet`.
 fn slip_line(alloc: Global, found: &ArgMatches, slip: Slip) -> Result<String, AllocError> {
-    let (word, wanted) = (slip.word(), slip.wanted());
-    let name = word.name();
+    let (word, wanted) = (slip.word(), slip.advice());
+    let name = word.title();
     if word.is_flag() {
         return format!(in alloc; "    {name} is there: {wanted}\n");
     }
@@ -102,6 +101,19 @@ fn pair_line(alloc: Global, found: &ArgMatches) -> Result<String, AllocError> {
         Some(new) => line_of(alloc, "NEW", Some(new), ONE_INPUT),
         None => Ok(String::new(alloc)),
     }
+}
+
+/// The codes that have this number, with commas between them.
+fn codes_of(alloc: Global, number: u8) -> Result<String, AllocError> {
+    let mut text = String::new(alloc);
+    for place in 0..KINDS {
+        let kind = CodeKind::at(place);
+        if kind.topic(number).is_some() {
+            let (comma, word) = (if text.is_empty() { "" } else { ", " }, kind.word());
+            write!(text, "{comma}{word}{number}")?;
+        }
+    }
+    Ok(text)
 }
 
 /// The line of a code that is none: where it is a number, with the codes that have it.
@@ -147,7 +159,7 @@ fn option_line(alloc: Global, found: &ArgMatches) -> Result<String, AllocError> 
         return line_of(alloc, "--ports", text_of(found, "ports"), PORTS);
     }
     if let Err(UsageFault::BadOption) = slots_of(alloc, found) {
-        let wanted = Slip::Bad(PacketWord::Slot).wanted();
+        let wanted = Slip::Bad(PacketWord::Slot).advice();
         return line_of(alloc, "--slot", text_of(found, "slot"), wanted);
     }
     if let Err(PacketFault::Words(slip)) = loader_of(found) {
@@ -183,28 +195,8 @@ pub fn told_option(alloc: Global, words: &[&str]) -> Result<String, AllocError> 
     }
 }
 
-/// The text of `--help` for these words: of all commands, or of the one that they name. What `clap` refuses of them is
-/// `Parse`.
-pub(crate) fn help(alloc: Global, words: &[&str]) -> Result<String, UsageFault> {
-    let mut asking = Vec::from_slice(alloc, words)?;
-    asking.push("--help")?;
-    match command_line(alloc)?.try_get_matches_from(asking.as_slice()) {
-        Ok(_) => Err(UsageFault::BadOption),
-        Err(refusal) => {
-            let Ok(text) = refusal.to_string(alloc) else {
-                return Err(UsageFault::Memory);
-            };
-            if refusal.kind() == ErrorKind::DisplayHelp {
-                Ok(text)
-            } else {
-                Err(UsageFault::Parse(text))
-            }
-        }
-    }
-}
-
 /// The line behind `bad option` of a job that was begun: what of a packet is too long, or what the node's file may not say.
-pub(crate) fn told_misuse(job: &Job) -> &'static str {
+pub(crate) fn advice(job: &Job) -> &'static str {
     match job {
         Job::Simulate(_) | Job::Trace(_) => CONTENTS,
         Job::Rehearse(_) => FEW_PORTS,

@@ -1,6 +1,8 @@
 //! The files of this machine, with why one could not be read or written.
 
-ghost use Rattle.std.specs.Prelude.{⊤};
+ghost use Rattle.std.specs.Prelude.{◌≡◌, IfSome, Some, false, ⊤};
+ghost use Rattle.job_parts.specs.Arguments.{name_in};
+ghost use Rattle.commands.specs.Notes.{is_dump, reads_dump};
 
 use crate::ends::told_end;
 use crate::jobs::{Job, JobEnd};
@@ -63,7 +65,9 @@ fn is_named<R: rt::Files>(rt: &R, input: Option<InputFile<'_>>, name: &str) -> b
 }
 
 /// The name of the file that a job would write, if that is a file that it reads, by whatever names.
-pub fn own_source<'a, R: rt::Files>(rt: &R, inputs: &Inputs<'a>) -> Option<&'a str> {
+pub fn own_source<'a, R: rt::Files>(rt: &R, inputs: &Inputs<'a>) -> Option<&'a str>
+    ensures { IfSome result (λ name. name_in inputs.now.output ≡ Some name.now) }
+{
     let output = inputs.output?;
     if is_named(rt, inputs.first, output) || is_named(rt, inputs.second, output) {
         Some(output)
@@ -74,7 +78,9 @@ pub fn own_source<'a, R: rt::Files>(rt: &R, inputs: &Inputs<'a>) -> Option<&'a s
 
 impl<'a, R: rt::Files + Input> ToldFiles<'a, R> {
     /// The files that are read of these.
-    pub fn new(rt: &'a R, inputs: Inputs<'a>) -> ToldFiles<'a, R> {
+    pub fn new(rt: &'a R, inputs: Inputs<'a>) -> ToldFiles<'a, R>
+        ensures { reads_dump result.noted ≡ false }
+    {
         ToldFiles {
             rt,
             noted: Noted::new(inputs),
@@ -82,7 +88,9 @@ impl<'a, R: rt::Files + Input> ToldFiles<'a, R> {
     }
 
     /// The files that the job reads; whether a node's file says its maps. The lines of a dump are given as its packet lines.
-    pub fn of_job(rt: &'a R, job: &'a Job, is_on_node: bool) -> ToldFiles<'a, R> {
+    pub fn of_job(rt: &'a R, job: &'a Job, is_on_node: bool) -> ToldFiles<'a, R>
+        ensures { reads_dump result.noted ≡ is_dump job.now }
+    {
         ToldFiles {
             rt,
             noted: Noted::of_job(job, is_on_node),
@@ -90,7 +98,9 @@ impl<'a, R: rt::Files + Input> ToldFiles<'a, R> {
     }
 
     /// What was noted of them.
-    pub fn noted(&self) -> &Noted<'a> {
+    pub fn noted(&self) -> &Noted<'a>
+        ensures { result.now ≡ self.now.noted }
+    {
         &self.noted
     }
 

@@ -55,13 +55,15 @@ fn fault_told(line: &str) -> Option<(&str, BadLine)> {
 fn words_for(fault: BadLine) -> &'static str {
     match fault {
         BadLine::NoPort | BadLine::NoEvent => NO_PLACE,
-        _ => fault.told(),
+        _ => fault.title(),
     }
 }
 
 impl<'a, R: Eprint, T: Talk + Drop> ToldTalk<'a, R, T> {
     /// The talk, with standard error beside it.
-    pub fn new(rt: &'a R, alloc: Global, talk: T) -> ToldTalk<'a, R, T> {
+    pub fn new(rt: &'a R, alloc: Global, talk: T) -> ToldTalk<'a, R, T>
+        ensures { result.talk ≡ talk }
+    {
         ToldTalk {
             rt,
             alloc,
@@ -73,7 +75,9 @@ impl<'a, R: Eprint, T: Talk + Drop> ToldTalk<'a, R, T> {
     }
 
     /// The talk alone.
-    pub fn into_talk(self) -> T {
+    pub fn into_talk(self) -> T
+        ensures { result ≡ self.entry.talk }
+    {
         self.talk
     }
 

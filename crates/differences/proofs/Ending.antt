@@ -1,8 +1,9 @@
 -- How a course may end.
-use Rattle.std.proofs.Common.{◌≡◌, ◌≤◌, ◌<◌, ◌+◌, ◌^◌, ◌==◌, ◌&&◌, ◌||◌, ◌⊎◌, ◌++◌, inl, inr, length, max, ℕ, zero, suc, Bool, true, false, not, List, [], ◌∷◌, Option, Some, None, refl, ap, sym, subst, ◌∙◌, arith}
+use Rattle.std.proofs.Common.{◌≡◌, ◌≤◌, ◌<◌, ◌+◌, ◌^◌, ◌==◌, ◌&&◌, ◌||◌, ◌⊎◌, ◌++◌, inl, inr, length, max, ℕ, zero, suc, Bool, true, false, List, [], ◌∷◌, Option, Some, None, refl, ap, sym, subst, ◌∙◌, arith}
 use Rattle.std.specs.Prelude.{All, if◌then◌else◌, nat_lt}
 use Rattle.std.proofs.lemmas.Bool.Decides.{nat_tests}
 use Rattle.std.proofs.lemmas.List.Elements.{All-head, All-tail}
+use Rattle.std.proofs.lemmas.Bool.{and_parts}
 use Rattle.machine.specs.declared.calls.Call.{Call}
 use Rattle.rmap.specs.Verdict.{verdict_number}
 use Rattle.policy_table.specs.Limits.{IsLimited}
@@ -12,6 +13,8 @@ use Rattle.policy_table.specs.declared.rules.Rule.{Rule}
 use Rattle.charts.specs.Alike.{HasLimit, said}
 use Rattle.charts.specs.Tickets.{AreTicketsFrom, TicketsFollow, after, is_of, least_of, raised}
 use Rattle.differences.specs.Gains.{ends_by, is_same, least_then, may_end, passes}
+use Rattle.charts.proofs.Deciding.{not_below, is_below, is_not_below}
+use Rattle.charts.proofs.Least.{either}
 
 -- some tickets from the least on end the rules so
 pub record MayEnd (pass : Bool) (least : ℕ → ℕ → ℕ) (decide : (ℕ → ℕ) → List Call × ℕ) : Type 0 where
@@ -41,19 +44,6 @@ zero_words k = omega arith
 
 pub below : (a b : ℕ) → a < b → nat_lt a b ≡ true
 below a b h = grind (arith, nat_tests)
-
-pub not_below : (a b : ℕ) → b ≤ a → nat_lt a b ≡ false
-not_below a b h = grind (arith, nat_tests)
-
-pub is_below : (a b : ℕ) → nat_lt a b ≡ true → a < b
-is_below a b h = grind (arith, nat_tests)
-
-pub is_not_below : (a b : ℕ) → nat_lt a b ≡ false → b ≤ a
-is_not_below a b h = grind (arith, nat_tests)
-
-pub and_both : (s t : Bool) → (s && t) ≡ true → (s ≡ true) × (t ≡ true)
-and_both true t e = (refl, e)
-and_both false t e = absurd (cc)
 
 pub or_either : (s t : Bool) → (s || t) ≡ true → (s ≡ true) ⊎ (t ≡ true)
 or_either true t e = inl refl
@@ -92,10 +82,6 @@ passed_on quota code told rest e = rw e refl
 
 -- ---- tickets of a draw
 
--- one of two decisions
-abbrev pub either : Bool → (one other : List Call × ℕ) → List Call × ℕ
-either t one other = if t then one else other
-
 -- the same ticket for each draw
 abbrev pub always : ℕ → ℕ → ℕ
 always ticket k = ticket
@@ -107,7 +93,7 @@ true_and_false false e f = absurd (cc)
 -- the least of a cell is that of a quota of it
 pub least_there : (least : ℕ → ℕ → ℕ) (q : Quota) (map cell : ℕ) → is_of q map cell ≡ true → least map cell ≡ least q.map q.cell
 least_there least q map cell e =
-    let parts = and_both (q.map == map) (q.cell == cell) e in
+    let parts = and_parts (q.map == map) (q.cell == cell) e in
     ap (λ (n : ℕ). least n cell) (sym (same q.map map parts.0)) ∙ ap (λ (n : ℕ). least q.map n) (sym (same q.cell cell parts.1))
   where
     same : (a b : ℕ) → (a == b) ≡ true → a ≡ b
@@ -182,7 +168,7 @@ module _ (follow : TicketsFollow) where
     where
       by_either : ((is_same (passes code) pass && nat_lt (least q.map q.cell) q.limit) ≡ true) ⊎ (may ≡ true) → MayEnd pass least (behind (Some q) code rest)
       by_either (inl h) =
-          let both = and_both (is_same (passes code) pass) (nat_lt (least q.map q.cell) q.limit) h in
+          let both = and_parts (is_same (passes code) pass) (nat_lt (least q.map q.cell) q.limit) h in
           let t : ℕ = least q.map q.cell in
           record {
             told = always t;

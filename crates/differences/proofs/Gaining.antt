@@ -1,8 +1,9 @@
 -- What is gained by new rules.
-use Rattle.std.proofs.Common.{◌≡◌, ◌≤◌, ◌<◌, ◌+◌, ◌++◌, length, ◌^◌, ◌==◌, ◌&&◌, ◌||◌, ◌⊎◌, inl, inr, ℕ, zero, suc, max, Bool, true, false, not, List, [], ◌∷◌, Option, Some, None, refl, ap, sym, subst, ◌∙◌, arith}
+use Rattle.std.proofs.Common.{◌≡◌, ◌≤◌, ◌<◌, ◌+◌, ◌++◌, length, ◌^◌, ◌==◌, ◌&&◌, ◌||◌, ◌⊎◌, inl, inr, ℕ, suc, max, Bool, true, false, not, List, [], ◌∷◌, Option, Some, None, refl, ap, sym, subst, ◌∙◌, arith}
 use Rattle.std.specs.Prelude.{All, MatchBool, if◌then◌else◌, nat_lt}
 use Rattle.std.proofs.lemmas.Bool.Decides.{nat_tests}
 use Rattle.std.proofs.lemmas.List.Elements.{All-head, All-tail}
+use Rattle.std.proofs.lemmas.Bool.{and_parts}
 use Rattle.machine.specs.declared.calls.Call.{Call}
 use Rattle.rmap.specs.Verdict.{verdict_number}
 use Rattle.policy_table.specs.Limits.{IsLimited}
@@ -12,7 +13,10 @@ use Rattle.policy_table.specs.declared.rules.Rule.{Rule}
 use Rattle.charts.specs.Alike.{AreLimited, HasLimit, said}
 use Rattle.charts.specs.Tickets.{AreTickets, AreTicketsFrom, TicketsFollow, after, is_of, least_from, least_of, raised}
 use Rattle.differences.specs.Gains.{AreAnsweredAlike, Gains, IsSign, gains, gains_at, gains_behind, gains_by, least_then, may_end, passes, sign_with}
-use Rattle.differences.proofs.Ending.{IsNextLeast, MayEnd, always, and_both, and_joined, behind, below, either, first_told, first_words, goes_on, is_below, is_not_below, least_matches, least_there, may_end_complete, may_end_sound, next_above, next_below, next_bound, not_below, or_either, or_first, or_other}
+use Rattle.differences.proofs.Ending.{IsNextLeast, MayEnd, always, and_joined, behind, below, first_told, first_words, goes_on, least_matches, least_there, may_end_complete, may_end_sound, next_above, next_below, next_bound, or_either, or_first, or_other}
+use Rattle.charts.proofs.Least.{either}
+use Rattle.charts.proofs.Deciding.{is_not_below, is_below, not_below}
+use Rattle.charts.proofs.Admitted.{same_number}
 
 -- the same of two decisions by whatever rules, for tickets from the least on
 pub record GainsBy (least : ℕ → ℕ → ℕ) (old new : (ℕ → ℕ) → List Call × ℕ) : Type 0 where
@@ -42,9 +46,6 @@ gained old new least h = record {
 alike_last : (calls : List Call) → AreAnsweredAlike calls []
 alike_last [] = tt
 alike_last (call ∷ calls) = tt
-
-same_number : (a b : ℕ) → (a == b) ≡ true → a ≡ b
-same_number a b e = grind (arith, nat_tests)
 
 not_of : (t : Bool) → not t ≡ true → t ≡ false
 not_of true e = absurd (cc)
@@ -76,7 +77,7 @@ least_of_other least q p e = least_there least q p.map p.cell e
 
 same_after : (least : ℕ → ℕ → ℕ) (q p : Quota) (t : ℕ) → is_of q p.map p.cell ≡ true → (map cell : ℕ) → after least p t map cell ≡ after least q t map cell
 same_after least q p t e map cell =
-    let both = and_both (q.map == p.map) (q.cell == p.cell) e in
+    let both = and_parts (q.map == p.map) (q.cell == p.cell) e in
     ap (λ (n : ℕ). if n == map && p.cell == cell then suc t else least map cell) (sym (same_number q.map p.map both.0))
     ∙ ap (λ (n : ℕ). if q.map == map && n == cell then suc t else least map cell) (sym (same_number q.cell p.cell both.1))
 
@@ -168,21 +169,21 @@ module _ (follow : TicketsFollow) where
 
         by_one : one ≡ true → Found
         by_one h =
-            let a = and_both (nat_lt (least q.map q.cell) q.limit) (nat_lt (least q.map q.cell) p.limit && (not (passes v) && passes w)) h in
-            let b = and_both (nat_lt (least q.map q.cell) p.limit) (not (passes v) && passes w) a.1 in
-            let d = and_both (not (passes v)) (passes w) b.1 in
+            let a = and_parts (nat_lt (least q.map q.cell) q.limit) (nat_lt (least q.map q.cell) p.limit && (not (passes v) && passes w)) h in
+            let b = and_parts (nat_lt (least q.map q.cell) p.limit) (not (passes v) && passes w) a.1 in
+            let d = and_parts (not (passes v)) (passes w) b.1 in
             both_match a.0 b.0 (not_of (passes v) d.0) d.1
 
         by_two : two ≡ true → Found
         by_two h =
-            let a = and_both (nat_lt (max (least q.map q.cell) q.limit) p.limit) (passes w && may_be_stopped) h in
-            let b = and_both (passes w) may_be_stopped a.1 in
+            let a = and_parts (nat_lt (max (least q.map q.cell) q.limit) p.limit) (passes w && may_be_stopped) h in
+            let b = and_parts (passes w) may_be_stopped a.1 in
             new_matches a.0 b.0 (ends_old b.1)
 
         by_three : three ≡ true → Found
         by_three h =
-            let a = and_both (nat_lt (max (least q.map q.cell) p.limit) q.limit) (not (passes v) && may_pass) h in
-            let b = and_both (not (passes v)) may_pass a.1 in
+            let a = and_parts (nat_lt (max (least q.map q.cell) p.limit) q.limit) (not (passes v) && may_pass) h in
+            let b = and_parts (not (passes v)) may_pass a.1 in
             old_matches a.0 (not_of (passes v) b.0) (ends_new b.1)
 
         by_others : (two ≡ true) ⊎ (three ≡ true) → Found
@@ -211,7 +212,7 @@ module _ (follow : TicketsFollow) where
   both_end : (olds news old new : List Rule) (bound : ℕ) → IsBound olds news bound old new → ((told new_told : ℕ → ℕ) → AreAnsweredAlike (said old told).0 (said new new_told).0)
       → (may_end false olds news [] old && may_end true olds news [] new) ≡ true → GainsBy (least_of olds news) (λ told. said old told) (λ told. said new told)
   both_end olds news old new bound is alike e =
-      let both = and_both (may_end false olds news [] old) (may_end true olds news [] new) e in
+      let both = and_parts (may_end false olds news [] old) (may_end true olds news [] new) e in
       let end = may_end_sound follow false olds news [] old bound is.old_limits is.high is.low (omega (arith, is.few)) both.0 in
       let new_end = may_end_sound follow true olds news [] new bound is.new_limits is.high is.low (omega (arith, is.few)) both.1 in
       record {
@@ -264,7 +265,7 @@ module _ (follow : TicketsFollow) where
 
   both_least : (olds news : List Rule) (rule other : Rule) (q p : Quota) → rule.quota ≡ Some q → other.quota ≡ Some p → is_of q p.map p.cell ≡ true → IsBothLeast q p (least_of olds news) (least_of (olds ++ rule ∷ []) (news ++ other ∷ []))
   both_least olds news rule other q p e f same map cell =
-      let cells = and_both (q.map == p.map) (q.cell == p.cell) same in
+      let cells = and_parts (q.map == p.map) (q.cell == p.cell) same in
       follow.together olds news rule other q p e f (same_number q.map p.map cells.0) (same_number q.cell p.cell cells.1) map cell
 
   -- a bound, behind two rules with limits
@@ -309,7 +310,7 @@ module _ (follow : TicketsFollow) where
   -- what is known of the first draws of both, where they are of one cell
   first_alike : (q p : Quota) (a b : ℕ) (calls others : List Call) → is_of q p.map p.cell ≡ true → AreAnsweredAlike (draw q a ∷ calls) (draw p b ∷ others) → (a ≡ b) × AreAnsweredAlike calls others
   first_alike q p a b calls others e alike =
-      let both = and_both (q.map == p.map) (q.cell == p.cell) e in
+      let both = and_parts (q.map == p.map) (q.cell == p.cell) e in
       alike (same_question (same_number q.map p.map both.0) (same_number q.cell p.cell both.1))
     where
       same_question : q.map ≡ p.map → q.cell ≡ p.cell → (draw q a).question ≡ (draw p b).question

@@ -8,7 +8,6 @@ mod courses;
 mod laws;
 mod repeating;
 mod signs;
-mod verdicts;
 
 pub use courses::{Step, course};
 pub use laws::steps;

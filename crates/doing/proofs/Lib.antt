@@ -1,3 +1,2 @@
 mod Naming
-mod Stopping
 mod OnNodes

@@ -7,26 +7,9 @@ use Rattle.commands.specs.OnNodes.{placed}
 use Rattle.commands.specs.Performed.{Performs}
 use Rattle.commands.specs.ShownTalk.{ShowsTalk}
 use Rattle.commands.specs.declared.jobs.Job.{Job}
-use Rattle.commands.specs.declared.jobs.Job.TheVariants.{
-  Assemble,
-  Disassemble,
-  Verify,
-  Judge,
-  Policy,
-  Serve,
-  Simulate,
-  Explain,
-  Why,
-  Weigh,
-  Node,
-  Packet,
-  Show,
-  Decide,
-  Trace,
-  Compare,
-  Map,
-  Rehearse,
-}
+use Rattle.commands.specs.declared.jobs.Job.TheVariants.{Judge, Serve, Simulate, Trace, Assemble, Disassemble}
+use Rattle.commands.specs.declared.jobs.Job.TheVariants.{Verify, Policy, Explain, Why, Weigh, Node, Packet, Show}
+use Rattle.commands.specs.declared.jobs.Job.TheVariants.{Decide, Compare, Map, Rehearse}
 use Rattle.commands.specs.declared.node_jobs.NodeJob.{NodeJob}
 use Rattle.commands.specs.declared.work.Work.{Work}
 use Rattle.commands.specs.declared.work.Work.TheVariants.{Once, OnNode, Live}

@@ -28,7 +28,9 @@ impl<'a, 'b> Desk<'a, 'b> {
     }
 
     /// What was noted of them.
-    pub fn noted(&self) -> &Noted<'b> {
+    pub fn noted(&self) -> &Noted<'b>
+        ensures { result.now ≡ self.now.noted }
+    {
         &self.noted
     }
 

@@ -9,13 +9,14 @@ use Rattle.frames.specs.declared.flags.Flag.{Flag}
 use Rattle.frames.specs.declared.flags.Flag.TheVariants.{Last, Part, SendTime, GotTime, Other}
 use Rattle.frames.specs.Heads.{flag_of, head_of}
 use Rattle.frames.specs.Reading.{Reading, behind_end, came_of, comes, held_with, is_between, keep, next, rest_of, step}
-use Rattle.frames.specs.Streams.{FramesAreRead, after, between, behind_path, came_in, cargo_of, frame_bytes, held_behind, keep_all, onto, packet_bytes, packet_came, reply_frame_of}
+use Rattle.frames.specs.Streams.{FramesAreRead, after, between, came_in, cargo_of, frame_bytes, held_behind, keep_all, onto, packet_bytes, packet_came, reply_frame_of}
 use Rattle.std.specs.Prelude.{All, Option, Some, None, map}
 use Rattle.std.specs.List.{concat}
 use Rattle.std.proofs.lemmas.List.Elements.{All-head, All-tail}
 use Rattle.spw.specs.declared.packets.End.{End}
 use Rattle.spw.specs.declared.packets.End.TheVariants.{Eop, Eep}
 use Rattle.frames.specs.declared.came.Came.TheVariants.{Whole, Piece}
+use Rattle.spw.specs.Paths.{behind_path}
 
 onto_joined : (first : Option Came) (some others : List Came) → onto first (some ++ others) ≡ onto first some ++ others
 onto_joined None some others = refl

@@ -17,6 +17,10 @@ pub record Reading : Type 0 where
   pub left : ℕ
   pub held : List ℕ
 
+-- the same by its parts
+abbrev pub reading : (head : List ℕ) → Flag → (left : ℕ) → (held : List ℕ) → Reading
+reading head flag left held = record { head = head; flag = flag; left = left; held = held }
+
 -- nothing was read of a frame, and nothing is held
 abbrev pub first_reading : Reading
 first_reading = record { head = []; flag = Part; left = 0; held = [] }

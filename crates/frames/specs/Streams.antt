@@ -1,7 +1,8 @@
 -- Frames in a stream of bytes, and what a reader makes of them.
-use Rattle.std.specs.Prelude.{◌≡◌, ◌<◌, ◌≤◌, ℕ, ◌^◌, nat_lt, if◌then◌else◌, List, [], ◌∷◌, ◌++◌, All, length, map, replicate, take, Option, Some, None}
+use Rattle.std.specs.Prelude.{◌≡◌, ◌<◌, ◌≤◌, ℕ, ◌^◌, if◌then◌else◌, List, [], ◌∷◌, ◌++◌, All, length, map, take, Option, Some, None}
 use Rattle.byteorder.specs.Endian.{big_bytes}
 use Rattle.std.specs.List.{concat}
+use Rattle.spw.specs.Paths.{behind_path}
 use Rattle.spw.specs.declared.packets.End.{End}
 use Rattle.spw.specs.declared.packets.End.TheVariants.{Eop}
 use Rattle.spw.specs.declared.packets.TheConstants.{MAX_PACKET}
@@ -43,11 +44,6 @@ keep_all held (byte ∷ bytes) = keep_all (keep held byte) bytes
 -- what is held behind the body of such a frame
 abbrev pub held_behind : Flag → List ℕ → List ℕ → List ℕ
 held_behind flag held body = if is_cargo flag then keep_all held body else held
-
--- bytes without the path address bytes before them, which are below 32 (ECSS-E-ST-50-12C, addresses)
-abbrev pub behind_path : List ℕ → List ℕ
-behind_path [] = []
-behind_path (byte ∷ bytes) = if nat_lt byte 32 then behind_path bytes else byte ∷ bytes
 
 -- what a target takes of a packet that came over a link: its bytes behind the path, the first 4,200 of them
 abbrev pub cargo_of : List ℕ → List ℕ

@@ -13,7 +13,7 @@ mod replies;
 pub use crate::came::Came;
 pub use crate::faults::FrameFault;
 pub use crate::flags::Flag;
-pub use crate::heads::{HEAD_LENGTH, Head};
+pub use crate::heads::{HEAD_LENGTH, Head, take_head};
 pub use crate::laws::frames_are_read;
 pub use crate::reader::FrameReader;
 pub use crate::replies::reply_head;

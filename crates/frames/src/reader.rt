@@ -1,21 +1,17 @@
 //! A reader of frames.
 
 ghost use Rattle.std.specs.Prelude.{◌≡◌, ◌≢◌, ◌<◌, ◌≤◌, [], length, min, take, IfErr, IfOk, OnErr, OnOk};
-ghost use Rattle.frames.specs.Streams.{after, behind_path, came_in, keep_all, onto};
+ghost use Rattle.frames.specs.Streams.{after, came_in, keep_all, onto};
 ghost use Rattle.frames.specs.Runs.{EndsPacket, EndsUnpacked, IsRun, in_run};
-ghost use Rattle.spw.specs.declared.faults.LineFault.TheVariants.{Memory};
-ghost use Rattle.frames.specs.Reading.{behind_end, came_of, first_reading, in_head, is_between, is_cargo};
+ghost use Rattle.frames.specs.Reading.{behind_end, came_of, first_reading, in_head, is_between};
 
 use crate::came::Came;
 use crate::flags::Flag;
-use crate::heads::{HEAD_LENGTH, Head};
+use crate::heads::{HEAD_LENGTH, take_head};
 use arrayvec::ArrayVec;
-use spw::{Feed, LineFault};
-use std::alloc::Global;
+use spw::{Feed, behind_path};
+use std::alloc::{AllocError, Global};
 use std::marker::Model;
-
-/// The first byte that is no path address (ECSS-E-ST-50-12C, addresses).
-const FIRST_LOGICAL: u8 = 32;
 
 /// Reads frames from bytes as they come, and gives the packets that they carry. It holds the head of a frame, and at most
 /// 4,200 bytes of a packet, however many a frame says that it has.
@@ -39,20 +35,6 @@ impl Model for FrameReader {
     ghost invariant = { λ r. length r.head.items < HEAD_LENGTH };
 }
 
-/// The bytes behind the path address bytes that come first.
-fn behind_path(bytes: &[u8]) -> &[u8]
-    ensures { result.now ≡ behind_path bytes.now }
-{
-    let mut rest = bytes;
-    while let [first, others @ ..] = rest {
-        if *first >= FIRST_LOGICAL {
-            return rest;
-        }
-        rest = others;
-    }
-    rest
-}
-
 /// Puts bytes of a packet behind what is held of it. Path address bytes before the packet begins are dropped, and so is what
 /// would be past [`MAX_PACKET`](spw::MAX_PACKET) bytes.
 #[tactic(auto, using(crate::proofs::Streaming::kept_first, crate::proofs::Streaming::kept_from))]
@@ -66,21 +48,14 @@ fn keep_run(held: &mut Feed, bytes: &[u8])
     }
 }
 
-/// Whether such a frame carries bytes of a packet.
-fn is_cargo(flag: Flag) -> bool
-    ensures { result ≡ is_cargo flag }
-{
-    match flag {
-        Flag::Last(_) | Flag::Part => true,
-        Flag::SendTime | Flag::GotTime | Flag::Other(_) => false,
-    }
-}
-
 impl FrameReader {
-    /// A reader that has read nothing. The only fault is `Memory`.
-    pub fn new(alloc: Global) -> Result<FrameReader, LineFault>
-        ensures ok { IfOk result (λ r. r ≡ first_reading) }
-        ensures err { IfErr result (λ fault. fault ≡ Memory) }
+    /// A reader that has read nothing.
+    ///
+    /// # Errors
+    ///
+    /// Where memory was refused.
+    pub fn new(alloc: Global) -> Result<FrameReader, AllocError>
+        ensures { IfOk result (λ r. r ≡ first_reading) }
     {
         Ok(FrameReader {
             head: ArrayVec::new(),
@@ -102,14 +77,7 @@ impl FrameReader {
         requires { self.old.left ≡ 0 }
         ensures { self.new ≡ in_head self.old byte }
     {
-        self.head.push(byte);
-        if self.head.len() < HEAD_LENGTH {
-            return;
-        }
-        let head = Head::read(self.head.as_slice());
-        self.head.clear();
-        self.flag = head.flag;
-        self.left = head.length;
+        take_head(&mut self.head, &mut self.flag, &mut self.left, byte);
     }
 
     /// Takes bytes of a body, as many as are left of it, or are there, and gives how many.
@@ -124,7 +92,7 @@ impl FrameReader {
             Err(_) => bytes.len(),
         };
         self.left -= count as u128;
-        if is_cargo(self.flag) {
+        if self.flag.is_cargo() {
             keep_run(&mut self.held, &bytes[..count]);
         }
         count
@@ -145,12 +113,10 @@ impl FrameReader {
         }
     }
 
-    /// Ends a frame, and gives what it brings; nothing is held behind a packet. The only fault is `Memory`; then nothing
-    /// changes.
-    fn end(&mut self) -> Result<Came, LineFault>
+    /// Ends a frame, and gives what it brings; nothing is held behind a packet. Where memory is refused, nothing changes.
+    fn end(&mut self) -> Result<Came, AllocError>
         ensures ok { IfOk result (λ came. came ≡ came_of self.old.flag self.old.held) }
         ensures behind { OnOk result (self.new ≡ behind_end self.old) }
-        ensures err { IfErr result (λ fault. fault ≡ Memory) }
         ensures kept { OnErr result (self.new ≡ self.old) }
         ensures packet { OnErr result (EndsPacket self.old.flag) }
     {
@@ -165,14 +131,15 @@ impl FrameReader {
     /// Takes bytes up to one that ends a frame, or some of them where none does, and gives how many, and what came with the
     /// last, or `None` where it ends no frame. It takes one at least. The condition is that there is one.
     ///
-    /// The only fault is `Memory`, of a packet that ends: its bytes are then held still.
-    pub fn take(&mut self, bytes: &[u8]) -> Result<(usize, Option<Came>), LineFault>
+    /// # Errors
+    ///
+    /// Where memory was refused for a packet that ends: its bytes are then held still.
+    pub fn take(&mut self, bytes: &[u8]) -> Result<(usize, Option<Came>), AllocError>
         requires { bytes.now ≢ [] }
         ensures some { IfOk result (λ r. 0 < r.0) }
         ensures few { IfOk result (λ r. r.0 ≤ length bytes.now) }
         ensures came { IfOk result (λ r. came_in self.old (take r.0 bytes.now) ≡ onto r.1 []) }
         ensures read { IfOk result (λ r. self.new ≡ after self.old (take r.0 bytes.now)) }
-        ensures err { IfErr result (λ fault. fault ≡ Memory) }
         ensures cut { IfErr result (λ _. EndsUnpacked self.old bytes.now self.new) }
     {
         let count = self.take_next(bytes);

@@ -1,7 +1,8 @@
 -- What a call does to the reader of a handle.
 use Rattle.std.specs.Prelude.{◌≡◌, ◌⊎◌, ℕ, List, nat_lt, Option, Some, None, if◌then◌else◌}
 use Rattle.frames.specs.Reading.{Reading, first_reading}
-use Rattle.frames_c.specs.Numbers.{came_numbers, packet_in, put_front}
+use Rattle.frames_c.specs.Numbers.{came_numbers, packet_in}
+use Rattle.spw.specs.Rooms.{put_front}
 use Rattle.frames_c.specs.Taking.{take_whole}
 use Rattle.frames_c.specs.declared.codes.TheConstants.{IS_OPEN, NO_MEMORY, NO_NODE, NO_ROOM, OK}
 use Rattle.frames_c.specs.declared.numbers.CameNumbers.{CameNumbers}

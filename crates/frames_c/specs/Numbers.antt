@@ -1,5 +1,5 @@
 -- The numbers of what came.
-use Rattle.std.specs.Prelude.{ℕ, ◌++◌, List, [], length, drop, Option, Some, None}
+use Rattle.std.specs.Prelude.{ℕ, List, [], length, Option, Some, None}
 use Rattle.frames.specs.Heads.{flag_code}
 use Rattle.frames.specs.declared.came.Came.{Came}
 use Rattle.frames.specs.declared.came.Came.TheVariants.{Whole, Piece, Time, Other as Unknown}
@@ -29,7 +29,3 @@ packet_in (Some (Whole packet)) = packet.bytes
 packet_in (Some Piece) = []
 packet_in (Some Time) = []
 packet_in (Some (Unknown flag)) = []
-
--- bytes at the front of a room, with the rest of it as before
-abbrev pub put_front : (room bytes : List ℕ) → List ℕ
-put_front room bytes = bytes ++ drop (length bytes) room

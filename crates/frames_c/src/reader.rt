@@ -1,17 +1,18 @@
 //! A reader of frames that takes memory only when it is made.
 
 ghost use Rattle.std.specs.Prelude.{◌≡◌, ◌≢◌, ◌≤◌, [], Some, IfOk, length};
-ghost use Rattle.frames.specs.Reading.{behind_end, came_of, comes, first_reading, in_body, in_head, is_between, is_cargo, next, step};
+ghost use Rattle.frames.specs.Reading.{behind_end, came_of, comes, first_reading, in_body, in_head, is_between, next, step};
 ghost use Rattle.frames.specs.declared.flags.Flag.TheVariants.{Last};
-ghost use Rattle.frames_c.specs.Numbers.{came_numbers, numbers_if, packet_in, put_front};
+ghost use Rattle.frames_c.specs.Numbers.{came_numbers, numbers_if, packet_in};
 ghost use Rattle.frames_c.specs.Taking.{take_whole, whole_in, whole_of};
+ghost use Rattle.spw.specs.Rooms.{put_front};
 ghost use Rattle.spw.specs.declared.packets.TheConstants.{MAX_PACKET};
 
 use crate::numbers::{BRIDGE, CameNumbers, PACKET, TIME};
 use crate::room::PacketRoom;
 use arrayvec::ArrayVec;
-use frames::{Flag, HEAD_LENGTH, Head};
-use spw::{End, MAX_PACKET};
+use frames::{Flag, HEAD_LENGTH, take_head};
+use spw::{End, MAX_PACKET, put_front};
 use std::alloc::{AllocError, Global};
 use std::marker::Model;
 
@@ -35,24 +36,6 @@ impl Model for Frames {
     ghost view = { λ r. record { head = r.head.items; flag = r.flag; left = r.left; held = r.held } };
 
     ghost invariant = { λ r. length r.head.items < HEAD_LENGTH };
-}
-
-/// Puts bytes at the front of a room, and leaves what is behind them. The condition is that there is room for them.
-fn put_front(room: &mut [u8], bytes: &[u8])
-    requires { length bytes.now ≤ length room.old }
-    ensures { room.new ≡ put_front room.old bytes.now }
-{
-    room[..bytes.len()].copy_from_slice(bytes);
-}
-
-/// Whether such a frame carries bytes of a packet.
-fn is_cargo(flag: Flag) -> bool
-    ensures { result ≡ is_cargo flag }
-{
-    match flag {
-        Flag::Last(_) | Flag::Part => true,
-        Flag::SendTime | Flag::GotTime | Flag::Other(_) => false,
-    }
 }
 
 impl Frames {
@@ -81,14 +64,7 @@ impl Frames {
         requires { self.old.left ≡ 0 }
         ensures { self.new ≡ in_head self.old byte }
     {
-        self.head.push(byte);
-        if self.head.len() < HEAD_LENGTH {
-            return;
-        }
-        let head = Head::read(self.head.as_slice());
-        self.head.clear();
-        self.flag = head.flag;
-        self.left = head.length;
+        take_head(&mut self.head, &mut self.flag, &mut self.left, byte);
     }
 
     /// Takes a byte of a body.
@@ -97,7 +73,7 @@ impl Frames {
         ensures { self.new ≡ in_body self.old byte }
     {
         self.left -= 1;
-        if is_cargo(self.flag) {
+        if self.flag.is_cargo() {
             self.held.keep(byte);
         }
     }
@@ -118,7 +94,8 @@ impl Frames {
         requires { MAX_PACKET ≤ length room.old }
         ensures told { result ≡ came_numbers taken (Some (came_of (Last end) self.old.held)) }
         ensures room { room.new ≡ put_front room.old self.old.held }
-        ensures behind { self.new ≡ record { head = self.old.head; flag = self.old.flag; left = self.old.left; held = [] } }
+        ensures behind { self.new
+            ≡ record { head = self.old.head; flag = self.old.flag; left = self.old.left; held = [] } }
     {
         let bytes = self.held.bytes();
         put_front(room, bytes);
@@ -138,7 +115,8 @@ impl Frames {
     fn end(&mut self, taken: u64, room: &mut [u8]) -> Option<CameNumbers>
         requires { MAX_PACKET ≤ length room.old }
         ensures told { result ≡ numbers_if taken (whole_of (came_of self.old.flag self.old.held)) }
-        ensures room { room.new ≡ put_front room.old (packet_in (whole_of (came_of self.old.flag self.old.held))) }
+        ensures room { room.new
+            ≡ put_front room.old (packet_in (whole_of (came_of self.old.flag self.old.held))) }
         ensures behind { self.new ≡ behind_end self.old }
     {
         match self.flag {
@@ -176,7 +154,8 @@ impl Frames {
     /// came. The bytes of a packet go to the front of the room. The condition is room for the longest packet.
     pub fn take(&mut self, bytes: &[u8], room: &mut [u8]) -> CameNumbers
         requires { MAX_PACKET ≤ length room.old }
-        ensures told { result ≡ came_numbers (take_whole self.old bytes.now).count (take_whole self.old bytes.now).came }
+        ensures told { result
+            ≡ came_numbers (take_whole self.old bytes.now).count (take_whole self.old bytes.now).came }
         ensures room { room.new ≡ put_front room.old (packet_in (take_whole self.old bytes.now).came) }
         ensures read { self.new ≡ (take_whole self.old bytes.now).next }
     {

@@ -4,12 +4,9 @@ ghost use Rattle.std.specs.Prelude.{◌≡◌, ◌≤◌, [], length, IfOk};
 ghost use Rattle.frames.specs.Reading.{keep};
 
 use bytes::BytesMut;
-use spw::MAX_PACKET;
+use spw::{FIRST_LOGICAL, MAX_PACKET};
 use std::alloc::{AllocError, Global};
 use std::marker::Model;
-
-/// The first byte that is no path address (ECSS-E-ST-50-12C, addresses).
-const FIRST_LOGICAL: u8 = 32;
 
 /// The bytes of a packet that has not ended yet. Room for the longest packet is taken when it is made.
 #[derive(Drop)]

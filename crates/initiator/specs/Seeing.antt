@@ -1,6 +1,7 @@
 -- What a packet is, to who watches a link.
-use Rattle.std.specs.Prelude.{◌≡◌, ◌-◌, ℕ, Bool, true, false, ◌==◌, ◌&&◌, not, nat_lt, if◌then◌else◌, List, [], ◌∷◌, length, take, slice_index, Some, None, Ok, Err}
+use Rattle.std.specs.Prelude.{◌≡◌, ◌-◌, ℕ, Bool, true, false, ◌==◌, ◌&&◌, not, nat_lt, List, length, take, slice_index, Some, None, Ok, Err}
 use Rattle.spw.specs.Cargo.{Cargo}
+use Rattle.spw.specs.Paths.{behind_path}
 use Rattle.rmap.specs.declared.discard.Discard.{Discard}
 use Rattle.rmap.specs.Instruction.{packet_type}
 use Rattle.rmap.specs.Command.{discard_of, command_of}
@@ -9,11 +10,6 @@ use Rattle.rmap.specs.Flaws.{flaw_of}
 use Rattle.initiator.specs.ReplyReading.{reply_reading}
 use Rattle.initiator.specs.declared.seen.Seen.{Seen}
 use Rattle.initiator.specs.declared.seen.Seen.TheVariants.{Command, Reply, NoReply, Discarded}
-
--- the bytes behind those below 32 that come first, which are the path of a reply (ECSS-E-ST-50-12C, addresses)
-abbrev pub behind_path : List ℕ → List ℕ
-behind_path [] = []
-behind_path (byte ∷ bytes) = if nat_lt byte 32 then behind_path bytes else byte ∷ bytes
 
 -- that path
 abbrev pub path_before : List ℕ → List ℕ

@@ -1,17 +1,13 @@
 //! What a packet is, to who watches a link.
 
-ghost use Rattle.std.specs.Prelude.{◌≡◌, ◌≤◌, length};
+ghost use Rattle.std.specs.Prelude.{◌≡◌};
 ghost use Rattle.rmap.specs.Command.{IsDiscarded};
-ghost use Rattle.initiator.specs.Seeing.{IsOther, IsSeen, behind_path, has_reply_type};
+ghost use Rattle.initiator.specs.Seeing.{IsOther, IsSeen, has_reply_type};
 
 use crate::no_reply::NoReply;
 use crate::reply_view::Reply;
 use rmap::{BodyFault, Command, Discard, Flaw, Instruction, PROTOCOL, content_check};
-use spw::Packet;
-
-/// The least logical address of a node; what is below it is a port of a router, and so a byte of a path
-/// (ECSS-E-ST-50-12C, addresses).
-const FIRST_LOGICAL: u8 = 32;
+use spw::{Packet, behind_path};
 
 /// What a packet is.
 #[derive(Debug, Drop)]
@@ -44,21 +40,6 @@ pub enum Seen<'a> {
         /// What was found there.
         flaw: Flaw,
     },
-}
-
-/// The bytes behind those below 32 that come first.
-fn behind_path(bytes: &[u8]) -> &[u8]
-    ensures value { result.now ≡ behind_path bytes.now }
-    ensures few { length result.now ≤ length bytes.now }
-{
-    let mut rest = bytes;
-    while let [first, others @ ..] = rest {
-        if *first >= FIRST_LOGICAL {
-            return rest;
-        }
-        rest = others;
-    }
-    rest
 }
 
 /// Whether these bytes have the protocol and the packet type of a reply.

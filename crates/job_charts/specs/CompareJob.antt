@@ -1,10 +1,10 @@
 -- The words of the job `compare`.
-use Rattle.std.specs.Prelude.{◌≡◌, ◌⊎◌, ◌&&◌, ℕ, Bool, false, true, List, Some, None, codes, string_bytes}
-use Rattle.std.specs.Str.{bytes_eq}
+use Rattle.std.specs.Prelude.{◌≡◌, ◌⊎◌, false, List, Some, None, codes, string_bytes}
 use Rattle.clap.specs.Walk.{Row, first_of}
 use Rattle.clap.specs.Simple.{App, new_app, with_rule}
 use Rattle.job_parts.specs.Arguments.{file_rule, flag_rule, is_set, option_rule}
 use Rattle.job_parts.specs.Options.{GivesSizes, IsBadList}
+use Rattle.job_parts.specs.TwoFiles.{NamesOneInput, are_one_input}
 use Rattle.job_parts.specs.declared.usage.UsageFault.{UsageFault}
 use Rattle.job_parts.specs.declared.usage.UsageFault.TheVariants.{Parse, BadOption, Memory}
 use Rattle.job_charts.specs.declared.compare.CompareWords.{CompareWords}
@@ -17,10 +17,6 @@ compare_app =
     (with_rule (with_rule (new_app (codes "compare")) (file_rule (codes "old"))) (file_rule (codes "new")))
     (option_rule (codes "maps"))) (flag_rule (codes "markdown"))
 
--- both names are that of standard input, which one read ends
-abbrev pub are_one_input : (old new : List ℕ) → Bool
-are_one_input old new = bytes_eq old (codes "-") && bytes_eq new (codes "-")
-
 -- the words are those of compare with these matches
 pub record NamesCompare (rows : List Row) (words : CompareWords) : Type 0 where
   pub old : first_of (codes "old") rows ≡ Some (string_bytes words.old)
@@ -28,14 +24,6 @@ pub record NamesCompare (rows : List Row) (words : CompareWords) : Type 0 where
   pub apart : are_one_input (string_bytes words.old) (string_bytes words.new) ≡ false
   pub sizes : GivesSizes (first_of (codes "maps") rows) words.sizes
   pub markdown : words.markdown ≡ is_set (codes "markdown") rows
-
--- matches that name standard input for both files
-pub record NamesOneInput (rows : List Row) : Type 0 where
-  pub old : List ℕ
-  pub new : List ℕ
-  pub old_name : first_of (codes "old") rows ≡ Some old
-  pub new_name : first_of (codes "new") rows ≡ Some new
-  pub one : are_one_input old new ≡ true
 
 -- matches without one of the files, with one input for both, or with a list of maps that is none
 abbrev pub SpoilsCompare : List Row → Type 0

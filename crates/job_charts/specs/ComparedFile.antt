@@ -6,16 +6,15 @@ use Rattle.charts.specs.Same.{AreSame}
 use Rattle.machine.specs.Sizes.{Maps}
 use Rattle.policy_table.specs.Policies.{PolicyValue}
 use Rattle.policy_table.specs.Ports.{rules_at}
-use Rattle.policy_table.specs.TextFaults.{text_fault_of, text_fault_text}
 use Rattle.policy_table.specs.declared.rules.Rule.{Rule}
 use Rattle.policy_table.specs.declared.text_faults.TextFault.{TextFault}
 use Rattle.regions.specs.declared.points.Point.{Point}
 use Rattle.job_decide.specs.Tables.{HoldsBadTable, HoldsTable}
 use Rattle.job_parts.specs.Files.{Reads}
-use Rattle.job_parts.specs.Printed.{fault_line}
 use Rattle.job_parts.specs.Reading.{TextUnread}
+use Rattle.job_parts.specs.TwoFiles.{TellsNamedFault}
 use Rattle.job_parts.specs.declared.faults.Fault.{Fault}
-use Rattle.job_parts.specs.declared.faults.Fault.TheVariants.{BadTable as IsBadTable, NoMemory}
+use Rattle.job_parts.specs.declared.faults.Fault.TheVariants.{NoMemory}
 use Rattle.job_parts.specs.declared.status.Status.{Status}
 use Rattle.job_parts.specs.declared.status.Status.TheVariants.{Done, Failed, Misused}
 use Rattle.job_charts.specs.Compared.{TellsComparison, is_named_by}
@@ -23,14 +22,6 @@ use Rattle.job_charts.specs.Rows.{is_charted}
 use Rattle.job_charts.specs.declared.compare.CompareWords.{CompareWords}
 use Rattle.job_charts.specs.declared.compare.NoPair.{NoPair}
 use Rattle.job_charts.specs.declared.compare.NoPair.TheVariants.{BadTable, Ended}
-
--- the line of a table's fault was printed, and behind it a line with the name of its file and the place
-pub record TellsNamedFault (name : List ℕ) (fault : TextFault) (old new : Option (List ℕ)) : Type 0 where
-  pub told : Option (List ℕ)
-  pub named : Option (List ℕ)
-  pub line : Appends old told (fault_line (IsBadTable (text_fault_of fault)))
-  pub file : Appends told named (codes "    " ++ name ++ codes " ")
-  pub place : Appends named new (text_fault_text fault ++ 10 ∷ [])
 
 -- ---- where tables differ
 

@@ -6,7 +6,7 @@ use Rattle.std.specs.List.{after_first, flat_map}
 use Rattle.std.specs.Str.{chars, trim}
 use Rattle.charts.specs.declared.lines.Line.{Line}
 use Rattle.differences.specs.declared.courses.Step.{Step}
-use Rattle.policy_table.specs.Statements.{is_semicolon}
+use Rattle.basm_lex.specs.Lines.{is_semicolon}
 use Rattle.policy_table.specs.declared.rules.Quota.{Quota}
 use Rattle.rmap.specs.Verdict.{verdict_number}
 use Rattle.job_decide.specs.Tables.{line_of}

@@ -1,14 +1,16 @@
 //! The job `compare`.
 
-ghost use Rattle.std.specs.Prelude.{◌≡◌, ◌<◌, IfErr, IfOk, MatchBool, OnOk, false};
+ghost use Rattle.std.specs.Prelude.{◌≡◌, ◌<◌, IfErr, IfOk, MatchBool, false, None, Some, string_bytes};
 ghost use Rattle.clap.specs.Simple.{app_of};
 ghost use Rattle.clap.specs.declared.builder.command.Command.TheViews.{out-Command as fields_of};
 ghost use Rattle.clap.specs.Walk.{rows_of};
 ghost use Rattle.clap.specs.Matches.{found_of};
 ghost use Rattle.job_parts.specs.Stops.{StopsBy};
 ghost use Rattle.charts.specs.Same.{AreSame};
-ghost use Rattle.job_charts.specs.CompareJob.{NamesCompare, RefusesCompare, are_one_input, compare_app};
-ghost use Rattle.job_charts.specs.ComparedFile.{AreTables, AreSameAtAll, AreSameIfCharted, ComparesFile, DifferAt, DifferSomewhere, HaveDifference, IsNoNamed, IsNoPair, IsNotCompared, TellsNamedFault, TellsTables};
+ghost use Rattle.job_charts.specs.CompareJob.{NamesCompare, RefusesCompare, compare_app};
+ghost use Rattle.job_charts.specs.ComparedFile.{AreTables, AreSameAtAll, AreSameIfCharted, ComparesFile, DifferAt, DifferSomewhere, HaveDifference, IsNoNamed, IsNoPair, IsNotCompared, TellsTables};
+ghost use Rattle.job_parts.specs.Inputs.{AreInputs, input};
+ghost use Rattle.job_parts.specs.declared.inputs.Content.TheVariants.{Table};
 ghost use Rattle.job_decide.specs.Tables.{HoldsTable};
 ghost use Rattle.job_parts.specs.declared.faults.Fault.TheVariants.{NoMemory};
 
@@ -26,15 +28,13 @@ use job_parts::printing::print_text;
 use job_parts::status::Status;
 use job_parts::stops::Halt;
 use job_parts::storage::Files;
+use job_parts::two_files::{are_one_input, print_named_fault};
 use job_parts::usage::UsageFault;
 use machine::MapSizes;
 use policy::{Policy, TextFault};
 use policy_table::unnamed_ports_are_alike;
 use std::alloc::{AllocError, Global};
 use std::io::{self, Write};
-
-/// The name of standard input.
-const STANDARD_INPUT: &str = "-";
 
 /// The words of the job `compare`.
 #[derive(Debug, Drop)]
@@ -51,9 +51,15 @@ pub struct CompareWords {
 
 impl CompareWords {
     /// What the job reads: the old table, and then the new one.
-    pub fn inputs(&self) -> Inputs<'_> {
+    pub fn inputs(&self) -> Inputs<'_>
+        ensures { AreInputs (Some (input (string_bytes self.now.old) Table))
+            (Some (input (string_bytes self.now.new) Table)) None result }
+    {
         let old = InputFile::new(self.old.as_str(), Content::Table);
-        Inputs::two(old, InputFile::new(self.new.as_str(), Content::Table))
+        Inputs::of(
+            Some(old),
+            Some(InputFile::new(self.new.as_str(), Content::Table)),
+        )
     }
 }
 
@@ -75,13 +81,6 @@ pub fn compare_command<'a>(alloc: Global) -> Result<Command<'a>, AllocError>
         .arg(new)?
         .arg(maps)?
         .arg(markdown)
-}
-
-/// Whether both tables would be read of standard input, which one read ends.
-fn are_one_input(old: &str, new: &str) -> bool
-    ensures { result ≡ are_one_input old.now new.now }
-{
-    old == STANDARD_INPUT && new == STANDARD_INPUT
 }
 
 /// The words of `compare` with these matches.
@@ -145,17 +144,6 @@ fn tables<'a, F: Files>(
     let old = named_table(alloc, files, words.old.as_str(), &words.sizes)?;
     let new = named_table(alloc, files, words.new.as_str(), &words.sizes)?;
     Ok((old, new))
-}
-
-/// Prints the fault of a table: its line, and a line with the name of its file and the place.
-fn print_named_fault<W: Write>(out: &mut W, name: &str, fault: &TextFault) -> io::Result<()>
-    ensures { OnOk result
-        (TellsNamedFault name.now fault.now (W.contents out.old) (W.contents out.new)) }
-{
-    let code = fault.fault().code();
-    writeln!(out, "policy fault {code}")?;
-    write!(out, "    {name} ")?;
-    writeln!(out, "{fault}")
 }
 
 /// Whether two tables decide a command differently, by what they ask at a port.

@@ -201,7 +201,8 @@ fn difference_row(
     point: &Point,
 ) -> Result<Row, AllocError>
     requires { HasCommand point.now }
-    ensures { IfOk result (λ row. row ≡ difference_row comparison.entry.markdown comparison.entry.old.now
+    ensures { IfOk result (λ row. row ≡ difference_row
+        comparison.entry.markdown comparison.entry.old.now
         comparison.entry.new.now line.now difference.now point.now) }
 {
     let (old, new, markdown) = (comparison.old, comparison.new, comparison.markdown);
@@ -220,7 +221,8 @@ fn push_line(
 ) -> Result<(), AllocError>
     requires place { place < length comparison.chart.now }
     requires comparison { IsComparison comparison.old.now.rules comparison.new.now.rules comparison.chart.now }
-    ensures { OnOk result (TellsLine comparison.entry.markdown comparison.entry.old.now comparison.entry.new.now
+    ensures { OnOk result (TellsLine comparison.entry.markdown comparison.entry.old.now
+        comparison.entry.new.now
         comparison.entry.chart.now place rows.old.items rows.new.items) }
 {
     charts_are_read();
@@ -241,7 +243,8 @@ fn push_chart(
     comparison: Comparison<'_>,
 ) -> Result<(), AllocError>
     requires { IsComparison comparison.old.now.rules comparison.new.now.rules comparison.chart.now }
-    ensures { OnOk result (TellsFirst (TellsLine comparison.entry.markdown comparison.entry.old.now comparison.entry.new.now
+    ensures { OnOk result (TellsFirst (TellsLine comparison.entry.markdown
+        comparison.entry.old.now comparison.entry.new.now
         comparison.entry.chart.now) (length comparison.entry.chart.now)
         rows.old.items rows.new.items) }
 {

@@ -1,10 +1,12 @@
 //! The job `map`.
 
-ghost use Rattle.std.specs.Prelude.{◌≡◌, IfErr, IfOk, false};
+ghost use Rattle.std.specs.Prelude.{◌≡◌, IfErr, IfOk, false, None, Some, string_bytes};
 ghost use Rattle.clap.specs.Simple.{app_of};
 ghost use Rattle.clap.specs.declared.builder.command.Command.TheViews.{out-Command as fields_of};
 ghost use Rattle.clap.specs.Walk.{rows_of};
 ghost use Rattle.clap.specs.Matches.{found_of};
+ghost use Rattle.job_parts.specs.Inputs.{AreInputs, input};
+ghost use Rattle.job_parts.specs.declared.inputs.Content.TheVariants.{Table};
 ghost use Rattle.job_parts.specs.Stops.{StopsBy};
 ghost use Rattle.job_charts.specs.MapJob.{NamesMap, RefusesMap, map_app};
 ghost use Rattle.job_charts.specs.MappedFile.{IsNotMapped, MapsFile};
@@ -14,7 +16,7 @@ use crate::styles::Style;
 use clap::{ArgMatches, Command};
 use job_decide::tables::{NoTable, print_table_fault, text_and_table};
 use job_parts::arguments::{file, flag, is_set, name_of};
-use job_parts::inputs::{Content, InputFile, Inputs};
+use job_parts::inputs::{Content, Inputs};
 use job_parts::options::{maps_option, sizes_of};
 use job_parts::printing::print_text;
 use job_parts::status::Status;
@@ -38,8 +40,10 @@ pub struct MapWords {
 
 impl MapWords {
     /// What the job reads: the table.
-    pub fn inputs(&self) -> Inputs<'_> {
-        Inputs::one(InputFile::new(self.table.as_str(), Content::Table))
+    pub fn inputs(&self) -> Inputs<'_>
+        ensures { AreInputs (Some (input (string_bytes self.now.table) Table)) None None result }
+    {
+        Inputs::one(self.table.as_str(), Content::Table)
     }
 }
 

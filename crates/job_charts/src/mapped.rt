@@ -421,7 +421,8 @@ fn line_rows(alloc: Global, how: &Style<'_>, policy: &Policy) -> Result<Vec<Row>
 
 /// The rows of the rules that never match, at each port.
 fn note_rows(alloc: Global, how: &Style<'_>, policy: &Policy) -> Result<Vec<Row>, AllocError>
-    ensures { IfOk result (λ rows. TellsPorts policy.now (TellsNotes how.now.markdown) 32 [] rows.items) }
+    ensures { IfOk result (λ rows. TellsPorts policy.now
+        (TellsNotes how.now.markdown) 32 [] rows.items) }
 {
     let mut rows = Vec::new(alloc);
     for port in 0..PORTS {

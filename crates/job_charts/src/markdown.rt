@@ -4,7 +4,7 @@ ghost use Rattle.std.specs.Prelude.{◌≡◌, ◌++◌, IfOk, OnOk, [], get_or,
 ghost use Rattle.std.specs.List.{after_first, flat_map};
 ghost use Rattle.std.specs.Str.{chars};
 ghost use Rattle.job_charts.specs.Markdown.{texts};
-ghost use Rattle.policy_table.specs.Statements.{is_semicolon};
+ghost use Rattle.basm_lex.specs.Lines.{is_semicolon};
 ghost use Rattle.rmap.specs.Verdict.{verdict_number};
 ghost use Rattle.spw.specs.Line.{lines_of as lines_in};
 ghost use Rattle.job_charts.specs.Markdown.{cell_char, comment_in, comment_text, comments_of, comparison_back, comparison_front, comparison_head, has_meaning, map_back, map_front, map_head, no_rule_text, quota_cell, step_cell, with_asks, with_cell, with_course_cell, with_line_cells};
@@ -72,7 +72,8 @@ fn add_chars(text: &mut String, comment: &str) -> Result<(), AllocError>
 
 /// Adds a comment, and a dash where there is none.
 fn add_comment(text: &mut String, comment: &str) -> Result<(), AllocError>
-    ensures { OnOk result (string_bytes text.new ≡ string_bytes text.old ++ comment_text comment.now) }
+    ensures { OnOk result (string_bytes text.new ≡
+        string_bytes text.old ++ comment_text comment.now) }
 {
     if comment.is_empty() {
         return text.push_str("-");

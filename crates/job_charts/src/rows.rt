@@ -100,7 +100,8 @@ fn ports_like(alloc: Global, rows: &[Row], row: &Row) -> Result<Vec<u8>, AllocEr
 
 /// Whether what is charted of one of some ports is so at another.
 fn some_stands_for(tables: Tables<'_>, ports: &[u8], port: u8) -> bool
-    ensures { result ≡ list_any (λ own. stands_for (λ p. names_port tables.entry p) own port) ports.now }
+    ensures { result ≡ list_any (λ own. stands_for
+        (λ p. names_port tables.entry p) own port) ports.now }
 {
     ports.iter().any(|own| tables.stand_for(*own, port))
 }

@@ -11,26 +11,10 @@ use Rattle.bver.specs.Justified.{IsJustified}
 use Rattle.bver.specs.Refusals.{IsRefusal}
 use Rattle.bver.specs.Unjustified.{TellsUnjustified}
 use Rattle.bver_form.specs.declared.refusal.Refusal.{Refusal}
-use Rattle.bver_form.specs.declared.refusal.Refusal.TheVariants.{
-  Target,
-  BackJump,
-  LoopShape,
-  LoopEntry,
-  Unset,
-  KindMismatch,
-  OutOfRegion,
-  UnsetStack,
-  HeaderWrite,
-  FrameWrite,
-  PointerRange,
-  MapKey,
-  Helper,
-  FallOff,
-  Budget,
-  Unsupported,
-  MapKind,
-  Memory,
-}
+use Rattle.bver_form.specs.declared.refusal.Refusal.TheVariants.{Target, BackJump, LoopShape, LoopEntry, Unset}
+use Rattle.bver_form.specs.declared.refusal.Refusal.TheVariants.{KindMismatch, OutOfRegion, UnsetStack, HeaderWrite}
+use Rattle.bver_form.specs.declared.refusal.Refusal.TheVariants.{FrameWrite, PointerRange, MapKey, Helper, FallOff}
+use Rattle.bver_form.specs.declared.refusal.Refusal.TheVariants.{Budget, Unsupported, Memory, MapKind}
 use Rattle.bver_form.specs.declared.refusal.Refused.{Refused}
 use Rattle.machine.specs.Runs.{IsSafe}
 use Rattle.machine.specs.Sizes.{Maps}

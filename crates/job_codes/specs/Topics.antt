@@ -1,23 +1,6 @@
 -- The codes that outputs tell: a kind and a number, which the enums of the kinds have.
-use Rattle.std.specs.Prelude.{
-  ◌≡◌,
-  ◌<◌,
-  ◌^◌,
-  ◌==◌,
-  ◌⊎◌,
-  ℕ,
-  List,
-  [],
-  ◌∷◌,
-  ◌++◌,
-  map,
-  Bool,
-  true,
-  is_some,
-  if◌then◌else◌,
-  codes,
-  decimal,
-}
+use Rattle.std.specs.Prelude.{◌≡◌, ◌<◌, ◌^◌, ◌==◌, ◌⊎◌, ℕ, List, [], ◌∷◌, ◌++◌, map, Bool, true, is_some}
+use Rattle.std.specs.Prelude.{if◌then◌else◌, codes, decimal}
 use Rattle.std.specs.Char.{to_ascii_lowercase}
 use Rattle.basm.specs.Codes.{asm_of_code}
 use Rattle.bpf.specs.Fault.{image_fault_of_code}
@@ -31,19 +14,8 @@ use Rattle.node_parts.specs.Loads.{load_refusal_of_code}
 use Rattle.job_parts.specs.BadLines.{bad_line_of_number}
 use Rattle.job_parts.specs.NodeCodes.{node_code_of}
 use Rattle.job_codes.specs.declared.topics.CodeKind.{CodeKind}
-use Rattle.job_codes.specs.declared.topics.CodeKind.TheVariants.{
-  Verifier,
-  Text,
-  Image,
-  Insn,
-  Line,
-  Frame,
-  Discard,
-  Status,
-  Load,
-  Policy,
-  Node,
-}
+use Rattle.job_codes.specs.declared.topics.CodeKind.TheVariants.{Verifier, Text, Image, Insn, Line, Frame, Discard}
+use Rattle.job_codes.specs.declared.topics.CodeKind.TheVariants.{Status, Load, Policy, Node}
 
 -- the kind at a place of the order in which codes are listed, the last one at every later place
 unfoldable pub kind_at : ℕ → CodeKind

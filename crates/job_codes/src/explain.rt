@@ -1,10 +1,7 @@
 //! The job `explain`.
 
 ghost use Rattle.std.specs.Prelude.{◌≡◌, IfErr, IfOk, false, string_bytes};
-ghost use Rattle.clap.specs.Simple.{app_of};
-ghost use Rattle.clap.specs.declared.builder.command.Command.TheViews.{out-Command as fields_of};
-ghost use Rattle.clap.specs.Walk.{rows_of};
-ghost use Rattle.clap.specs.Matches.{found_of};
+ghost use Rattle.job_parts.specs.Matched.{app_of, fields_of, found_of, rows_of};
 ghost use Rattle.job_codes.specs.ExplainJob.{Explains, NamesExplain, RefusesExplain, explain_app};
 ghost use Rattle.job_parts.specs.Options.{IsValueFault};
 ghost use Rattle.job_parts.specs.Statuses.{IsDoneWith};
@@ -82,19 +79,6 @@ fn listing(alloc: Global) -> Result<String, AllocError> {
             if let Some(topic) = kind.topic(number) {
                 add_title(&mut text, alloc, Code { kind, number }, topic)?;
             }
-        }
-    }
-    Ok(text)
-}
-
-/// The codes that have this number, with commas between them.
-pub fn codes_of(alloc: Global, number: u8) -> Result<String, AllocError> {
-    let mut text = String::new(alloc);
-    for place in 0..KINDS {
-        let kind = CodeKind::at(place);
-        if kind.topic(number).is_some() {
-            let (comma, word) = (if text.is_empty() { "" } else { ", " }, kind.word());
-            write!(text, "{comma}{word}{number}")?;
         }
     }
     Ok(text)

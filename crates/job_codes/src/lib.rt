@@ -3,6 +3,5 @@
 
 pub mod explain;
 pub mod forms;
-mod registers;
 pub mod topics;
 pub mod why;

@@ -1,18 +1,8 @@
 -- The codes of what is wrong with a node's file.
 use Rattle.std.specs.Prelude.{◌≡◌, ◌⊎◌, Option, None, Some, Result, Ok, Err}
 use Rattle.job_config.specs.declared.faults.ConfigFault.{ConfigFault}
-use Rattle.job_config.specs.declared.faults.ConfigFault.TheVariants.{
-  Memory,
-  NoToml,
-  UnknownKey,
-  BadNumber,
-  BadPeak,
-  NoTable,
-  BadCount,
-  NoName,
-  BadFile,
-  NotLoaded,
-}
+use Rattle.job_config.specs.declared.faults.ConfigFault.TheVariants.{Memory, NoToml, UnknownKey, BadNumber, BadPeak}
+use Rattle.job_config.specs.declared.faults.ConfigFault.TheVariants.{NoTable, BadCount, NoName, BadFile, NotLoaded}
 use Rattle.job_config.specs.declared.places.Kind.{Kind}
 use Rattle.job_config.specs.declared.places.Kind.TheVariants as kinds
 use Rattle.job_config.specs.declared.places.NameKey.{NameKey}

@@ -11,29 +11,12 @@ use Rattle.job_parts.specs.Files.{Reads}
 use Rattle.job_parts.specs.Given.{HoldsProgram}
 use Rattle.job_parts.specs.Reading.{TextUnread}
 use Rattle.job_parts.specs.declared.faults.Fault.{Fault}
-use Rattle.job_parts.specs.declared.faults.Fault.TheVariants.{
-  CannotRead,
-  CannotWrite,
-  NoMemory,
-  BadText,
-  BadTable,
-  BadImage,
-  Refused,
-  BadNode,
-  BadLine,
-}
+use Rattle.job_parts.specs.declared.faults.Fault.TheVariants.{CannotRead, CannotWrite, NoMemory, BadText, BadTable}
+use Rattle.job_parts.specs.declared.faults.Fault.TheVariants.{BadImage, Refused, BadNode, BadLine}
 use Rattle.job_parts.specs.declared.node_codes.NodeCode.{NodeCode}
 use Rattle.job_parts.specs.declared.node_codes.NodeCode.TheVariants.{Text}
-use Rattle.job_config.specs.Configured.{
-  ConfigurationValue,
-  IsBadConfiguration,
-  IsConfiguration,
-  configuration_at,
-  items_in,
-  list_at,
-  own_place,
-  table_in,
-}
+use Rattle.job_config.specs.Configured.{ConfigurationValue, IsBadConfiguration, IsConfiguration, configuration_at}
+use Rattle.job_config.specs.Configured.{items_in, list_at, own_place, table_in}
 use Rattle.job_config.specs.Faults.{code_of}
 use Rattle.job_config.specs.Names.{IsBeside, IsPathOf, name_at}
 use Rattle.job_config.specs.Numbers.{number_at}

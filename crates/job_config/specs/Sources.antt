@@ -3,7 +3,9 @@ use Rattle.std.specs.Prelude.{◌≡◌, ◌&&◌, not, Bool, true, false, is_so
 use Rattle.clap.specs.Walk.{Row, Text, first_of}
 use Rattle.clap.specs.Simple.{App, with_rule}
 use Rattle.job_parts.specs.Arguments.{option_rule}
+use Rattle.job_parts.specs.Inputs.{InputValue, image_of, input}
 use Rattle.job_parts.specs.Options.{GivesNode, SpoilsNode, with_node_options}
+use Rattle.job_parts.specs.declared.inputs.Content.TheVariants.{Node}
 use Rattle.job_parts.specs.declared.usage.UsageFault.{UsageFault}
 use Rattle.job_parts.specs.declared.usage.UsageFault.TheVariants.{Parse, BadOption, Memory}
 use Rattle.job_config.specs.declared.sources.NodeSource.{NodeSource}
@@ -42,3 +44,8 @@ RefusesSource rows (Parse text) = ⊥
 -- `[--image FILE] [--maps LIST] [--ports N]` or `[--node FILE]`
 abbrev pub with_source_options : App → App
 with_source_options app = with_rule (with_node_options app) (option_rule (codes "node"))
+
+-- the first file of the node: its own, or that of the image that judges, if one is named
+abbrev pub first_file : NodeSource → Option InputValue
+first_file (File name) = Some (input (string_bytes name) Node)
+first_file (Words words) = image_of words

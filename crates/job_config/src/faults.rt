@@ -6,7 +6,7 @@ ghost use Rattle.job_config.specs.declared.faults.ConfigFault.TheVariants.{Memor
 
 use crate::places::{Kind, NameKey, NumberKey, Place};
 use bpf::ImageFault;
-use bver::{Refusal, Refused};
+use bver::Refused;
 use job_parts::node_codes::NodeCode;
 use std::alloc::{AllocError, AllocFailed, Global};
 use std::fmt;
@@ -64,17 +64,6 @@ pub enum Trouble {
     NoImage(ImageFault),
     /// Its program may not judge on the node's maps.
     Refused(Refused),
-}
-
-impl Trouble {
-    /// Whether it is want of memory.
-    pub(crate) fn is_memory(self) -> bool {
-        match self {
-            Trouble::NoImage(fault) => fault == ImageFault::Memory,
-            Trouble::Refused(refused) => refused.code == Refusal::Memory,
-            Trouble::Unread | Trouble::TooLong { .. } => false,
-        }
-    }
 }
 
 /// What is wrong with a node's file.
@@ -247,6 +236,51 @@ fn wanted(kind: Kind) -> &'static str {
     }
 }
 
+/// The keys that a table of a kind may have, for the user.
+fn keys(kind: Kind) -> &'static str {
+    match kind {
+        Kind::Node => "address, bank, load, map, ports or program",
+        Kind::Bank => "base, contents, journal or size",
+        Kind::Map => "cells or peak",
+        Kind::Load => "image or slot",
+    }
+}
+
+impl fmt::Display for Found {
+    fn fmt<W: fmt::Write>(&self, f: &mut fmt::Formatter<W>) -> fmt::Result {
+        match self {
+            Found::Missing => write!(f, " is missing"),
+            Found::Number(number) => write!(f, " {number}"),
+            Found::Other => write!(f, " is no number"),
+        }
+    }
+}
+
+/// Prints that a table has a key that it may not have.
+fn print_unknown<W: fmt::Write>(
+    f: &mut fmt::Formatter<W>,
+    place: &Place,
+    key: &Word,
+) -> fmt::Result {
+    let (key, keys) = (key.text.escape_debug(), keys(place.kind));
+    write!(f, "{place}key {key}: wanted {keys}")
+}
+
+/// Prints that there are too many tables of a kind, or too few.
+fn print_count<W: fmt::Write>(f: &mut fmt::Formatter<W>, kind: Kind, count: usize) -> fmt::Result {
+    let (word, wanted) = (kind.word(), wanted(kind));
+    write!(f, "{count} {word}s: wanted {wanted}")
+}
+
+/// Prints that a table stands where none may, or that a list of tables is none.
+fn print_no_table<W: fmt::Write>(f: &mut fmt::Formatter<W>, place: &Place) -> fmt::Result {
+    let (word, number) = (place.kind.word(), place.number);
+    match number {
+        0 => write!(f, "{word} is no list of tables: wanted [[{word}]]"),
+        _ => write!(f, "{word} {number} is no table: wanted [[{word}]]"),
+    }
+}
+
 impl fmt::Display for ConfigFault {
     fn fmt<W: fmt::Write>(&self, f: &mut fmt::Formatter<W>) -> fmt::Result {
         match self {
@@ -255,10 +289,7 @@ impl fmt::Display for ConfigFault {
                 let message = message.text.as_str();
                 write!(f, "line {line}: {message}")
             }
-            ConfigFault::UnknownKey { place, key } => {
-                let (key, keys) = (key.text.escape_debug(), place.kind.keys());
-                write!(f, "{place}key {key}: wanted {keys}")
-            }
+            ConfigFault::UnknownKey { place, key } => print_unknown(f, place, key),
             ConfigFault::BadNumber {
                 place,
                 key,
@@ -267,25 +298,11 @@ impl fmt::Display for ConfigFault {
                 most,
             } => {
                 let key = key.word();
-                match found {
-                    Found::Missing => write!(f, "{place}{key} is missing")?,
-                    Found::Number(number) => write!(f, "{place}{key} {number}")?,
-                    Found::Other => write!(f, "{place}{key} is no number")?,
-                }
-                write!(f, ": wanted {least} to {most}")
+                write!(f, "{place}{key}{found}: wanted {least} to {most}")
             }
             ConfigFault::BadPeak(place) => write!(f, "{place}peak: wanted true or false"),
-            ConfigFault::NoTable(place) => {
-                let (word, number) = (place.kind.word(), place.number);
-                match number {
-                    0 => write!(f, "{word} is no list of tables: wanted [[{word}]]"),
-                    _ => write!(f, "{word} {number} is no table: wanted [[{word}]]"),
-                }
-            }
-            ConfigFault::BadCount { kind, count } => {
-                let (word, wanted) = (kind.word(), wanted(*kind));
-                write!(f, "{count} {word}s: wanted {wanted}")
-            }
+            ConfigFault::NoTable(place) => print_no_table(f, place),
+            ConfigFault::BadCount { kind, count } => print_count(f, *kind, *count),
             ConfigFault::NoName { place, key } => {
                 let key = key.word();
                 write!(f, "{place}{key}: wanted the name of a file")

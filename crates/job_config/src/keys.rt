@@ -24,8 +24,10 @@ fn unknown_key(table: &Table, kind: Kind) -> Option<&str>
 
 /// Refuses a table with a key that it may not have.
 fn check_table(alloc: Global, table: &Table, place: Place) -> Result<(), ConfigFault>
-    ensures ok { IfOk result (λ _. unknown place (unknown_key place.kind (table_view table.now)) ≡ None) }
-    ensures err { IfErr result (IsKeyFault (unknown place (unknown_key place.kind (table_view table.now)))) }
+    ensures ok { IfOk result
+        (λ _. unknown place (unknown_key place.kind (table_view table.now)) ≡ None) }
+    ensures err { IfErr result
+        (IsKeyFault (unknown place (unknown_key place.kind (table_view table.now)))) }
 {
     match unknown_key(table, place.kind) {
         Some(key) => {

@@ -12,7 +12,8 @@ use toml::Table;
 
 /// The name of a file that a key of a table holds, if the table has the key.
 pub fn name_at(table: &Table, place: Place, key: NameKey) -> Result<Option<&str>, ConfigFault>
-    ensures ok { IfOk result (λ name. name_at (table_view table.now) place key ≡ Ok (option_map (λ n. n.now) name)) }
+    ensures ok { IfOk result
+        (λ name. name_at (table_view table.now) place key ≡ Ok (option_map (λ n. n.now) name)) }
     ensures err { IfErr result (λ fault. name_at (table_view table.now) place key ≡ Err fault) }
 {
     let Some(value) = held(table, key.word()) else {

@@ -1,10 +1,10 @@
 //! The arguments of the jobs that take the lines of a file on a node, which may have a file of its own.
 
-ghost use Rattle.std.specs.Prelude.{◌≡◌, IfErr, IfOk, false};
-ghost use Rattle.clap.specs.Simple.{app_of};
-ghost use Rattle.clap.specs.declared.builder.command.Command.TheViews.{out-Command as fields_of};
-ghost use Rattle.clap.specs.Walk.{rows_of};
-ghost use Rattle.clap.specs.Matches.{found_of};
+ghost use Rattle.std.specs.Prelude.{◌≡◌, IfErr, IfOk, false, None, Some, string_bytes};
+ghost use Rattle.job_parts.specs.Matched.{app_of, fields_of, found_of, rows_of};
+ghost use Rattle.job_parts.specs.Inputs.{AreInputs, input};
+ghost use Rattle.job_parts.specs.declared.inputs.Content.TheVariants.{Lines};
+ghost use Rattle.job_config.specs.Sources.{first_file};
 ghost use Rattle.job_config.specs.NodeLines.{NamesNodeLines, RefusesNodeLines, node_lines_app};
 
 use crate::sources::{NodeSource, source_arguments, source_of};
@@ -26,12 +26,12 @@ pub struct NodeLines {
 
 impl NodeLines {
     /// What such a job reads: the lines, and the first file of the node, if it has one.
-    pub fn inputs(&self) -> Inputs<'_> {
+    pub fn inputs(&self) -> Inputs<'_>
+        ensures { AreInputs (Some (input (string_bytes self.now.lines) Lines)) (first_file self.now.node)
+            None result }
+    {
         let lines = InputFile::new(self.lines.as_str(), Content::Lines);
-        match self.node.input() {
-            Some(file) => Inputs::two(lines, file),
-            None => Inputs::one(lines),
-        }
+        Inputs::of(Some(lines), self.node.input())
     }
 }
 

@@ -43,16 +43,6 @@ impl Kind {
             Kind::Load => key == "image" || key == "slot",
         }
     }
-
-    /// The keys that such a table may have, for the user.
-    pub(crate) fn keys(self) -> &'static str {
-        match self {
-            Kind::Node => "address, bank, load, map, ports or program",
-            Kind::Bank => "base, contents, journal or size",
-            Kind::Map => "cells or peak",
-            Kind::Load => "image or slot",
-        }
-    }
 }
 
 /// Whether the node's own table may have the key.

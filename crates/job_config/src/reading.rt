@@ -27,8 +27,8 @@ use crate::numbers::number_at;
 use crate::own_node::{Contents, OwnLoad, OwnNode};
 use crate::places::{Kind, NameKey, NumberKey, Place};
 use crate::tables::{OWN, list_at, table_in};
-use bpf::Image;
-use bver::{Accepted, MapSizes, verify};
+use bpf::{Image, ImageFault};
+use bver::{Accepted, MapSizes, Refusal, verify};
 use job_parts::factory::judging_program;
 use job_parts::faults::Fault;
 use job_parts::programs::{bytes_in, text_in};
@@ -47,6 +47,15 @@ pub struct ReadNode {
     pub program: Accepted,
 }
 
+/// Whether a trouble is want of memory.
+fn is_memory(trouble: Trouble) -> bool {
+    match trouble {
+        Trouble::NoImage(fault) => fault == ImageFault::Memory,
+        Trouble::Refused(refused) => refused.code == Refusal::Memory,
+        Trouble::Unread | Trouble::TooLong { .. } => false,
+    }
+}
+
 /// The fault of a file that a key names.
 fn bad_file(
     alloc: Global,
@@ -55,7 +64,7 @@ fn bad_file(
     name: &str,
     trouble: Trouble,
 ) -> Result<ConfigFault, AllocError> {
-    if trouble.is_memory() {
+    if is_memory(trouble) {
         return Ok(ConfigFault::Memory);
     }
     let name = Word::new(alloc, name)?;
@@ -377,7 +386,8 @@ fn line_at(text: &str, place: usize) -> usize {
 
 /// Why a text is no TOML.
 fn no_toml(alloc: Global, text: &str, fault: &toml::de::Error) -> Result<ConfigFault, AllocError>
-    ensures { IfOk result (λ bad. (bad ≡ Memory) ⊎ (¬ IsMemory fault.now × (code_of bad ≡ Some Text))) }
+    ensures { IfOk result
+        (λ bad. (bad ≡ Memory) ⊎ (¬ IsMemory fault.now × (code_of bad ≡ Some Text))) }
 {
     match fault.span() {
         Some(span) => Ok(ConfigFault::NoToml {
@@ -482,7 +492,8 @@ pub fn configuration_in<'a, F: Files>(
     name: &'a str,
 ) -> Result<Configuration, Fault<'a>>
     ensures says { IfOk result (λ c. ReadsConfiguration F.reads name.now files.old c files.new) }
-    ensures none { IfErr result (λ fault. ReadsNoConfiguration F.reads name.now files.old fault files.new) }
+    ensures none { IfErr result (λ fault. ReadsNoConfiguration F.reads name.now files.old
+        fault files.new) }
     ensures within { IfOk result (λ c. are_within c.banks.items ≡ true) }
 {
     let text = read_text(alloc, files, name)?;

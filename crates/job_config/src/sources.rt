@@ -1,12 +1,11 @@
 //! Where the node of a job comes from.
 
-ghost use Rattle.std.specs.Prelude.{◌≡◌, IfErr, IfOk, codes, false};
-ghost use Rattle.clap.specs.Simple.{app_of};
-ghost use Rattle.clap.specs.declared.builder.command.Command.TheViews.{out-Command as fields_of};
+ghost use Rattle.std.specs.Prelude.{◌≡◌, IfErr, IfOk, IfSome, codes, false, None, option_map};
+ghost use Rattle.job_parts.specs.Matched.{app_of, fields_of, found_of};
 ghost use Rattle.clap.specs.Walk.{rows_of, rule_of};
-ghost use Rattle.clap.specs.Matches.{found_of};
 ghost use Rattle.job_parts.specs.Arguments.{option_rule};
-ghost use Rattle.job_config.specs.Sources.{GivesSource, RefusesSource, is_alone, lacks, with_source_options};
+ghost use Rattle.job_parts.specs.Inputs.{AreInputs, input_value};
+ghost use Rattle.job_config.specs.Sources.{GivesSource, RefusesSource, first_file, is_alone, lacks, with_source_options};
 
 use clap::{Arg, ArgMatches, Command};
 use job_parts::arguments::{option, text_of};
@@ -14,9 +13,6 @@ use job_parts::inputs::{Content, InputFile, Inputs};
 use job_parts::options::{NodeWords, node_arguments, node_words};
 use job_parts::usage::UsageFault;
 use std::alloc::{AllocError, Global};
-
-/// The options that say something of a node without a file, each with its two hyphens.
-const BESIDE: [&str; 3] = ["image", "maps", "ports"];
 
 /// Where the node of a job comes from.
 #[derive(Debug, Drop)]
@@ -29,7 +25,9 @@ pub enum NodeSource {
 
 impl NodeSource {
     /// The file that is read first of the node: its own, or the image that judges, if one is named.
-    pub fn input(&self) -> Option<InputFile<'_>> {
+    pub fn input(&self) -> Option<InputFile<'_>>
+        ensures { option_map input_value result ≡ first_file self.now }
+    {
         match self {
             NodeSource::File(name) => Some(InputFile::new(name.as_str(), Content::Node)),
             NodeSource::Words(words) => words.image_input(),
@@ -37,11 +35,10 @@ impl NodeSource {
     }
 
     /// What the node of a talk reads: that file.
-    pub fn inputs(&self) -> Inputs<'_> {
-        match self.input() {
-            Some(file) => Inputs::one(file),
-            None => Inputs::none(),
-        }
+    pub fn inputs(&self) -> Inputs<'_>
+        ensures { AreInputs (first_file self.now) None None result }
+    {
+        Inputs::of(self.input(), None)
     }
 }
 
@@ -79,12 +76,18 @@ fn is_alone(found: &ArgMatches) -> bool
 }
 
 /// The option that says something of the node beside `--node`, if there are both.
-pub fn beside_node(found: &ArgMatches) -> Option<&'static str> {
+pub fn beside_node(found: &ArgMatches) -> Option<&'static str>
+    ensures { IfSome result (λ name. lacks name.now (rows_of (found_of found.now)) ≡ false) }
+{
     text_of(found, "node")?;
-    for name in BESIDE {
-        if !lacks(found, name) {
-            return Some(name);
-        }
+    if !lacks(found, "image") {
+        return Some("image");
+    }
+    if !lacks(found, "maps") {
+        return Some("maps");
+    }
+    if !lacks(found, "ports") {
+        return Some("ports");
     }
     None
 }

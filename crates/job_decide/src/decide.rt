@@ -1,6 +1,6 @@
 //! The job `decide`.
 
-ghost use Rattle.std.specs.Prelude.{◌≡◌, IfErr, IfOk, false, string_bytes};
+ghost use Rattle.std.specs.Prelude.{◌≡◌, IfErr, IfOk, false, string_bytes, None, Some};
 ghost use Rattle.clap.specs.Simple.{app_of};
 ghost use Rattle.clap.specs.declared.builder.command.Command.TheViews.{out-Command as fields_of};
 ghost use Rattle.clap.specs.Walk.{rows_of};
@@ -9,6 +9,8 @@ ghost use Rattle.job_parts.specs.Stops.{StopsBy};
 ghost use Rattle.job_decide.specs.DecideJob.{NamesDecide, RefusesDecide, decide_app};
 ghost use Rattle.job_decide.specs.DecidedFile.{Decides, IsNotDecided, IsReady, IsUnready};
 ghost use Rattle.job_decide.specs.DecidedLines.{DecidesLine, IsBadLine};
+ghost use Rattle.job_parts.specs.Inputs.{AreInputs, input};
+ghost use Rattle.job_parts.specs.declared.inputs.Content.TheVariants.{Lines, Table};
 
 use crate::node_windows::own_windows;
 use crate::packets::decide_packet;
@@ -47,9 +49,15 @@ pub struct DecideWords {
 
 impl DecideWords {
     /// What the job reads: the lines, and then the table.
-    pub fn inputs(&self) -> Inputs<'_> {
+    pub fn inputs(&self) -> Inputs<'_>
+        ensures { AreInputs (Some (input (string_bytes self.now.lines) Lines))
+            (Some (input (string_bytes self.now.table) Table)) None result }
+    {
         let lines = InputFile::new(self.lines.as_str(), Content::Lines);
-        Inputs::two(lines, InputFile::new(self.table.as_str(), Content::Table))
+        Inputs::of(
+            Some(lines),
+            Some(InputFile::new(self.table.as_str(), Content::Table)),
+        )
     }
 }
 

@@ -189,7 +189,8 @@ pub fn decide_packet<W: Write>(
     packet: &Packet,
     out: &mut W,
 ) -> Result<(), LineHalt>
-    ensures told { OnOk result (TellsPacket windows.now port policy.now packet.now (discard_of packet.now.bytes)
+    ensures told { OnOk result (TellsPacket windows.now port policy.now packet.now
+        (discard_of packet.now.bytes)
         counts.old counts.new (W.contents out.old) (W.contents out.new)) }
     ensures stops { IfErr result (StopsLineBy (IsRefused (W.contents out.old) (W.contents out.new))) }
 {

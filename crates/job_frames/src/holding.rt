@@ -33,10 +33,8 @@ fn ends_of_link<'a, F: Files>(
 {
     let node = node_from(alloc, source, files)?;
     let _ports = node.ports();
-    match FrameReader::new(alloc) {
-        Ok(reader) => Ok((reader, Answering::new(alloc, node))),
-        Err(_) => Err(Fault::NoMemory),
-    }
+    let reader = FrameReader::new(alloc)?;
+    Ok((reader, Answering::new(alloc, node)))
 }
 
 /// Why the job stops, where a link was cut off so.

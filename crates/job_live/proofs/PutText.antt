@@ -1,6 +1,6 @@
 -- Digits that are put behind a text.
 use Rattle.std.proofs.Common.{◌≡◌, ◌<◌, ◌≤◌, ◌+◌, ℕ, List, [], ◌∷◌, ◌++◌, length, take, get_or, refl, sym, ap, ◌∙◌, arith}
-use Rattle.std.specs.Prelude.{◌/◌, ◌%◌, ◌^◌, decimal, slice_index}
+use Rattle.std.specs.Prelude.{◌/◌, ◌%◌, ◌^◌, decimal}
 use Rattle.rmap.specs.Codes.{discard_code}
 use Rattle.rmap.specs.declared.discard.Discard.{Discard}
 use Rattle.rmap.specs.declared.discard.Discard.TheVariants.{Short, Protocol, Reply, HeaderCrc}
@@ -12,18 +12,8 @@ use Rattle.job_parts.specs.declared.bad_lines.BadLine.{BadLine}
 use Rattle.job_parts.specs.declared.bad_lines.BadLine.TheVariants.{Line, NoPort as NoSuchPort, NoEvent, NoRoom}
 use Rattle.std.proofs.lemmas.Fmt.{decimal_digit, decimal_step}
 use Rattle.std.proofs.lemmas.List.{append_assoc, append-nil, take_more}
-use Rattle.hex.specs.Hex.{encode_upper, encode_with, upper_digits}
-
--- one byte
-pub one_byte : (byte : ℕ) → encode_upper (byte ∷ []) ≡ slice_index upper_digits (byte / 16) ∷ slice_index upper_digits (byte % 16) ∷ []
-unfolding encode_with
-one_byte byte = refl
-
--- two parts
-digits_both : (front behind : List ℕ) → encode_upper (front ++ behind) ≡ encode_upper front ++ encode_upper behind
-unfolding encode_with
-digits_both [] behind = refl
-digits_both (first ∷ front) behind = ap (λ (text : List ℕ). encode_upper (first ∷ []) ++ text) (digits_both front behind)
+use Rattle.hex.specs.Hex.{encode_upper, encode_with}
+use Rattle.job_parts.proofs.HexText.{digits_both}
 
 -- no byte
 pub none_put : (text : List ℕ) → text ≡ text ++ encode_upper []

@@ -1,25 +1,6 @@
 -- What a line of a talk does at the node, and what is printed of it.
-use Rattle.std.specs.Prelude.{
-  ◌≡◌,
-  ◌⊎◌,
-  nat_lt,
-  ℕ,
-  Bool,
-  true,
-  false,
-  List,
-  [],
-  ◌∷◌,
-  ◌++◌,
-  length,
-  codes,
-  decimal,
-  Option,
-  Some,
-  None,
-  is_some,
-  slice_get,
-}
+use Rattle.std.specs.Prelude.{◌≡◌, ◌⊎◌, nat_lt, ℕ, Bool, true, false, List, [], ◌∷◌, ◌++◌, length, codes, decimal}
+use Rattle.std.specs.Prelude.{Option, Some, None, is_some, slice_get}
 use Rattle.std.specs.Io.KnownBytes.{Appends}
 use Rattle.node_programs.specs.Published.{sizes_of}
 use Rattle.spw.specs.Line.{IsPort, words_of}

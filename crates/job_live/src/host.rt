@@ -84,7 +84,10 @@ fn read_line<I: Read>(input: &mut I, line: &mut String) -> io::Result<bool>
 
 impl<I: BufRead + Drop, W: Write + Drop> HostTalk<I, W> {
     /// The talk that reads from the one, and writes to the other.
-    pub fn new(input: I, output: W) -> HostTalk<I, W> {
+    pub fn new(input: I, output: W) -> HostTalk<I, W>
+        ensures input { result.input ≡ input }
+        ensures output { result.output ≡ output }
+    {
         HostTalk {
             input,
             output,
@@ -93,7 +96,10 @@ impl<I: BufRead + Drop, W: Write + Drop> HostTalk<I, W> {
     }
 
     /// The writer, and why the last text could not be sent, if it could not.
-    pub fn into_output(self) -> (W, io::Result<()>) {
+    pub fn into_output(self) -> (W, io::Result<()>)
+        ensures output { result.0 ≡ self.output }
+        ensures lost { result.1 ≡ self.lost }
+    {
         (self.output, self.lost)
     }
 

@@ -1,10 +1,7 @@
 //! The words of the job `live`.
 
 ghost use Rattle.std.specs.Prelude.{◌≡◌, IfErr, IfOk, false};
-ghost use Rattle.clap.specs.Simple.{app_of};
-ghost use Rattle.clap.specs.declared.builder.command.Command.TheViews.{out-Command as fields_of};
-ghost use Rattle.clap.specs.Walk.{rows_of};
-ghost use Rattle.clap.specs.Matches.{found_of};
+ghost use Rattle.job_parts.specs.Matched.{app_of, fields_of, found_of, rows_of};
 ghost use Rattle.job_live.specs.Words.{NamesLive, RefusesLive, live_app, serves_frames};
 
 use clap::{ArgMatches, Command};

@@ -1,7 +1,4 @@
 //! The job of `rmapctl` that prints the node of a node's file, for a person who checks it or for a C program.
 #![tactic(auto)]
 
-mod c_bytes;
-mod c_header;
 pub mod node_file;
-mod node_lines;

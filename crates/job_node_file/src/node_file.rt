@@ -1,29 +1,226 @@
 //! The job `node`.
 
-ghost use Rattle.std.specs.Prelude.{◌≡◌, IfErr, IfOk, codes, false, string_bytes};
-ghost use Rattle.clap.specs.Matches.{found_of};
-ghost use Rattle.clap.specs.Simple.{app_of};
-ghost use Rattle.clap.specs.Walk.{rows_of};
-ghost use Rattle.clap.specs.declared.builder.command.Command.TheViews.{out-Command as fields_of};
+ghost use Rattle.std.specs.Prelude.{◌≡◌, IfErr, IfOk, codes, false, string_bytes, None, Some};
+ghost use Rattle.job_parts.specs.Matched.{app_of, fields_of, found_of, rows_of};
 ghost use Rattle.job_node_file.specs.NodeFileJob.{NamesNodeFile, node_file_app};
 ghost use Rattle.job_node_file.specs.Printed.{IsNotTold, PrintsNodeFile};
 ghost use Rattle.job_parts.specs.Arguments.{Lacks};
 ghost use Rattle.job_parts.specs.Statuses.{IsDoneWith};
 ghost use Rattle.job_parts.specs.Stops.{StopsBy};
+ghost use Rattle.job_parts.specs.Inputs.{AreInputs, input};
+ghost use Rattle.job_parts.specs.declared.inputs.Content.TheVariants.{Node};
 
-use crate::c_header::header_text;
-use crate::node_lines::node_text;
+use bpf::Image;
+use bver::Accepted;
 use clap::{ArgMatches, Command};
+use job_config::own_node::{OwnLoad, OwnNode};
 use job_config::reading::{ReadNode, node_in};
 use job_parts::arguments::{file, flag, is_set, name_of};
-use job_parts::inputs::{Content, InputFile, Inputs};
+use job_parts::inputs::{Content, Inputs};
 use job_parts::printing::print_text;
 use job_parts::status::Status;
 use job_parts::stops::Halt;
 use job_parts::storage::Files;
 use job_parts::usage::UsageFault;
+use machine::{MapKind, MapSizes};
+use node_parts::BankConfig;
 use std::alloc::{AllocError, Global};
 use std::io::Write;
+
+/// How many bytes stand in a row.
+const ROW: usize = 16;
+
+/// Adds a byte, `0xHH,`, and behind it a line feed where its row ends, and else a space.
+fn add_byte(text: &mut String, byte: u8, ends: bool) -> Result<(), AllocError> {
+    let behind = if ends { '\n' } else { ' ' };
+    write!(text, "0x{byte:02X},{behind}")
+}
+
+/// Adds the bytes of an array, 16 in a row, and its end. An array of C is not empty: no bytes are a zero.
+fn add_c_bytes(text: &mut String, bytes: &[u8]) -> Result<(), AllocError> {
+    if bytes.is_empty() {
+        text.push_str("0\n")?;
+    }
+    for place in 0..bytes.len() {
+        let ends = place % ROW == ROW - 1 || place + 1 == bytes.len();
+        add_byte(text, bytes[place], ends)?;
+    }
+    text.push_str("};\n")
+}
+
+/// What stands before all else.
+const HEAD: &str = "\
+/* Made by rmapctl node --c. */
+#ifndef NODE_FILE_H
+#define NODE_FILE_H
+
+#include <sandbarstove.h>
+
+";
+
+/// Adds the address of the node, and how many ports, banks, maps and loads it has.
+fn add_c_numbers(text: &mut String, node: &OwnNode) -> Result<(), AllocError> {
+    let (address, ports, banks) = (node.address(), node.ports(), node.banks().len());
+    let (maps, loads) = (node.sizes().maps(), node.loads().len());
+    write!(
+        text,
+        "#define NODE_ADDRESS 0x{address:02X}\n#define NODE_PORTS {ports}\n#define NODE_BANKS {banks}\n"
+    )?;
+    write!(
+        text,
+        "#define NODE_MAPS {maps}\n#define NODE_LOADS {loads}\n"
+    )
+}
+
+/// Adds the banks, by their extended address.
+fn add_c_banks(text: &mut String, banks: &[BankConfig]) -> Result<(), AllocError> {
+    text.push_str("\nstatic const struct sandbar_bank node_banks[] = {\n")?;
+    for bank in banks {
+        let (base, size, room) = (bank.base, bank.size, bank.room);
+        writeln!(text, "  {{0x{base:08X}u, {size}u, {room}u}},")?;
+    }
+    text.push_str("};\n")
+}
+
+/// Adds the maps; one without cells where there is none, since an array of C is not empty.
+fn add_c_maps(text: &mut String, sizes: &MapSizes) -> Result<(), AllocError> {
+    text.push_str("\nstatic const struct sandbar_map node_maps[] = {\n")?;
+    for map in 0..sizes.maps() {
+        let cells = sizes.cells(map).unwrap_or(0);
+        let peak = match sizes.kind(map) {
+            Some(MapKind::Peak) => 1,
+            Some(MapKind::Counter) | None => 0,
+        };
+        writeln!(text, "  {{{cells}, {peak}}},")?;
+    }
+    if sizes.maps() == 0 {
+        text.push_str("  {0, 0},\n")?;
+    }
+    text.push_str("};\n")
+}
+
+/// Adds the bytes that banks begin with, and a row for each bank.
+fn add_contents(text: &mut String, node: &OwnNode) -> Result<(), AllocError> {
+    let contents = node.contents();
+    for place in 0..contents.len() {
+        writeln!(text, "\nstatic const uint8_t node_contents_{place}[] = {{")?;
+        add_c_bytes(text, contents[place].bytes())?;
+    }
+    text.push_str("\nstatic const struct { const uint8_t *bytes; size_t length; } ")?;
+    text.push_str("node_contents[] = {\n")?;
+    for place in 0..contents.len() {
+        let count = contents[place].bytes().len();
+        writeln!(text, "  {{node_contents_{place}, {count}}},")?;
+    }
+    text.push_str("};\n")
+}
+
+/// Adds the images that are loaded, and a row for each load.
+fn add_loads(text: &mut String, node: &OwnNode) -> Result<(), AllocError> {
+    let loads = node.loads();
+    for place in 0..loads.len() {
+        writeln!(text, "\nstatic const uint8_t node_load_{place}[] = {{")?;
+        add_c_bytes(text, loads[place].image())?;
+    }
+    text.push_str("\nstatic const struct { uint8_t slot; const uint8_t *image; ")?;
+    text.push_str("size_t length; } node_loads[] = {\n")?;
+    for place in 0..loads.len() {
+        let (slot, count) = (loads[place].slot(), loads[place].image().len());
+        writeln!(text, "  {{{slot}, node_load_{place}, {count}}},")?;
+    }
+    if loads.is_empty() {
+        text.push_str("  {0, 0, 0},\n")?;
+    }
+    text.push_str("};\n")
+}
+
+/// The header of a node, with the image that judges in all slots at first.
+fn header_text(alloc: Global, node: &OwnNode, program: &Accepted) -> Result<String, AllocError> {
+    let image = program.image().write()?;
+    let mut text = String::from_str(alloc, HEAD)?;
+    add_c_numbers(&mut text, node)?;
+    add_c_banks(&mut text, node.banks())?;
+    add_c_maps(&mut text, &node.sizes())?;
+    text.push_str("\nstatic const uint8_t node_image[] = {\n")?;
+    add_c_bytes(&mut text, image.as_slice())?;
+    add_contents(&mut text, node)?;
+    add_loads(&mut text, node)?;
+    text.push_str("\n#endif\n")?;
+    Ok(text)
+}
+
+/// Adds where a bank lies, and what its journal has room for: `bank EXTENDED FIRST LAST size N journal N`, and `contents N`
+/// behind that where it begins with bytes.
+fn add_bank(
+    text: &mut String,
+    number: u8,
+    bank: &BankConfig,
+    contents: usize,
+) -> Result<(), AllocError> {
+    let (base, size, room) = (bank.base, bank.size, bank.room);
+    let last = base.saturating_add(size.saturating_sub(1));
+    write!(
+        text,
+        "bank {number:02X} {base:08X} {last:08X} size {size} journal {room}"
+    )?;
+    if contents > 0 {
+        write!(text, " contents {contents}")?;
+    }
+    text.push('\n')
+}
+
+/// Adds the banks, a line each.
+fn add_banks(text: &mut String, node: &OwnNode) -> Result<(), AllocError> {
+    let mut number: u8 = 0;
+    for (bank, contents) in node.banks().iter().zip(node.contents()) {
+        add_bank(text, number, bank, contents.bytes().len())?;
+        number = number.saturating_add(1);
+    }
+    Ok(())
+}
+
+/// Adds how many cells each map has, a line each: `map N cells N`, and `peak` behind that of a map of the greatest numbers.
+fn add_maps(text: &mut String, sizes: &MapSizes) -> Result<(), AllocError> {
+    for map in 0..sizes.maps() {
+        let cells = sizes.cells(map).unwrap_or(0);
+        match sizes.kind(map) {
+            Some(MapKind::Peak) => writeln!(text, "map {map} cells {cells} peak")?,
+            Some(MapKind::Counter) | None => writeln!(text, "map {map} cells {cells}")?,
+        }
+    }
+    Ok(())
+}
+
+/// Adds a load: `load N slot N weight N`.
+fn add_load(
+    text: &mut String,
+    alloc: Global,
+    number: usize,
+    load: &OwnLoad,
+) -> Result<(), AllocError> {
+    // The node's file was read with an image that may judge: memory alone can be refused to it.
+    let image = Image::read(alloc, load.image()).map_err(|_| AllocError)?;
+    let (slot, weight) = (load.slot(), image.weight());
+    writeln!(text, "load {number} slot {slot} weight {weight}")
+}
+
+/// The lines of a node: its logical address, how many ports it has, its banks and maps, what the program costs at most that judges
+/// at first, and what is loaded before the first packet.
+fn node_text(alloc: Global, node: &OwnNode, program: &Accepted) -> Result<String, AllocError> {
+    let mut text = String::new(alloc);
+    let (address, ports) = (node.address(), node.ports());
+    writeln!(text, "address {address:02X}\nports {ports}")?;
+    add_banks(&mut text, node)?;
+    add_maps(&mut text, &node.sizes())?;
+    let weight = program.image().weight();
+    writeln!(text, "program weight {weight}")?;
+    let mut number: usize = 0;
+    for load in node.loads() {
+        number = number.saturating_add(1);
+        add_load(&mut text, alloc, number, load)?;
+    }
+    Ok(text)
+}
 
 /// The words of the job `node`.
 #[derive(Debug, Drop)]
@@ -36,8 +233,10 @@ pub struct NodeFileWords {
 
 impl NodeFileWords {
     /// What the job reads: the node's file; those beside it are named there.
-    pub fn inputs(&self) -> Inputs<'_> {
-        Inputs::one(InputFile::new(self.node.as_str(), Content::Node))
+    pub fn inputs(&self) -> Inputs<'_>
+        ensures { AreInputs (Some (input (string_bytes self.now.node) Node)) None None result }
+    {
+        Inputs::one(self.node.as_str(), Content::Node)
     }
 }
 

@@ -3,7 +3,7 @@ use Rattle.std.proofs.Common.{◌≡◌, ◌<◌, ◌≤◌, ℕ, zero, suc, Boo
 use Rattle.std.specs.Prelude.{◌&&◌, not, nat_le, map, slice_get, if◌then◌else◌}
 use Rattle.std.specs.Cmp.Derive.{both_true}
 use Rattle.std.specs.List.{list_all}
-use Rattle.std.proofs.lemmas.Bool.{leb-true}
+use Rattle.std.proofs.lemmas.Bool.{leb-true, and_parts}
 use Rattle.std.proofs.lemmas.List.{length-set}
 use Rattle.std.proofs.lemmas.Option.{get_or_from_slice_get}
 use Rattle.std.proofs.Math.Seq.{map-set_same}
@@ -90,18 +90,12 @@ turned_banks number before after old out = ap (λ (s : SingleNodeValue). length 
 pub set_banks : (number address : ℕ) (bytes : List ℕ) (before after : JobNodeValue) (old : JournalValue) → SetsBytes number address bytes before after old → length after.banks ≡ length before.banks
 set_banks number address bytes before after old out = ap (λ (s : SingleNodeValue). length s.banks) out.set.set ∙ length-set before.banks number _
 
--- both of two tests that are passed together
-both : (a b : Bool) → (a && b) ≡ true → (a ≡ true) × (b ≡ true)
-both true true h = (refl, refl)
-both true false h = absurd cc
-both false b h = absurd cc
-
 -- the journal of a bank has room for an entry
 pub some_room : (banks : List BankValue) (k : ℕ) → list_all (λ room. nat_le 1 room) (rooms_of banks) ≡ true → k < length banks
     → 1 ≤ room_in (slice_get banks k)
 some_room [] k rooms low = absurd (omega (arith, low))
-some_room (b ∷ banks) zero rooms low = leb-true 1 (room b) (both _ _ rooms).0
-some_room (b ∷ banks) (suc k) rooms low = some_room banks k (both _ _ rooms).1 (omega (arith, low))
+some_room (b ∷ banks) zero rooms low = leb-true 1 (room b) (and_parts _ _ rooms).0
+some_room (b ∷ banks) (suc k) rooms low = some_room banks k (and_parts _ _ rooms).1 (omega (arith, low))
 
 -- bytes that lie in a bank lie in one that is there
 pub covered_bank : (banks : List BankValue) (k address count : ℕ) → covers_in (slice_get banks k) address count ≡ true → k < length banks
@@ -124,17 +118,17 @@ within_limits config h = by_limits (is_ports config.ports) (are_within config.ba
 rooms_within : (ports : ℕ) (banks : List BankConfig) → list_all is_within banks ≡ true → list_all (λ room. nat_le 1 room) (rooms_of (map (bank_of ports) banks)) ≡ true
 rooms_within ports [] h = refl
 rooms_within ports (b ∷ banks) h =
-    let own = both (is_range b.base b.size) (is_room b.room) (both _ _ h).0 in
-    let room : nat_le 1 b.room ≡ true = (both (nat_le 1 b.room) (nat_le b.room MAX_ROOM) own.1).0 in
-    both_true room (rooms_within ports banks (both _ _ h).1)
+    let own = and_parts (is_range b.base b.size) (is_room b.room) (and_parts _ _ h).0 in
+    let room : nat_le 1 b.room ≡ true = (and_parts (nat_le 1 b.room) (nat_le b.room MAX_ROOM) own.1).0 in
+    both_true room (rooms_within ports banks (and_parts _ _ h).1)
 
 pub fresh_rooms : (config : NodeConfig) → are_within config.banks.now ≡ true → list_all (λ room. nat_le 1 room) (rooms_of (fresh_banks config)) ≡ true
 fresh_rooms config h =
-    rooms_within config.ports config.banks.now (both _ (list_all is_within config.banks.now) h).1
+    rooms_within config.ports config.banks.now (and_parts _ (list_all is_within config.banks.now) h).1
 
 -- there is a port within the limits
 pub some_port : (ports : ℕ) → is_ports ports ≡ true → 1 ≤ ports
-some_port ports h = leb-true 1 ports (both (nat_le 1 ports) _ h).0
+some_port ports h = leb-true 1 ports (and_parts (nat_le 1 ports) _ h).0
 
 -- an empty journal that began at a bank: its own came out
 pub turned : (number : ℕ) (before after : JobNodeValue) → RotatesTo number (room_in (slice_get before.banks number)) (alone before) (alone after) → AreKept before after

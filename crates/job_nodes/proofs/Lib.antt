@@ -1,7 +1,7 @@
-mod Banks
+pub mod Banks
 mod Continuing
 mod Loaded
-mod Scheduled
+pub mod Scheduled
 mod SettledNodes
-mod Simulating
+pub mod Simulating
 mod FirstWorlds

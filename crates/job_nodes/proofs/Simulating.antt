@@ -16,11 +16,11 @@ use Rattle.job_parts.specs.Turns.{AreTaken, StopsIn}
 use Rattle.job_parts.specs.declared.faults.Fault.{Fault}
 use Rattle.job_parts.specs.declared.options.NodeWords.{NodeWords}
 
-regroup : (a b c : List ℕ) → (a ++ b) ++ c ≡ a ++ (b ++ c)
+pub regroup : (a b c : List ℕ) → (a ++ b) ++ c ≡ a ++ (b ++ c)
 regroup a b c = simp append_assoc
 
 -- what was printed before and behind
-appends_both : (old mid new : Option (List ℕ)) (front back : List ℕ) → Appends old mid front → Appends mid new back → Appends old new (front ++ back)
+pub appends_both : (old mid new : Option (List ℕ)) (front back : List ℕ) → Appends old mid front → Appends mid new back → Appends old new (front ++ back)
 appends_both None mid new front back one two = tt
 appends_both (Some xs) None new front back one two = absurd one
 appends_both (Some xs) (Some ys) None front back one two = absurd two
@@ -28,7 +28,7 @@ appends_both (Some xs) (Some ys) (Some zs) front back one two =
     two ∙ ap (λ (l : List ℕ). l ++ back) one ∙ regroup xs front back
 
 -- nothing was printed
-appends_nothing : (old : Option (List ℕ)) → Appends old old []
+pub appends_nothing : (old : Option (List ℕ)) → Appends old old []
 appends_nothing None = tt
 appends_nothing (Some xs) = sym (append-nil xs)
 

@@ -1,24 +1,6 @@
 -- The node that the jobs run, with its ports.
-use Rattle.std.specs.Prelude.{
-  ◌≡◌,
-  ℕ,
-  List,
-  [],
-  ◌∷◌,
-  length,
-  map,
-  nat_le,
-  ◌≤◌,
-  true,
-  slice_get,
-  slice_index_or,
-  replicate,
-  Bool,
-  false,
-  Option,
-  None,
-  Some,
-}
+use Rattle.std.specs.Prelude.{◌≡◌, ℕ, List, [], ◌∷◌, length, map, nat_le, ◌≤◌, true, slice_get, slice_index_or}
+use Rattle.std.specs.Prelude.{replicate, Bool, false, Option, None, Some}
 use Rattle.std.specs.List.{list_all, range_with_len}
 use base.Stored.{Gv, gnil}
 use Rattle.bank.specs.Records.{BankValue, JournalValue, empty_journal}

@@ -31,7 +31,7 @@ impl Feeds {
     {
         let mut feeds = Vec::with_capacity(alloc, usize::from(ports))?;
         for _port in 0..ports {
-            let feed = Feed::new(alloc).map_err(|_| AllocError)?;
+            let feed = Feed::new(alloc)?;
             feeds.push(feed)?;
         }
         Ok(Feeds { feeds })
@@ -77,5 +77,5 @@ fn ended(feed: &mut Feed, piece: Vec<u8>, end: End) -> Result<Packet, LineFault>
         return Packet::new(piece, end);
     }
     feed.piece(&piece)?;
-    feed.close(end)
+    Ok(feed.close(end)?)
 }

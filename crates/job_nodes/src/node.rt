@@ -188,7 +188,8 @@ impl JobNode {
     /// ([`JobNode::covers`]).
     pub fn set(&mut self, bank: u8, address: u32, bytes: &[u8])
         requires { covers_in (slice_get self.old.banks bank) address (length bytes.now) ≡ true }
-        ensures { SetsBytes bank address bytes.now self.old self.new (journal_of (slice_get self.old.banks bank)) }
+        ensures { SetsBytes bank address bytes.now self.old self.new
+            (journal_of (slice_get self.old.banks bank)) }
     {
         let room = self.node.room(bank);
         self.node.turn_and_set(bank, address, bytes, room);

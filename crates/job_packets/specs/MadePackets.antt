@@ -1,25 +1,6 @@
 -- What the job `packet` reads and prints: the lines of the packets that its words order.
-use Rattle.std.specs.Prelude.{
-  ◌≡◌,
-  ◌+◌,
-  ◌&&◌,
-  ◌⊎◌,
-  nat_lt,
-  nat_le,
-  ℕ,
-  Bool,
-  if◌then◌else◌,
-  List,
-  [],
-  ◌∷◌,
-  ◌++◌,
-  length,
-  Option,
-  Some,
-  None,
-  codes,
-  string_bytes,
-}
+use Rattle.std.specs.Prelude.{◌≡◌, ◌+◌, ◌&&◌, ◌⊎◌, nat_lt, nat_le, ℕ, Bool, if◌then◌else◌, List, [], ◌∷◌, ◌++◌}
+use Rattle.std.specs.Prelude.{length, Option, Some, None, codes, string_bytes}
 use Rattle.std.specs.Io.KnownBytes.{Appends}
 use Rattle.spw.specs.declared.packets.TheConstants.{MAX_PACKET}
 use Rattle.rmap.specs.Reply.{with_crc}

@@ -1,23 +1,6 @@
 -- What the job `packet` is to make: a read, a write, a read-modify-write, or the packets of loads.
-use Rattle.std.specs.Prelude.{
-  ◌≡◌,
-  ◌≤◌,
-  ◌&&◌,
-  not,
-  is_some,
-  ℕ,
-  Bool,
-  true,
-  List,
-  ◌∷◌,
-  ◌++◌,
-  Option,
-  Some,
-  None,
-  codes,
-  length,
-  string_bytes,
-}
+use Rattle.std.specs.Prelude.{◌≡◌, ◌≤◌, ◌&&◌, not, is_some, ℕ, Bool, true, List, ◌∷◌, ◌++◌, Option, Some, None}
+use Rattle.std.specs.Prelude.{codes, length, string_bytes}
 use Rattle.clap.specs.Walk.{Row, Text, first_of}
 use Rattle.initiator.specs.CommandCodes.{read_code as code_of_read, write_code as code_of_write}
 use Rattle.job_parts.specs.Options.{IsNumberWithin, WritesSuch}

@@ -1,12 +1,66 @@
 -- What is wrong with words that order no packet.
-use Rattle.std.specs.Prelude.{◌≡◌, ◌⊎◌, List, None}
+use Rattle.std.specs.Prelude.{◌≡◌, ◌⊎◌, ℕ, Bool, true, false, List, None, codes}
 use Rattle.clap.specs.Walk.{Row, Text, first_of}
 use Rattle.job_parts.specs.declared.usage.UsageFault.{UsageFault}
 use Rattle.job_parts.specs.declared.usage.UsageFault.TheVariants.{BadOption, Memory as WantsMemory}
 use Rattle.job_packets.specs.declared.slips.PacketFault.{PacketFault}
 use Rattle.job_packets.specs.declared.slips.PacketFault.TheVariants.{Words, Memory}
 use Rattle.job_packets.specs.declared.slips.PacketWord.{PacketWord}
-use Rattle.job_packets.specs.declared.slips.Slip.TheVariants.{Bad}
+use Rattle.job_packets.specs.declared.slips.PacketWord.TheVariants as words
+use Rattle.job_packets.specs.declared.slips.Slip.{Slip}
+use Rattle.job_packets.specs.declared.slips.Slip.TheVariants.{Missing, Bad, Foreign}
+
+-- ---- words
+
+-- the name that the command line has for a word
+abbrev pub word_id : PacketWord → List ℕ
+word_id words.Kind = codes "kind"
+word_id words.Address = codes "address"
+word_id words.Length = codes "data"
+word_id words.Data = codes "data"
+word_id words.Masked = codes "data"
+word_id words.Mask = codes "mask"
+word_id words.Slot = codes "slot"
+word_id words.Verify = codes "verify"
+word_id words.NoReply = codes "no-reply"
+word_id words.NoIncrement = codes "no-increment"
+word_id words.Final = codes "final"
+word_id words.Port = codes "port"
+word_id words.Target = codes "target"
+word_id words.Key = codes "key"
+word_id words.Initiator = codes "initiator"
+word_id words.Transaction = codes "transaction"
+word_id words.Extended = codes "extended"
+word_id words.ReplyAddress = codes "reply-address"
+
+-- the word is a flag, which has no value
+abbrev pub is_flag : PacketWord → Bool
+is_flag words.Kind = false
+is_flag words.Address = false
+is_flag words.Length = false
+is_flag words.Data = false
+is_flag words.Masked = false
+is_flag words.Mask = false
+is_flag words.Slot = false
+is_flag words.Verify = true
+is_flag words.NoReply = true
+is_flag words.NoIncrement = true
+is_flag words.Final = true
+is_flag words.Port = false
+is_flag words.Target = false
+is_flag words.Key = false
+is_flag words.Initiator = false
+is_flag words.Transaction = false
+is_flag words.Extended = false
+is_flag words.ReplyAddress = false
+
+-- ---- slips
+
+-- the word of a slip
+abbrev pub word_of : Slip → PacketWord
+word_of (Missing word) = word
+word_of (Bad word) = word
+word_of (Foreign word) = word
 
 -- the fault of a word that is none that it may be
 abbrev pub bad_word : PacketWord → PacketFault

@@ -1,8 +1,7 @@
 //! What the job `packet` is to make.
 
 ghost use Rattle.std.specs.Prelude.{◌≡◌, ℕ, Some, IfErr, IfOk, MatchResult, codes};
-ghost use Rattle.clap.specs.Walk.{first_of, rows_of};
-ghost use Rattle.clap.specs.Matches.{found_of};
+ghost use Rattle.job_parts.specs.Matched.{first_of, found_of, rows_of};
 ghost use Rattle.job_parts.specs.Options.{IsNumberWithin, WritesSuch};
 ghost use Rattle.job_packets.specs.HexWords.{Has};
 ghost use Rattle.job_packets.specs.Orders.{AreMasked, Gives, GivesMasked, GivesPlace, HasLoad, HasRead, HasRmw, HasWrite, NamesOrder, OrdersLoad, OrdersRead, OrdersRmw, OrdersWrite, WritesSource, is_given, is_load_alone, is_plain, is_read_alone, is_rmw_alone, is_write_alone, read_code, write_code};

@@ -1,11 +1,10 @@
 //! The words of the job `packet`.
 
-ghost use Rattle.std.specs.Prelude.{◌≡◌, IfErr, IfOk, false};
-ghost use Rattle.clap.specs.Simple.{app_of};
-ghost use Rattle.clap.specs.declared.builder.command.Command.TheViews.{out-Command as fields_of};
-ghost use Rattle.clap.specs.Walk.{rows_of};
-ghost use Rattle.clap.specs.Matches.{found_of};
+ghost use Rattle.std.specs.Prelude.{◌≡◌, IfErr, IfOk, None, false, option_map};
+ghost use Rattle.job_parts.specs.Matched.{app_of, fields_of, found_of, rows_of};
 ghost use Rattle.job_packets.specs.HexWords.{Has};
+ghost use Rattle.job_parts.specs.Inputs.{input_value};
+ghost use Rattle.job_packets.specs.MadePackets.{file_of};
 ghost use Rattle.job_packets.specs.PacketJob.{NamesPacket, RefusesPacket, packet_app, with_order_options, with_order_words};
 ghost use Rattle.job_packets.specs.Slips.{IsWordFault};
 
@@ -33,16 +32,23 @@ pub struct PacketWords {
 
 impl PacketWords {
     /// What the job reads: of a load the image, and of a write the data, if a file has them.
-    pub fn inputs(&self) -> Inputs<'_> {
+    pub fn inputs(&self) -> Inputs<'_>
+        ensures file { option_map (λ file. file.name) (option_map input_value result.first)
+            ≡ file_of self.now.order }
+        ensures alone { option_map input_value result.second ≡ None }
+    {
         let (name, most) = match &self.order {
             Order::Load { image, .. } => (image, u64::from(STAGING_SIZE)),
             Order::Write {
                 source: Source::File(name),
                 ..
             } => (name, MAX_PACKET as u64),
-            Order::Read { .. } | Order::Write { .. } | Order::Rmw { .. } => return Inputs::none(),
+            Order::Read { .. } | Order::Write { .. } | Order::Rmw { .. } => {
+                return Inputs::of(None, None);
+            }
         };
-        Inputs::one(InputFile::new(name.as_str(), Content::Bytes(most.saturating_add(1))))
+        let file = InputFile::new(name.as_str(), Content::Bytes(most.saturating_add(1)));
+        Inputs::of(Some(file), None)
     }
 }
 

@@ -1,10 +1,7 @@
 //! The options of the job `packet`: the port, and the fields of a header that have a default.
 
 ghost use Rattle.std.specs.Prelude.{◌≡◌, ℕ, List, IfErr, IfOk, MatchResult, codes, false};
-ghost use Rattle.clap.specs.Simple.{app_of};
-ghost use Rattle.clap.specs.declared.builder.command.Command.TheViews.{out-Command as fields_of};
-ghost use Rattle.clap.specs.Walk.{first_of, rows_of};
-ghost use Rattle.clap.specs.Matches.{found_of};
+ghost use Rattle.job_parts.specs.Matched.{app_of, fields_of, first_of, found_of, rows_of};
 ghost use Rattle.job_packets.specs.HexWords.{Has};
 ghost use Rattle.job_packets.specs.PacketOptions.{GivesAddress, GivesHeader, GivesHex, GivesPort, padded, with_field_options};
 ghost use Rattle.job_packets.specs.Slips.{IsBadWord, IsWordFault};

@@ -1,7 +1,7 @@
 //! What is wrong with words that order no packet.
 
 ghost use Rattle.std.specs.Prelude.{◌≡◌};
-ghost use Rattle.job_packets.specs.Slips.{bad_word, usage_fault_of};
+ghost use Rattle.job_packets.specs.Slips.{bad_word, is_flag, usage_fault_of, word_id, word_of};
 ghost use Rattle.job_packets.specs.declared.slips.PacketFault.TheVariants.{Memory};
 
 use job_parts::usage::UsageFault;
@@ -50,7 +50,9 @@ pub enum PacketWord {
 
 impl PacketWord {
     /// By which name the command line has it.
-    pub fn id(self) -> &'static str {
+    pub fn id(self) -> &'static str
+        ensures { result.now ≡ word_id self }
+    {
         match self {
             PacketWord::Kind => "kind",
             PacketWord::Address => "address",
@@ -72,7 +74,7 @@ impl PacketWord {
     }
 
     /// What it stands for, as the usage of the job names it.
-    pub fn name(self) -> &'static str {
+    pub fn title(self) -> &'static str {
         match self {
             PacketWord::Kind => "KIND",
             PacketWord::Address => "ADDRESS",
@@ -143,7 +145,9 @@ impl PacketWord {
     }
 
     /// Whether it is a flag, which has no value.
-    pub fn is_flag(self) -> bool {
+    pub fn is_flag(self) -> bool
+        ensures { result ≡ is_flag self }
+    {
         matches!(
             self,
             PacketWord::Verify | PacketWord::NoReply | PacketWord::NoIncrement | PacketWord::Final
@@ -164,14 +168,16 @@ pub enum Slip {
 
 impl Slip {
     /// The word.
-    pub fn word(self) -> PacketWord {
+    pub fn word(self) -> PacketWord
+        ensures { result ≡ word_of self }
+    {
         match self {
             Slip::Missing(word) | Slip::Bad(word) | Slip::Foreign(word) => word,
         }
     }
 
     /// What is wanted in its place.
-    pub fn wanted(self) -> &'static str {
+    pub fn advice(self) -> &'static str {
         match self {
             Slip::Missing(word) | Slip::Bad(word) => word.form(),
             Slip::Foreign(word) => word.owner(),

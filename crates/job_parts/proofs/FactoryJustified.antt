@@ -1,7 +1,7 @@
 -- The factory program may judge on every node: a table of two states justifies it. Nothing is known at its first slot,
 -- and at its last that r0 is a number.
 use Rattle.std.specs.Prelude.{IfSome, ◌≢◌}
-use Rattle.std.proofs.Common.{◌≡◌, ◌≤◌, ℕ, zero, suc, Bool, false, List, [], ◌∷◌, length, replicate, Option, Some, None, refl, sym, subst, arith, le_of_eq}
+use Rattle.std.proofs.Common.{◌≡◌, ℕ, zero, suc, Bool, false, List, [], ◌∷◌, length, replicate, Option, Some, None, refl, sym, subst, arith, le_of_eq}
 use Rattle.std.proofs.lemmas.List.{length-replicate}
 use Rattle.std.proofs.lemmas.List.Elements.{All-nil}
 use Rattle.bpf.specs.Program.{IsProgram, Program, insn_at}
@@ -14,10 +14,8 @@ use Rattle.absdom_num.specs.Ranges.{IsWithin}
 use Rattle.absdom_num.specs.Tables.{whole_range}
 use Rattle.absdom.specs.declared.kinds.AbsKind.{AbsKind}
 use Rattle.absdom.specs.declared.kinds.AbsKind.TheVariants.{Num, Unset}
-use Rattle.absdom.specs.Kinds.{IsKindBelow}
-use Rattle.absdom_stack.specs.Marks.{mark_at}
-use Rattle.absdom_stack.specs.StackWords.{AreAllWhole, all_whole, range_in}
-use Rattle.absdom.specs.State.{AreBelow, IsBelow, IsEntry, IsProper, IsWhole, StateValue, entry_kinds, kind_in}
+use Rattle.absdom_stack.specs.StackWords.{all_whole, range_in}
+use Rattle.absdom.specs.State.{IsBelow, IsEntry, IsProper, IsWhole, StateValue, entry_kinds}
 use Rattle.bver_form.specs.Form.{IsAllowed}
 use Rattle.bver_form.specs.Loops.{IsLoopFormed}
 use Rattle.bver_form.specs.declared.refusal.Refusal.{Refusal}
@@ -27,6 +25,7 @@ use Rattle.bver.specs.Unjustified.{TellsUnjustified}
 use Rattle.bver.specs.Justified.{IsHead, IsJustified, IsPermittedAt}
 use Rattle.absdom_stack.specs.Spill.{spill_of}
 use Rattle.job_parts.specs.Factory.{factory}
+use Rattle.absdom.proofs.KindLists.{number, each_below, same_range, each_proper, many_words, proper_number, unmarked, whole_word}
 
 -- ---- two states
 
@@ -41,10 +40,6 @@ answer_kinds answer = answer ∷ Unset ∷ Unset ∷ Unset ∷ Unset ∷ Unset �
 abbrev known : AbsKind → StateValue
 known answer = record { kinds = answer_kinds answer; marks = no_marks; ranges = all_whole }
 
--- any number
-abbrev number : AbsKind
-number = Num (whole_range Bits64)
-
 abbrev table : ℕ → Option StateValue
 table zero = Some (known Unset)
 table (suc zero) = Some (known number)
@@ -56,36 +51,6 @@ many_marks : length no_marks ≡ 512
 unfolding no_marks
 many_marks = length-replicate 512 false
 
-many_words : length all_whole ≡ 64
-unfolding all_whole
-many_words = length-replicate 64 (whole_range Bits64)
-
-whole_word : AreAllWhole all_whole
-unfolding all_whole
-whole_word word = same_everywhere 64 word
-  where
-    same_everywhere : (count k : ℕ) → range_in (replicate count (whole_range Bits64)) k ≡ whole_range Bits64
-    same_everywhere zero k = refl
-    same_everywhere (suc count) zero = refl
-    same_everywhere (suc count) (suc k) = same_everywhere count k
-
-unmarked : (count place : ℕ) → mark_at (replicate count false) place ≡ false
-unmarked zero place = refl
-unmarked (suc count) zero = refl
-unmarked (suc count) (suc place) = unmarked count place
-
-proper_number : IsProper number
-proper_number = record { in_order = omega arith; words = omega arith }
-
-abbrev AreEachProper : List AbsKind → Type 0
-AreEachProper [] = Unit {0}
-AreEachProper (k ∷ ks) = IsProper k × AreEachProper ks
-
-each_proper : (ks : List AbsKind) → AreEachProper ks → (register : ℕ) → IsProper (kind_in ks register)
-each_proper [] h register = tt
-each_proper (k ∷ ks) h zero = h.0
-each_proper (k ∷ ks) h (suc register) = each_proper ks h.1 register
-
 whole : (answer : AbsKind) → IsProper answer → IsWhole (known answer)
 unfolding answer_kinds
 whole answer proper = record {
@@ -96,22 +61,6 @@ whole answer proper = record {
 }
 
 -- ---- their order
-
-abbrev AreEachBelow : List AbsKind → List AbsKind → Type 0
-AreEachBelow [] [] = Unit {0}
-AreEachBelow [] (k ∷ ks) = ⊥
-AreEachBelow (j ∷ js) [] = ⊥
-AreEachBelow (j ∷ js) (k ∷ ks) = IsKindBelow j k × AreEachBelow js ks
-
-each_below : (js ks : List AbsKind) → AreEachBelow js ks → AreBelow js ks
-each_below [] [] h register = tt
-each_below [] (k ∷ ks) h register = absurd h
-each_below (j ∷ js) [] h register = absurd h
-each_below (j ∷ js) (k ∷ ks) h zero = h.0
-each_below (j ∷ js) (k ∷ ks) h (suc register) = each_below js ks h.1 register
-
-same_range : (r : Range) → IsWithin r r
-same_range r = record { above = omega arith; below = omega arith }
 
 entry : StateValue
 entry = record { kinds = entry_kinds; marks = no_marks; ranges = all_whole }

@@ -28,7 +28,7 @@ digits_both [] behind = refl
 digits_both (first ∷ front) behind = ap (λ (text : List ℕ). encode_upper (first ∷ []) ++ text) (digits_both front behind)
 
 -- One byte.
-one_byte : (byte : ℕ) → encode_upper (byte ∷ []) ≡ slice_index upper_digits (byte / 16) ∷ slice_index upper_digits (byte % 16) ∷ []
+pub one_byte : (byte : ℕ) → encode_upper (byte ∷ []) ≡ slice_index upper_digits (byte / 16) ∷ slice_index upper_digits (byte % 16) ∷ []
 unfolding encode_with
 one_byte byte = refl
 

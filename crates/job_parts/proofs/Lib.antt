@@ -1,6 +1,6 @@
 mod FactoryImage
 mod FactoryJustified
 mod HexPrinted
-mod HexText
+pub mod HexText
 mod InTurn
-mod MapLists
+pub mod MapLists

@@ -26,7 +26,7 @@ maps_of f xs text are = map_twice f xs ∙ ap (map (λ part. map_of part)) are
     map_twice f (x ∷ xs) = ap (λ (l : List (ℕ × MapKind)). map_of (f x) ∷ l) (map_twice f xs)
 
 -- what holds of each image of a list holds of its elements by their images
-unmapped : {X : Type 0} (P : List ℕ → Type 0) (f : X → List ℕ) (xs : List X) → All P (map f xs) → All (λ x. P (f x)) xs
+pub unmapped : {X : Type 0} (P : List ℕ → Type 0) (f : X → List ℕ) (xs : List X) → All P (map f xs) → All (λ x. P (f x)) xs
 unmapped P f [] h = All-nil (λ x. P (f x))
 unmapped P f (x ∷ xs) h = All-cons (λ x. P (f x)) x xs (All-head P (f x) (map f xs) h) (unmapped P f xs (All-tail P (f x) (map f xs) h))
 

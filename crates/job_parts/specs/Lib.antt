@@ -3,7 +3,8 @@ pub mod BadLines
 pub mod Factory
 pub mod Files
 pub mod Given
-pub mod Lines
+pub mod Inputs
+pub mod Matched
 pub mod NodeCodes
 pub mod Options
 pub mod Printed
@@ -12,3 +13,4 @@ pub mod Replies
 pub mod Statuses
 pub mod Stops
 pub mod Turns
+pub mod TwoFiles

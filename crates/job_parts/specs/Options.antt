@@ -1,25 +1,6 @@
 -- The values of the options: the maps of a node, and how many ports it has; and the words of a node.
-use Rattle.std.specs.Prelude.{
-  ◌≡◌,
-  ◌≤◌,
-  ◌==◌,
-  ◌⊎◌,
-  codes,
-  ℕ,
-  Bool,
-  false,
-  if◌then◌else◌,
-  List,
-  [],
-  ◌∷◌,
-  map,
-  All,
-  Option,
-  Some,
-  None,
-  option_map,
-  string_bytes,
-}
+use Rattle.std.specs.Prelude.{◌≡◌, ◌≤◌, ◌==◌, ◌⊎◌, codes, ℕ, Bool, false, if◌then◌else◌, List, [], ◌∷◌, map, All}
+use Rattle.std.specs.Prelude.{Option, Some, None, option_map, string_bytes}
 use Rattle.std.specs.Borrow.{Bor}
 use Rattle.std.specs.List.{slice_split}
 use Rattle.std.specs.Str.Parse.{IsNumeral, digits_value}

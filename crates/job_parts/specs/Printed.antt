@@ -10,17 +10,8 @@ use Rattle.policy_table.specs.Codes.{policy_fault_code}
 use Rattle.job_parts.specs.BadLines.{bad_line_number}
 use Rattle.job_parts.specs.NodeCodes.{node_code}
 use Rattle.job_parts.specs.declared.faults.Fault.{Fault}
-use Rattle.job_parts.specs.declared.faults.Fault.TheVariants.{
-  CannotRead,
-  CannotWrite,
-  NoMemory,
-  BadText,
-  BadTable,
-  BadImage,
-  Refused,
-  BadNode,
-  BadLine,
-}
+use Rattle.job_parts.specs.declared.faults.Fault.TheVariants.{CannotRead, CannotWrite, NoMemory, BadText, BadTable}
+use Rattle.job_parts.specs.declared.faults.Fault.TheVariants.{BadImage, Refused, BadNode, BadLine}
 
 -- the line was printed, behind what the writer holds where that is known
 abbrev pub Prints : {W : Type 0} → (contents : W → Option (List ℕ)) → (old new : W) → List ℕ → Type 0

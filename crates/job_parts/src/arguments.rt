@@ -1,10 +1,8 @@
 //! The arguments of a command line.
 
 ghost use Rattle.std.specs.Prelude.{◌≡◌, IfOk, IfErr, false, option_map};
-ghost use Rattle.clap.specs.Simple.{app_of};
-ghost use Rattle.clap.specs.declared.builder.command.Command.TheViews.{out-Command as fields_of};
+ghost use Rattle.job_parts.specs.Matched.{app_of, fields_of, found_of};
 ghost use Rattle.clap.specs.Walk.{first_of, rows_of, rule_of};
-ghost use Rattle.clap.specs.Matches.{found_of};
 ghost use Rattle.job_parts.specs.Arguments.{HasName, Lacks, file_rule, flag_rule, image_app, is_set, option_rule, optional_rule};
 
 use crate::usage::UsageFault;

@@ -64,7 +64,7 @@ impl BadLine {
     }
 
     /// What it is and what is wanted, in a few words that stand after its number.
-    pub fn told(self) -> &'static str {
+    pub fn title(self) -> &'static str {
         match self {
             BadLine::Line(LineFault::NoPort) => "no port: a decimal number, 0 to 31, comes first",
             BadLine::Line(LineFault::BadHex) => {

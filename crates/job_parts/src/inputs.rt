@@ -1,5 +1,8 @@
 //! The files that a job reads, and the one that it writes, as its words name them.
 
+ghost use Rattle.std.specs.Prelude.{◌≡◌, None, Some, option_map};
+ghost use Rattle.job_parts.specs.Inputs.{AreInputs, input, input_value};
+
 /// What a file that a job reads has to be.
 #[derive(Clone, Copy, Debug, PartialEq, Eq)]
 pub enum Content {
@@ -30,7 +33,9 @@ pub struct InputFile<'a> {
 
 impl<'a> InputFile<'a> {
     /// A file of this name, which has to be that.
-    pub fn new(name: &'a str, content: Content) -> InputFile<'a> {
+    pub fn new(name: &'a str, content: Content) -> InputFile<'a>
+        ensures { input_value result ≡ input name.now content }
+    {
         InputFile { name, content }
     }
 }
@@ -47,35 +52,29 @@ pub struct Inputs<'a> {
 }
 
 impl<'a> Inputs<'a> {
-    /// No file.
-    pub fn none() -> Inputs<'a> {
+    /// The one file, and then the other.
+    pub fn of(first: Option<InputFile<'a>>, second: Option<InputFile<'a>>) -> Inputs<'a>
+        ensures { AreInputs (option_map input_value first.entry) (option_map input_value second.entry)
+            None result }
+    {
         Inputs {
-            first: None,
-            second: None,
+            first,
+            second,
             output: None,
         }
     }
 
-    /// This file alone.
-    pub fn one(first: InputFile<'a>) -> Inputs<'a> {
-        Inputs {
-            first: Some(first),
-            second: None,
-            output: None,
-        }
-    }
-
-    /// This file, and then that one.
-    pub fn two(first: InputFile<'a>, second: InputFile<'a>) -> Inputs<'a> {
-        Inputs {
-            first: Some(first),
-            second: Some(second),
-            output: None,
-        }
+    /// The one file of this name, which has to be that.
+    pub fn one(name: &'a str, content: Content) -> Inputs<'a>
+        ensures { AreInputs (Some (input name.now content)) None None result }
+    {
+        Inputs::of(Some(InputFile::new(name, content)), None)
     }
 
     /// This file, of which the file of that name is made.
-    pub fn made(first: InputFile<'a>, output: &'a str) -> Inputs<'a> {
+    pub fn made(first: InputFile<'a>, output: &'a str) -> Inputs<'a>
+        ensures { AreInputs (Some (input_value first.entry)) None (Some output.now) result }
+    {
         Inputs {
             first: Some(first),
             second: None,
@@ -84,7 +83,12 @@ impl<'a> Inputs<'a> {
     }
 
     /// The file that is read next; what is read after it stays.
-    pub fn next(&mut self) -> Option<InputFile<'a>> {
+    pub fn next(&mut self) -> Option<InputFile<'a>>
+        ensures first { result ≡ self.old.first }
+        ensures second { self.new.first ≡ self.old.second }
+        ensures last { self.new.second ≡ None }
+        ensures output { self.new.output ≡ self.old.output }
+    {
         let next = self.first;
         self.first = self.second;
         self.second = None;

@@ -1,12 +1,11 @@
 //! The values of the options `--maps` and `--ports`, and the words of a node.
 
-ghost use Rattle.std.specs.Prelude.{◌≡◌, All, IfErr, IfOk, MatchResult, codes, false, option_map, string_bytes, []};
-ghost use Rattle.clap.specs.Simple.{app_of};
-ghost use Rattle.clap.specs.declared.builder.command.Command.TheViews.{out-Command as fields_of};
+ghost use Rattle.std.specs.Prelude.{◌≡◌, All, IfErr, IfOk, MatchResult, codes, false, option_map, string_bytes, [], None};
+ghost use Rattle.job_parts.specs.Matched.{app_of, fields_of, found_of};
 ghost use Rattle.clap.specs.Walk.{first_of, rows_of, rule_of};
-ghost use Rattle.clap.specs.Matches.{found_of};
 ghost use Rattle.basm.specs.Relation.{texts};
 ghost use Rattle.job_parts.specs.Arguments.{option_rule};
+ghost use Rattle.job_parts.specs.Inputs.{AreInputs, image_of, input_value};
 ghost use Rattle.job_parts.specs.Options.{GivesNode, GivesPorts, GivesSizes, IsBadValue, IsMap, IsMapList, IsPortCount, IsSize, IsValueFault, RefusesCount, RefusesList, RefusesNode, WriteMaps, WritesMap, WritesSuch, kind_of, list_parts, size_word, with_node_options, written_maps};
 ghost use Rattle.machine.specs.Sizes.{listed_maps};
 
@@ -32,7 +31,9 @@ pub struct NodeWords {
 
 impl NodeWords {
     /// The image that judges, if one is named.
-    pub fn image_input(&self) -> Option<InputFile<'_>> {
+    pub fn image_input(&self) -> Option<InputFile<'_>>
+        ensures { option_map input_value result ≡ image_of self.now }
+    {
         match &self.image {
             Some(name) => Some(InputFile::new(name.as_str(), Content::Image)),
             None => None,
@@ -40,16 +41,15 @@ impl NodeWords {
     }
 
     /// What the node of a talk reads: that image.
-    pub fn inputs(&self) -> Inputs<'_> {
-        match self.image_input() {
-            Some(image) => Inputs::one(image),
-            None => Inputs::none(),
-        }
+    pub fn inputs(&self) -> Inputs<'_>
+        ensures { AreInputs (image_of self.now) None None result }
+    {
+        Inputs::of(self.image_input(), None)
     }
 }
 
 /// The sizes of no maps.
-fn no_maps() -> MapSizes
+pub fn no_maps() -> MapSizes
     ensures { result ≡ listed_maps [] }
 {
     MapSizes::new(&[]).unwrap()

@@ -1,9 +1,7 @@
 -- Ports that are filled in turn.
-use Rattle.std.proofs.Common.{◌≡◌, ◌<◌, ◌≤◌, ◌+◌, ℕ, List, [], ◌∷◌, ◌++◌, length, map, get_or, sym, ap, ◌∙◌, subst, ⊎_elim, arith}
+use Rattle.std.proofs.Common.{◌≡◌, ◌<◌, ◌≤◌, ◌+◌, ℕ, List, [], ◌∷◌, ◌++◌, length, map, get_or, sym, ap, ◌∙◌, subst, arith}
 use Rattle.std.specs.Prelude.{slice_index_or}
-use Rattle.std.proofs.Math.Seq.{get_or-append_seam}
-use Rattle.std.proofs.lemmas.Bool.{cases_lt}
-use Rattle.std.proofs.lemmas.List.{get_or-map, get_or_append_left, length-append, length-map}
+use Rattle.std.proofs.lemmas.List.{get_or-map, length-append, length-map}
 use Rattle.spw.specs.Cargo.{Cargo}
 use Rattle.ports.specs.Queue.{IsPutPassOf, IsServePassOf, put_of, taken_of}
 use Rattle.ports.specs.declared.item.Item.TheVariants.{Data, Mark}
@@ -11,24 +9,7 @@ use Rattle.ports.specs.declared.port.Port.{Port}
 use Rattle.ports.specs.declared.port.PutPass.{PutPass}
 use Rattle.ports.specs.declared.port.ServePass.{ServePass}
 use Rattle.job_ports.specs.Queues.{AreFew, AreFilled, IsFilled}
-
--- An element behind the others is at the place of its number.
-last : {A : Type 0} (xs : List A) (x y : A) (k : ℕ) → k ≡ length xs → slice_index_or (xs ++ x ∷ []) k y ≡ x
-last xs x y k is = ap (λ i. slice_index_or (xs ++ x ∷ []) i y) is ∙ get_or-append_seam xs x [] y
-
-module _ {A B : Type 0} (P : A → B → Type 0) (xs : List A) (ys : List B) (a : A) (b : B) where
-  -- A pair behind the others.
-  paired : length ys ≡ length xs → ((k : ℕ) (x : A) (y : B) → k < length xs → P (slice_index_or xs k x) (slice_index_or ys k y)) → P a b
-      → (k : ℕ) (x : A) (y : B) → k < length xs + 1 → P (slice_index_or (xs ++ a ∷ []) k x) (slice_index_or (ys ++ b ∷ []) k y)
-  paired many each here k x y below = ⊎_elim
-      (λ (low : k < length xs).
-      subst (λ (v : A). P v (slice_index_or (ys ++ b ∷ []) k y)) (sym (get_or_append_left xs (a ∷ []) x k low))
-      (subst (λ (w : B). P (slice_index_or xs k x) w) (sym (get_or_append_left ys (b ∷ []) y k (omega (arith, low, many)))) (each k x y low)))
-      (λ high.
-      let place : k ≡ length xs = omega (arith, high, below) in
-      subst (λ (v : A). P v (slice_index_or (ys ++ b ∷ []) k y)) (sym (last xs a x k place))
-      (subst (λ (w : B). P a w) (sym (last ys b y k (place ∙ sym many))) here))
-      (cases_lt k (length xs))
+use Rattle.lemmas.proofs.Pairs.{paired}
 
 -- One port more.
 filled_more : (by_port : List (List Cargo)) (ports : List Port) (puts : List PutPass) (serves : List ServePass) (packets : List Cargo) (port : Port) (put : PutPass) (serve : ServePass)

@@ -1,25 +1,21 @@
 -- Workers whose passes are taken back in turn.
-use Rattle.std.proofs.Common.{◌≡◌, ◌<◌, ◌+◌, ℕ, zero, suc, List, [], ◌∷◌, ◌++◌, length, map, get_or, refl, sym, ap, subst, arith, ◌∙◌, inl, inr, ⊎_elim}
+use Rattle.std.proofs.Common.{◌≡◌, ◌<◌, ◌+◌, ℕ, zero, suc, List, [], ◌∷◌, ◌++◌, length, map, get_or, refl, sym, ap, subst, arith, ◌∙◌, ⊎_elim}
 use Rattle.std.specs.Prelude.{slice_index_or, slice_set}
 use Rattle.std.proofs.lemmas.Bool.{cases_eq, cases_lt}
 use Rattle.std.proofs.lemmas.List.{get_or-set_other, get_or-set_same, get_or_append_left, length-append, length-set, map_push}
-use Rattle.std.proofs.Math.Seq.{get_or-append_seam}
 use Rattle.ports.specs.Queue.{IsPutPassOf, put_of, taken_of}
 use Rattle.ports.specs.Sinks.{SinkValue}
 use Rattle.ports.specs.declared.port.Port.{Port}
 use Rattle.ports.specs.declared.port.PutPass.{PutPass}
 use Rattle.ports.specs.declared.worker.Worker.{Worker}
 use Rattle.job_ports.specs.Queues.{AreBeginnings, AreOfPorts, IsBeginning}
+use Rattle.lemmas.proofs.Pairs.{last}
 
 -- An element is the same whatever stands for those that are not there.
 pub any_default : {A : Type 0} (xs : List A) (i : ℕ) (d e : A) → i < length xs → get_or xs i d ≡ get_or xs i e
 any_default [] i d e low = absurd (omega (arith, low))
 any_default (x ∷ xs) zero d e low = refl
 any_default (x ∷ xs) (suc i) d e low = any_default xs i d e (omega (arith, low))
-
--- An element behind the others is at the place of its number.
-last : {A : Type 0} (xs : List A) (x y : A) (k : ℕ) → k ≡ length xs → slice_index_or (xs ++ x ∷ []) k y ≡ x
-last xs x y k is = ap (λ i. slice_index_or (xs ++ x ∷ []) i y) is ∙ get_or-append_seam xs x [] y
 
 -- The passes of so many workers were taken back: what puts is as before but for that.
 pub record AreRejoined {J : Type 0} (ports : List Port) (first puts : List PutPass) (done : List (Worker J SinkValue)) (sinks : List SinkValue) : Type 0 where

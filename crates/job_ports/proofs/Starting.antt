@@ -2,6 +2,7 @@
 use Rattle.std.proofs.Common.{◌≡◌, ◌<◌, ◌+◌, ◌∙◌, ℕ, zero, suc, Bool, true, false, List, [], ◌∷◌, ◌++◌, Option, Some, option_to_list, length, take, get_or, refl, sym, ap, subst, arith}
 use Rattle.std.specs.Prelude.{◌&&◌, nat_le, slice_index_or}
 use Rattle.std.proofs.lemmas.List.{length-append, take_more}
+use Rattle.std.proofs.lemmas.Bool.{and_parts}
 use Rattle.annals.specs.declared.deed.Link.{Link}
 use Rattle.spw.specs.Cargo.{Cargo}
 use Rattle.spw.specs.Line.{lines_of}
@@ -23,11 +24,6 @@ use Rattle.job_ports.specs.Starts.{HasDone, HoldsPackets, IsLoadQueue, KeepsDesk
 use Rattle.job_ports.proofs.Ending.{served_all}
 
 -- ---- contents
-
-both : (a b : Bool) → (a && b) ≡ true → (a ≡ true) × (b ≡ true)
-both true true h = (refl, refl)
-both true false h = absurd cc
-both false b h = absurd cc
 
 base_is : (banks : List BankConfig) (k : ℕ) (d : BankConfig) → k < length banks → (get_or banks k d).base ≡ base_in banks k
 base_is [] k d low = absurd (omega (arith, low))
@@ -55,7 +51,7 @@ pub fit_count : (banks : List BankConfig) (contents : List (List ℕ)) → fit b
 fit_count [] [] is = refl
 fit_count [] (c ∷ cs) is = absurd (cc is)
 fit_count (b ∷ bs) [] is = absurd (cc is)
-fit_count (b ∷ bs) (c ∷ cs) is = ap (λ n. suc n) (fit_count bs cs (both (nat_le (length c) b.size) (fit bs cs) is).1)
+fit_count (b ∷ bs) (c ∷ cs) is = ap (λ n. suc n) (fit_count bs cs (and_parts (nat_le (length c) b.size) (fit bs cs) is).1)
 
 -- what banks begin with, over equal lists
 pub sets_own : (banks shown : List BankConfig) (contents told : List (List ℕ)) (known reached : List Link) → shown ≡ banks → told ≡ contents → known ≡ []

@@ -1,26 +1,6 @@
 -- The packets that lines bring to the ports of a node.
-use Rattle.std.specs.Prelude.{
-  ◌≡◌,
-  ◌<◌,
-  ◌≤◌,
-  ◌==◌,
-  ◌⊎◌,
-  ℕ,
-  suc,
-  List,
-  [],
-  ◌∷◌,
-  ◌++◌,
-  length,
-  map,
-  filter,
-  replicate,
-  slice_index_or,
-  slice_set,
-  Option,
-  Some,
-  None,
-}
+use Rattle.std.specs.Prelude.{◌≡◌, ◌<◌, ◌≤◌, ◌==◌, ◌⊎◌, ℕ, suc, List, [], ◌∷◌, ◌++◌, length, map, filter, replicate}
+use Rattle.std.specs.Prelude.{slice_index_or, slice_set, Option, Some, None}
 use Rattle.spw.specs.Cargo.{Cargo}
 use Rattle.job_parts.specs.declared.bad_lines.BadLine.{BadLine}
 use Rattle.job_parts.specs.declared.bad_lines.BadLine.TheVariants.{NoRoom}

@@ -1,5 +1,5 @@
 -- The packets of a load, which a node takes a second time.
-use Rattle.std.specs.Prelude.{◌≡◌, ℕ, Bool, List, Option}
+use Rattle.std.specs.Prelude.{◌≡◌, ◌⊎◌, ℕ, Bool, false, List, Option}
 use Rattle.bver.specs.Justified.{AcceptedValue}
 use Rattle.job_parts.specs.Factory.{factory}
 use Rattle.job_parts.specs.Turns.{AreTaken}
@@ -38,3 +38,9 @@ pub record IsDeniedAgain (address : ℕ) (sizes : Maps) (lines : List ℕ) (deni
   pub first : TakesAll lines before between denied_first
   pub after : Rehearsing
   pub second : TakesAll lines between after denied
+
+-- this is whether a verdict refused one of them the second time at such a node with some maps; it is not said so where none
+-- was asked
+abbrev pub IsDeniedSomewhere : (address : ℕ) → (lines : List ℕ) → (denied : Bool) → Type 0
+IsDeniedSomewhere address lines denied =
+    (denied ≡ false) ⊎ ((sizes : Maps) × IsDeniedAgain address sizes lines denied)

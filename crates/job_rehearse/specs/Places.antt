@@ -11,9 +11,11 @@ use Rattle.job_nodes.specs.Sources.{EndsUnmade}
 use Rattle.job_nodes.specs.declared.making.Unmade.{Unmade}
 use Rattle.job_parts.specs.Arguments.{is_set}
 use Rattle.job_parts.specs.Files.{Reads}
+use Rattle.job_parts.specs.Inputs.{InputValue, input}
 use Rattle.job_parts.specs.Options.{GivesSizes, IsBadList}
 use Rattle.job_parts.specs.declared.faults.Fault.{Fault}
 use Rattle.job_parts.specs.declared.faults.Fault.TheVariants.{NoMemory}
+use Rattle.job_parts.specs.declared.inputs.Content.TheVariants.{ImageOrText, Node}
 use Rattle.job_parts.specs.declared.usage.UsageFault.{UsageFault}
 use Rattle.job_parts.specs.declared.usage.UsageFault.TheVariants.{Parse, BadOption, Memory}
 use Rattle.job_rehearse.specs.Loaders.{loader_in, ports_in}
@@ -26,6 +28,21 @@ use Rattle.job_rehearse.specs.declared.places.PlaceWords.TheVariants.{Maps as Ha
 use Rattle.job_rehearse.specs.declared.steps.Rehearsing.{Rehearsing}
 
 -- ---- words
+
+-- the maps that the words give, where they name no file
+abbrev pub maps_in : PlaceWords → Option Maps
+maps_in (HasMaps sizes) = Some sizes
+maps_in (File name) = None
+
+-- what is read first: the file of the node, if there is one, and else the old policy
+abbrev pub first_read : PlaceWords → (old : List ℕ) → InputValue
+first_read (HasMaps sizes) old = input old ImageOrText
+first_read (File name) old = input (string_bytes name) Node
+
+-- what is read behind that beside the files that a node's file names: the new policy, if there is no node's file
+abbrev pub second_read : PlaceWords → (new : List ℕ) → Option InputValue
+second_read (HasMaps sizes) new = Some (input new ImageOrText)
+second_read (File name) new = None
 
 -- the file's name is the only option that says anything of the node: beside it are neither maps nor `--any`
 pub record IsOnlyFile (rows : List Row) (name : List ℕ) : Type 0 where

@@ -1,7 +1,6 @@
 -- The policies of files: images, or tables, for a node with maps of some sizes.
-use Rattle.std.specs.Prelude.{◌≡◌, ◌≤◌, ◌<◌, ◌⊎◌, nat_eq, ℕ, Bool, true, false, List, [], ◌∷◌, ◌++◌, Option, Some, None, codes, length, string_bytes}
+use Rattle.std.specs.Prelude.{◌≡◌, ◌≤◌, ◌<◌, ◌⊎◌, nat_eq, ℕ, Bool, true, false, List, Option, Some, None, length, string_bytes}
 use Rattle.std.specs.Borrow.{Bor}
-use Rattle.std.specs.Io.KnownBytes.{Appends}
 use Rattle.std.specs.List.{starts_with}
 use Rattle.std.specs.Str.{IsUtf8}
 use Rattle.bpf.specs.Program.{IsProgram, Program, image_bytes}
@@ -14,15 +13,13 @@ use Rattle.bver_form.specs.declared.refusal.Refused.{Refused}
 use Rattle.machine.specs.Sizes.{Maps}
 use Rattle.policy.specs.Compiled.{IsPortCompiled}
 use Rattle.policy_table.specs.Policies.{IsPolicyFault, PolicyValue, WritesPolicy, policy_fault}
-use Rattle.policy_table.specs.TextFaults.{text_fault_of, text_fault_text}
 use Rattle.policy_table.specs.declared.text_faults.TextFault.{TextFault}
 use Rattle.rmap.specs.declared.boot.TheConstants.{STAGING_SIZE}
 use Rattle.spw.specs.Line.{lines_of}
 use Rattle.job_parts.specs.Files.{Reads}
-use Rattle.job_parts.specs.Printed.{fault_line}
 use Rattle.job_parts.specs.Reading.{IsUnread}
 use Rattle.job_parts.specs.declared.faults.Fault.{Fault}
-use Rattle.job_parts.specs.declared.faults.Fault.TheVariants.{BadImage, BadTable as IsBadTable, CannotRead, NoMemory, Refused as IsRefused}
+use Rattle.job_parts.specs.declared.faults.Fault.TheVariants.{BadImage, CannotRead, NoMemory, Refused as IsRefused}
 use Rattle.job_rehearse.specs.Askers.{askers_of}
 use Rattle.job_rehearse.specs.declared.policies.Asked.{Asked}
 use Rattle.job_rehearse.specs.declared.policies.Images.{Images}
@@ -121,14 +118,6 @@ abbrev pub AreUnasked : Images → Maps → Fault → Type 0
 AreUnasked images sizes fault = AreUnready images.old images.new sizes fault ⊎ IsNotAccepted images.new sizes fault
 
 -- ---- files
-
--- the line of a table's fault was printed, and behind it a line with the name of its file and the place
-pub record TellsNamedFault (name : List ℕ) (fault : TextFault) (old new : Option (List ℕ)) : Type 0 where
-  pub told : Option (List ℕ)
-  pub named : Option (List ℕ)
-  pub line : Appends old told (fault_line (IsBadTable (text_fault_of fault)))
-  pub file : Appends told named (codes "    " ++ name ++ codes " ")
-  pub place : Appends named new (text_fault_text fault ++ 10 ∷ [])
 
 module _ {S : Type 0} (reads : Reads S) where
   -- the file was read, and gave a policy of this program for these maps, and this table if it is one

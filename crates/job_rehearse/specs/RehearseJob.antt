@@ -1,11 +1,11 @@
 -- The words of the job `rehearse`.
-use Rattle.std.specs.Prelude.{◌≡◌, ◌⊎◌, ◌&&◌, ℕ, Bool, false, true, List, Option, Some, None, codes, string_bytes}
-use Rattle.std.specs.Str.{bytes_eq}
+use Rattle.std.specs.Prelude.{◌≡◌, ◌⊎◌, ℕ, false, List, Option, Some, None, codes, string_bytes}
 use Rattle.clap.specs.Walk.{Row, first_of}
 use Rattle.clap.specs.Simple.{App, new_app, with_rule}
 use Rattle.job_packets.specs.HexWords.{Has}
 use Rattle.job_packets.specs.Slots.{WritesSlots, every_slot}
 use Rattle.job_parts.specs.Arguments.{file_rule, flag_rule, option_rule}
+use Rattle.job_parts.specs.TwoFiles.{NamesOneInput, are_one_input}
 use Rattle.job_parts.specs.declared.usage.UsageFault.{UsageFault}
 use Rattle.job_parts.specs.declared.usage.UsageFault.TheVariants.{Parse, BadOption, Memory}
 use Rattle.job_rehearse.specs.Loaders.{GivesLoaders}
@@ -32,10 +32,6 @@ loads_app =
 abbrev pub rehearse_app : App
 rehearse_app = with_rule loads_app (option_rule (codes "node"))
 
--- both names are that of standard input, which one read ends
-abbrev pub are_one_input : (old new : List ℕ) → Bool
-are_one_input old new = bytes_eq old (codes "-") && bytes_eq new (codes "-")
-
 -- the slots are those that the option's value writes; without the option each of the four
 abbrev pub GivesSlots : Option (List ℕ) → (slots : List ℕ) → Type 0
 GivesSlots None slots = slots ≡ every_slot
@@ -60,14 +56,6 @@ pub record NamesRehearse (rows : List Row) (words : RehearseWords) : Type 0 wher
   pub place : GivesPlace rows words.place
   pub slots : GivesSlots (first_of (codes "slot") rows) words.slots.items
   pub loaders : GivesLoaders rows words.loaders
-
--- matches that name standard input for both files
-pub record NamesOneInput (rows : List Row) : Type 0 where
-  pub old : List ℕ
-  pub new : List ℕ
-  pub old_name : first_of (codes "old") rows ≡ Some old
-  pub new_name : first_of (codes "new") rows ≡ Some new
-  pub one : are_one_input old new ≡ true
 
 -- matches without one of the files, with one input for both, with options that say no node or no slots, or that do not say whose
 -- loads are rehearsed

@@ -13,7 +13,8 @@ use Rattle.job_rehearse.specs.Loaders.{loader_text}
 use Rattle.job_rehearse.specs.Loads.{Loads, StopsLoad}
 use Rattle.job_rehearse.specs.OpenPorts.{TellsAskers}
 use Rattle.job_rehearse.specs.Places.{HoldsNoPlace, HoldsPlace, IsBegunAt, IsUnbegun, has_port, loader_on, sizes_at}
-use Rattle.job_rehearse.specs.Policies.{HoldsAsked, HoldsBoth, HoldsNotAsked, HoldsNotBoth, TellsNamedFault}
+use Rattle.job_parts.specs.TwoFiles.{TellsNamedFault}
+use Rattle.job_rehearse.specs.Policies.{HoldsAsked, HoldsBoth, HoldsNotAsked, HoldsNotBoth}
 use Rattle.job_rehearse.specs.declared.loads.Ending.{Ending}
 use Rattle.job_rehearse.specs.declared.loads.Ending.TheVariants.{InPart, Loaded, LockedOut, NotLoaded}
 use Rattle.job_rehearse.specs.declared.loaders.Loader.{Loader}

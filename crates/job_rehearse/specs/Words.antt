@@ -8,20 +8,10 @@ use Rattle.rmap.specs.Codes.{status_code}
 use Rattle.rmap.specs.declared.boot.TheConstants.{LOAD_RESULT_SIZE}
 use Rattle.rmap.specs.declared.boot_records.LoadResult.{LoadResult}
 use Rattle.rmap.specs.declared.status.Status.{Status}
-use Rattle.rmap.specs.declared.status.Status.TheVariants.{
-  Success,
-  GeneralError,
-  UnusedCode,
-  InvalidKey,
-  InvalidDataCrc,
-  EarlyEndOfPacket,
-  TooMuchData,
-  ErrorEndOfPacket,
-  VerifyBufferOverrun,
-  NotAuthorised,
-  RmwDataLength,
-  InvalidLogicalAddress,
-}
+use Rattle.rmap.specs.declared.status.Status.TheVariants.{Success, GeneralError, UnusedCode, InvalidKey}
+use Rattle.rmap.specs.declared.status.Status.TheVariants.{InvalidDataCrc, EarlyEndOfPacket, TooMuchData}
+use Rattle.rmap.specs.declared.status.Status.TheVariants.{ErrorEndOfPacket, VerifyBufferOverrun, NotAuthorised}
+use Rattle.rmap.specs.declared.status.Status.TheVariants.{RmwDataLength, InvalidLogicalAddress}
 use Rattle.job_rehearse.specs.declared.steps.Step.{Step}
 use Rattle.job_rehearse.specs.declared.steps.Step.TheVariants.{Control, Part, Result}
 

@@ -1,7 +1,7 @@
 //! Whether the packets of a load are denied after that load.
 
 ghost use Rattle.std.specs.Prelude.{IfOk};
-ghost use Rattle.job_rehearse.specs.Again.{IsDeniedAgain, IsNewNode, TakesAll};
+ghost use Rattle.job_rehearse.specs.Again.{IsDeniedAgain, IsDeniedSomewhere, IsNewNode, TakesAll};
 
 use crate::steps::Rehearsing;
 use bpf::Image;
@@ -88,7 +88,9 @@ pub fn denies_again(
     address: u8,
     image: &[u8],
     lines: &str,
-) -> Result<bool, AllocError> {
+) -> Result<bool, AllocError>
+    ensures { IfOk result (IsDeniedSomewhere address lines.now) }
+{
     match sizes_for(alloc, image) {
         Some(sizes) => is_denied_again(alloc, address, sizes, lines),
         None => Ok(false),

@@ -1,9 +1,9 @@
 //! The policies of files: images, or tables.
 
-ghost use Rattle.std.specs.Prelude.{◌≡◌, ◌≤◌, IfErr, IfOk, OnOk, false, length};
+ghost use Rattle.std.specs.Prelude.{◌≡◌, ◌≤◌, IfErr, IfOk, false, length};
 ghost use Rattle.bpf.specs.Program.{IsProgram, image_bytes};
 ghost use Rattle.rmap.specs.declared.boot.TheConstants.{STAGING_SIZE};
-ghost use Rattle.job_rehearse.specs.Policies.{AreAsked, AreImages, AreNoImages, ArePolicies, AreUnasked, AreUnready, GivesNoPolicy, HoldsAsked, HoldsBoth, HoldsNotAsked, HoldsNotBoth, HoldsPolicy, IsCompiledOf, IsNoImage, IsNoPolicy, IsNotAccepted, IsTableOf, IsTooLong, TellsNamedFault, is_image};
+ghost use Rattle.job_rehearse.specs.Policies.{AreAsked, AreImages, AreNoImages, ArePolicies, AreUnasked, AreUnready, GivesNoPolicy, HoldsAsked, HoldsBoth, HoldsNotAsked, HoldsNotBoth, HoldsPolicy, IsCompiledOf, IsNoImage, IsNoPolicy, IsNotAccepted, IsTableOf, IsTooLong, is_image};
 ghost use Rattle.job_rehearse.specs.declared.policies.NoPolicy.TheVariants.{Ended};
 
 use crate::askers::{Asker, askers_of};
@@ -16,8 +16,7 @@ use job_parts::storage::Files;
 use machine::MapSizes;
 use policy::{Policy, TextFault, compile_policy};
 use rmap::STAGING_SIZE;
-use std::alloc::{AllocError, Global};
-use std::io::{self, Write};
+use std::alloc::Global;
 
 /// The bytes with which an image begins.
 const MAGIC: [u8; 4] = *b"BPFA";
@@ -247,15 +246,4 @@ pub fn asked_in<'a, F: Files>(
 {
     let images = images_read(alloc, words, sizes, files)?;
     Ok(asked_of(alloc, &images, sizes)?)
-}
-
-/// Prints the fault of a table: its line, and a line with the name of its file and the place.
-pub fn print_named_fault<W: Write>(out: &mut W, name: &str, fault: &TextFault) -> io::Result<()>
-    ensures { OnOk result
-        (TellsNamedFault name.now fault.now (W.contents out.old) (W.contents out.new)) }
-{
-    let code = fault.fault().code();
-    writeln!(out, "policy fault {code}")?;
-    write!(out, "    {name} ")?;
-    writeln!(out, "{fault}")
 }

@@ -1,17 +1,18 @@
 //! The job `rehearse`.
 
-ghost use Rattle.std.specs.Prelude.{◌≡◌, ◌≤◌, ◌++◌, ◌∷◌, [], IfErr, IfOk, OnOk, codes, false, length, option_map};
+ghost use Rattle.std.specs.Prelude.{◌≡◌, ◌≤◌, ◌++◌, ◌∷◌, [], IfErr, IfOk, MatchOption, OnOk, codes, false, length, option_map, None, Some, string_bytes};
 ghost use Rattle.clap.specs.Simple.{app_of};
 ghost use Rattle.clap.specs.declared.builder.command.Command.TheViews.{out-Command as fields_of};
 ghost use Rattle.clap.specs.Walk.{first_of, rows_of};
 ghost use Rattle.clap.specs.Matches.{found_of};
+ghost use Rattle.job_parts.specs.Inputs.{AreInputs};
 ghost use Rattle.job_parts.specs.Printed.{Prints};
 ghost use Rattle.job_parts.specs.Stops.{StopsBy};
 ghost use Rattle.rmap.specs.declared.boot.TheConstants.{STAGING_SIZE};
 ghost use Rattle.job_parts.specs.declared.faults.Fault.TheVariants.{NoMemory};
-ghost use Rattle.job_rehearse.specs.RehearseJob.{GivesSlots, NamesRehearse, RefusesRehearse, RefusesSlots, are_one_input, rehearse_app};
+ghost use Rattle.job_rehearse.specs.RehearseJob.{GivesSlots, NamesRehearse, RefusesRehearse, RefusesSlots, rehearse_app};
 ghost use Rattle.job_rehearse.specs.Loaders.{loader_text};
-ghost use Rattle.job_rehearse.specs.Places.{sizes_at};
+ghost use Rattle.job_rehearse.specs.Places.{first_read, maps_in, second_read, sizes_at};
 ghost use Rattle.job_rehearse.specs.declared.policies.NoPolicy.TheVariants.{Ended};
 ghost use Rattle.job_rehearse.specs.Rehearsed.{AsksAny, DoesAny, DoesAt, DoesOne, IsNotRehearsed, IsStuck, IsUnasked, IsUndone, IsUndoneAt, Rehearses, RehearsesFile, TellsBad, any_end, back_line, there_line};
 
@@ -19,7 +20,7 @@ use crate::loaders::{Loader, Loaders, loader_text, loaders_of};
 use crate::loads::{Ending, LoadOf, load};
 use crate::open_ports::askers_text;
 use crate::places::{Place, PlaceWords, begun_at, place_in, place_of};
-use crate::policies::{Asked, NoPolicy, Policies, asked_in, policies_in, print_named_fault};
+use crate::policies::{Asked, NoPolicy, Policies, asked_in, policies_in};
 use clap::{ArgMatches, Command};
 use job_config::sources::node_option;
 use job_packets::numbers::{every_slot, slots_written};
@@ -30,13 +31,11 @@ use job_parts::printing::print_text;
 use job_parts::status::Status;
 use job_parts::stops::Halt;
 use job_parts::storage::Files;
+use job_parts::two_files::{are_one_input, print_named_fault};
 use job_parts::usage::UsageFault;
 use machine::MapSizes;
 use std::alloc::{AllocError, Global};
 use std::io::{self, Write};
-
-/// The name of standard input.
-const STANDARD_INPUT: &str = "-";
 
 /// The words of the job `rehearse`.
 #[derive(Debug, Drop)]
@@ -56,16 +55,25 @@ pub struct RehearseWords {
 impl RehearseWords {
     /// What the job reads: the old policy, and then the new one; before them the node's file, if there is one, and behind that
     /// the files that it names.
-    pub fn inputs(&self) -> Inputs<'_> {
+    pub fn inputs(&self) -> Inputs<'_>
+        ensures { AreInputs (Some (first_read self.now.place (string_bytes self.now.old)))
+            (second_read self.now.place (string_bytes self.now.new)) None result }
+    {
         if let PlaceWords::File(name) = &self.place {
-            return Inputs::one(InputFile::new(name.as_str(), Content::Node));
+            return Inputs::one(name.as_str(), Content::Node);
         }
         let old = InputFile::new(self.old.as_str(), Content::ImageOrText);
-        Inputs::two(old, InputFile::new(self.new.as_str(), Content::ImageOrText))
+        Inputs::of(
+            Some(old),
+            Some(InputFile::new(self.new.as_str(), Content::ImageOrText)),
+        )
     }
 
     /// How many cells each map of the node has, where no file says it.
-    pub fn sizes(&self) -> Option<&MapSizes> {
+    pub fn sizes(&self) -> Option<&MapSizes>
+        ensures { MatchOption result (maps_in self.now.place ≡ None)
+            (λ sizes. maps_in self.now.place ≡ Some sizes.now) }
+    {
         match &self.place {
             PlaceWords::Maps(sizes) => Some(sizes),
             PlaceWords::File(_) => None,
@@ -105,13 +113,6 @@ pub fn rehearse_command<'a>(alloc: Global) -> Result<Command<'a>, AllocError>
         .arg(key)?
         .arg(any)?
         .arg(node_option(alloc))
-}
-
-/// Whether both policies would be read of standard input, which one read ends.
-fn are_one_input(old: &str, new: &str) -> bool
-    ensures { result ≡ are_one_input old.now new.now }
-{
-    old == STANDARD_INPUT && new == STANDARD_INPUT
 }
 
 /// The slots by `--slot`, and each of the four without the option. `BadOption` where its value writes none.

@@ -96,7 +96,8 @@ fn print_words<W: Write>(out: &mut W, loaded: LoadResult) -> io::Result<()>
 
 /// Prints the load result that a reply has, if it has one.
 fn print_result<W: Write>(out: &mut W, reply: &[u8]) -> io::Result<()>
-    ensures { OnOk result (Prints W.contents out.old out.new (result_text (load_result_in reply.now))) }
+    ensures { OnOk result
+        (Prints W.contents out.old out.new (result_text (load_result_in reply.now))) }
 {
     if let Some(loaded) = load_result_in(reply) {
         print_words(out, loaded)?;

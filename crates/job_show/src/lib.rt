@@ -1,7 +1,6 @@
 //! The job of `rmapctl` that tells in words what packet lines say.
 #![tactic(auto)]
 
-mod load_results;
+pub mod paths;
 pub mod show;
-mod shown;
 pub mod shown_lines;

@@ -1,21 +1,20 @@
 //! The job `show`.
 
-ghost use Rattle.std.specs.Prelude.{◌≡◌, IfErr, IfOk, codes, false};
-ghost use Rattle.clap.specs.Simple.{app_of};
-ghost use Rattle.clap.specs.declared.builder.command.Command.TheViews.{out-Command as fields_of};
-ghost use Rattle.clap.specs.Walk.{rows_of};
-ghost use Rattle.clap.specs.Matches.{found_of};
+ghost use Rattle.std.specs.Prelude.{◌≡◌, IfErr, IfOk, codes, false, None, Some, string_bytes};
+ghost use Rattle.job_parts.specs.Matched.{app_of, fields_of, found_of, rows_of};
 ghost use Rattle.job_parts.specs.Arguments.{Lacks};
 ghost use Rattle.job_parts.specs.Statuses.{IsDoneWith};
 ghost use Rattle.job_parts.specs.Stops.{StopsBy};
 ghost use Rattle.job_show.specs.ShowJob.{NamesShow, show_app};
 ghost use Rattle.job_show.specs.Shown.{IsNotShown, ShowsFile};
+ghost use Rattle.job_parts.specs.Inputs.{AreInputs, input};
+ghost use Rattle.job_parts.specs.declared.inputs.Content.TheVariants.{Lines};
 
 use crate::shown_lines::shown_line;
 use clap::{ArgMatches, Command};
 use job_parts::arguments::{file, flag, is_set, name_of};
 use job_parts::bad_lines::BadLine;
-use job_parts::inputs::{Content, InputFile, Inputs};
+use job_parts::inputs::{Content, Inputs};
 use job_parts::printing::print_text;
 use job_parts::programs::text_in;
 use job_parts::status::Status;
@@ -37,8 +36,10 @@ pub struct ShowWords {
 
 impl ShowWords {
     /// What the job reads: the lines.
-    pub fn inputs(&self) -> Inputs<'_> {
-        Inputs::one(InputFile::new(self.lines.as_str(), Content::Lines))
+    pub fn inputs(&self) -> Inputs<'_>
+        ensures { AreInputs (Some (input (string_bytes self.now.lines) Lines)) None None result }
+    {
+        Inputs::one(self.lines.as_str(), Content::Lines)
     }
 }
 

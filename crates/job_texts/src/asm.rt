@@ -1,15 +1,14 @@
 //! The job `asm`.
 
-ghost use Rattle.std.specs.Prelude.{◌≡◌, IfErr, IfOk, OnOk, false};
-ghost use Rattle.clap.specs.Simple.{app_of};
-ghost use Rattle.clap.specs.declared.builder.command.Command.TheViews.{out-Command as fields_of};
-ghost use Rattle.clap.specs.Walk.{rows_of};
-ghost use Rattle.clap.specs.Matches.{found_of};
+ghost use Rattle.std.specs.Prelude.{◌≡◌, IfErr, IfOk, OnOk, false, None, Some, string_bytes};
+ghost use Rattle.job_parts.specs.Matched.{app_of, fields_of, found_of, rows_of};
 ghost use Rattle.job_texts.specs.AsmJob.{LacksEither, NamesAsm, asm_app, parts_line};
 ghost use Rattle.job_texts.specs.Assembled.{Assembles, HoldsText, IsNoText, IsNotAssembled};
 ghost use Rattle.job_parts.specs.Printed.{Prints};
 ghost use Rattle.job_parts.specs.Statuses.{IsDoneWith};
 ghost use Rattle.job_parts.specs.Stops.{StopsBy};
+ghost use Rattle.job_parts.specs.Inputs.{AreInputs, input};
+ghost use Rattle.job_parts.specs.declared.inputs.Content.TheVariants.{Text};
 
 use crate::outputs::other_file;
 use basm::assemble;
@@ -37,7 +36,10 @@ pub struct AsmWords {
 
 impl AsmWords {
     /// What the job reads and writes: the text, and then the image.
-    pub fn inputs(&self) -> Inputs<'_> {
+    pub fn inputs(&self) -> Inputs<'_>
+        ensures { AreInputs (Some (input (string_bytes self.now.text) Text)) None
+            (Some (string_bytes self.now.image)) result }
+    {
         let text = InputFile::new(self.text.as_str(), Content::Text);
         Inputs::made(text, self.image.as_str())
     }

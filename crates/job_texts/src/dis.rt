@@ -1,21 +1,20 @@
 //! The job `dis`.
 
-ghost use Rattle.std.specs.Prelude.{◌≡◌, IfErr, IfOk, codes, false, string_bytes};
-ghost use Rattle.clap.specs.Simple.{app_of};
-ghost use Rattle.clap.specs.declared.builder.command.Command.TheViews.{out-Command as fields_of};
-ghost use Rattle.clap.specs.Walk.{rows_of};
-ghost use Rattle.clap.specs.Matches.{found_of};
+ghost use Rattle.std.specs.Prelude.{◌≡◌, IfErr, IfOk, codes, false, string_bytes, None, Some};
+ghost use Rattle.job_parts.specs.Matched.{app_of, fields_of, found_of, rows_of};
 ghost use Rattle.job_parts.specs.Arguments.{Lacks};
 ghost use Rattle.job_texts.specs.DisJob.{NamesDis, dis_app};
 ghost use Rattle.job_texts.specs.Disassembled.{Disassembles, IsNotPrinted};
 ghost use Rattle.job_parts.specs.Statuses.{IsDoneWith};
 ghost use Rattle.job_parts.specs.Stops.{StopsBy};
+ghost use Rattle.job_parts.specs.Inputs.{AreInputs, input};
+ghost use Rattle.job_parts.specs.declared.inputs.Content.TheVariants.{Image};
 
 use crate::listed::listed;
 use crate::needed::needed_line;
 use clap::{ArgMatches, Command};
 use job_parts::arguments::{flag, image_command, is_set, name_of};
-use job_parts::inputs::{Content, InputFile, Inputs};
+use job_parts::inputs::{Content, Inputs};
 use job_parts::printing::print_text;
 use job_parts::programs::image_in;
 use job_parts::status::Status;
@@ -36,8 +35,10 @@ pub struct DisWords {
 
 impl DisWords {
     /// What the job reads: the image.
-    pub fn inputs(&self) -> Inputs<'_> {
-        Inputs::one(InputFile::new(self.image.as_str(), Content::Image))
+    pub fn inputs(&self) -> Inputs<'_>
+        ensures { AreInputs (Some (input (string_bytes self.now.image) Image)) None None result }
+    {
+        Inputs::one(self.image.as_str(), Content::Image)
     }
 }
 

@@ -1,16 +1,15 @@
 //! The arguments of the jobs that verify an image.
 
-ghost use Rattle.std.specs.Prelude.{◌≡◌, IfErr, IfOk, false};
-ghost use Rattle.clap.specs.Simple.{app_of};
-ghost use Rattle.clap.specs.declared.builder.command.Command.TheViews.{out-Command as fields_of};
-ghost use Rattle.clap.specs.Walk.{rows_of};
-ghost use Rattle.clap.specs.Matches.{found_of};
+ghost use Rattle.std.specs.Prelude.{◌≡◌, IfErr, IfOk, false, None, Some, string_bytes};
+ghost use Rattle.job_parts.specs.Matched.{app_of, fields_of, found_of, rows_of};
 ghost use Rattle.job_texts.specs.Images.{NamesImage, RefusesImage, maps_app};
+ghost use Rattle.job_parts.specs.Inputs.{AreInputs, input};
+ghost use Rattle.job_parts.specs.declared.inputs.Content.TheVariants.{Image, ImageOrText};
 
 use bver::MapSizes;
 use clap::{ArgMatches, Command};
 use job_parts::arguments::{image_command, name_of};
-use job_parts::inputs::{Content, InputFile, Inputs};
+use job_parts::inputs::{Content, Inputs};
 use job_parts::options::{maps_option, sizes_of};
 use job_parts::usage::UsageFault;
 use std::alloc::{AllocError, Global};
@@ -26,13 +25,17 @@ pub struct ImageArgs {
 
 impl ImageArgs {
     /// What `verify` reads: the image.
-    pub fn inputs(&self) -> Inputs<'_> {
-        Inputs::one(InputFile::new(self.image.as_str(), Content::Image))
+    pub fn inputs(&self) -> Inputs<'_>
+        ensures { AreInputs (Some (input (string_bytes self.now.image) Image)) None None result }
+    {
+        Inputs::one(self.image.as_str(), Content::Image)
     }
 
     /// What `why` reads: the image, or what is in its place.
-    pub fn told_inputs(&self) -> Inputs<'_> {
-        Inputs::one(InputFile::new(self.image.as_str(), Content::ImageOrText))
+    pub fn told_inputs(&self) -> Inputs<'_>
+        ensures { AreInputs (Some (input (string_bytes self.now.image) ImageOrText)) None None result }
+    {
+        Inputs::one(self.image.as_str(), Content::ImageOrText)
     }
 }
 

@@ -11,6 +11,7 @@ use absdom::AbsKind;
 use bpf::Image;
 use bpf_insn::{Insn, Register};
 use bver::{MapSizes, Refusal, Refused, State};
+use job_parts::options::no_maps;
 use machine::{MAX_CELLS, MAX_MAPS, MapKind};
 use std::alloc::{AllocError, Global};
 use std::fmt::Write;
@@ -174,13 +175,6 @@ fn needed_maps(alloc: Global, image: &Image) -> Result<Vec<(u16, MapKind)>, Allo
         Some(refused) => enough_maps(alloc, image, refused, &mut known),
         None => Ok(Vec::new(alloc)),
     }
-}
-
-/// The sizes of no maps.
-fn no_maps() -> MapSizes
-    ensures { result ≡ listed_maps [] }
-{
-    MapSizes::new(&[]).unwrap()
 }
 
 /// Adds a map as `--maps` writes it.

@@ -1,15 +1,14 @@
 //! The job `policy`.
 
-ghost use Rattle.std.specs.Prelude.{◌≡◌, IfErr, IfOk, OnOk, false, string_bytes};
-ghost use Rattle.clap.specs.Simple.{app_of};
-ghost use Rattle.clap.specs.declared.builder.command.Command.TheViews.{out-Command as fields_of};
-ghost use Rattle.clap.specs.Walk.{rows_of};
-ghost use Rattle.clap.specs.Matches.{found_of};
+ghost use Rattle.std.specs.Prelude.{◌≡◌, IfErr, IfOk, OnOk, false, string_bytes, None, Some};
+ghost use Rattle.job_parts.specs.Matched.{app_of, fields_of, found_of, rows_of};
 ghost use Rattle.job_texts.specs.Compiled.{CompilesTable, HoldsPolicy, HoldsTable, IsNoPolicy, IsNoTable, IsNotCompiled};
 ghost use Rattle.job_texts.specs.PolicyJob.{NamesPolicy, RefusesPolicy, policy_app, slots_line};
 ghost use Rattle.job_parts.specs.Printed.{Prints};
 ghost use Rattle.job_parts.specs.Statuses.{IsDoneWith};
 ghost use Rattle.job_parts.specs.Stops.{StopsBy};
+ghost use Rattle.job_parts.specs.Inputs.{AreInputs, input};
+ghost use Rattle.job_parts.specs.declared.inputs.Content.TheVariants.{Table};
 
 use crate::outputs::other_file;
 use bpf::Image;
@@ -43,7 +42,10 @@ pub struct PolicyWords {
 
 impl PolicyWords {
     /// What the job reads and writes: the table, and then the image.
-    pub fn inputs(&self) -> Inputs<'_> {
+    pub fn inputs(&self) -> Inputs<'_>
+        ensures { AreInputs (Some (input (string_bytes self.now.table) Table)) None
+            (Some (string_bytes self.now.image)) result }
+    {
         let table = InputFile::new(self.table.as_str(), Content::Table);
         Inputs::made(table, self.image.as_str())
     }

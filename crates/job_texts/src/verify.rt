@@ -1,8 +1,7 @@
 //! The job `verify`.
 
 ghost use Rattle.std.specs.Prelude.{◌≡◌, IfErr, IfOk, OnOk, false};
-ghost use Rattle.clap.specs.Simple.{app_of};
-ghost use Rattle.clap.specs.declared.builder.command.Command.TheViews.{out-Command as fields_of};
+ghost use Rattle.job_parts.specs.Matched.{app_of, fields_of};
 ghost use Rattle.job_parts.specs.Reading.{IsNoProgram};
 ghost use Rattle.job_parts.specs.Printed.{Prints};
 ghost use Rattle.job_parts.specs.Statuses.{IsDoneWith};

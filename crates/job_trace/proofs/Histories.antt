@@ -21,7 +21,7 @@ use Rattle.sched.specs.declared.event.Event.TheVariants.{Take}
 use Rattle.sched.specs.declared.event.Outcome.{Outcome}
 use Rattle.sched.specs.declared.event.Outcome.TheVariants.{Taken, Told, Done}
 use Rattle.job_nodes.specs.Settled.{IsEnd}
-use Rattle.job_trace.proofs.Striding.{appends_both}
+use Rattle.job_nodes.proofs.Simulating.{appends_both}
 use Rattle.job_trace.specs.Runs.{lines_within}
 use Rattle.job_trace.specs.TraceJob.{command_lines, taken_line}
 use Rattle.job_trace.specs.Judged.{AnswersHelpers, EndsCommand, IsStopLine, PrintsRun, TracesCommand, TracesPacket, command_with, more, none}

@@ -1,5 +1,4 @@
 mod Histories
 mod LinesInTurn
 mod Scheduled
-mod Signs
 mod Striding

@@ -1,65 +1,24 @@
 -- A step that asks, and the lines of steps.
-use Rattle.std.proofs.Common.{◌≡◌, ◌<◌, ℕ, ◌+◌, ◌-◌, suc, refl, sym, ap, ap₂, ◌∙◌, subst, arith, add-one, Bool, true, false, cond, List, [], ◌∷◌, ◌++◌, append_assoc, Option, Some, None, Bor}
-use Rattle.std.proofs.lemmas.List.{append-nil}
+use Rattle.std.proofs.Common.{◌≡◌, ◌<◌, ℕ, ◌+◌, ◌-◌, suc, refl, sym, ap, ap₂, ◌∙◌, subst, arith, add-one, List, ◌∷◌, ◌++◌, Option, Some, None, Bor}
 use Rattle.std.specs.Io.KnownBytes.{Appends}
-use Rattle.bpf.specs.Program.{Program}
 use Rattle.bpf_insn.specs.declared.insn.Insn.{Insn}
-use Rattle.machine.specs.Memory.{Header}
-use Rattle.machine.specs.Sizes.{Maps}
 use Rattle.machine.specs.Laws.{QuestionsGoOn}
 use Rattle.machine.specs.Runs.{call}
 use Rattle.machine.specs.State.{State}
 use Rattle.machine.specs.declared.calls.Question.{Question}
-use Rattle.machine.specs.Step.{Outcome, Next, Ask, Verdict, Trap, after_answer, insn_at, step, finds_maps, step_with}
+use Rattle.machine.specs.Step.{Outcome, Ask, Trap, after_answer, insn_at, step, finds_maps, step_with}
 use Rattle.stepper.specs.declared.outcomes.Outcome.TheVariants as told
-use Rattle.stepper.specs.Machine.{MachineValue, state_of, step_of, IsOutcome, IsAsk, IsSameRun}
+use Rattle.stepper.specs.Machine.{MachineValue, state_of, step_of, IsOutcome, IsSameRun}
 use Rattle.job_trace.specs.Changes.{step_line}
 use Rattle.job_trace.specs.Runs.{IsStrideBy, On, Strides, line_before, lines_at, lines_of_step, lines_within, stride_of}
 use Rattle.job_trace.specs.declared.changes.Change.{Change}
 use Rattle.job_trace.specs.declared.changes.Change.TheVariants as changes
+use Rattle.stepper.proofs.Walking.{outcome_asks, choice}
+use Rattle.job_nodes.proofs.Simulating.{appends_both, appends_nothing}
 
 -- ---- what was printed
 
-regroup : (a b c : List ℕ) → (a ++ b) ++ c ≡ a ++ (b ++ c)
-regroup a b c = simp append_assoc
-
--- what was printed before and behind
-pub appends_both : (old mid new : Option (List ℕ)) (front back : List ℕ) → Appends old mid front → Appends mid new back → Appends old new (front ++ back)
-appends_both None mid new front back one two = tt
-appends_both (Some xs) None new front back one two = absurd one
-appends_both (Some xs) (Some ys) None front back one two = absurd two
-appends_both (Some xs) (Some ys) (Some zs) front back one two =
-    two ∙ ap (λ (l : List ℕ). l ++ back) one ∙ regroup xs front back
-
--- nothing was printed
-pub appends_nothing : (old : Option (List ℕ)) → Appends old old []
-appends_nothing None = tt
-appends_nothing (Some xs) = sym (append-nil xs)
-
 -- ---- a step that asks
-
-outcome_asks : (o : Outcome) (asked : Question) (s t : State) → IsOutcome o (told.Ask asked) s t → (on : ℕ → State) × (o ≡ Ask asked on) × (t ≡ s)
-outcome_asks (Next u) asked s t h = let e = h.0 in absurd cc
-outcome_asks (Ask other on) asked s t h =
-    let e = h.0 in
-    let same : other ≡ asked = cc in
-    (on, ap (λ (q : Question). Ask q on) same, h.1)
-outcome_asks (Verdict verdict) asked s t h = let e = h.0 in absurd cc
-outcome_asks Trap asked s t h = let e = h.0 in absurd cc
-
-same_step : (sizes sizes' : Maps) (program program' : Program) (header header' : Header) (s s' : State) → sizes ≡ sizes' → program ≡ program' → header ≡ header' → s ≡ s' → step_with sizes program header s ≡ step_with sizes' program' header' s'
-same_step sizes sizes' program program' header header' s s' e f g h = rw (e, f, g, h) refl
-
--- the question stands after the step, which leaves the state
-pub still_asks : (m after : MachineValue) (asked : Question) → IsOutcome (step_of m) (told.Ask asked) (state_of m) (state_of after) → IsSameRun m after → IsAsk (step_of after)
-still_asks m after asked outcome same =
-    let asks = outcome_asks _ asked _ _ outcome in
-    let again : step_of after ≡ Ask asked asks.0 = same_step _ _ _ _ _ _ (state_of after) (state_of m) same.sizes same.program same.header asks.2 ∙ asks.1 in
-    subst (λ (o : Outcome). IsAsk o) (sym again) tt
-
-choice : (b : Bool) (x o : Outcome) → cond b x Trap ≡ o → (o ≡ Trap → ⊥) → x ≡ o
-choice true x o e no_trap = e
-choice false x o e no_trap = absurd (no_trap (sym e))
 
 -- a step that asks, and its answer
 pub strides_ask : QuestionsGoOn → (m paused after : MachineValue) (asked : Question) (answer : ℕ) (answers left : List ℕ) (made budget : ℕ) (insn : Insn)

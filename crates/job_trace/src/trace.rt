@@ -1,8 +1,7 @@
 //! The job `trace`.
 
 ghost use Rattle.std.specs.Prelude.{◌≡◌, IfErr, IfOk, Some, [], false, length, replicate};
-ghost use Rattle.clap.specs.Simple.{app_of};
-ghost use Rattle.clap.specs.declared.builder.command.Command.TheViews.{out-Command as fields_of};
+ghost use Rattle.job_parts.specs.Matched.{app_of, fields_of};
 ghost use Rattle.job_parts.specs.Stops.{StopsBy};
 ghost use Rattle.job_trace.specs.Judged.{TracesPacket};
 ghost use Rattle.job_trace.specs.TraceJob.{trace_app};

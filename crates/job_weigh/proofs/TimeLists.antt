@@ -1,17 +1,11 @@
 -- From the parts of a list to the times that it writes.
-use Rattle.std.proofs.Common.{◌≡◌, ℕ, ◌+◌, ◌<◌, List, [], ◌∷◌, ◌++◌, length, map, take, get_or, All, refl, sym, ap, subst, ◌∙◌}
-use Rattle.std.proofs.lemmas.List.{length-map, map_push, take_more}
-use Rattle.std.proofs.lemmas.List.Elements.{All-cons, All-head, All-map, All-nil, All-tail}
+use Rattle.std.proofs.Common.{◌≡◌, ℕ, List, [], ◌∷◌, length, map, All, refl, sym, ap, subst, ◌∙◌}
+use Rattle.std.proofs.lemmas.List.{length-map}
+use Rattle.std.proofs.lemmas.List.Elements.{All-map}
 use Rattle.job_parts.specs.Options.{list_parts}
 use Rattle.job_weigh.specs.Times.{IsTimeIn, IsTimes, times_of, value_in, written_times}
 use Rattle.job_weigh.specs.declared.times.Unit.{Unit as TimeUnit}
-
--- one more element of a list is mapped
-pub map-one_more : {X Y : Type 0} (f : X → Y) (xs : List X) (i : ℕ) (d : X) (old new : List Y) (n : Y) → i < length xs
-    → new ≡ old ++ n ∷ [] → n ≡ f (get_or xs i d) → old ≡ map f (take i xs) → new ≡ map f (take (i + 1) xs)
-map-one_more {X} {Y} f xs i d old new n inside joined is before =
-    joined ∙ ap (λ (front : List Y). front ++ n ∷ []) before ∙ ap (λ (m : Y). map f (take i xs) ++ m ∷ []) is
-    ∙ sym (map_push f (take i xs) (get_or xs i d)) ∙ sym (ap (map f) (take_more xs i d inside))
+use Rattle.job_parts.proofs.MapLists.{unmapped}
 
 -- the numbers of texts are those of the list that they are the parts of
 numbers_of : {X : Type 0} (unit : TimeUnit) (f : X → List ℕ) (xs : List X) (text : List ℕ) → map f xs ≡ list_parts text
@@ -21,11 +15,6 @@ numbers_of unit f xs text are = map_twice unit f xs ∙ ap (map (value_in unit))
     map_twice : {X : Type 0} (unit : TimeUnit) (f : X → List ℕ) (xs : List X) → map (λ x. value_in unit (f x)) xs ≡ map (value_in unit) (map f xs)
     map_twice unit f [] = refl
     map_twice unit f (x ∷ xs) = ap (λ (l : List ℕ). value_in unit (f x) ∷ l) (map_twice unit f xs)
-
--- what holds of each image of a list holds of its elements by their images
-unmapped : {X : Type 0} (P : List ℕ → Type 0) (f : X → List ℕ) (xs : List X) → All P (map f xs) → All (λ x. P (f x)) xs
-unmapped P f [] h = All-nil (λ x. P (f x))
-unmapped P f (x ∷ xs) h = All-cons (λ x. P (f x)) x xs (All-head P (f x) (map f xs) h) (unmapped P f xs (All-tail P (f x) (map f xs) h))
 
 -- the texts are of times where the parts of the list are
 pub are_times : {X : Type 0} (unit : TimeUnit) (f : X → List ℕ) (xs : List X) (text : List ℕ) → map f xs ≡ list_parts text → IsTimes unit text → All (λ x. IsTimeIn unit (f x)) xs

@@ -1,30 +1,6 @@
 -- The value of the option `--ns`: how many nanoseconds an instruction of each class takes.
-use Rattle.std.specs.Prelude.{
-  ◌≡◌,
-  ◌≢◌,
-  ◌≤◌,
-  ◌⊎◌,
-  ◌==◌,
-  ◌+◌,
-  ◌-◌,
-  ◌/◌,
-  ◌%◌,
-  ◌++◌,
-  ℕ,
-  Bool,
-  if◌then◌else◌,
-  List,
-  [],
-  All,
-  Option,
-  Some,
-  None,
-  length,
-  map,
-  codes,
-  replicate,
-  slice_index,
-}
+use Rattle.std.specs.Prelude.{◌≡◌, ◌≢◌, ◌≤◌, ◌⊎◌, ◌==◌, ◌+◌, ◌-◌, ◌/◌, ◌%◌, ◌++◌, ℕ, Bool, if◌then◌else◌, List, []}
+use Rattle.std.specs.Prelude.{All, Option, Some, None, length, map, codes, replicate, slice_index}
 use Rattle.std.specs.List.{after_first, before_first}
 use Rattle.std.specs.Str.Parse.{digits_value}
 use Rattle.clap.specs.Walk.{Row, first_of}

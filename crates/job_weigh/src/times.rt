@@ -2,8 +2,7 @@
 
 ghost use Rattle.std.specs.Prelude.{◌≡◌, ◌≤◌, ◌-◌, ◌++◌, All, IfErr, IfOk, MatchResult, codes, length, map, replicate, string_bytes};
 ghost use Rattle.std.specs.List.{after_first, before_first};
-ghost use Rattle.clap.specs.Matches.{found_of};
-ghost use Rattle.clap.specs.Walk.{first_of, rows_of};
+ghost use Rattle.job_parts.specs.Matched.{first_of, found_of, rows_of};
 ghost use Rattle.job_parts.specs.Options.{IsBadValue, IsValueFault, WritesSuch, list_parts};
 ghost use Rattle.job_weigh.specs.Times.{GivesTimes, IsTime, IsTimeIn, IsTimes, LacksTimes, RefusesTimes, WritesIn, WritesTimes, in_nanoseconds, is_point, rounded_up, times_of, value_in, written_times};
 ghost use Rattle.job_weigh.specs.declared.times.Unit.TheVariants.{Thousandth};

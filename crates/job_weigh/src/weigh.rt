@@ -1,22 +1,21 @@
 //! The job `weigh`.
 
-ghost use Rattle.std.specs.Prelude.{◌≡◌, IfErr, IfOk, OnOk, false, string_bytes};
-ghost use Rattle.clap.specs.Matches.{found_of};
-ghost use Rattle.clap.specs.Simple.{app_of};
-ghost use Rattle.clap.specs.Walk.{rows_of};
-ghost use Rattle.clap.specs.declared.builder.command.Command.TheViews.{out-Command as fields_of};
+ghost use Rattle.std.specs.Prelude.{◌≡◌, IfErr, IfOk, OnOk, false, string_bytes, None, Some};
+ghost use Rattle.job_parts.specs.Matched.{app_of, fields_of, found_of, rows_of};
 ghost use Rattle.job_parts.specs.Printed.{Prints};
 ghost use Rattle.job_parts.specs.Reading.{IsNoProgram};
 ghost use Rattle.job_parts.specs.Statuses.{IsDoneWith};
 ghost use Rattle.job_parts.specs.Stops.{StopsBy};
 ghost use Rattle.job_weigh.specs.WeighJob.{NamesWeigh, RefusesWeigh, weigh_app};
 ghost use Rattle.job_weigh.specs.Weighed.{Weighs, class_lines, lines_of, longest, time_lines};
+ghost use Rattle.job_parts.specs.Inputs.{AreInputs, input};
+ghost use Rattle.job_parts.specs.declared.inputs.Content.TheVariants.{Image};
 
 use crate::times::{Times, times_of};
 use bver::{Accepted, MapSizes, justified_programs};
 use clap::{ArgMatches, Command};
 use job_parts::arguments::{image_command, name_of, option};
-use job_parts::inputs::{Content, InputFile, Inputs};
+use job_parts::inputs::{Content, Inputs};
 use job_parts::options::{maps_option, sizes_of};
 use job_parts::programs::program_in;
 use job_parts::status::Status;
@@ -40,8 +39,10 @@ pub struct WeighWords {
 
 impl WeighWords {
     /// What the job reads: the image.
-    pub fn inputs(&self) -> Inputs<'_> {
-        Inputs::one(InputFile::new(self.image.as_str(), Content::Image))
+    pub fn inputs(&self) -> Inputs<'_>
+        ensures { AreInputs (Some (input (string_bytes self.now.image) Image)) None None result }
+    {
+        Inputs::one(self.image.as_str(), Content::Image)
     }
 }
 

@@ -4,7 +4,7 @@ mod Results
 mod Fitting
 mod Filled
 mod Leaving
-mod Asking
+pub mod Asking
 mod Reading
 mod Front
 mod Deciding

@@ -21,10 +21,10 @@ use Rattle.node_parts.specs.Loads.{IsPrepared, published_result, refused_result}
 use Rattle.node_parts.specs.Outcomes.{IsLoadRefusal}
 use Rattle.node_parts.specs.Loaded.{IsPublished, control_in, EndsAs, HasLoaded, HasRefused, IsLoadEnd}
 
-prefix_same : (xs ys : List Publish) → ys ≡ xs → IsPrefix xs ys
+pub prefix_same : (xs ys : List Publish) → ys ≡ xs → IsPrefix xs ys
 prefix_same xs ys same = ([], append-nil xs ∙ sym same)
 
-prefix_longer : (xs ys more : List Publish) → IsPrefix xs ys → IsPrefix xs (ys ++ more)
+pub prefix_longer : (xs ys more : List Publish) → IsPrefix xs ys → IsPrefix xs (ys ++ more)
 prefix_longer xs ys more p = (p.0 ++ more, sym (append_assoc xs p.0 more) ∙ ap (λ w. w ++ more) p.1)
 
 -- what was prepared and then published, of which the port then knows

@@ -1,20 +1,19 @@
 -- Banks and ports that were made together stay paired.
 use Rattle.std.proofs.Common.{◌≡◌, ◌≢◌, ℕ, ◌+◌, ◌<◌, List, [], ◌∷◌, Bool, true, false, eqb, ltb, ◌&&◌, length, get_or, set, Option, None, Some, refl, sym, ap, ◌∙◌, arith, inl, inr, subst}
 use Rattle.std.specs.Prelude.{map, replicate, slice_get, if◌then◌else◌, option_map}
-use Rattle.std.proofs.lemmas.Option.{slice_get-map, slice_get_within, get_or_from_slice_get, slice_get-get_or}
+use Rattle.std.proofs.lemmas.Option.{slice_get-map, slice_get_within, get_or_from_slice_get}
 use Rattle.std.proofs.lemmas.List.{length-set, length-map, length-replicate, get_or-replicate, get_or-set_other}
 use Rattle.std.proofs.lemmas.Grind.{get_or-set_at}
 use Rattle.std.proofs.lemmas.List.FromFn.{length-map-range_with_len, get_or-map-range_with_len}
 use Rattle.std.specs.List.{range_with_len}
 use Rattle.std.proofs.Math.Seq.{map-set_same}
-use Rattle.std.proofs.lemmas.Bool.{cases_eq}
+use Rattle.std.proofs.lemmas.Bool.{cases_eq, and_parts}
 use Rattle.std.proofs.lemmas.Bool.Decides.{nat_tests}
 use Rattle.rmap.specs.declared.places.Place.{Place}
 use Rattle.rmap.specs.declared.places.Place.TheVariants.{Bank}
 use Rattle.rmap.specs.Command.{command_of}
 use Rattle.rmap.specs.Windows.{lies_inside}
 use Rattle.bver.specs.Justified.{AcceptedValue}
-use Rattle.bank.specs.declared.bank.Applied.{Applied}
 use Rattle.bank.specs.Admission.{IsPlacedBy}
 use Rattle.bank.specs.Laws.{ExtentsStay}
 use Rattle.bank.specs.Records.{BankValue, ShareValue, JudgedValue, extent_of, after_command, after_record, answer_of, has_room, next_share, first_share, is_bank_place, is_next, fits}
@@ -31,10 +30,8 @@ use Rattle.node_parts.specs.Steps.{IsBankBelow, IsJudgement}
 use Rattle.node_parts.specs.Applied.{share_of, with_share}
 use Rattle.node_parts.specs.Keeping.{AppliedSharesAgree}
 use Rattle.node_parts.specs.Pairs.{IsShareOf, IsPaired, MadeArePaired, PairedCommandsFit, OwnStaysPaired, OthersStayPaired}
-
-both : (a b : Bool) → (a && b) ≡ true → (a ≡ true) × (b ≡ true)
-both true b e = (refl, e)
-both false b e = absurd cc
+use Rattle.lemmas.proofs.Places.{at_written, at_other}
+use Rattle.lemmas.proofs.Options.{some_same}
 
 -- a share whose number is the bank's count of its port
 next_at : (counts : List ℕ) (port number : ℕ) → port < length counts → number ≡ get_or counts port 0 → (ltb port (length counts) && eqb number (get_or counts port 0)) ≡ true
@@ -45,13 +42,13 @@ next_at counts port number below same =
 
 next_below : (counts : List ℕ) (port number : ℕ) → (ltb port (length counts) && eqb number (get_or counts port 0)) ≡ true → port < length counts
 next_below counts port number h =
-    let test = (both (ltb port (length counts)) (eqb number (get_or counts port 0)) h).0 in
+    let test = (and_parts (ltb port (length counts)) (eqb number (get_or counts port 0)) h).0 in
     let is_below : ltb port (length counts) ≡ true = test in
     grind (arith, nat_tests)
 
 next_count : (counts : List ℕ) (port number : ℕ) → (ltb port (length counts) && eqb number (get_or counts port 0)) ≡ true → number ≡ get_or counts port 0
 next_count counts port number h =
-    let test = (both (ltb port (length counts)) (eqb number (get_or counts port 0)) h).1 in
+    let test = (and_parts (ltb port (length counts)) (eqb number (get_or counts port 0)) h).1 in
     let is_same : eqb number (get_or counts port 0) ≡ true = test in
     grind (arith, nat_tests)
 
@@ -108,17 +105,6 @@ other_share b share j port other h apart =
       | false ↦ h
     ]
 
--- what stands at a place of a list of which one element was written
-pub at_written : {A : Type 0} (xs : List A) (k j : ℕ) (old new x : A) → slice_get xs k ≡ Some old → j ≡ k → slice_get (set xs k new) j ≡ Some x → x ≡ new
-at_written xs k j old new x at here found =
-    sym (get_or_from_slice_get (set xs k new) j x old found) ∙ get_or-set_at xs k j new old here (slice_get_within xs k old at)
-
-pub at_other : {A : Type 0} (xs : List A) (k j : ℕ) (new x : A) → j ≢ k → slice_get (set xs k new) j ≡ Some x → slice_get xs j ≡ Some x
-at_other xs k j new x other found =
-    let inside : j < length (set xs k new) = slice_get_within (set xs k new) j x found in
-    let below : j < length xs = rw (← length-set xs k new) inside in
-    slice_get-get_or xs j x below ∙ ap (λ y. Some y) (sym (get_or-set_other xs k j new x other) ∙ get_or_from_slice_get (set xs k new) j x x found)
-
 windows_stay : (banks : List BankValue) (k : ℕ) (b new : BankValue) → slice_get banks k ≡ Some b → extent_of new ≡ extent_of b → map extent_of (set banks k new) ≡ map extent_of banks
 windows_stay banks k b new at same =
     map-set_same extent_of banks k new b (same ∙ ap extent_of (sym (get_or_from_slice_get banks k b b at)))
@@ -161,9 +147,6 @@ own_stays_paired keeps banks h k j b paired port place at =
 pub others_stay_paired : ExtentsStay → OthersStayPaired
 others_stay_paired keeps banks h k share j b paired apart at =
     pair_set banks k b (after_command b share j) h at (keeps b share j) paired (other_share b share j h.port (share_of h (Bank k)) (paired.shares k b at) apart)
-
-some_same : {A : Type 0} (x y : A) → Some x ≡ Some y → x ≡ y
-some_same x y e = cc
 
 extent_at : (banks : List BankValue) (k : ℕ) (b : BankValue) (range : ℕ × ℕ) → slice_get banks k ≡ Some b → slice_get (map extent_of banks) k ≡ Some range → range ≡ extent_of b
 extent_at banks k b range at window =

@@ -15,11 +15,28 @@ use Rattle.node_parts.specs.declared.served.Served.TheVariants.{Stopped, Unread,
 use Rattle.node_parts.specs.Passes.{PassValue}
 use Rattle.node_parts.specs.Applied.{share_of, with_share, IsApplied, IsEnded, IsRefused}
 use Rattle.node_parts.specs.Loaded.{EndsAs}
-use Rattle.node_parts.specs.Served.{PartsValue, IsServed, IsAnswered, IsDone, IsUntouched, IsStagedAt, EndsAtWindow}
+use Rattle.node_parts.specs.Served.{Ending, PartsValue, IsServed, IsAnswered, IsDone, IsUntouched, IsStagedAt, EndsAtWindow}
 use Rattle.node_parts.specs.Steps.{IsJudgement}
 use Rattle.node_parts.specs.Pairs.{ArePaired, IsPaired}
 use Rattle.node_parts.specs.Keeping.{AnsweredAreServed, LeavesAllPaired}
-use Rattle.node_parts.proofs.Pairings.{own_stays_paired, others_stay_paired, pair_set, at_written, at_other, judged_paired, judged_fits, staged_paired, loaded_paired}
+use Rattle.node_parts.proofs.Pairings.{own_stays_paired, others_stay_paired, pair_set, judged_paired, judged_fits, staged_paired, loaded_paired}
+use Rattle.lemmas.proofs.Places.{at_written, at_other}
+
+-- what was done, and another word for how it ended
+ended_by : (E F : Ending) (old new : PartsValue) (h after : PassValue) (p : Cargo) (result : Applied) (reply : List ℕ) → (done : IsDone E old new h after p result reply)
+    → F done.before done.behind (share_of done.between done.judged.place) done.between after done.judged result reply → IsDone F old new h after p result reply
+ended_by E F old new h after p result reply done ended = record {
+  judged = done.judged;
+  between = done.between;
+  number = done.number;
+  before = done.before;
+  behind = done.behind;
+  judgement = done.judgement;
+  place = done.place;
+  bank = done.bank;
+  node = done.node;
+  ended = ended;
+}
 
 -- the command was applied
 done_applied : (old new : PartsValue) (h after : PassValue) (p : Cargo) (result : Applied) (reply : List ℕ) → IsPaired old.banks h → (done : IsDone IsEnded old new h after p result reply) → IsApplied done.before done.behind (share_of done.between done.judged.place) done.between after done.judged result reply
@@ -32,18 +49,8 @@ answered : (served : Served) (p : Cargo) (old new : PartsValue) (h after : PassV
 answered (Stopped stop) p old new h after reply s paired = s
 answered Unread p old new h after reply s paired = s
 answered (Window status) p old new h after reply s paired = s
-answered (Done result) p old new h after reply done paired = record {
-  judged = done.judged;
-  between = done.between;
-  number = done.number;
-  before = done.before;
-  behind = done.behind;
-  judgement = done.judgement;
-  place = done.place;
-  bank = done.bank;
-  node = done.node;
-  ended = done_applied old new h after p result reply paired done;
-}
+answered (Done result) p old new h after reply done paired =
+    ended_by IsEnded IsApplied old new h after p result reply done (done_applied old new h after p result reply paired done)
 
 -- a command that fits was not refused
 never_refused : (old new : PartsValue) (h after : PassValue) (p : Cargo) (result : Applied) (reply : List ℕ) → IsPaired old.banks h → (done : IsDone IsApplied old new h after p result reply) → fits done.before (share_of done.between done.judged.place) done.judged ≡ false → IsRefused done.before done.behind done.between after done.judged result reply
@@ -56,18 +63,9 @@ pub served : AnsweredAreServed
 served (Stopped stop) p old new h after reply s paired = s
 served Unread p old new h after reply s paired = s
 served (Window status) p old new h after reply s paired = s
-served (Done result) p old new h after reply done paired = record {
-  judged = done.judged;
-  between = done.between;
-  number = done.number;
-  before = done.before;
-  behind = done.behind;
-  judgement = done.judgement;
-  place = done.place;
-  bank = done.bank;
-  node = done.node;
-  ended = record { applied = λ fit. done.ended; refused = never_refused old new h after p result reply paired done };
-}
+served (Done result) p old new h after reply done paired =
+    ended_by IsApplied IsEnded old new h after p result reply done
+    (record { applied = λ fit. done.ended; refused = never_refused old new h after p result reply paired done })
 
 untouched : (old new : PartsValue) (h after other : PassValue) → IsUntouched old new h after → IsPaired old.banks other → IsPaired new.banks other
 untouched old new h after other same paired = subst (λ (x : PartsValue). IsPaired x.banks other) (sym same.node) paired

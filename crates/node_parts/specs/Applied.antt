@@ -6,18 +6,8 @@ use Rattle.rmap.specs.declared.status.Status.TheVariants.{GeneralError}
 use Rattle.rmap.specs.Command.{command_of}
 use Rattle.rmap.specs.Reply.{reply_of}
 use Rattle.bank.specs.declared.bank.Applied.{Applied}
-use Rattle.bank.specs.Records.{
-  BankValue,
-  ShareValue,
-  JudgedValue,
-  first_share,
-  fits,
-  memory_of,
-  answer_of,
-  after_command,
-  number_left,
-  next_share,
-}
+use Rattle.bank.specs.Records.{BankValue, ShareValue, JudgedValue, first_share, fits, memory_of, answer_of}
+use Rattle.bank.specs.Records.{after_command, number_left, next_share}
 use Rattle.node_parts.specs.Passes.{PassValue}
 
 -- the port's share of the bank of that place

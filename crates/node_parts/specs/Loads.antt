@@ -1,33 +1,7 @@
 -- What a load asks, and why it is refused: a choice of this target.
-use Rattle.std.specs.Prelude.{
-  ◌≡◌,
-  ◌≢◌,
-  ◌<◌,
-  ◌≤◌,
-  ◌⊎◌,
-  ◌^◌,
-  ℕ,
-  ◌+◌,
-  ◌-◌,
-  ◌*◌,
-  ◌==◌,
-  ◌||◌,
-  not,
-  nat_lt,
-  if◌then◌else◌,
-  Bool,
-  true,
-  false,
-  List,
-  [],
-  ◌∷◌,
-  ◌++◌,
-  take,
-  slice_index,
-  Option,
-  Some,
-  None,
-}
+use Rattle.std.specs.Prelude.{◌≡◌, ◌≢◌, ◌<◌, ◌≤◌, ◌⊎◌, ◌^◌, ℕ, ◌+◌, ◌-◌, ◌*◌, ◌==◌, ◌||◌, not, nat_lt}
+use Rattle.std.specs.Prelude.{if◌then◌else◌, Bool, true, false, List, [], ◌∷◌, ◌++◌, take, slice_index, Option}
+use Rattle.std.specs.Prelude.{Some, None}
 use Rattle.std.specs.Option.{option_map}
 use Rattle.bpf_insn.specs.declared.decoder.BadInsn.TheVariants.{Opcode}
 use Rattle.bpf.specs.Fault.{image_fault_code, image_fault_of_code, image_fault_slot}
@@ -49,14 +23,8 @@ use Rattle.rmap.specs.BootRecords.{load_result_bytes}
 use Rattle.node_programs.specs.declared.faults.PublishFault.{PublishFault}
 use Rattle.node_programs.specs.declared.faults.PublishFault.TheVariants as publish_faults
 use Rattle.node_parts.specs.declared.refusal.LoadRefusal.{LoadRefusal}
-use Rattle.node_parts.specs.declared.refusal.LoadRefusal.TheVariants.{
-  Control,
-  Slot,
-  Image,
-  Program as Unverified,
-  Memory,
-  GenerationsFull,
-}
+use Rattle.node_parts.specs.declared.refusal.LoadRefusal.TheVariants.{Control, Slot, Image, Program as Unverified}
+use Rattle.node_parts.specs.declared.refusal.LoadRefusal.TheVariants.{Memory, GenerationsFull}
 
 -- what is wrong with control data: first its second byte and its length, then its slot
 abbrev pub control_fault : ControlData → Option LoadRefusal

@@ -1,25 +1,6 @@
 -- How a node is made of its configuration.
-use Rattle.std.specs.Prelude.{
-  ◌≡◌,
-  ◌<◌,
-  ℕ,
-  List,
-  [],
-  ◌∷◌,
-  ◌++◌,
-  map,
-  length,
-  slice_index_or,
-  replicate,
-  Bool,
-  ◌&&◌,
-  not,
-  nat_le,
-  Option,
-  None,
-  Some,
-  if◌then◌else◌,
-}
+use Rattle.std.specs.Prelude.{◌≡◌, ◌<◌, ℕ, List, [], ◌∷◌, ◌++◌, map, length, slice_index_or, replicate, Bool, ◌&&◌}
+use Rattle.std.specs.Prelude.{not, nat_le, Option, None, Some, if◌then◌else◌}
 use Rattle.rmap.specs.Windows.{WindowsValue}
 use Rattle.std.specs.List.{list_all, range_with_len}
 use Rattle.bver.specs.Justified.{AcceptedValue}

@@ -1,3 +1,4 @@
 pub mod Judging
 pub mod Lasts
 pub mod Later
+pub mod Shelves

@@ -32,7 +32,8 @@ fn add_piece(bytes: &mut Vec<u8>, piece: &[u8]) -> Result<(), AllocError>
 #[tactic(auto, using(crate::proofs::Written::none_written, crate::proofs::Written::one_written, crate::proofs::Written::all_short, crate::proofs::Written::all_written))]
 fn add_sheets(bytes: &mut Vec<u8>, sheets: &[Sheet]) -> Result<(), AllocError>
     ensures short { OnOk result (AreShort (sheets_value sheets.now)) }
-    ensures added { OnOk result (bytes.new.items ≡ bytes.old.items ++ files_bytes (sheets_value sheets.now)) }
+    ensures added { OnOk result (bytes.new.items ≡
+        bytes.old.items ++ files_bytes (sheets_value sheets.now)) }
 {
     for sheet in sheets {
         add_piece(bytes, sheet.name().as_bytes())?;
@@ -55,7 +56,8 @@ pub fn told_of(
     told: &[u8],
     files: &[Sheet],
 ) -> Result<Vec<u8>, AllocError>
-    ensures { IfOk result (λ bytes. IsTold status out.now told.now (sheets_value files.now) bytes.items) }
+    ensures { IfOk result (λ bytes. IsTold status out.now told.now
+        (sheets_value files.now) bytes.items) }
 {
     let mut bytes = Vec::new(alloc);
     add_number(&mut bytes, u32::from(status))?;

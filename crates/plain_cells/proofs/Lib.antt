@@ -1,4 +1,4 @@
-mod Zeros
+pub mod Zeros
 mod Calls
-mod Tickets
+pub mod Tickets
 mod Agreeing

@@ -15,7 +15,7 @@ use Rattle.plain_cells.specs.Words.{AreCells, CallsKeepCells, IsOfCell, TicketsA
 use Rattle.plain_cells.proofs.Zeros.{cell_there, cells_keep}
 
 -- the words with one of them written, cell by cell
-word_written : (words : List (List ℕ)) (map key word m k : ℕ) → map < length words → key < length (get_or words map []) → (same_map same_key : Bool) → (map == m) ≡ same_map → (key == k) ≡ same_key
+pub word_written : (words : List (List ℕ)) (map key word m k : ℕ) → map < length words → key < length (get_or words map []) → (same_map same_key : Bool) → (map == m) ≡ same_map → (key == k) ≡ same_key
     → word_at (with_word words map key word) m k ≡ (if same_map && same_key then word else word_at words m k)
 word_written words map key word m k there inside false same_key at_map at_key =
     ap (λ (row : List ℕ). get_or row k 0) (get_or-set_other words map m _ [] (λ e. eqb-false map m at_map (sym e)))

@@ -1,31 +1,7 @@
 -- The words of a node's cells, by map and key, and what helpers make of them (a choice of this project).
-use Rattle.std.specs.Prelude.{
-  ◌≡◌,
-  ◌<◌,
-  ◌+◌,
-  ◌++◌,
-  ◌%◌,
-  ◌^◌,
-  ◌==◌,
-  ◌&&◌,
-  ℕ,
-  Bool,
-  if◌then◌else◌,
-  List,
-  [],
-  ◌∷◌,
-  length,
-  map,
-  max,
-  replicate,
-  slice_get,
-  slice_index,
-  slice_index_or,
-  slice_set,
-  Option,
-  None,
-  Some,
-}
+use Rattle.std.specs.Prelude.{◌≡◌, ◌<◌, ◌+◌, ◌++◌, ◌%◌, ◌^◌, ◌==◌, ◌&&◌, ℕ, Bool, if◌then◌else◌, List, [], ◌∷◌}
+use Rattle.std.specs.Prelude.{length, map, max, replicate, slice_get, slice_index, slice_index_or, slice_set}
+use Rattle.std.specs.Prelude.{Option, None, Some}
 use Rattle.machine.specs.Helpers.{helper_number}
 use Rattle.machine.specs.Laws.{IsAnswerable}
 use Rattle.machine.specs.Sizes.{Maps, kind_of_map}

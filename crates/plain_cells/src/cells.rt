@@ -8,9 +8,8 @@ ghost use Rattle.machine.specs.declared.kinds.MapKind.TheVariants.{Counter, Peak
 ghost use Rattle.plain_cells.specs.Cells.{IsCalled, fresh_cells};
 ghost use Rattle.plain_cells.specs.Words.{AreCallsOn, IsOfCell, word_in, zero_words};
 
-use crate::log::CallLog;
 use crate::pairs::CellPairs;
-use brun::Counters;
+use brun::{CallLog, Counters};
 use machine::{Call, Helper, MapSizes, Question};
 use std::alloc::{AllocError, Global};
 use std::marker::Model;

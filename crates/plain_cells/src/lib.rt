@@ -3,18 +3,16 @@
 //! [`CellWords`] are the words, by map and key, and [`answered`] says what a helper makes of one. [`PlainCells`] answers
 //! the programs of a node of one thread, as `brun::Counters` says: since nobody else asks, its clauses say which word
 //! each call finds and which it leaves. It keeps each word beside its complement; a pair that does not agree is spent. The calls
-//! so far stand in proofs alone, in a [`CallLog`].
+//! so far stand in proofs alone, in a `brun::CallLog`.
 #![tactic(auto)]
 
 mod answers;
 mod cells;
 mod laws;
-mod log;
 mod pairs;
 mod words;
 
 pub use answers::{PairAnswer, answered, answered_pair, complement};
 pub use cells::PlainCells;
 pub use laws::{calls_go_on, tickets_are_counted};
-pub use log::CallLog;
 pub use words::CellWords;

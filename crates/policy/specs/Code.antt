@@ -22,15 +22,8 @@ use Rattle.bpf_insn.specs.declared.insn.Insn.TheVariants.{Alu, ByteSwap, Load, S
 use Rattle.machine.specs.declared.helpers.Helper.TheVariants.{Ticket}
 use Rattle.machine.specs.Helpers.{helper_number}
 use Rattle.rmap.specs.declared.field.TheConstants.{INSTRUCTION, KEY, INITIATOR, EXTENDED, ADDRESS, LENGTH}
-use Rattle.rmap.specs.declared.instruction.TheConstants.{
-  READ_MASK,
-  READ_BITS,
-  WRITE_MASK,
-  WRITE_BITS,
-  RMW_MASK,
-  RMW_BITS,
-  INCREMENT_BIT,
-}
+use Rattle.rmap.specs.declared.instruction.TheConstants.{READ_MASK, READ_BITS, WRITE_MASK, WRITE_BITS, RMW_MASK}
+use Rattle.rmap.specs.declared.instruction.TheConstants.{RMW_BITS, INCREMENT_BIT}
 use Rattle.rmap.specs.declared.verdict.Verdict.TheVariants.{NotAuthorised}
 use Rattle.rmap.specs.Verdict.{verdict_number}
 pub use Rattle.policy_table.specs.Slots.{asks_ports, field_slots, kind_slots, quota_slots, rule_slots}

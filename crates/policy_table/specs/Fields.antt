@@ -1,22 +1,6 @@
 -- What each word of a rule writes.
-use Rattle.std.specs.Prelude.{
-  ◌≡◌,
-  ◌≤◌,
-  ◌==◌,
-  ◌-◌,
-  ◌^◌,
-  ℕ,
-  min,
-  List,
-  [],
-  ◌∷◌,
-  length,
-  codes,
-  decimal,
-  Option,
-  Some,
-  None,
-}
+use Rattle.std.specs.Prelude.{◌≡◌, ◌≤◌, ◌==◌, ◌-◌, ◌^◌, ℕ, min, List, [], ◌∷◌, length, codes, decimal, Option, Some}
+use Rattle.std.specs.Prelude.{None}
 use Rattle.std.specs.List.{slice_split}
 use Rattle.std.specs.Str.Parse.{AllDigits, IsNumeral, digits_value}
 use Rattle.policy_table.specs.declared.rules.Quota.{Quota}

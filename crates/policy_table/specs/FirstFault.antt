@@ -1,18 +1,6 @@
 -- The first fault of a policy table, for which it is not compiled.
-use Rattle.std.specs.Prelude.{
-  Bool,
-  ◌&&◌,
-  nat_lt,
-  if◌then◌else◌,
-  List,
-  [],
-  ◌∷◌,
-  length,
-  slice_index,
-  Option,
-  Some,
-  None,
-}
+use Rattle.std.specs.Prelude.{Bool, ◌&&◌, nat_lt, if◌then◌else◌, List, [], ◌∷◌, length, slice_index, Option, Some}
+use Rattle.std.specs.Prelude.{None}
 use Rattle.std.specs.Option.{option_or}
 use Rattle.machine.specs.Helpers.{takes_kind}
 use Rattle.machine.specs.Sizes.{Maps, kind_of_map}

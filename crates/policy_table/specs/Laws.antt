@@ -2,16 +2,8 @@
 use Rattle.std.specs.Prelude.{◌≡◌, ◌≤◌, ℕ, true, false, List, [], ◌∷◌, ◌++◌, length, None, All}
 use Rattle.machine.specs.Memory.{Header, header}
 use Rattle.machine.specs.Runs.{AreAnswered}
-use Rattle.rmap.specs.Command.{
-  CommandValue,
-  key_of,
-  initiator_of,
-  extended_of,
-  address_of,
-  length_of,
-  command_kind,
-  increments,
-}
+use Rattle.rmap.specs.Command.{CommandValue, key_of, initiator_of, extended_of, address_of, length_of, command_kind}
+use Rattle.rmap.specs.Command.{increments}
 use Rattle.rmap.specs.Verdict.{verdict_number}
 use Rattle.rmap.specs.declared.verdict.Verdict.TheVariants.{NotAuthorised}
 use Rattle.policy_table.specs.declared.rules.Rule.{Rule}

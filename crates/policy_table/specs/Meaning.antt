@@ -1,44 +1,14 @@
 -- What a policy table means for the header of a command: the tickets that it draws, and its verdict.
-use Rattle.std.specs.Prelude.{
-  ◌<◌,
-  ◌^◌,
-  ℕ,
-  suc,
-  ◌+◌,
-  ◌-◌,
-  Bool,
-  true,
-  false,
-  ◌&&◌,
-  ◌==◌,
-  not,
-  nat_le,
-  nat_lt,
-  if◌then◌else◌,
-  List,
-  [],
-  ◌∷◌,
-  slice_index,
-  Option,
-  Some,
-  None,
-}
+use Rattle.std.specs.Prelude.{◌<◌, ◌^◌, ℕ, suc, ◌+◌, ◌-◌, Bool, true, false, ◌&&◌, ◌==◌, not, nat_le, nat_lt}
+use Rattle.std.specs.Prelude.{if◌then◌else◌, List, [], ◌∷◌, slice_index, Option, Some, None}
 use Rattle.machine.specs.declared.calls.Call.{Call}
 use Rattle.machine.specs.declared.helpers.Helper.TheVariants.{Ticket}
 use Rattle.machine.specs.Memory.{Header}
 use Rattle.spw.specs.declared.packets.End.TheVariants.{Eop}
 use Rattle.rmap.specs.declared.kind.Kind.{Kind}
 use Rattle.rmap.specs.declared.kind.Kind.TheVariants as kinds
-use Rattle.rmap.specs.Command.{
-  CommandValue,
-  key_of,
-  initiator_of,
-  extended_of,
-  address_of,
-  length_of,
-  command_kind,
-  increments,
-}
+use Rattle.rmap.specs.Command.{CommandValue, key_of, initiator_of, extended_of, address_of, length_of, command_kind}
+use Rattle.rmap.specs.Command.{increments}
 use Rattle.rmap.specs.Verdict.{verdict_number}
 use Rattle.rmap.specs.declared.verdict.Verdict.TheVariants.{NotAuthorised}
 use Rattle.policy_table.specs.declared.rules.Quota.{Quota}

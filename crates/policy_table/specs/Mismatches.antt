@@ -3,24 +3,10 @@ use Rattle.std.specs.Prelude.{◌==◌, ℕ, Bool, nat_le, nat_lt, if◌then◌e
 use Rattle.std.specs.Option.{option_or}
 use Rattle.machine.specs.declared.calls.Call.{Call}
 use Rattle.machine.specs.Memory.{Header}
-use Rattle.rmap.specs.Command.{
-  CommandValue,
-  key_of,
-  initiator_of,
-  extended_of,
-  address_of,
-  command_kind,
-}
+use Rattle.rmap.specs.Command.{CommandValue, key_of, initiator_of, extended_of, address_of, command_kind}
 use Rattle.policy_table.specs.Meaning.{fields_of, has_kind, last_address_of}
 use Rattle.policy_table.specs.declared.mismatches.Mismatch.{Mismatch}
-use Rattle.policy_table.specs.declared.mismatches.Mismatch.TheVariants.{
-  Kind,
-  Key,
-  Initiator,
-  Extended,
-  Low,
-  High,
-}
+use Rattle.policy_table.specs.declared.mismatches.Mismatch.TheVariants.{Kind, Key, Initiator, Extended, Low, High}
 use Rattle.policy_table.specs.declared.mismatches.OtherByte.{OtherByte}
 use Rattle.policy_table.specs.declared.mismatches.Passed.{Passed}
 use Rattle.policy_table.specs.declared.mismatches.Passed.TheVariants.{Unlike, Spent}

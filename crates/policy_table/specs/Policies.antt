@@ -1,25 +1,6 @@
 -- Tables of either version: what a text writes, and the first fault for which a table is not compiled.
-use Rattle.std.specs.Prelude.{
-  ◌≡◌,
-  ◌⊎◌,
-  ℕ,
-  ◌-◌,
-  ◌^◌,
-  min,
-  Bool,
-  true,
-  false,
-  nat_lt,
-  if◌then◌else◌,
-  List,
-  [],
-  ◌∷◌,
-  length,
-  Option,
-  Some,
-  None,
-  option_map,
-}
+use Rattle.std.specs.Prelude.{◌≡◌, ◌⊎◌, ℕ, ◌-◌, ◌^◌, min, Bool, true, false, nat_lt, if◌then◌else◌, List, [], ◌∷◌}
+use Rattle.std.specs.Prelude.{length, Option, Some, None, option_map}
 use Rattle.std.specs.Option.{option_or}
 use Rattle.bpf.specs.declared.header.TheConstants.{MAX_SLOTS}
 use Rattle.machine.specs.Sizes.{Maps}

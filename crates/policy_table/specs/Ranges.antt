@@ -1,17 +1,9 @@
 -- Ranges of addresses that have names.
-use Rattle.std.specs.Prelude.{ℕ, Bool, false, ◌&&◌, ◌||◌, ◌==◌, not, bytes_eq, if◌then◌else◌, List, [], ◌∷◌, length, map, Option, Some, None}
-use Rattle.std.specs.Char.{is_ascii_alphabetic, is_ascii_alphanumeric, is_ascii_hexdigit}
+use Rattle.std.specs.Prelude.{ℕ, Bool, ◌&&◌, ◌==◌, not, bytes_eq, if◌then◌else◌, List, [], ◌∷◌, length, map, Option, Some, None}
+use Rattle.std.specs.Char.{is_ascii_hexdigit}
 use Rattle.std.specs.List.{list_all}
+use Rattle.basm_lex.specs.Names.{is_name as has_form}
 use Rattle.policy_table.specs.declared.ranges.NamedRange.{NamedRange}
-
--- a letter, a digit or an underscore (95)
-abbrev pub is_name_byte : ℕ → Bool
-is_name_byte c = is_ascii_alphanumeric c || c == 95
-
--- a letter, then letters, digits and underscores
-abbrev pub has_form : List ℕ → Bool
-has_form [] = false
-has_form (c ∷ cs) = is_ascii_alphabetic c && list_all is_name_byte (c ∷ cs)
 
 -- the word reads as an address: eight hexadecimal digits
 abbrev pub is_eight_digits : List ℕ → Bool

@@ -4,20 +4,11 @@ use Rattle.policy_table.specs.Words.{word_form, word_number}
 use Rattle.policy_table.specs.declared.faults.PolicyFault.{PolicyFault}
 use Rattle.policy_table.specs.declared.faults.PolicyFault.TheVariants as faults
 use Rattle.policy_table.specs.declared.statement_faults.StatementFault.{StatementFault}
-use Rattle.policy_table.specs.declared.statement_faults.StatementFault.TheVariants.{
-  Directive,
-  RangeCount,
-  RangeName,
-  RangeTwice,
-  RangeLow,
-  RangeHigh,
-  RuleCount,
-  Word,
-  Port,
-  RangeOrder,
-  RuleOrder,
-  NoCell,
-}
+use Rattle.policy_table.specs.declared.statement_faults.StatementFault.TheVariants.{Directive, RangeCount}
+use Rattle.policy_table.specs.declared.statement_faults.StatementFault.TheVariants.{RangeName, RangeTwice, RangeLow}
+use Rattle.policy_table.specs.declared.statement_faults.StatementFault.TheVariants.{RangeHigh, RuleCount, Word}
+use Rattle.policy_table.specs.declared.statement_faults.StatementFault.TheVariants.{Port, RangeOrder, RuleOrder}
+use Rattle.policy_table.specs.declared.statement_faults.StatementFault.TheVariants.{NoCell}
 use Rattle.policy_table.specs.declared.words.RuleWord.{RuleWord}
 use Rattle.policy_table.specs.declared.words.RuleWord.TheVariants.{Kind, Key, Initiator, Extended, Low, High, Quota, Verdict}
 

@@ -1,57 +1,25 @@
 -- The lines of a table of version 2: what stands before a comment is nothing, a range that has a name, or a rule with or
 -- without a port.
-use Rattle.std.specs.Prelude.{
-  ◌≡◌,
-  ℕ,
-  Bool,
-  true,
-  false,
-  ◌&&◌,
-  ◌==◌,
-  nat_lt,
-  bytes_eq,
-  is_none,
-  IsSome,
-  if◌then◌else◌,
-  List,
-  [],
-  ◌∷◌,
-  length,
-  codes,
-  Option,
-  Some,
-  None,
-}
+use Rattle.std.specs.Prelude.{◌≡◌, ℕ, Bool, true, false, ◌&&◌, nat_lt, bytes_eq, is_none, IsSome}
+use Rattle.std.specs.Prelude.{if◌then◌else◌, List, [], ◌∷◌, length, codes, Option, Some, None}
 use Rattle.std.specs.List.{before_first}
+use Rattle.basm_lex.specs.Lines.{is_semicolon}
 use Rattle.spw.specs.Line.{WritesPort, words_of}
 use Rattle.policy_table.specs.Fields.{IsAddress}
 use Rattle.policy_table.specs.Ranges.{RangeText, is_name, range_named}
 use Rattle.policy_table.specs.Words.{AreWordsOf, IsFirstBad, LineWords, WritesNone, WritesSome, texts_of}
 use Rattle.policy_table.specs.declared.rules.Rule.{Rule}
 use Rattle.policy_table.specs.declared.statement_faults.StatementFault.{StatementFault}
-use Rattle.policy_table.specs.declared.statement_faults.StatementFault.TheVariants.{
-  Directive,
-  RangeCount,
-  RangeName,
-  RangeTwice,
-  RangeLow,
-  RangeHigh,
-  RuleCount,
-  Word,
-  Port,
-  RangeOrder,
-  RuleOrder,
-  NoCell,
-}
+use Rattle.policy_table.specs.declared.statement_faults.StatementFault.TheVariants.{Directive, RangeCount}
+use Rattle.policy_table.specs.declared.statement_faults.StatementFault.TheVariants.{RangeName, RangeTwice, RangeLow}
+use Rattle.policy_table.specs.declared.statement_faults.StatementFault.TheVariants.{RangeHigh, RuleCount, Word}
+use Rattle.policy_table.specs.declared.statement_faults.StatementFault.TheVariants.{Port, RangeOrder, RuleOrder}
+use Rattle.policy_table.specs.declared.statement_faults.StatementFault.TheVariants.{NoCell}
 use Rattle.policy_table.specs.declared.statements.RuleParts.{RuleParts}
 use Rattle.policy_table.specs.declared.statements.Span.{Span}
 use Rattle.policy_table.specs.declared.words.RuleWord.{RuleWord}
 
 -- ---- words
-
--- the semicolon that begins a comment
-abbrev pub is_semicolon : ℕ → Bool
-is_semicolon c = c == 59
 
 -- the words of a line before its comment
 abbrev pub statement_words : (line : List ℕ) → List (List ℕ)

@@ -1,24 +1,6 @@
 -- Where the fault of a policy table is: its place in a text, and in a table with maps of some sizes.
-use Rattle.std.specs.Prelude.{
-  ◌≡◌,
-  ◌⊎◌,
-  ℕ,
-  zero,
-  suc,
-  nat_lt,
-  if◌then◌else◌,
-  List,
-  [],
-  ◌∷◌,
-  ◌++◌,
-  length,
-  codes,
-  decimal,
-  Option,
-  Some,
-  None,
-  option_map,
-}
+use Rattle.std.specs.Prelude.{◌≡◌, ◌⊎◌, ℕ, zero, suc, nat_lt, if◌then◌else◌, List, [], ◌∷◌, ◌++◌, length, codes}
+use Rattle.std.specs.Prelude.{decimal, Option, Some, None, option_map}
 use Rattle.std.specs.Option.{option_or}
 use Rattle.machine.specs.Sizes.{Maps}
 use Rattle.spw.specs.Line.{words_of}
@@ -29,14 +11,8 @@ use Rattle.policy_table.specs.declared.faults.PolicyFault.{PolicyFault}
 use Rattle.policy_table.specs.declared.faults.PolicyFault.TheVariants as faults
 use Rattle.policy_table.specs.declared.rules.Rule.{Rule}
 use Rattle.policy_table.specs.declared.table_faults.TableFault.{TableFault}
-use Rattle.policy_table.specs.declared.table_faults.TableFault.TheVariants.{
-  TooLong,
-  BadRange,
-  Memory,
-  NoCell,
-  BadCount,
-  BadWord,
-}
+use Rattle.policy_table.specs.declared.table_faults.TableFault.TheVariants.{TooLong, BadRange, Memory, NoCell}
+use Rattle.policy_table.specs.declared.table_faults.TableFault.TheVariants.{BadCount, BadWord}
 use Rattle.policy_table.specs.declared.words.RuleWord.{RuleWord}
 
 -- ---- what is told

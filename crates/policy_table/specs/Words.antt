@@ -4,16 +4,8 @@ use Rattle.policy_table.specs.Fields.{IsAddress, IsField, IsKind, IsQuota, IsVer
 use Rattle.policy_table.specs.declared.lines.Words.{Words}
 use Rattle.policy_table.specs.declared.rules.Rule.{Rule}
 use Rattle.policy_table.specs.declared.words.RuleWord.{RuleWord}
-use Rattle.policy_table.specs.declared.words.RuleWord.TheVariants.{
-  Kind,
-  Key,
-  Initiator,
-  Extended,
-  Low,
-  High,
-  Quota,
-  Verdict,
-}
+use Rattle.policy_table.specs.declared.words.RuleWord.TheVariants.{Kind, Key, Initiator, Extended, Low, High, Quota}
+use Rattle.policy_table.specs.declared.words.RuleWord.TheVariants.{Verdict}
 
 -- the number of a word in its line, from 1
 abbrev pub word_number : RuleWord → ℕ

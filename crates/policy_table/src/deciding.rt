@@ -16,7 +16,7 @@ use rmap::field::{ADDRESS, EXTENDED, INITIATOR, INSTRUCTION, KEY, LENGTH};
 use rmap::{Instruction, Kind};
 
 /// Whether a rule's kind agrees with what a command asks for.
-fn has_kind(wanted: RuleKind, kind: Kind) -> bool
+pub fn has_kind(wanted: RuleKind, kind: Kind) -> bool
     ensures { result ≡ has_kind wanted kind }
 {
     match wanted {

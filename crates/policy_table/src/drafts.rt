@@ -7,9 +7,10 @@ ghost use Rattle.policy_table.specs.Drafts.{HasBadLine, IsUnreadLine, IsUnreadRa
 use crate::port_rules::PortRule;
 use crate::ranges::NamedRange;
 use crate::statement_faults::StatementFault;
-use crate::statements::{before_comment, read_range, read_rule_line};
+use crate::statements::{read_range, read_rule_line};
 use crate::table_faults::TableFault;
 use crate::text_faults::TextFault;
+use basm_lex::before_comment;
 use spw::{TextLines, first_word};
 use std::alloc::{AllocError, Global};
 use std::marker::Model;

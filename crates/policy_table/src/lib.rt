@@ -34,7 +34,7 @@ mod words;
 
 pub use checks::faults_have_places;
 pub use counts::Counts;
-pub use deciding::last_address;
+pub use deciding::{has_kind, last_address};
 pub use faults::PolicyFault;
 pub use laws::{decisions, first_rule_matches, headers_have_fields, table_is_unambiguous};
 pub use matching::Match;

@@ -3,7 +3,7 @@
 ghost use Rattle.std.specs.Prelude.{◌≡◌, option_map};
 ghost use Rattle.std.specs.List.{list_all};
 ghost use Rattle.std.specs.Char.{is_ascii_hexdigit};
-ghost use Rattle.policy_table.specs.Ranges.{has_form, is_eight_digits, is_name, is_name_byte, range_named, range_text, range_texts};
+ghost use Rattle.policy_table.specs.Ranges.{is_eight_digits, is_name, range_named, range_text, range_texts};
 
 /// A range that has a name, by the words that define it.
 #[derive(Clone, Copy, Debug, PartialEq, Eq)]
@@ -14,20 +14,6 @@ pub struct NamedRange<'a> {
     pub low: &'a str,
     /// The word of the last address.
     pub high: &'a str,
-}
-
-/// Whether a byte may stand in a name.
-fn is_name_byte(byte: &u8) -> bool
-    ensures { result ≡ is_name_byte byte.now }
-{
-    byte.is_ascii_alphanumeric() || *byte == b'_'
-}
-
-/// Whether all bytes may stand in a name.
-fn are_name_bytes(bytes: &[u8]) -> bool
-    ensures { result ≡ list_all is_name_byte bytes.now }
-{
-    bytes.iter().all(is_name_byte)
 }
 
 /// Whether a word has hexadecimal digits only.
@@ -44,23 +30,12 @@ fn is_eight_digits(word: &str) -> bool
     word.len() == 8 && has_hex_digits_only(word)
 }
 
-/// Whether a word begins as a name does, and has the bytes of one.
-fn has_form(word: &str) -> bool
-    ensures { result ≡ has_form word.now }
-{
-    let bytes = word.as_bytes();
-    match bytes {
-        [first, ..] => first.is_ascii_alphabetic() && are_name_bytes(bytes),
-        [] => false,
-    }
-}
-
 /// Whether a word is the name of a range: a letter, then letters, digits and underscores, and not eight hexadecimal
 /// digits.
 pub fn is_name(word: &str) -> bool
     ensures { result ≡ is_name word.now }
 {
-    has_form(word) && !is_eight_digits(word)
+    basm_lex::is_name(word) && !is_eight_digits(word)
 }
 
 /// The range that has the name.

@@ -1,27 +1,17 @@
 //! The lines of a table of version 2: comments, ranges that have names, and rules with ports.
 
 ghost use Rattle.std.specs.Prelude.{◌≡◌, Some, None, option_map, MatchOption, MatchResult, IfOk, IfErr, codes, bytes_eq, length, [], ◌∷◌};
-ghost use Rattle.std.specs.List.{before_first};
 ghost use Rattle.spw.specs.Line.{words_of};
 ghost use Rattle.policy_table.specs.Ranges.{range_named, range_text, range_texts};
-ghost use Rattle.policy_table.specs.Statements.{IsNoPort, IsNoRange, IsNoRuleLine, IsPort, IsRange, IsRuleLine, begins_two, is_semicolon, next_word, parts_text, range_words, rule_parts, span_text, three_words};
+ghost use Rattle.policy_table.specs.Statements.{IsNoPort, IsNoRange, IsNoRuleLine, IsPort, IsRange, IsRuleLine, begins_two, next_word, parts_text, range_words, rule_parts, span_text, three_words};
 
 use crate::fields::address_of;
 use crate::lines::{Words, rule_of, words_in};
 use crate::ranges::{NamedRange, is_name, range_named};
 use crate::rules::Rule;
 use crate::statement_faults::StatementFault;
+use basm_lex::before_comment;
 use spw::{first_word, read_port};
-
-/// What a line says before its comment.
-pub fn before_comment(line: &str) -> &str
-    ensures { result.now ≡ before_first is_semicolon line.now }
-{
-    match line.split_once(';') {
-        Some((code, _)) => code,
-        None => line,
-    }
-}
 
 /// The first word of a text, and what stands after it.
 fn next_word(text: &str) -> Option<(&str, &str)>

@@ -1,7 +1,7 @@
 -- The entries of a worker's commands in the history of the node's banks.
 use Rattle.std.proofs.Common.{◌≡◌, ◌⊎◌, ℕ, Bool, true, false, ◌&&◌, List, [], ◌∷◌, Option, Some, None, sym, refl, ap, ◌∙◌, subst, inl, inr}
 use Rattle.std.specs.Prelude.{IfSome, IfNone, MatchBool, if◌then◌else◌}
-use Rattle.std.proofs.lemmas.Bool.{cases_Bool}
+use Rattle.std.proofs.lemmas.Bool.{cases_Bool, and_parts}
 use mathlib.Core.List.{IsPrefix}
 use Rattle.spw.specs.Cargo.{Cargo}
 use Rattle.bank.specs.declared.bank.Applied.{Applied}
@@ -17,15 +17,11 @@ use Rattle.ports.specs.Due.{Judging, Deed, Standing, stand, Worked, IsBanked, Is
 use Rattle.ports.specs.Due.Deed.{Dropped, Answered, Judged}
 use Rattle.ports.specs.Laws.{HasEntered, IsByPublished, IsByShown, EntriesFollow}
 use Rattle.ports.proofs.Following.{dealt_stays, judged_by, judged_shown}
-use Rattle.ports.proofs.Keeping.{prefix_same, prefix_trans}
+use Rattle.lemmas.proofs.Prefixes.{prefix_same, prefix_trans}
 
 -- whatever the publishes are that those begin which the port had seen, the command was judged by one of them
 abbrev pub IsJudgedBehind : ℕ → Judging → PassValue → Type 0
 IsJudgedBehind port j h = (published : List Publish) → IsPrefix h.programs published → IsByPublished published port j
-
-pub both_are : (a b : Bool) → (a && b) ≡ true → (a ≡ true) × (b ≡ true)
-both_are true b e = (refl, e)
-both_are false b e = absurd cc
 
 pub left_some : (b : BankValue) (share : ShareValue) (j : JudgedValue) → has_room b j.port ≡ true → number_left b share j ≡ Some share.number
 left_some b share j room = ap (λ r. if r then Some share.number else None) room
@@ -42,7 +38,7 @@ pub done_behind : (j : Judging) (h after : Standing) (is : IsBanked j h after) �
     → IsDoneBehind h.pass.programs is.ended.before.chain.number h.front after.front (share_of h.pass j.judged.place) j.judged is.ended.result j.reply
 done_behind j h after is left =
     let share = share_of h.pass j.judged.place in let before = is.ended.before in let end = is.ended.finished in
-    let parts = both_are (takes before share j.judged) (has_room before.bank j.judged.port) (sym is.entered ∙ left) in
+    let parts = and_parts (takes before share j.judged) (has_room before.bank j.judged.port) (sym is.entered ∙ left) in
     let number = (end.applied parts.0).number ∙ left_some before.bank share j.judged parts.1 in
     subst (λ (o : Option ℕ). IfSome o (λ n. IsDoneBehind h.pass.programs before.chain.number h.front after.front share j.judged is.ended.result j.reply)) number end.done
 

@@ -27,7 +27,8 @@ use Rattle.ports.specs.Due.{Judging, Deed, Standing, stand, Worked, IsBanked, Is
 use Rattle.ports.specs.Due.Deed.{Dropped, Answered, Judged}
 use Rattle.annals.specs.Shown.{shown_of}
 use Rattle.ports.specs.Laws.{IsByPublished, IsByShown, calls_of, is_bank_of, is_entry_at, entries_at, number_at, SharesCount}
-use Rattle.ports.proofs.Keeping.{end_keeps, prefix_same, prefix_trans}
+use Rattle.ports.proofs.Keeping.{end_keeps}
+use Rattle.lemmas.proofs.Prefixes.{prefix_same, prefix_trans}
 
 -- ---- what stays of a port, and that it saw more
 

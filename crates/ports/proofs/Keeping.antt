@@ -1,6 +1,6 @@
 -- What a packet leaves of a port.
-use Rattle.std.proofs.Common.{◌≡◌, ◌⊎◌, ℕ, List, [], ◌++◌, length, Option, Some, None, sym, refl, ap, ◌∙◌, subst, append_assoc, inl, inr}
-use Rattle.std.proofs.lemmas.List.{append-nil, length-set}
+use Rattle.std.proofs.Common.{◌≡◌, ◌⊎◌, ℕ, List, length, Option, Some, None, sym, refl, ap, subst, inl, inr}
+use Rattle.std.proofs.lemmas.List.{length-set}
 use mathlib.Core.List.{IsPrefix}
 use Rattle.rmap.specs.declared.places.Place.{Place}
 use Rattle.rmap.specs.declared.places.Place.TheVariants.{Bank, Staging, LoadResult, Control}
@@ -14,12 +14,7 @@ use Rattle.node_parts.specs.Served.{EndsAtWindow, IsStagedAt}
 use Rattle.annals.specs.declared.deed.Link.{Link}
 use Rattle.annals.specs.Chains.{Due}
 use Rattle.ports.specs.Due.{Judging, Standing, HasFinished, IsBanked, IsWindowed}
-
-pub prefix_same : {A : Type 0} (xs ys : List A) → ys ≡ xs → IsPrefix xs ys
-prefix_same xs ys same = ([], append-nil xs ∙ sym same)
-
-pub prefix_trans : {A : Type 0} (xs ys zs : List A) → IsPrefix xs ys → IsPrefix ys zs → IsPrefix xs zs
-prefix_trans xs ys zs p q = (p.0 ++ q.0, sym (append_assoc xs p.0 q.0) ∙ (ap (λ w. w ++ q.0) p.1 ∙ q.1))
+use Rattle.lemmas.proofs.Prefixes.{prefix_same}
 
 -- a port as it was, but for its shares, its staging, and the programs that it may have seen more
 pub record Keeps (h after : PassValue) : Type 0 where

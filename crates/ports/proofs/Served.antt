@@ -7,10 +7,10 @@ use Rattle.std.specs.List.{All}
 use Rattle.std.proofs.lemmas.List.Elements.{All-append, All-cons, All-nil}
 use mathlib.Core.List.{IsPrefix}
 use Rattle.annals.specs.declared.deed.Link.{Link}
-use Rattle.annals.specs.Chains.{ActsGrow, Due, done_for}
+use Rattle.annals.specs.Chains.{ActsGrow, done_for}
 use Rattle.annals.specs.Publishes.{EntriesAreNoLoads, LoadsAreListed}
 use Rattle.target.specs.Passes.{PortPass}
-use Rattle.ports.proofs.Keeping.{prefix_trans}
+use Rattle.lemmas.proofs.Prefixes.{prefix_trans}
 use Rattle.ports.proofs.Loading.{publishes_are_all}
 use Rattle.ports.proofs.Whole.{entries_are_all}
 use Rattle.ports.specs.Worked.{standing_of}
@@ -208,10 +208,3 @@ all_came_back {J} {S} sent failed old = record {
 pub none_served : {J S : Type 0} (old : List (Worker J S)) → IsShort old old
 none_served [] = inr (inl refl)
 none_served (worker ∷ workers) = inr (inr (0, omega arith, λ other. refl))
-
--- Two lists that begin each other are one.
-pub both_begin : (xs ys : List Due) → IsPrefix xs ys → IsPrefix ys xs → xs ≡ ys
-both_begin [] [] p q = refl
-both_begin [] (y ∷ ys) p q = absurd (cc (q.1))
-both_begin (x ∷ xs) [] p q = absurd (cc (p.1))
-both_begin (x ∷ xs) (y ∷ ys) p q = let rest = both_begin xs ys (p.0, cc (p.1)) (q.0, cc (q.1)) in cc (p.1, rest)

@@ -1,15 +1,15 @@
 -- The entries of a port in a whole history are those of its worker's commands.
-use Rattle.std.proofs.Common.{◌≡◌, ◌⊎◌, ℕ, zero, suc, ◌+◌, ◌<◌, ◌≤◌, ◌==◌, ◌&&◌, Bool, true, false, cond, List, [], ◌∷◌, ◌++◌, Option, Some, length, drop, sym, refl, ap, ◌∙◌, subst, arith, append_assoc, length-append, inl, inr}
-use Rattle.std.specs.Prelude.{MatchBool, filter, map}
+use Rattle.std.proofs.Common.{◌≡◌, ℕ, zero, suc, ◌+◌, ◌<◌, ◌≤◌, ◌==◌, Bool, true, false, cond, List, [], ◌∷◌, ◌++◌, length, drop, sym, refl, ap, ◌∙◌, subst, arith, append_assoc, length-append, inl, inr}
+use Rattle.std.specs.Prelude.{MatchBool, filter}
 use Rattle.std.specs.List.{range_with_len}
 use Rattle.std.proofs.lemmas.List.{length-map}
 use Rattle.std.proofs.lemmas.List.Elements.{filter-append}
 use Rattle.std.proofs.lemmas.Bool.Decides.{nat_tests}
+use Rattle.std.proofs.lemmas.Bool.{and_parts}
 use mathlib.Core.List.{IsPrefix}
 use Rattle.spw.specs.Cargo.{Cargo}
 use Rattle.rmap.specs.declared.places.Place.{Place}
-use Rattle.rmap.specs.declared.places.Place.TheVariants.{Bank, Staging, LoadResult, Control}
-use Rattle.bank.specs.declared.bank.Applied.{Applied}
+use Rattle.rmap.specs.declared.places.Place.TheVariants.{Bank}
 use Rattle.bank.specs.Records.{EntryValue, numbers_of, entry_of, numbered_entry}
 use Rattle.node_parts.specs.Passes.{PassValue}
 use Rattle.node_parts.specs.Applied.{share_of}
@@ -20,12 +20,12 @@ use Rattle.annals.specs.declared.deed.Link.{Link}
 use Rattle.annals.specs.Chains.{chain_of, link}
 use Rattle.annals.specs.Banks.{entries_by, entries_in, entries_of, with_entry}
 use Rattle.annals.specs.Publishes.{publishes_of}
-use Rattle.ports.specs.Due.{Judging, Deed, Standing, stand, Worked, IsBanked, IsWindowed, IsJudged, judgings}
+use Rattle.ports.specs.Due.{Judging, Deed, Standing, stand, Worked, IsBanked, IsJudged, judgings}
 use Rattle.ports.specs.Due.Deed.{Dropped, Answered, Judged}
 use Rattle.ports.specs.Laws.{AreEntriesOf, EntriesFollow, HasEntered, IsByShown, IsEntryOf, WorkersEntriesAreAll, is_bank_of, is_entry_at, number_at}
-use Rattle.ports.proofs.Entries.{IsJudgedBehind, both_are, done_behind, entered, entries_follow}
+use Rattle.ports.proofs.Entries.{IsJudgedBehind, done_behind, entered, entries_follow}
 use Rattle.ports.proofs.Following.{bit, dealt_stays, judged_by, judged_number, judged_shown, one_at, shares_count}
-use Rattle.ports.proofs.Keeping.{prefix_trans, prefix_same}
+use Rattle.lemmas.proofs.Prefixes.{prefix_same, prefix_trans, prefix_length}
 
 -- ---- lists
 
@@ -44,9 +44,6 @@ drop_at zero [] ys is = refl
 drop_at zero (x ∷ xs) ys is = absurd (omega (arith, is))
 drop_at (suc n) [] ys is = absurd (omega (arith, is))
 drop_at (suc n) (x ∷ xs) ys is = drop_at n xs ys (omega (arith, is))
-
-prefix_length : {A : Type 0} (xs ys : List A) → IsPrefix xs ys → length xs ≤ length ys
-prefix_length xs ys p = omega (arith, sym (ap length p.1) ∙ length-append xs p.0)
 
 -- ---- entries
 
@@ -108,7 +105,7 @@ place_is k n place at here =
 left_at : (port k : ℕ) (known : List Link) (j : Judging) (h after : Standing) → j.judged.port ≡ port → IsJudgedBehind port j h.pass → IsByShown known h.front j → IsBanked j h after → is_entry_at k j ≡ true → HasLeft port k j h after
 unfolding entered
 left_at port k known j h after own by moment is here =
-    let parts = both_are j.entered (is_bank_of k j.judged.place) here in
+    let parts = and_parts j.entered (is_bank_of k j.judged.place) here in
     let behind = done_behind j h after is parts.0 in
     let done = behind.done in
     let n = is.ended.before.chain.number in
@@ -138,7 +135,7 @@ left_at port k known j h after own by moment is here =
     }
 
 windowed_none : (k : ℕ) (j : Judging) → j.entered ≡ false → is_entry_at k j ≡ true → ⊥
-windowed_none k j none here = cc (none, (both_are j.entered (is_bank_of k j.judged.place) here).0)
+windowed_none k j none here = cc (none, (and_parts j.entered (is_bank_of k j.judged.place) here).0)
 
 -- a judged command that left an entry at the bank
 judged_left : (k : ℕ) (j : Judging) (p : Cargo) (h after : Standing) → IsJudged j p h after → is_entry_at k j ≡ true → HasLeft h.pass.port k j h after

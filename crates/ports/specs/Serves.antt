@@ -1,25 +1,6 @@
 -- Workers that serve ports side by side: worker k serves port k.
-use Rattle.std.specs.Prelude.{
-  ◌≡◌,
-  ◌<◌,
-  ◌≤◌,
-  ◌+◌,
-  ◌⊎◌,
-  ℕ,
-  List,
-  [],
-  ◌∷◌,
-  ◌++◌,
-  length,
-  map,
-  slice_index_or,
-  Option,
-  Some,
-  None,
-  MatchOption,
-  vec_len,
-  vec_capacity,
-}
+use Rattle.std.specs.Prelude.{◌≡◌, ◌<◌, ◌≤◌, ◌+◌, ◌⊎◌, ℕ, List, [], ◌∷◌, ◌++◌, length, map, slice_index_or, Option}
+use Rattle.std.specs.Prelude.{Some, None, MatchOption, vec_len, vec_capacity}
 use Rattle.std.specs.List.{All, sum_by}
 use mathlib.Core.List.{IsPrefix}
 use Rattle.annals.specs.declared.deed.Link.{Link}

@@ -9,7 +9,7 @@ use Rattle.logbook.specs.Pages.{Book}
 use Rattle.node_programs.specs.declared.publishes.Publish.{Publish}
 use Rattle.publish.specs.Reached.{Reached}
 use Rattle.publish.specs.Sights.{IsInFamily, Sees}
-use Rattle.publish.proofs.Fronts.{prefix_self, prefix_trans}
+use Rattle.lemmas.proofs.Prefixes.{prefix_self, prefix_trans}
 
 -- a reader that saw nothing may come
 pub admits : (family : Book) → Admits (IsInFamily family) []

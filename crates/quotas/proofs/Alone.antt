@@ -11,6 +11,7 @@ use Rattle.machine.specs.Sizes.{Maps, kind_of_map}
 use Rattle.machine.specs.declared.kinds.MapKind.{MapKind}
 use Rattle.machine.specs.declared.kinds.MapKind.TheVariants.{Counter, Peak}
 use Rattle.machine.specs.declared.helpers.Helper.TheVariants as helpers
+use Rattle.node_programs.proofs.Shelves.{sizes_stay}
 use Rattle.node_programs.specs.declared.publishes.Publish.{Publish}
 use Rattle.node_programs.specs.Histories.{entry}
 use Rattle.node_programs.specs.Published.{sizes_of}
@@ -96,10 +97,6 @@ calls_on sizes (Stopped stop) p old new h after reply answered words behind is =
 calls_on sizes Unread p old new h after reply answered words behind is = absurd is
 calls_on sizes (Done result) p old new h after reply answered words behind is = is
 calls_on sizes (Window status) p old new h after reply answered words behind is = is
-
-sizes_stay : (xs more : List Publish) → 0 < length xs → sizes_of (xs ++ more) ≡ sizes_of xs
-sizes_stay [] more some = absurd (omega arith)
-sizes_stay (x ∷ xs) more some = refl
 
 -- behind a call on a node
 record GoesOn (before after : SingleNodeValue) (calls : List Call) : Type 0 where

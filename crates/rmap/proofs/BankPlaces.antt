@@ -31,7 +31,7 @@ no_register Unused c = refl
 no_bank : (c : CommandValue) → is_in_bank (bank_place None c) ≡ false
 no_bank c = either (eqb (extended_of c) 255) (boot_place c) None (either (is_staged c) (Some Staging) (load_register_of (command_kind c) c) refl (no_register (command_kind c) c)) refl
 
-given : (b : Bool) (x place : Place) → cond b (Some x) None ≡ Some place → (b ≡ true) × (x ≡ place)
+pub given : (b : Bool) (x place : Place) → cond b (Some x) None ≡ Some place → (b ≡ true) × (x ≡ place)
 given true x place e = (refl, cc)
 given false x place e = absurd cc
 

@@ -1,5 +1,5 @@
 -- The first 4,200 bytes of a packet that has as many are checked as the whole packet is.
-use Rattle.std.proofs.Common.{◌≡◌, ℕ, ◌+◌, ◌-◌, ◌*◌, ◌%◌, ◌≤◌, ◌<◌, List, Bool, true, false, cond, eqb, ltb, length, get_or, take, drop, Option, None, Some, refl, ap, ◌∙◌, arith}
+use Rattle.std.proofs.Common.{◌≡◌, ℕ, ◌+◌, ◌-◌, ◌*◌, ◌%◌, ◌≤◌, ◌<◌, List, true, false, cond, eqb, ltb, length, get_or, take, drop, Option, None, Some, refl, ap, ◌∙◌, arith}
 use Rattle.std.specs.Prelude.{◌==◌, ◌&&◌, not, is_none, option_map, slice_get}
 use Rattle.std.proofs.lemmas.List.{drop-take, take-take, get_or-take, length-take-le, length-drop}
 use Rattle.std.proofs.lemmas.Bool.Decides.{nat_tests}
@@ -16,6 +16,7 @@ use Rattle.rmap.specs.Command.{CommandValue, command_of, command_kind, discard_o
 use Rattle.rmap.specs.Windows.{WindowsValue, bank_place, is_staged, place_of, load_register_of}
 use Rattle.rmap.specs.Checks.{body_line, body_line_at, has_wrong_rmw_length, header_check, header_line, header_status, miss_in, miss_of, wanted_length}
 use Rattle.rmap.specs.Laws.{HaveSameHeader, LongPacketIsCut, cut_to_longest}
+use Rattle.lemmas.proofs.Options.{passed, unmapped}
 
 -- a reply address has at most 12 bytes
 few : (byte : ℕ) → 4 * (byte % 4) ≤ 12
@@ -104,15 +105,6 @@ checks p w =
     let c = command_of (cut_to_longest p) in
     let d = command_of p in
     same_checks c.front d.front c.tail d.tail c.reply_address d.reply_address c.body d.body p.end w same.front same.tail
-
--- a test that stops nothing is false, and the next one decides
-passed : {A : Type 0} (b : Bool) (x : A) (rest : Option A) → cond b (Some x) rest ≡ None → (b ≡ false) × (rest ≡ None)
-passed true x rest e = absurd cc
-passed false x rest e = (refl, e)
-
-unmapped : {A B : Type 0} (f : A → B) (o : Option A) → option_map f o ≡ None → o ≡ None
-unmapped f None e = refl
-unmapped f (Some x) e = absurd cc
 
 -- what passes the checks of its header wants at most 4,097 bytes behind it
 few_wanted : (c : CommandValue) (w : WindowsValue) → header_line c w ≡ None → length_of c ≤ 4096

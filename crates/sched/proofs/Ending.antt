@@ -26,7 +26,8 @@ use Rattle.sched.specs.History.{History, Then, Open, port_of, opened}
 use Rattle.sched.specs.Lawful.{bank_answer, staging_answer, load_result_answer, done, effect_at_place, effect_at_turn, effect_outcome}
 use Rattle.sched.specs.Looking.{Node, place_in, turn_of, verdict_at, staging, staged_at, staged_behind, entry_left, has_room, entered, entries_at, entries, first_memory, memory}
 use Rattle.sched.specs.Worlds.{RunValue, PortValue, WorldValue, AreBanksOf, GoesOn, IsBankOf, IsJudging, IsPortOf, IsRunOf, IsShareWith, effect_due, effect_due_at, verdict_of_turn}
-use Rattle.sched.proofs.Growth.{IsPortBehind, OthersKeepCounts, at_written, at_other, ports_changed, left_all}
+use Rattle.sched.proofs.Growth.{IsPortBehind, OthersKeepCounts, at_written, ports_changed, left_all}
+use Rattle.lemmas.proofs.Places.{at_other}
 use Rattle.sched.proofs.Entering.{entries_done, numbers_same, numbers_other, entered_other, entered_memory}
 use Rattle.sched.proofs.Telling.{outcome_here}
 

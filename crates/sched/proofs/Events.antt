@@ -23,7 +23,8 @@ use Rattle.sched.specs.Lawful.{stop_outcome}
 use Rattle.sched.specs.Looking.{argument_asked, cell_asked}
 use Rattle.sched.specs.Worlds.{RunValue, PortValue, WorldValue, GoesOn, IsPortIn, IsRunUnderIfAny, IsSameRunIfAny, IsWorld, turn_in}
 use Rattle.sched.proofs.Growth.{left_all}
-use Rattle.sched.proofs.Keeping.{cells_keep, cell_there, port_keeps, same_under_if_any, world_with_port}
+use Rattle.sched.proofs.Keeping.{port_keeps, same_under_if_any, world_with_port}
+use Rattle.plain_cells.proofs.Zeros.{cells_keep, cell_there}
 use Rattle.sched.proofs.Taking.{take_refused, take_stopped, take_taken}
 use Rattle.sched.proofs.Telling.{IsAskedOf, IsTold, helper_goes_on, helper_refused}
 

@@ -18,7 +18,8 @@ use Rattle.node_parts.specs.Applied.{share_of, with_share}
 use Rattle.node_parts.specs.Pairs.{IsPaired, PairedCommandsFit, OwnStaysPaired, OthersStayPaired}
 use Rattle.sched.specs.Ends.{judged_with, share_in, with_share_in, FitsBank, CanEnd, CanFinish, EndsAt, HasFinished}
 use Rattle.sched.specs.Worlds.{RunValue, PortValue, WorldValue, IsPortIn, ArePortsIn, IsRunUnder, IsRunUnderIfAny, IsWorld, pass_of_port}
-use Rattle.sched.proofs.Growth.{at_written, at_other}
+use Rattle.sched.proofs.Growth.{at_written}
+use Rattle.lemmas.proofs.Places.{at_other}
 use Rattle.sched.proofs.Keeping.{port_keeps, world_with_port}
 
 -- ---- the bank of a place is there

@@ -1,10 +1,10 @@
 -- What one pair more at the end of a history changes, and what it leaves.
-use Rattle.std.proofs.Common.{◌≡◌, ◌≢◌, ◌<◌, ℕ, List, length, Bool, true, false, cond, ◌==◌, Option, Some, refl, sym, ap, subst, ◌∙◌, eqb-true, set}
+use Rattle.std.proofs.Common.{◌≡◌, ℕ, List, length, Bool, true, false, cond, ◌==◌, Option, Some, refl, sym, subst, ◌∙◌, eqb-true, set}
 use Rattle.std.specs.Prelude.{slice_get, slice_set}
 use Rattle.std.proofs.lemmas.Bool.{eqb-false}
 use Rattle.std.proofs.lemmas.Grind.{get_or-set_at}
-use Rattle.std.proofs.lemmas.List.{length-set, get_or-set_other}
-use Rattle.std.proofs.lemmas.Option.{slice_get_within, get_or_from_slice_get, slice_get-get_or}
+use Rattle.std.proofs.lemmas.List.{length-set}
+use Rattle.std.proofs.lemmas.Option.{slice_get_within, get_or_from_slice_get}
 use Rattle.bank.specs.Records.{EntryValue, numbers_of}
 use Rattle.node_programs.specs.Staged.{Staged}
 use Rattle.sched.specs.declared.event.Event.{Event}
@@ -13,18 +13,13 @@ use Rattle.sched.specs.declared.event.Outcome.TheVariants.{Refused, Discarded, A
 use Rattle.sched.specs.History.{History, Then, Open, port_of, opened_by, opened}
 use Rattle.sched.specs.Looking.{Node, staged_by, staging, entries}
 use Rattle.sched.specs.Worlds.{PortValue, WorldValue, IsPortOf, ArePortsOf, IsWorldOf}
+use Rattle.lemmas.proofs.Places.{at_other}
 
 -- ---- lists of which one element was written
 
 pub at_written : {A : Type 0} (xs : List A) (k j : ℕ) (old new x : A) → slice_get xs k ≡ Some old → j ≡ k → slice_get (set xs k new) j ≡ Some x → x ≡ new
 at_written xs k j old new x there here found =
     sym (get_or_from_slice_get (set xs k new) j x old found) ∙ get_or-set_at xs k j new old here (slice_get_within xs k old there)
-
-pub at_other : {A : Type 0} (xs : List A) (k j : ℕ) (new x : A) → j ≢ k → slice_get (set xs k new) j ≡ Some x → slice_get xs j ≡ Some x
-at_other xs k j new x other found =
-    let inside : j < length (set xs k new) = slice_get_within (set xs k new) j x found in
-    let below : j < length xs = rw (← length-set xs k new) inside in
-    slice_get-get_or xs j x below ∙ ap (λ y. Some y) (sym (get_or-set_other xs k j new x other) ∙ get_or_from_slice_get (set xs k new) j x x found)
 
 -- ---- ports
 

@@ -1,16 +1,17 @@
 -- What events keep of a world, whatever the history.
-use Rattle.std.proofs.Common.{◌≡◌, ◌<◌, ℕ, List, [], length, get_or, set, Bool, true, false, ◌==◌, Option, Some, None, refl, ap, ◌∙◌, eqb-true}
-use Rattle.std.specs.Prelude.{slice_get, slice_set, slice_index_or}
+use Rattle.std.proofs.Common.{◌≡◌, ℕ, List, [], length, get_or, set, Bool, true, false, ◌==◌, Option, Some, None, refl, ap, ◌∙◌, eqb-true}
+use Rattle.std.specs.Prelude.{slice_get, slice_set}
 use Rattle.std.proofs.lemmas.Bool.{eqb-false}
-use Rattle.std.proofs.lemmas.Grind.{get_or-set_at}
-use Rattle.std.proofs.lemmas.List.{length-set, get_or-set_other}
+use Rattle.std.proofs.lemmas.List.{length-set}
 use Rattle.std.proofs.lemmas.Option.{slice_get-get_or}
 use Rattle.rmap.specs.Windows.{WindowsValue}
 use Rattle.machine.specs.Sizes.{Maps, IsInside}
 use Rattle.bank.specs.Records.{BankValue}
 use Rattle.sched.specs.Worlds.{RunValue, PortValue, WorldValue, IsSameRun, IsSameRunIfAny, IsRunUnder, IsRunUnderIfAny, IsPortIn, ArePortsIn, IsWorld}
-use Rattle.plain_cells.specs.Words.{AreCells, with_word, word_at, word_in, word_of}
-use Rattle.sched.proofs.Growth.{at_written, at_other}
+use Rattle.plain_cells.specs.Words.{AreCells, word_at, word_in, word_of}
+use Rattle.sched.proofs.Growth.{at_written}
+use Rattle.lemmas.proofs.Places.{at_other}
+use Rattle.plain_cells.proofs.Zeros.{cell_there}
 
 -- the same command is judged under the same windows
 same_under : (windows : WindowsValue) (sizes : Maps) (old new : RunValue) → IsSameRun old new → IsRunUnder windows sizes old → IsRunUnder windows sizes new
@@ -60,24 +61,6 @@ world_with_port w port old new there fits is = record {
 }
 
 -- ---- words
-
--- the words of each map are as many behind a write
-map_keeps : (words : List (List ℕ)) (k : ℕ) (new : List ℕ) (map : ℕ) → k < length words → length new ≡ length (get_or words k []) → (own : Bool) → (map == k) ≡ own → length (get_or (set words k new) map []) ≡ length (get_or words map [])
-map_keeps words k new map below same true own =
-    let here = eqb-true map k own in
-    ap length (get_or-set_at words k map new [] here below) ∙ same ∙ rw here refl
-map_keeps words k new map below same false own = ap length (get_or-set_other words k map new [] (eqb-false map k own))
-
-pub cells_keep : (sizes : Maps) (words : List (List ℕ)) (map key word : ℕ) → map < length words → AreCells sizes words → AreCells sizes (with_word words map key word)
-cells_keep sizes words map key word below is = record {
-  maps = length-set words map _ ∙ is.maps;
-  cells = λ m there. map_keeps words map _ m below (length-set (get_or words map []) key word) (m == map) refl ∙ is.cells m there;
-}
-
--- a cell that is asked for is there
-pub cell_there : (sizes : Maps) (words : List (List ℕ)) (map key : ℕ) → IsInside sizes map key → AreCells sizes words → (map < length words) × (key < length (slice_index_or words map []))
-cell_there sizes words map key inside is =
-    (rw is.maps inside.map_exists, rw (is.cells map inside.map_exists) inside.key_exists)
 
 -- and its word is found
 pub word_inside : (sizes : Maps) (words : List (List ℕ)) (map key : ℕ) → AreCells sizes words → IsInside sizes map key → word_in words map key ≡ Some (word_at words map key)

@@ -23,7 +23,8 @@ use Rattle.sched.specs.Worlds.{RunValue, PortValue, WorldValue, AreAcceptedFor, 
 use Rattle.sched.proofs.Ending.{IsJudgedIn}
 use Rattle.sched.proofs.Events.{IsRead, below, read_again, there}
 use Rattle.sched.proofs.Finishing.{run_under}
-use Rattle.sched.proofs.Growth.{at_written, at_other}
+use Rattle.sched.proofs.Growth.{at_written}
+use Rattle.lemmas.proofs.Places.{at_other}
 use Rattle.sched.proofs.Keeping.{port_keeps, world_with_port}
 use Rattle.sched.proofs.Publishing.{IsPublishDue, outcome_of, publish_goes_on, publish_is_due, publish_refused}
 

@@ -39,7 +39,8 @@ use Rattle.sched.specs.History.{History, Then, Open, opened}
 use Rattle.sched.specs.Lawful.{IsLawful, IsControlled, IsLoaded, IsPublishedAt, IsPublishedBy, IsPublishOutcome}
 use Rattle.sched.specs.Looking.{Node, place_in, turn_of, staging, staged_at, staged_behind, for_slot, program_loaded, loaded_by, published_at, counted, publishes, published_behind, published, entries}
 use Rattle.sched.specs.Worlds.{RunValue, PortValue, WorldValue, AreProgramsOf, GoesOn, IsFor, IsJudging, IsLawfulWorld, IsPortOf, IsShareWith, IsShownAs, IsWorldOf, publish_due, publish_due_at, verdict_of_turn}
-use Rattle.sched.proofs.Growth.{IsPortBehind, at_other, ports_changed, left_all}
+use Rattle.sched.proofs.Growth.{IsPortBehind, ports_changed, left_all}
+use Rattle.lemmas.proofs.Places.{at_other}
 use Rattle.sched.proofs.Ending.{IsJudgedIn, banks_same, entries_stay, lies_at, open_run, stands_at}
 use Rattle.sched.proofs.Telling.{outcome_here}
 

@@ -1,9 +1,6 @@
 -- Count, Ticket and Peak: what a helper tells is lawful, and the world goes on.
 use Rattle.std.proofs.Common.{◌≡◌, ◌<◌, ◌+◌, ◌%◌, ◌^◌, ◌&&◌, ◌==◌, max, ℕ, List, [], length, get_or, Bool, true, false, Option, Some, None, refl, sym, ap, subst, ◌∙◌, arith, eqb-true}
 use Rattle.std.specs.Prelude.{IsTrue, slice_get, slice_set, if◌then◌else◌}
-use Rattle.std.proofs.lemmas.Bool.{eqb-false}
-use Rattle.std.proofs.lemmas.Grind.{get_or-set_at}
-use Rattle.std.proofs.lemmas.List.{get_or-set_other}
 use Rattle.machine.specs.Sizes.{Maps, IsInside, kind_of_map}
 use Rattle.machine.specs.declared.kinds.MapKind.{MapKind}
 use Rattle.machine.specs.declared.kinds.MapKind.TheVariants as kinds
@@ -21,6 +18,7 @@ use Rattle.sched.specs.Lawful.{IsOutcome, IsOutcomeAt, helper_outcome, told_of_c
 use Rattle.sched.specs.Looking.{Node, argument_asked, cell_asked, is_cell_of_node, turn_by, turn_at, staging, tickets, peaks, word_by_kind, cell_word, entries}
 use Rattle.sched.specs.Worlds.{RunValue, PortValue, WorldValue, AreWordsOf, GoesOn, IsJudging, IsPortOf, IsWorldOf, turn_in}
 use Rattle.sched.proofs.Growth.{IsPortBehind, ports_changed, left_all}
+use Rattle.plain_cells.proofs.Tickets.{word_written}
 
 -- where a port stands is where its command does
 pub judging_turn : (n : Node) (port : ℕ) (last : Option Open) (run : Option RunValue) → IsJudging n port last run → turn_by n port last ≡ turn_in run
@@ -87,20 +85,6 @@ peak_word : (n : Node) (h : History) (map key word : ℕ) → word ≡ cell_word
 peak_word n h map key word is kind = is ∙ ap (λ (k : MapKind). word_by_kind k (tickets n h map key) (peaks n h map key)) kind
 
 -- ---- words
-
--- the words with one of them written, cell by cell
-word_written : (words : List (List ℕ)) (map key word m k : ℕ) → map < length words → key < length (get_or words map []) → (same_map same_key : Bool) → (map == m) ≡ same_map → (key == k) ≡ same_key
-    → word_at (with_word words map key word) m k ≡ (if same_map && same_key then word else word_at words m k)
-word_written words map key word m k there inside false same_key at_map at_key =
-    ap (λ (row : List ℕ). get_or row k 0) (get_or-set_other words map m _ [] (λ e. eqb-false map m at_map (sym e)))
-word_written words map key word m k there inside true true at_map at_key =
-    let here = eqb-true map m at_map in
-    let cell = eqb-true key k at_key in
-    ap (λ (row : List ℕ). get_or row k 0) (get_or-set_at words map m _ [] (sym here) there) ∙ get_or-set_at (get_or words map []) key k word 0 (sym cell) inside
-word_written words map key word m k there inside true false at_map at_key =
-    let here = eqb-true map m at_map in
-    ap (λ (row : List ℕ). get_or row k 0) (get_or-set_at words map m _ [] (sym here) there) ∙ get_or-set_other (get_or words map []) key k word 0 (λ e. eqb-false key k at_key (sym e))
-    ∙ ap (λ (x : ℕ). word_at words x k) here
 
 -- one ticket more, modulo 2^64
 next_word : (word count : ℕ) → word ≡ count % 2 ^ 64 → (word + 1) % 2 ^ 64 ≡ (count + 1) % 2 ^ 64

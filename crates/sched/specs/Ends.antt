@@ -1,20 +1,6 @@
 -- How a judged command of a world ends, whatever the history.
-use Rattle.std.specs.Prelude.{
-  ◌≡◌,
-  ◌<◌,
-  ℕ,
-  ◌+◌,
-  true,
-  List,
-  [],
-  length,
-  slice_get,
-  slice_index_or,
-  slice_set,
-  Option,
-  Some,
-  None,
-}
+use Rattle.std.specs.Prelude.{◌≡◌, ◌<◌, ℕ, ◌+◌, true, List, [], length, slice_get, slice_index_or, slice_set}
+use Rattle.std.specs.Prelude.{Option, Some, None}
 use Rattle.rmap.specs.declared.places.Place.{Place}
 use Rattle.rmap.specs.declared.places.Place.TheVariants as places
 use Rattle.rmap.specs.declared.status.Status.{Status}
@@ -26,17 +12,8 @@ use Rattle.machine.specs.Sizes.{Maps}
 use Rattle.bver.specs.Justified.{AcceptedValue}
 use Rattle.bank.specs.Admission.{IsPlacedBy}
 use Rattle.bank.specs.Answer.{judged_line}
-use Rattle.bank.specs.Records.{
-  BankValue,
-  JudgedValue,
-  ShareValue,
-  answer_of,
-  after_command,
-  first_share,
-  fits,
-  memory_of,
-  next_share,
-}
+use Rattle.bank.specs.Records.{BankValue, JudgedValue, ShareValue, answer_of, after_command, first_share, fits}
+use Rattle.bank.specs.Records.{memory_of, next_share}
 use Rattle.node_programs.specs.Staged.{Staged, staged}
 use Rattle.rmap.specs.declared.boot_records.ControlData.{ControlData}
 use Rattle.node_parts.specs.Loads.{published_result, refused_result}

@@ -1,22 +1,6 @@
 -- What lawful histories say of each command that was judged.
-use Rattle.std.specs.Prelude.{
-  ◌≡◌,
-  ◌<◌,
-  ◌≤◌,
-  ℕ,
-  ◌+◌,
-  ◌==◌,
-  if◌then◌else◌,
-  Bool,
-  true,
-  false,
-  List,
-  [],
-  All,
-  Option,
-  Some,
-  None,
-}
+use Rattle.std.specs.Prelude.{◌≡◌, ◌<◌, ◌≤◌, ℕ, ◌+◌, ◌==◌, if◌then◌else◌, Bool, true, false, List, [], All, Option}
+use Rattle.std.specs.Prelude.{Some, None}
 use Rattle.bpf.specs.Program.{Program}
 use Rattle.rmap.specs.declared.places.Place.{Place}
 use Rattle.rmap.specs.declared.places.Place.TheVariants as places
@@ -40,18 +24,8 @@ use Rattle.sched.specs.declared.event.Outcome.{Outcome}
 use Rattle.sched.specs.declared.event.Outcome.TheVariants.{Refused, Discarded, Answered, Taken, Told, Done}
 use Rattle.sched.specs.History.{History, Start, Then, Open, port_of, opened}
 use Rattle.sched.specs.Lawful.{IsLawful, IsLoaded, bank_answer, staging_answer, effect_at_place}
-use Rattle.sched.specs.Looking.{
-  Node,
-  place_in,
-  slot_of_packet,
-  header_in,
-  staging,
-  publishes,
-  published,
-  program_of,
-  turn_of,
-  memory,
-}
+use Rattle.sched.specs.Looking.{Node, place_in, slot_of_packet, header_in, staging, publishes, published}
+use Rattle.sched.specs.Looking.{program_of, turn_of, memory}
 use Rattle.sched.specs.Turns.{AreWords, HasEnded}
 
 -- ---- premises

@@ -27,25 +27,9 @@ use Rattle.sched.specs.declared.event.Event.TheVariants.{Take, Count, Ticket, Pe
 use Rattle.sched.specs.declared.event.Outcome.{Outcome}
 use Rattle.sched.specs.declared.event.Outcome.TheVariants.{Refused, Discarded, Answered, Taken, Told, Done}
 use Rattle.sched.specs.History.{History, Start, Then, Open, port_of, opened}
-use Rattle.sched.specs.Looking.{
-  Node,
-  windows_in,
-  place_in,
-  slot_of_packet,
-  staging,
-  publishes,
-  published,
-  turn_of,
-  turn_at,
-  cell_asked,
-  argument_asked,
-  tickets,
-  peaks,
-  cell_word,
-  has_room,
-  entries,
-  memory,
-}
+use Rattle.sched.specs.Looking.{Node, windows_in, place_in, slot_of_packet, staging, publishes, published, turn_of}
+use Rattle.sched.specs.Looking.{turn_at, cell_asked, argument_asked, tickets, peaks, cell_word, has_room, entries}
+use Rattle.sched.specs.Looking.{memory}
 
 -- ---- Take
 

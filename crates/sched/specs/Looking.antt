@@ -1,34 +1,8 @@
 -- What looking back on a history of a node finds: stagings, programs, tickets, peaks, and what each bank's journal and
 -- memory have. All of it comes from what the outcomes told.
-use Rattle.std.specs.Prelude.{
-  ℕ,
-  ◌+◌,
-  ◌-◌,
-  ◌^◌,
-  ◌%◌,
-  ◌==◌,
-  ◌&&◌,
-  Bool,
-  true,
-  false,
-  max,
-  nat_lt,
-  if◌then◌else◌,
-  List,
-  [],
-  ◌∷◌,
-  ◌++◌,
-  length,
-  replicate,
-  slice_get,
-  Option,
-  Some,
-  None,
-  is_some,
-  Result,
-  Ok,
-  Err,
-}
+use Rattle.std.specs.Prelude.{ℕ, ◌+◌, ◌-◌, ◌^◌, ◌%◌, ◌==◌, ◌&&◌, Bool, true, false, max, nat_lt, if◌then◌else◌}
+use Rattle.std.specs.Prelude.{List, [], ◌∷◌, ◌++◌, length, replicate, slice_get, Option, Some, None, is_some}
+use Rattle.std.specs.Prelude.{Result, Ok, Err}
 use Rattle.bpf.specs.Program.{Program}
 use Rattle.bpf.specs.Reading.{image_reading}
 use Rattle.bpf.specs.declared.fault.ImageFault.{ImageFault}

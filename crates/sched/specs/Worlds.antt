@@ -1,24 +1,6 @@
 -- What a world is, and of which history it is the world.
-use Rattle.std.specs.Prelude.{
-  ◌≡◌,
-  ◌≢◌,
-  ◌<◌,
-  ◌≤◌,
-  ◌⊎◌,
-  ℕ,
-  List,
-  [],
-  ◌∷◌,
-  length,
-  replicate,
-  slice_get,
-  slice_index,
-  slice_index_or,
-  slice_set,
-  Option,
-  Some,
-  None,
-}
+use Rattle.std.specs.Prelude.{◌≡◌, ◌≢◌, ◌<◌, ◌≤◌, ◌⊎◌, ℕ, List, [], ◌∷◌, length, replicate, slice_get, slice_index}
+use Rattle.std.specs.Prelude.{slice_index_or, slice_set, Option, Some, None}
 use base.Stored.{gnil}
 use Rattle.spw.specs.Cargo.{Cargo}
 use Rattle.rmap.specs.declared.places.Place.{Place}
@@ -52,21 +34,8 @@ use Rattle.sched.specs.declared.event.Outcome.{Outcome}
 use Rattle.sched.specs.declared.faults.WorldFault.{WorldFault}
 use Rattle.sched.specs.declared.faults.WorldFault.TheVariants.{Memory as NoMemory, Config, Image}
 use Rattle.sched.specs.History.{History, Then, Open, opened}
-use Rattle.sched.specs.Looking.{
-  Node,
-  windows_in,
-  header_in,
-  staging,
-  published,
-  publishes,
-  program_of,
-  turn_of,
-  cell_word,
-  room_of,
-  entries,
-  first_memory,
-  memory,
-}
+use Rattle.sched.specs.Looking.{Node, windows_in, header_in, staging, published, publishes, program_of, turn_of}
+use Rattle.sched.specs.Looking.{cell_word, room_of, entries, first_memory, memory}
 use Rattle.sched.specs.Lawful.{IsLawful}
 use Rattle.sched.specs.Turns.{answers_of}
 

@@ -7,7 +7,8 @@ use Rattle.rmap.specs.Command.{command_of}
 use Rattle.rmap.specs.Reply.{reply_of}
 use Rattle.rmap.specs.declared.status.Status.TheVariants.{GeneralError}
 use Rattle.single_node.specs.Nodes.{SingleNodeValue, slot_in, with_program}
-use Rattle.single_node.specs.Serving.{ServesInto, put_front}
+use Rattle.single_node.specs.Serving.{ServesInto}
+use Rattle.spw.specs.Rooms.{put_front}
 use Rattle.single_node.specs.declared.served.Told.{Told}
 use Rattle.spw.specs.Cargo.{Cargo}
 use Rattle.scrub.specs.declared.guarded.GuardedNode.{GuardedNode}

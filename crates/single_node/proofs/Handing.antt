@@ -1,7 +1,7 @@
 -- A node of one thread of which a bank's journal was handed out.
 use Rattle.std.proofs.Common.{◌≡◌, ◌+◌, ◌-◌, ◌≤◌, ℕ, Bool, true, false, ◌&&◌, leb, eqb, ltb, List, ◌++◌, length, take, drop, Option, Some, None, set, refl, sym, ap, subst, arith, ◌∙◌, inl, inr}
 use Rattle.std.specs.Prelude.{slice_get, slice_index}
-use Rattle.std.proofs.lemmas.Bool.{cases_eq}
+use Rattle.std.proofs.lemmas.Bool.{cases_eq, and_parts}
 use Rattle.std.proofs.lemmas.Bool.Decides.{nat_tests}
 use Rattle.std.proofs.lemmas.List.{length-append, length-drop, length-set, length-take}
 use Rattle.std.proofs.lemmas.Option.{get_or_from_slice_get}
@@ -12,7 +12,7 @@ use Rattle.node_parts.specs.Applied.{share_of}
 use Rattle.node_parts.specs.Pairs.{IsPaired, IsShareOf}
 use Rattle.node_parts.specs.Passes.{PassValue}
 use Rattle.single_node.specs.Nodes.{IsSingleNode, SingleNodeValue, covers_in, with_bank}
-use Rattle.single_node.proofs.Nodes.{at_other, at_written}
+use Rattle.lemmas.proofs.Places.{at_other, at_written}
 
 -- a share of a bank with the same counts
 share_stays : (old new : BankValue) (port : ℕ) (share : ShareValue) → new.counts ≡ old.counts → IsShareOf old port share → IsShareOf new port share
@@ -46,15 +46,11 @@ node_with_bank s k b new at extent counts is = record {
   few_banks = rw (length-set s.banks k new) is.few_banks;
 }
 
-both : (s t : Bool) → (s && t) ≡ true → (s ≡ true) × (t ≡ true)
-both true t e = (refl, e)
-both false t e = absurd cc
-
 -- bytes that are set leave a bank where it is
 pub setting_stays : (b : BankValue) (address : ℕ) (bytes : List ℕ) (fresh : JournalValue) → covers b address (length bytes) ≡ true
     → extent_of (after_setting b address bytes fresh) ≡ extent_of b
 setting_stays b address bytes fresh covered =
-    let tests = both (leb b.first address) (leb (address + length bytes) (b.first + length b.bytes)) covered in
+    let tests = and_parts (leb b.first address) (leb (address + length bytes) (b.first + length b.bytes)) covered in
     let from : b.first ≤ address = grind (arith, nat_tests) in
     let end : address + length bytes ≤ b.first + length b.bytes = grind (arith, nat_tests) in
     ap (λ (n : ℕ). (b.first, n)) (omega (arith, from, end, length-append (take (address - b.first) b.bytes ++ bytes) (drop (address - b.first + length bytes) b.bytes), length-append (take (address - b.first) b.bytes) bytes, length-take (address - b.first) b.bytes, length-drop (address - b.first + length bytes) b.bytes))

@@ -1,5 +1,4 @@
 mod Slots
-mod Prefixes
 mod Judging
 mod Serving
 mod Making

@@ -1,12 +1,11 @@
 -- A node of one thread before and behind a packet.
-use Rattle.std.proofs.Common.{◌≡◌, ◌≢◌, ◌<◌, ◌≤◌, ℕ, List, length, Some, set, refl, sym, ap, ◌∙◌, subst, arith, inl, inr}
+use Rattle.std.proofs.Common.{◌≡◌, ◌<◌, ◌≤◌, ℕ, List, length, Some, set, refl, sym, ap, ◌∙◌, subst, arith, inl, inr}
 use Rattle.std.specs.Prelude.{map, slice_get}
 use Rattle.std.specs.List.{range_with_len}
 use Rattle.std.proofs.lemmas.Bool.{cases_eq}
-use Rattle.std.proofs.lemmas.Grind.{get_or-set_at}
-use Rattle.std.proofs.lemmas.List.{get_or-set_other, length-map, length-set}
+use Rattle.std.proofs.lemmas.List.{length-map, length-set}
 use Rattle.std.proofs.lemmas.List.FromFn.{get_or-map-range_with_len, length-map-range_with_len}
-use Rattle.std.proofs.lemmas.Option.{get_or_from_slice_get, slice_get-get_or, slice_get_within}
+use Rattle.std.proofs.lemmas.Option.{get_or_from_slice_get, slice_get_within}
 use base.Stored.{gnil}
 use Rattle.spw.specs.Cargo.{Cargo}
 use Rattle.bank.specs.Records.{BankValue}
@@ -24,19 +23,9 @@ use Rattle.single_node.specs.Judging.{ServesAt}
 use Rattle.single_node.specs.Nodes.{IsInformed, IsSingleNode, SingleNodeValue, single_node}
 use Rattle.single_node.specs.Serving.{ServesTold}
 use Rattle.single_node.specs.declared.served.Told.{Told}
-use Rattle.single_node.proofs.Prefixes.{prefix_same}
+use Rattle.node_parts.proofs.Loadings.{prefix_same}
 use Rattle.single_node.proofs.Serving.{answered, by_last, cells, informed_grows, kept_or_longer, stays_informed, told}
-
--- what stands at a place of a list of which one element was written
-pub at_written : {A : Type 0} (xs : List A) (k j : ℕ) (old new x : A) → slice_get xs k ≡ Some old → j ≡ k → slice_get (set xs k new) j ≡ Some x → x ≡ new
-at_written xs k j old new x at here found =
-    sym (get_or_from_slice_get (set xs k new) j x old found) ∙ get_or-set_at xs k j new old here (slice_get_within xs k old at)
-
-pub at_other : {A : Type 0} (xs : List A) (k j : ℕ) (new x : A) → j ≢ k → slice_get (set xs k new) j ≡ Some x → slice_get xs j ≡ Some x
-at_other xs k j new x other found =
-    let inside : j < length (set xs k new) = slice_get_within (set xs k new) j x found in
-    let below : j < length xs = rw (← length-set xs k new) inside in
-    slice_get-get_or xs j x below ∙ ap (λ y. Some y) (sym (get_or-set_other xs k j new x other) ∙ get_or_from_slice_get (set xs k new) j x x found)
+use Rattle.lemmas.proofs.Places.{at_written, at_other}
 
 -- no bank comes or goes
 same_count : (served : Served) (g v : ℕ) (p : Cargo) (words behind : List (List ℕ)) (old new : PartsValue) (h after : PassValue) (reply : List ℕ) → ServesAt served g v p words behind old new h after reply → length new.banks ≡ length old.banks

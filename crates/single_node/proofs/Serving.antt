@@ -22,7 +22,8 @@ use Rattle.node_parts.specs.Steps.{IsJudgement}
 use Rattle.single_node.specs.Judging.{Ends, IsLastJudgement, ServesAt}
 use Rattle.single_node.specs.Nodes.{IsInformed}
 use Rattle.single_node.specs.Serving.{AreKeptOrLonger, AsksCells, IsByLast, IsTold}
-use Rattle.single_node.proofs.Prefixes.{prefix_longer, prefix_same, sizes_stay}
+use Rattle.node_programs.proofs.Shelves.{sizes_stay}
+use Rattle.node_parts.proofs.Loadings.{prefix_longer, prefix_same}
 
 -- ---- what a packet is answered
 

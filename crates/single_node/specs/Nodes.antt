@@ -3,17 +3,8 @@ use Rattle.std.specs.Prelude.{◌≡◌, ◌≤◌, ℕ, List, length, Option, N
 use Rattle.std.specs.Option.{option_map}
 use mathlib.Core.List.{IsPrefix}
 use base.Stored.{gnil}
-use Rattle.bank.specs.Records.{
-  BankValue,
-  JournalValue,
-  after_rotation,
-  after_setting,
-  base_of,
-  covers,
-  empty_journal,
-  memory_of,
-  replay,
-}
+use Rattle.bank.specs.Records.{BankValue, JournalValue, after_rotation, after_setting, base_of, covers}
+use Rattle.bank.specs.Records.{empty_journal, memory_of, replay}
 use Rattle.bver.specs.Justified.{AcceptedValue}
 use Rattle.node_programs.specs.declared.publishes.Publish.{Publish}
 use Rattle.node_programs.specs.Histories.{longer_history}

@@ -1,6 +1,7 @@
 -- The whole way of a packet at a node of one thread.
-use Rattle.std.specs.Prelude.{◌≡◌, ◌≢◌, ◌⊎◌, ℕ, ◌++◌, List, length, drop, Some, slice_get, slice_set}
+use Rattle.std.specs.Prelude.{◌≡◌, ◌≢◌, ◌⊎◌, ℕ, List, length, Some, slice_get, slice_set}
 use Rattle.spw.specs.Cargo.{Cargo}
+use Rattle.spw.specs.Rooms.{put_front}
 use Rattle.machine.specs.Sizes.{Maps}
 use Rattle.rmap.specs.Command.{command_kind, command_of}
 use Rattle.rmap.specs.declared.status.Status.TheVariants.{Success}
@@ -87,10 +88,6 @@ pub record ServesTold (told : Told) (port : ℕ) (packet : Cargo) (before after 
   pub serves : Serves told.served port packet before after reply
   pub tells : IsTold told.generation told.verdict told.served packet (parts before.banks before.programs)
       (parts after.banks after.programs) serves.holder serves.left reply serves.answered
-
--- bytes at the front of a room, and behind them what was there
-abbrev pub put_front : (room bytes : List ℕ) → List ℕ
-put_front room bytes = bytes ++ drop (length bytes) room
 
 -- the same as `ServesTold`, with the reply, of so many bytes, at the front of the room, and the rest of it as before
 pub record ServesInto (told : Told) (size port : ℕ) (packet : Cargo) (before after : SingleNodeValue) (room left : List ℕ)

@@ -6,10 +6,10 @@ ghost use Rattle.node_parts.specs.Passes.{run_context, seat_at};
 ghost use Rattle.single_node.specs.Running.{HasRunOn, IsJudgedOn};
 
 use bank::{Admitted, Judged};
-use brun::run;
+use brun::{CallLog, run};
 use bver::Accepted;
 use machine::{MapSizes, STACK_SIZE};
-use plain_cells::{CallLog, PlainCells, calls_go_on};
+use plain_cells::{PlainCells, calls_go_on};
 use rmap::{Command, Windows};
 use spw::PORTS;
 use std::marker::Model;

@@ -11,9 +11,7 @@ mod node;
 mod port;
 mod programs;
 mod publishing;
-mod rooms;
 mod served;
 
 pub use node::SingleNode;
-pub use rooms::put_front;
 pub use served::Told;

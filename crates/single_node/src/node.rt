@@ -13,12 +13,12 @@ ghost use Rattle.rmap.specs.Command.{command_of, discard_of};
 ghost use Rattle.rmap.specs.Reply.{reply_of};
 ghost use Rattle.rmap.specs.declared.status.Status.TheVariants.{GeneralError};
 ghost use Rattle.rmap.specs.declared.reply.TheConstants.{MAX_REPLY};
-ghost use Rattle.single_node.specs.Serving.{Serves, ServesInto, ServesTold, put_front};
+ghost use Rattle.single_node.specs.Serving.{Serves, ServesInto, ServesTold};
+ghost use Rattle.spw.specs.Rooms.{put_front};
 
 use crate::context::PortContext;
 use crate::port::SinglePort;
 use crate::programs::SlotPrograms;
-use crate::rooms::put_front;
 use crate::served::{Told, serve_at};
 use bank::{Bank, Journal};
 use bver::Accepted;
@@ -29,7 +29,7 @@ use node_parts::{
 use node_programs::{PublishFault, Staging};
 use plain_cells::PlainCells;
 use rmap::{Command, MAX_BANKS, ReplyBuf, Status, put_reply};
-use spw::{PORTS, Packet};
+use spw::{PORTS, Packet, put_front};
 use std::alloc::{AllocError, Global};
 use std::marker::Model;
 

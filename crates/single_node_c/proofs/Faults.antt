@@ -7,21 +7,8 @@ use Rattle.bpf.specs.Reading.{Fails, image_reading}
 use Rattle.bver.specs.Justified.{AcceptedValue}
 use Rattle.machine.specs.Sizes.{Maps}
 use Rattle.single_node_c.specs.Numbers.{maps_of}
-use Rattle.single_node_c.specs.Opening.{
-  AreMaps,
-  IsAccepted,
-  IsConfigFault,
-  IsImageUnfit,
-  IsUnfit,
-  IsUnopened,
-  bad_config,
-  bad_image,
-  is_config,
-  no_program,
-  of_image,
-  of_memory,
-  unfit_of,
-}
+use Rattle.single_node_c.specs.Opening.{AreMaps, IsAccepted, IsConfigFault, IsImageUnfit, IsUnfit, IsUnopened}
+use Rattle.single_node_c.specs.Opening.{bad_config, bad_image, is_config, no_program, of_image, of_memory, unfit_of}
 use Rattle.single_node_c.specs.declared.numbers.BankNumbers.{BankNumbers}
 use Rattle.single_node_c.specs.declared.numbers.MapNumbers.{MapNumbers}
 use Rattle.single_node_c.specs.declared.unfit.Unfit.{Unfit}

@@ -5,7 +5,7 @@ use Rattle.bank.specs.Records.{BankValue, EntryValue, is_whole}
 use Rattle.scrub.specs.Guarded.{GuardedValue}
 use Rattle.single_node.specs.Nodes.{SingleNodeValue, room_in}
 use Rattle.single_node_c.specs.Numbers.{entry_numbers}
-use Rattle.single_node.specs.Serving.{put_front}
+use Rattle.spw.specs.Rooms.{put_front}
 use Rattle.single_node_c.specs.declared.codes.TheConstants.{OK, BAD_CONFIG, DAMAGED, NO_BANK, NO_ENTRY, NO_ROOM}
 use Rattle.single_node_c.specs.declared.numbers.EntryNumbers.{EntryNumbers}
 use Rattle.single_node_c.specs.declared.numbers.JournalNumbers.{JournalNumbers}

@@ -10,14 +10,8 @@ use Rattle.single_node_c.specs.declared.numbers.BankNumbers.{BankNumbers}
 use Rattle.single_node_c.specs.declared.numbers.EntryNumbers.{EntryNumbers}
 use Rattle.single_node_c.specs.declared.numbers.MapNumbers.{MapNumbers}
 use Rattle.single_node_c.specs.declared.numbers.ServedNumbers.{ServedNumbers}
-use Rattle.single_node_c.specs.declared.numbers.TheConstants.{
-  ANSWERED,
-  AT_BANK,
-  AT_WINDOW,
-  DISCARDED,
-  JUDGED,
-  NOWHERE,
-}
+use Rattle.single_node_c.specs.declared.numbers.TheConstants.{ANSWERED, AT_BANK, AT_WINDOW, DISCARDED, JUDGED}
+use Rattle.single_node_c.specs.declared.numbers.TheConstants.{NOWHERE}
 use Rattle.single_node_c.specs.declared.parts.ServedParts.{ServedParts}
 use Rattle.spw.specs.declared.packets.End.{End}
 use Rattle.spw.specs.declared.packets.End.TheVariants.{Eop, Eep}

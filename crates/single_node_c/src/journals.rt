@@ -5,7 +5,7 @@ ghost use Rattle.single_node_c.specs.Held.{Becomes, IsCode, IfNode, code_on, tes
 ghost use Rattle.single_node_c.specs.Journals.{TellsEntry, TellsJournal, bank_code, entry_at, entry_code, room_at, room_code, rotate_test};
 ghost use Rattle.single_node_c.specs.Numbers.{entry_numbers};
 ghost use Rattle.single_node.specs.Nodes.{RotatesTo, room_in};
-ghost use Rattle.single_node.specs.Serving.{put_front};
+ghost use Rattle.spw.specs.Rooms.{put_front};
 ghost use Rattle.single_node_c.specs.declared.codes.TheConstants.{NO_MEMORY, OK};
 
 use crate::codes::{BAD_CONFIG, DAMAGED, NO_BANK, NO_ENTRY, NO_MEMORY, NO_NODE, NO_ROOM, OK};
@@ -13,7 +13,8 @@ use crate::handle::Handle;
 use crate::held::{put, take};
 use crate::numbers::{EntryNumbers, JournalNumbers};
 use bank::{BankFault, Entry, Journal, MAX_ROOM};
-use single_node::{SingleNode, put_front};
+use single_node::SingleNode;
+use spw::put_front;
 use std::alloc::Global;
 
 /// How the journal of a bank stands.

@@ -161,7 +161,8 @@ fn made(
     maps: &[MapNumbers],
     image: &[u8],
 ) -> Result<Box<GuardedNode>, Unfit>
-    ensures made { IfOk result (λ node. IsMade address ports banks.now maps.now image.now node.value.node) }
+    ensures made { IfOk result
+        (λ node. IsMade address ports banks.now maps.now image.now node.value.node) }
     ensures sums { IfOk result (λ node. IsGuarded node.value.node node.value) }
     ensures fault { IfErr result (IsUnopened ports banks.now maps.now image.now) }
 {

@@ -85,7 +85,8 @@ fn serve(
     room: &mut [u8],
     served: &mut ServedNumbers,
 ) -> u32
-    ensures code { IsCode (serve_test port (length bytes.now) end (length room.old) guarded.old.node) result }
+    ensures code { IsCode
+        (serve_test port (length bytes.now) end (length room.old) guarded.old.node) result }
     ensures served { result ≡ OK
         → ServesBytes port bytes.now end room.old room.new served.new guarded.old guarded.new }
     ensures node { result ≢ OK → guarded.new ≡ guarded.old }

@@ -21,7 +21,7 @@ Look for a byte that is written with one digit, or for a sign that is no digit."
 const BAD_MARKER: &str = "\
 A line ends in `EOP`, `EEP` or, if the packet goes on with a later line, `PART`, in capitals. A carriage
 return belongs to the word before it, so lines that end in CR LF have no marker.
-End the line with a marker, and the lines of the file only by a line feed.";
+End the line with a marker, and the lines of the file with a line feed only.";
 
 const TOO_LONG: &str = "\
 A packet has at most 4,200 bytes, also one that comes in pieces; in `live` a line has at most 16,384.

@@ -7,7 +7,7 @@ ghost use Rattle.spw.specs.Feeding.{PacketIsJoin};
 use crate::faults::LineFault;
 use crate::packets::{End, MAX_PACKET, Packet};
 use bytes::BytesMut;
-use std::alloc::Global;
+use std::alloc::{AllocError, Global};
 use std::marker::Model;
 
 /// The bytes of a packet that has not ended yet, in the order of arrival. Room for the longest packet is
@@ -30,10 +30,13 @@ impl Model for Feed {
 }
 
 impl Feed {
-    /// A feed that holds nothing. The only fault is `Memory`.
-    pub fn new(alloc: Global) -> Result<Feed, LineFault>
-        ensures ok { IfOk result (λ f. f ≡ []) }
-        ensures err { IfErr result (λ fault. fault ≡ LineFault.Memory) }
+    /// A feed that holds nothing.
+    ///
+    /// # Errors
+    ///
+    /// Where memory was refused.
+    pub fn new(alloc: Global) -> Result<Feed, AllocError>
+        ensures { IfOk result (λ f. f ≡ []) }
     {
         let held = BytesMut::with_capacity(alloc, MAX_PACKET)?;
         Ok(Feed { held, alloc })
@@ -75,18 +78,22 @@ impl Feed {
         }
     }
 
-    /// Ends the packet: the packet of what is held, with that marker. Nothing is held then. The only
-    /// fault is `Memory`; then what is held stays.
-    pub fn close(&mut self, end: End) -> Result<Packet, LineFault>
+    /// Ends the packet: the packet of what is held, with that marker. Nothing is held then.
+    ///
+    /// # Errors
+    ///
+    /// Where memory was refused; then what is held stays.
+    pub fn close(&mut self, end: End) -> Result<Packet, AllocError>
         ensures ok { IfOk result (λ p. p ≡ record { bytes = self.old; end = end }) }
         ensures empty { OnOk result (self.new ≡ []) }
-        ensures err { IfErr result (λ fault. fault ≡ LineFault.Memory) }
         ensures kept { OnErr result (self.new ≡ self.old) }
     {
         let held = self.held.as_slice();
         let mut bytes = Vec::with_capacity(self.alloc, held.len())?;
         bytes.extend_from_slice(held)?;
-        let packet = Packet::new(bytes, end)?;
+        let Ok(packet) = Packet::new(bytes, end) else {
+            unreachable!();
+        };
         self.held.clear();
         Ok(packet)
     }

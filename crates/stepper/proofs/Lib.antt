@@ -1,4 +1,4 @@
 mod LittleEndian
 mod Functions
 mod Nearness
-mod Walking
+pub mod Walking

@@ -23,7 +23,7 @@ outcome_moves (Ask question on) s t h = let e = h.0 in cc
 outcome_moves (Verdict verdict) s t h = let e = h.0 in cc
 outcome_moves Trap s t h = let e = h.0 in cc
 
-outcome_asks : (o : Outcome) (asked : Question) (s t : State) → IsOutcome o (told.Ask asked) s t → (on : ℕ → State) × (o ≡ Ask asked on) × (t ≡ s)
+pub outcome_asks : (o : Outcome) (asked : Question) (s t : State) → IsOutcome o (told.Ask asked) s t → (on : ℕ → State) × (o ≡ Ask asked on) × (t ≡ s)
 outcome_asks (Next u) asked s t h = let e = h.0 in absurd cc
 outcome_asks (Ask other on) asked s t h =
     let e = h.0 in
@@ -46,7 +46,7 @@ outcome_traps Trap s t h = refl
 
 -- ---- the step without map sizes
 
-choice : (b : Bool) (x o : Outcome) → cond b x Trap ≡ o → (o ≡ Trap → ⊥) → x ≡ o
+pub choice : (b : Bool) (x o : Outcome) → cond b x Trap ≡ o → (o ≡ Trap → ⊥) → x ≡ o
 choice true x o e no_trap = e
 choice false x o e no_trap = absurd (no_trap (sym e))
 
@@ -69,7 +69,7 @@ pub record IsAt (program : Program) (header : Header) (sizes : Maps) (port : ℕ
   pub way : ClearPath program header sizes port calls n (state_of m)
   pub given : answers ≡ answers_of calls ++ left
 
-same_step : (sizes sizes' : Maps) (program program' : Program) (header header' : Header) (s s' : State) → sizes ≡ sizes' → program ≡ program' → header ≡ header' → s ≡ s' → step_with sizes program header s ≡ step_with sizes' program' header' s'
+pub same_step : (sizes sizes' : Maps) (program program' : Program) (header header' : Header) (s s' : State) → sizes ≡ sizes' → program ≡ program' → header ≡ header' → s ≡ s' → step_with sizes program header s ≡ step_with sizes' program' header' s'
 same_step sizes sizes' program program' header header' s s' e f g h = rw (e, f, g, h) refl
 
 -- the question stands after the outcome, which leaves the state

@@ -16,24 +16,8 @@ use Rattle.machine.specs.Memory.{Header, byte_after, place_of}
 use Rattle.stepper.specs.Bytes.{bytes_in, header_in}
 use Rattle.machine.specs.Sizes.{Maps, kind_of_map}
 use Rattle.machine.specs.State.{State, state, register_after}
-use Rattle.machine.specs.Step.{
-  Outcome,
-  Next,
-  Ask,
-  Verdict,
-  Trap,
-  question,
-  after_answer,
-  argument_of,
-  asks,
-  calls,
-  has_kind,
-  is_cell,
-  finds_cell,
-  perform,
-  finds_maps,
-  writes,
-}
+use Rattle.machine.specs.Step.{Outcome, Next, Ask, Verdict, Trap, question, after_answer, argument_of, asks, calls}
+use Rattle.machine.specs.Step.{has_kind, is_cell, finds_cell, perform, finds_maps, writes}
 
 -- a list of values, asked by register
 abbrev pub registers_in : List Value → ℕ → Value

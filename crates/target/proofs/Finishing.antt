@@ -1,7 +1,8 @@
 -- How a judged command ends at a bank with its chain, by the port's share at its place.
-use Rattle.std.proofs.Common.{◌≡◌, ◌<◌, ◌++◌, ℕ, Option, None, Some, append_assoc, Bool, true, false, true≢false, ◌&&◌, List, length, set, get_or, refl, sym, ap, ◌∙◌, subst, arith}
+use Rattle.std.proofs.Common.{◌≡◌, ◌<◌, ℕ, Option, None, Some, Bool, true, false, true≢false, ◌&&◌, List, length, set, get_or, refl, sym, ap, ◌∙◌, subst, arith}
 use Rattle.std.specs.Prelude.{IfSome, IfNone}
 use Rattle.std.proofs.lemmas.List.{get_or_read}
+use Rattle.std.proofs.lemmas.Bool.{and_parts}
 use mathlib.Core.List.{IsPrefix}
 use Rattle.rmap.specs.declared.places.Place.{Place}
 use Rattle.rmap.specs.declared.places.Place.TheVariants.{Bank}
@@ -12,19 +13,16 @@ use Rattle.node_parts.specs.Steps.{IsBankBelow}
 use Rattle.node_parts.specs.Applied.{share_of, with_share, IsFinished}
 use Rattle.annals.specs.declared.deed.Act.TheVariants.{Leaves}
 use Rattle.annals.specs.declared.deed.Link.{Link}
-use Rattle.annals.specs.Chains.{Due, LineValue, line_with}
+use Rattle.annals.specs.Chains.{LineValue, line_with}
 use Rattle.annals.specs.Banks.{KeptValue, IsAppliedTo, IsDone, IsRefusedAt, takes}
 use Rattle.annals.specs.Publishes.{PublishesGrow, publishes_of}
 use Rattle.node_programs.specs.declared.publishes.Publish.{Publish}
 use Rattle.target.specs.Finished.{AsksForEntry, IsDoneBehind, IsFinishedAt}
-
-pub both_are : (a b : Bool) → (a && b) ≡ true → (a ≡ true) × (b ≡ true)
-both_are true b e = (refl, e)
-both_are false b e = absurd cc
+use Rattle.lemmas.proofs.Prefixes.{prefix_trans}
 
 -- a command that a bank takes fits it
 pub taken_fits : (kept : KeptValue) (share : ShareValue) (j : JudgedValue) → takes kept share j ≡ true → fits kept.bank share j ≡ true
-taken_fits kept share j took = (both_are (is_place_of kept.chain.number j.place) (fits kept.bank share j) took).1
+taken_fits kept share j took = (and_parts (is_place_of kept.chain.number j.place) (fits kept.bank share j) took).1
 
 pub same_bank : (k n : ℕ) → Bank k ≡ Bank n → k ≡ n
 same_bank k n e = cc
@@ -71,9 +69,6 @@ asked_at bank h k from first j result line after at same below read asked unaske
     none : (number : Option ℕ) → IfNone number (after ≡ line) → IfNone number (after.asked ≡ line.asked)
     none None is = ap (λ (l : LineValue). l.asked) is
     none (Some n) is = tt
-
-prefix_trans : {A : Type 0} (xs ys zs : List A) → IsPrefix xs ys → IsPrefix ys zs → IsPrefix xs zs
-prefix_trans xs ys zs p q = (p.0 ++ q.0, sym (append_assoc xs p.0 q.0) ∙ (ap (λ w. w ++ q.0) p.1 ∙ q.1))
 
 -- a command that was done behind what the port was told was done behind what it knew, and behind the publishes that it was told
 pub done_behind : (number : Option ℕ) (programs : List Publish) (bank : ℕ) (known told reached front : List Link) (share : ShareValue) (j : JudgedValue) (result : Applied) (reply : List ℕ)

@@ -16,9 +16,7 @@ use Rattle.node_parts.specs.Steps.{IsAdmission, IsJudgedOnce, IsJudgement, IsTak
 use Rattle.target.specs.Steps.{IsJudgedByTaken}
 use Rattle.annals.specs.Shown.{IsTakenAt}
 use Rattle.annals.specs.declared.deed.Link.{Link}
-
-some_same : {A : Type 0} (x y : A) → Some x ≡ Some y → x ≡ y
-some_same x y e = cc
+use Rattle.lemmas.proofs.Options.{some_same}
 
 -- program and generation of a slot, told apart
 both_shown : (o : Option (AcceptedValue × ℕ)) (a : AcceptedValue) (n : ℕ) → option_map (λ p. p.0) o ≡ Some a → option_map (λ p. p.1) o ≡ Some n → o ≡ Some (a, n)

@@ -3,7 +3,7 @@ use Rattle.std.proofs.Common.{◌≡◌, ◌≢◌, ◌⊎◌, inl, inr, ◌<◌
 use Rattle.std.specs.Prelude.{IfNone, replicate}
 use Rattle.std.specs.List.{range_with_len}
 use Rattle.std.proofs.lemmas.List.{get_or_read, get_or-set_same, get_or-set_other, get_or-replicate, length-set, set-get_or}
-use Rattle.std.proofs.lemmas.Bool.{cases_eq}
+use Rattle.std.proofs.lemmas.Bool.{cases_eq, and_parts}
 use Rattle.std.proofs.lemmas.Bool.Decides.{nat_tests}
 use Rattle.rmap.specs.declared.places.Place.{Place}
 use Rattle.rmap.specs.declared.places.Place.TheVariants.{Bank}
@@ -12,7 +12,6 @@ use Rattle.bank.specs.Records.{ShareValue, JudgedValue, first_share, fits, is_pl
 use Rattle.annals.specs.Chains.{LineValue}
 use Rattle.annals.specs.Banks.{CountsOn, IsCountOf, IsRefusedAt, KeptValue, takes}
 use Rattle.target.specs.Lines.{IsLineOf}
-use Rattle.target.proofs.Finishing.{both_are}
 
 -- the share of a bank, read with another default
 pub read_share : (port k : ℕ) (shares : List ShareValue) (share : ShareValue) → k < length shares → share ≡ get_or shares k share → share ≡ get_or shares k (first_share port)
@@ -30,7 +29,7 @@ pub at_its_bank : (old new : KeptValue) (share after : ShareValue) (j : JudgedVa
 at_its_bank old new share after j result reply line line' k at refused unasked = by (takes old share j) refl where
   by : (b : Bool) → takes old share j ≡ b → (k ≡ old.chain.number) ⊎ ((after ≡ share) × (line' ≡ line))
   by true took =
-      let placed : is_place_of old.chain.number j.place ≡ true = (both_are (is_place_of old.chain.number j.place) (fits old.bank share j) took).0 in
+      let placed : is_place_of old.chain.number j.place ≡ true = (and_parts (is_place_of old.chain.number j.place) (fits old.bank share j) took).0 in
       let here : (k == old.chain.number) ≡ true = subst (λ (p : Place). is_place_of old.chain.number p ≡ true) at placed in
       inl (grind (arith, nat_tests, here))
   by false left =

@@ -11,9 +11,10 @@ mod runs;
 
 pub use images::image_of_text;
 pub use nodes::{
-    BASE, LOAD, PLAIN_READ, PLAIN_REPLY, PLAIN_WRITE, STAGE, SpareBank, bank, packet, program,
+    BASE, LOAD, PLAIN_READ, PLAIN_REPLY, PLAIN_WRITE, READS, STAGE, SpareBank, bank, node_config,
+    packet, program, small_bank,
 };
 pub use plain_node::PlainNode;
 pub use random::Random;
 pub use rows::{Row, counts, hexadecimals, sizes, word};
-pub use runs::{FRONT, TAIL, by_turns, turns_on, verdict};
+pub use runs::{FRONT, TAIL, turns_on, verdict};

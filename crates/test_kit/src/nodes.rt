@@ -3,7 +3,7 @@
 use crate::images::image_of_text;
 use bank::{Bank, Journal, Judged, Share};
 use bver::{Accepted, MapSizes, verify};
-use node_parts::BankConfig;
+use node_parts::{BankConfig, NodeConfig};
 use rmap::{ReplyBuf, Status};
 use spw::{Packet, read_line};
 use std::alloc::Global;
@@ -18,6 +18,18 @@ pub const PLAIN_WRITE: &str =
 
 /// A read of those 16 bytes, as a packet line.
 pub const PLAIN_READ: &str = "0 FE014C0067000100A0000000000010C9 EOP";
+
+/// Reads of the first bytes of the banks 0 to 7, as packet lines.
+pub const READS: [&str; 8] = [
+    "0 FE014C0067000100A0000000000010C9 EOP",
+    "0 FE014C0067000101A000000000001034 EOP",
+    "0 FE014C0067000102A0000000000010F2 EOP",
+    "0 FE014C0067000103A00000000000100F EOP",
+    "0 FE014C0067000104A0000000000010BF EOP",
+    "0 FE014C0067000105A000000000001042 EOP",
+    "0 FE014C0067000106A000000000001084 EOP",
+    "0 FE014C0067000107A000000000001079 EOP",
+];
 
 /// The reply to the plain read of a fresh bank, as a packet line.
 pub const PLAIN_REPLY: &str = "0 67010C00FE0001000000106D0000000000000000000000000000000000 EOP";
@@ -35,6 +47,25 @@ pub fn bank(room: u32) -> BankConfig {
         base: BASE,
         size: 65_536,
         room,
+    }
+}
+
+/// A small bank beside that one, whose journal has room for one entry.
+pub fn small_bank() -> BankConfig {
+    BankConfig {
+        base: 0x1000,
+        size: 300,
+        room: 1,
+    }
+}
+
+/// The configuration of a node of logical address 0xFE, with so many ports, those banks, and maps of these sizes.
+pub fn node_config<'a>(ports: u8, banks: &'a [BankConfig], sizes: MapSizes) -> NodeConfig<'a> {
+    NodeConfig {
+        address: 0xFE,
+        ports,
+        banks,
+        sizes,
     }
 }
 

@@ -1,9 +1,9 @@
 //! A node of one thread, at which packets are served one after the other.
 
-use crate::nodes::packet;
+use crate::nodes::{node_config, packet};
 use bank::Bank;
 use bver::Accepted;
-use node_parts::{BankConfig, NodeConfig, NodeFault, Served};
+use node_parts::{BankConfig, NodeFault, Served};
 use rmap::ReplyBuf;
 use single_node::SingleNode;
 use spw::Packet;
@@ -27,12 +27,7 @@ impl PlainNode {
         banks: &[BankConfig],
         factory: Accepted,
     ) -> Result<PlainNode, NodeFault> {
-        let config = NodeConfig {
-            address: 0xFE,
-            ports,
-            banks,
-            sizes: factory.sizes(),
-        };
+        let config = node_config(ports, banks, factory.sizes());
         Ok(PlainNode {
             alloc,
             node: SingleNode::new(alloc, &config, factory)?,

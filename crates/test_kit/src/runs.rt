@@ -66,16 +66,3 @@ pub fn turns_on(
         }
     }
 }
-
-/// The same on the plain read.
-pub fn by_turns(
-    accepted: &Accepted,
-    port: u8,
-    stack: &mut [u8; 512],
-    answers: &[u64],
-    questions: &mut String,
-) -> Result<Option<u64>, AllocError>
-    requires { port < 32 }
-{
-    turns_on(accepted, &FRONT, &TAIL, port, stack, answers, questions)
-}

@@ -28,39 +28,16 @@ use Rattle.job_parts.specs.declared.status.Status.{Status}
 use Rattle.job_parts.specs.declared.status.Status.TheVariants.{Done, Failed, Misused}
 use Rattle.commands.specs.Performed.{IsDone, IsEnded, Performs}
 use Rattle.commands.specs.declared.jobs.Job.{Job}
-use Rattle.commands.specs.declared.jobs.Job.TheVariants.{
-  Assemble,
-  Disassemble,
-  Verify,
-  Judge,
-  Policy,
-  Serve,
-  Simulate,
-  Explain,
-  Why,
-  Weigh,
-  Node,
-  Packet,
-  Show,
-  Decide,
-  Trace,
-  Compare,
-  Map,
-  Rehearse,
-}
+use Rattle.commands.specs.declared.jobs.Job.TheVariants.{Judge, Serve, Simulate, Trace, Assemble, Disassemble}
+use Rattle.commands.specs.declared.jobs.Job.TheVariants.{Verify, Policy, Explain, Why, Weigh, Node, Packet, Show}
+use Rattle.commands.specs.declared.jobs.Job.TheVariants.{Decide, Compare, Map, Rehearse}
 use Rattle.test_kit_jobs.proofs.ChartsLeft.{compares_file, maps_file, uncompared, unmapped}
 use Rattle.test_kit_jobs.proofs.DecidesLeft.{decides_file, undecided}
 use Rattle.test_kit_jobs.proofs.RehearsesLeft.{rehearses_file, unrehearsed}
-use Rattle.test_kit_jobs.proofs.NodesLeft.{no_node, some_read, untold}
+use Rattle.test_kit_jobs.proofs.NodesLeft.{no_node, some_read, unread, untold}
 use Rattle.test_kit_jobs.proofs.PacketsLeft.{made_file, unmade, unshown}
 use Rattle.folders.specs.Folders.{FolderReads, FolderValue, FolderWrites, Sets}
 use Rattle.test_kit_jobs.specs.Jobs.{AssemblesIn, CompilesIn, Leaves}
-
--- a read leaves the folder as it was
-unread : (before : FolderValue) (name : List ℕ) (given : Option (List ℕ)) (after : FolderValue)
-    → FolderReads before name given after → after ≡ before
-unread before name None after read = read
-unread before name (Some bytes) after read = read.0
 
 no_text : (before : FolderValue) (name : List ℕ) (after : FolderValue) (fault : Fault) → TextUnread FolderReads before name after fault → after ≡ before
 no_text before name after fault is = unread before name is.no_text.given after is.no_text.read

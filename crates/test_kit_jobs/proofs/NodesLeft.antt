@@ -7,7 +7,7 @@ use Rattle.job_parts.specs.declared.faults.Fault.{Fault}
 use Rattle.folders.specs.Folders.{FolderReads, FolderValue}
 
 -- a read leaves the folder as it was
-unread : (before : FolderValue) (name : List ℕ) (given : Option (List ℕ)) (after : FolderValue)
+pub unread : (before : FolderValue) (name : List ℕ) (given : Option (List ℕ)) (after : FolderValue)
     → FolderReads before name given after → after ≡ before
 unread before name None after read = read
 unread before name (Some bytes) after read = read.0

@@ -7,6 +7,7 @@ use Rattle.job_packets.specs.MadePackets.{IsContentOf, IsMade, IsNotMade, MakesF
 use Rattle.job_show.specs.Shown.{IsNotShown}
 use Rattle.job_packets.specs.declared.packet.PacketWords.{PacketWords}
 use Rattle.folders.specs.Folders.{FolderReads, FolderValue}
+use Rattle.test_kit_jobs.proofs.NodesLeft.{unread}
 
 -- a read of the data or the image
 content_read : (named : Option (List ℕ)) (own : List ℕ) (before : FolderValue) (content : List ℕ) (after : FolderValue)
@@ -30,11 +31,6 @@ pub unmade : (words : PacketWords) (before after : FolderValue) (fault : Fault) 
 unmade words before after fault (inl is) = is.unread.unread
 unmade words before after fault (inr is) =
     content_read (file_of words.order) (own_data words.order) before is.content after is.given
-
-unread : (before : FolderValue) (name : List ℕ) (given : Option (List ℕ)) (after : FolderValue)
-    → FolderReads before name given after → after ≡ before
-unread before name None after read = read
-unread before name (Some bytes) after read = read.0
 
 -- lines that were not all shown
 pub unshown : (before : FolderValue) (name : List ℕ) (after : FolderValue) (old new : Option (List ℕ)) (fault : Fault)

@@ -3,26 +3,9 @@ use Rattle.std.specs.Prelude.{◌≡◌, ℕ, zero, suc, List, Some, string_byte
 use Rattle.bpf.specs.Program.{Program, image_bytes}
 use Rattle.basm.specs.Relation.{IsText}
 use Rattle.commands.specs.declared.jobs.Job.{Job}
-use Rattle.commands.specs.declared.jobs.Job.TheVariants.{
-  Assemble,
-  Disassemble,
-  Verify,
-  Judge,
-  Policy,
-  Serve,
-  Simulate,
-  Explain,
-  Why,
-  Weigh,
-  Node,
-  Packet,
-  Show,
-  Decide,
-  Trace,
-  Compare,
-  Map,
-  Rehearse,
-}
+use Rattle.commands.specs.declared.jobs.Job.TheVariants.{Judge, Serve, Simulate, Trace, Assemble, Disassemble}
+use Rattle.commands.specs.declared.jobs.Job.TheVariants.{Verify, Policy, Explain, Why, Weigh, Node, Packet, Show}
+use Rattle.commands.specs.declared.jobs.Job.TheVariants.{Decide, Compare, Map, Rehearse}
 use Rattle.machine.specs.Sizes.{Maps}
 use Rattle.policy.specs.Compiled.{IsPortCompiled}
 use Rattle.policy_table.specs.Policies.{PolicyValue}

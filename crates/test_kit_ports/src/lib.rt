@@ -10,6 +10,6 @@ mod served;
 
 pub use filling::{Desks, filled, filled_desks, worker};
 pub use locked::LockedNode;
-pub use nodes::{accepted, shared_node};
+pub use nodes::{accepted, node_of_one, shared_node};
 pub use replies::{status_of, text_of, with_status};
 pub use served::{ServedPort, ServedPorts, served_at, served_port, served_ports};

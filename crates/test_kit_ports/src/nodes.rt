@@ -3,12 +3,12 @@
 ghost use Rattle.std.specs.Prelude.{◌≡◌};
 
 use bver::{Accepted, verify};
-use node_parts::{BankConfig, NodeConfig};
+use node_parts::BankConfig;
 use std::alloc::Global;
 use std::sync::Wait;
 use std::test::Fail;
 use target::{Family, Line, Node, Opened, Pass};
-use test_kit::{image_of_text, sizes};
+use test_kit::{bank, image_of_text, node_config, program, sizes};
 
 /// The program of a text, with that budget, for maps of those sizes.
 pub fn accepted(alloc: Global, text: &str, budget: u32, maps: &str) -> Result<Accepted, Fail> {
@@ -31,7 +31,21 @@ pub fn shared_node<J: Family, R: Wait + Drop>(
     Ok((node, passes))
 }
 
-/// The same, and the instrument's line.
+/// Such a node of one port and the plain bank, whose program allows all, and the pass of its port.
+pub fn node_of_one<J: Family, R: Wait + Drop>(
+    rt: R,
+    alloc: Global,
+    opened: Opened,
+) -> Result<(Node<J, R>, Pass<J>), Fail>
+    requires { opened ≡ J.book }
+{
+    let factory = program(alloc, 0)?;
+    let (node, mut passes) = shared_node(rt, alloc, opened, 1, &[bank(1024)], factory)?;
+    let pass = passes.pop().ok_or("no pass")?;
+    Ok((node, pass))
+}
+
+/// The same as [`shared_node`], and the instrument's line.
 pub(crate) fn node_and_line<J: Family, R: Wait + Drop>(
     rt: R,
     alloc: Global,
@@ -42,12 +56,7 @@ pub(crate) fn node_and_line<J: Family, R: Wait + Drop>(
 ) -> Result<(Node<J, R>, Vec<Pass<J>>, Line<J>), Fail>
     requires { opened ≡ J.book }
 {
-    let config = NodeConfig {
-        address: 0xFE,
-        ports,
-        banks,
-        sizes: factory.sizes(),
-    };
+    let config = node_config(ports, banks, factory.sizes());
     let (node, _cells, passes, line) = Node::with_cells(alloc, rt, opened, &config, factory)?;
     Ok((node, passes, line))
 }

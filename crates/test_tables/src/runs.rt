@@ -6,7 +6,7 @@ use bver::{Accepted, MapSizes, Refusal, verify};
 use std::alloc::Global;
 use std::test::Fail;
 use stepper::{Ending, run};
-use test_kit::{FRONT, Row, TAIL, by_turns, hexadecimals, image_of_text, sizes, verdict};
+use test_kit::{FRONT, Row, TAIL, hexadecimals, image_of_text, sizes, turns_on, verdict};
 
 /// The answers to the questions of a run by an image, in turn.
 const ANSWERS: &str = "\
@@ -57,8 +57,25 @@ fn ended(
     let port = asked.port % 32;
     let mut questions = String::new(alloc);
     let mut again = String::new(alloc);
-    let first = by_turns(program, port, &mut [0; 512], &asked.answers, &mut questions)?;
-    let second = by_turns(program, port, &mut [0xa5; 512], &asked.answers, &mut again)?;
+    let answers = &asked.answers;
+    let first = turns_on(
+        program,
+        &FRONT,
+        &TAIL,
+        port,
+        &mut [0; 512],
+        answers,
+        &mut questions,
+    )?;
+    let second = turns_on(
+        program,
+        &FRONT,
+        &TAIL,
+        port,
+        &mut [0xa5; 512],
+        answers,
+        &mut again,
+    )?;
     let found = first.ok_or("no answer is left")?;
     if second != first || again.as_str() != questions.as_str() {
         return Ok(String::from_str(alloc, "ok|by what the stack held")?);

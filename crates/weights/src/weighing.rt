@@ -1,14 +1,14 @@
 //! The weight of a program by the costs of its instructions.
 
 ghost use Rattle.std.specs.Prelude.{◌≡◌, ◌*◌};
-ghost use Rattle.bpf.specs.Weight.{passes_of, saturated_weight, times_at};
+ghost use Rattle.bpf.specs.Weight.{saturated_weight, times_at};
 ghost use Rattle.bver.specs.Costs.{IsSafeFor};
 ghost use Rattle.bver_form.specs.Costs.{cost_here, weight_by};
 ghost use Rattle.weights.specs.Classes.{cost_by, costs};
 ghost use Rattle.weights.specs.Weights.{AreWeights};
 
 use crate::costs::{Costs, are_small};
-use bpf::{Image, Loop};
+use bpf::{Image, Loop, times};
 use bpf_insn::Insn;
 use bver::{Accepted, justified_programs};
 
@@ -23,28 +23,6 @@ pub struct Weights {
     pub jump: u64,
     /// All other instructions.
     pub rest: u64,
-}
-
-/// The loop's bound, where it holds the slot, else 1.
-fn passes(found: &Loop, slot: u16) -> u64
-    ensures { result ≡ passes_of found.now slot }
-{
-    if found.head <= slot && slot <= found.back {
-        u64::from(found.bound)
-    } else {
-        1
-    }
-}
-
-/// How often a run passes the slot at most, by the loops that hold it, or 2^64 - 1 where that is above.
-fn times(loops: &[Loop], slot: u16) -> u64
-    ensures { result ≡ saturated_weight (times_at loops.now slot) }
-{
-    let mut times = 1u64;
-    for found in loops {
-        times = times.saturating_mul(passes(found, slot));
-    }
-    times
 }
 
 /// What the instruction at the slot costs, as often as it is run at most, or 2^64 - 1 where that is above.

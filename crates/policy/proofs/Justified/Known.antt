@@ -1,6 +1,6 @@
 -- What is known at the slots of a compiled table. Wherever a rule stands four states serve: between its tests nothing
 -- is known of r0 to r5, at a comparison r0 is a number, and two more come before a ticket is drawn.
-use Rattle.std.specs.Prelude.{pos, negsuc, ◌==◌, ◌&&◌, ◌-◌, if◌then◌else◌, slice_set, Result, Ok, Err}
+use Rattle.std.specs.Prelude.{pos, negsuc, ◌==◌, ◌&&◌, ◌-◌, if◌then◌else◌, slice_set, Ok, Err}
 use Rattle.std.proofs.Common.{◌≡◌, ◌<◌, ◌^◌, ℕ, zero, suc, Bool, true, false, List, [], ◌∷◌, length, replicate, refl, ap, ◌∙◌, arith, eq-eqb}
 use Rattle.std.proofs.lemmas.List.{get_or-set_same, length-replicate, length-set}
 use Rattle.bpf_parts.specs.declared.operation.AluOp.TheVariants.{Mov}
@@ -8,7 +8,6 @@ use Rattle.bpf_parts.specs.declared.operation.Width.{Width}
 use Rattle.bpf_parts.specs.declared.operation.Width.TheVariants.{Bits32, Bits64}
 use Rattle.machine.specs.declared.regions.Region.TheVariants.{Front, Tail, Stack}
 use Rattle.machine.specs.Words.{alu_words, low_part}
-use Rattle.absdom_num.specs.declared.ranges.Range.{Range}
 use Rattle.absdom_num.specs.Ranges.{IsWithin}
 use Rattle.absdom_num.specs.Tables.{alu_range, low_range, row, single_range, whole_range}
 use Rattle.absdom.specs.declared.kinds.AbsKind.{AbsKind}
@@ -19,24 +18,15 @@ use Rattle.absdom.specs.declared.cause.Cause.TheVariants.{UnsetStack}
 use Rattle.absdom.specs.Effect.{load_kind, with_stored}
 use Rattle.absdom_stack.specs.declared.spill.Spill.TheVariants.{Forgets}
 use Rattle.absdom_stack.specs.Marks.{all_marked, mark_at, marks_after}
-use Rattle.absdom_stack.specs.StackWords.{AreAllWhole, all_whole, is_touched, range_in, widened_from}
-use Rattle.absdom.specs.State.{AreBelow, IsBelow, IsEntry, IsProper, IsWhole, StateValue, entry_kinds, kind_in}
+use Rattle.absdom_stack.specs.StackWords.{all_whole, is_touched, range_in, widened_from}
+use Rattle.absdom.specs.State.{IsBelow, IsEntry, IsProper, IsWhole, StateValue, entry_kinds}
+use Rattle.absdom.proofs.KindLists.{number, each_below, same_range, each_proper, many_words, proper_number, unmarked, whole_word}
 
 -- ---- states
 
 -- no byte of the stack is set
 pub no_marks : List Bool
 no_marks = replicate 512 false
-
--- nothing is known of any word of the stack
-whole_word : AreAllWhole all_whole
-unfolding all_whole
-whole_word word = same_everywhere 64 word
-  where
-    same_everywhere : (count k : ℕ) → range_in (replicate count (whole_range Bits64)) k ≡ whole_range Bits64
-    same_everywhere zero k = refl
-    same_everywhere (suc count) zero = refl
-    same_everywhere (suc count) (suc k) = same_everywhere count k
 
 -- the last byte of the stack is set
 pub port_marks : List Bool
@@ -58,10 +48,6 @@ listed k0 k1 k2 k3 k6 k7 k8 k9 = k0 ∷ k1 ∷ k2 ∷ k3 ∷ Unset ∷ Unset ∷
 -- what is known where these are the kinds
 abbrev pub known : (held : Bool) (k0 k1 k2 k6 k7 k8 k9 : AbsKind) → StateValue
 known held k0 k1 k2 k6 k7 k8 k9 = record { kinds = listed k0 k1 k2 Unset k6 k7 k8 k9; marks = marks_held held; ranges = all_whole }
-
--- any number
-abbrev pub number : AbsKind
-number = Num (whole_range Bits64)
 
 -- the first byte of the first four of the header
 abbrev pub front : AbsKind
@@ -93,22 +79,6 @@ drawing held map cell = in_rules held Unset (Map map) (Num (single_range cell))
 
 -- ---- their order
 
-abbrev AreEachBelow : List AbsKind → List AbsKind → Type 0
-AreEachBelow [] [] = Unit {0}
-AreEachBelow [] (k ∷ ks) = ⊥
-AreEachBelow (j ∷ js) [] = ⊥
-AreEachBelow (j ∷ js) (k ∷ ks) = IsKindBelow j k × AreEachBelow js ks
-
-each_below : (js ks : List AbsKind) → AreEachBelow js ks → AreBelow js ks
-each_below [] [] h register = tt
-each_below [] (k ∷ ks) h register = absurd h
-each_below (j ∷ js) [] h register = absurd h
-each_below (j ∷ js) (k ∷ ks) h zero = h.0
-each_below (j ∷ js) (k ∷ ks) h (suc register) = each_below js ks h.1 register
-
-same_range : (r : Range) → IsWithin r r
-same_range r = record { above = omega arith; below = omega arith }
-
 pub same_number : IsKindBelow number number
 same_number = same_range (whole_range Bits64)
 
@@ -135,15 +105,6 @@ below_in_rules held h0 h1 h2 = below held h0 h1 h2 same_front same_tail same_num
 
 -- ---- they are states
 
-abbrev AreEachProper : List AbsKind → Type 0
-AreEachProper [] = Unit {0}
-AreEachProper (k ∷ ks) = IsProper k × AreEachProper ks
-
-each_proper : (ks : List AbsKind) → AreEachProper ks → (register : ℕ) → IsProper (kind_in ks register)
-each_proper [] h register = tt
-each_proper (k ∷ ks) h zero = h.0
-each_proper (k ∷ ks) h (suc register) = each_proper ks h.1 register
-
 many_marks : length no_marks ≡ 512
 unfolding no_marks
 many_marks = length-replicate 512 false
@@ -152,13 +113,6 @@ many_held : (held : Bool) → length (marks_held held) ≡ 512
 unfolding port_marks
 many_held false = many_marks
 many_held true = length-set no_marks 511 true ∙ many_marks
-
-many_words : length all_whole ≡ 64
-unfolding all_whole
-many_words = length-replicate 64 (whole_range Bits64)
-
-pub proper_number : IsProper number
-proper_number = record { in_order = omega arith; words = omega arith }
 
 pub proper_front : IsProper front
 proper_front = omega arith
@@ -186,11 +140,6 @@ whole_in_rules held h0 h1 h2 = whole held h0 h1 h2 proper_front proper_tail prop
 -- all that is known at entry
 pub entry : StateValue
 entry = record { kinds = entry_kinds; marks = no_marks; ranges = all_whole }
-
-unmarked : (count place : ℕ) → mark_at (replicate count false) place ≡ false
-unmarked zero place = refl
-unmarked (suc count) zero = refl
-unmarked (suc count) (suc place) = unmarked count place
 
 pub is_entry : IsEntry entry
 unfolding entry no_marks

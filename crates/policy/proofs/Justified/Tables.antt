@@ -51,7 +51,8 @@ use Rattle.policy_table.specs.declared.rules.RuleKind.{RuleKind}
 use Rattle.policy_table.specs.declared.rules.RuleKind.TheVariants.{Read, Write, Rmw, Any}
 use Rattle.policy.proofs.Compiling.{first_asks, in_turn, later_asks}
 use Rattle.policy.proofs.Refused.{quota_inside}
-use Rattle.policy.proofs.Justified.Known.{below, below_in_rules, between, comparing, drawing, entered, entry, entry_below, frame, front, is_entry, kept_below, known, mapped, moved_number, moved_same, number, port_readable, proper_front, proper_number, proper_tail, same_front, same_number, same_tail, tail, whole, whole_entered, whole_in_rules}
+use Rattle.policy.proofs.Justified.Known.{below, below_in_rules, between, comparing, drawing, entered, entry, entry_below, frame, front, is_entry, kept_below, known, mapped, moved_number, moved_same, port_readable, proper_front, proper_tail, same_front, same_number, same_tail, tail, whole, whole_entered, whole_in_rules}
+use Rattle.absdom.proofs.KindLists.{number, proper_number}
 use Rattle.policy.proofs.Justified.Served.{IsEndedBy, IsServedAt, Knowledge, LandsIn}
 use Rattle.policy.proofs.Justified.Stretches.{IsJustifiedFrom, IsJustifiedTo, alu_before, begun, call_before, counted, exit_before, last_exit, load_before, map_before, port_before, store_before, swap_before, test_before}
 

@@ -130,8 +130,8 @@ fn four_load<J: Family + Send + Sync + 'static, R: Threads + Wait + Abort + Sync
 ) -> Result<(), Fail>
     requires { opened ≡ J.book }
 {
-    let factory = program(alloc, 0)?;
     let banks = [bank(1024)];
+    let factory = program(alloc, 0)?;
     let sent = sent(alloc)?;
     let lines = sent.as_slice();
     let lines = [lines, lines, lines, lines];

@@ -4,7 +4,7 @@ ghost use Rattle.std.specs.Prelude.{◌≡◌};
 
 use crate::tests::checks::same;
 use bver::MapSizes;
-use node_parts::{BankConfig, NodeConfig, NodeFault};
+use node_parts::{BankConfig, NodeFault};
 use sched::{World, run_schedule};
 use single_node::SingleNode;
 use std::alloc::Global;
@@ -13,7 +13,7 @@ use std::process::Abort;
 use std::sync::Wait;
 use std::test::Fail;
 use target::{Family, Node, Opened};
-use test_kit::{Row, image_of_text, program};
+use test_kit::{Row, image_of_text, node_config, program};
 
 /// Ports, how many banks there are, base, size and room of each in hexadecimal digits, and the code of the fault.
 const NODES: &str = "\
@@ -70,24 +70,14 @@ fn node_fault<J: Family, R: Wait>(
     requires { opened ≡ J.book }
 {
     let factory = program(alloc, 0)?;
-    let config = NodeConfig {
-        address: 0xFE,
-        ports,
-        banks,
-        sizes: factory.sizes(),
-    };
+    let config = node_config(ports, banks, factory.sizes());
     Ok(Node::<J, _>::new(alloc, rt, opened, &config, factory).err())
 }
 
 /// Why there is no node of one thread.
 fn single_fault(alloc: Global, ports: u8, banks: &[BankConfig]) -> Result<Option<NodeFault>, Fail> {
     let factory = program(alloc, 0)?;
-    let config = NodeConfig {
-        address: 0xFE,
-        ports,
-        banks,
-        sizes: factory.sizes(),
-    };
+    let config = node_config(ports, banks, factory.sizes());
     Ok(SingleNode::new(alloc, &config, factory).err())
 }
 
@@ -124,12 +114,7 @@ fn world(rt: &impl Abort, alloc: Global, line: &str) -> Result<(), Fail> {
     let mut row = Row::of(line);
     let ports = row.part()?.parse::<u8>()?;
     let banks = banks(alloc, &mut row)?;
-    let config = NodeConfig {
-        address: 0xFE,
-        ports,
-        banks: &banks,
-        sizes: MapSizes::new(&[])?,
-    };
+    let config = node_config(ports, &banks, MapSizes::new(&[])?);
     let factory = image_of_text(alloc, row.part()?, 16)?;
     let wanted = code(row.part()?)?;
     let found = World::new(alloc, &config, &factory).err();

@@ -6,19 +6,7 @@ use node_parts::Served;
 use rmap::Status;
 use std::alloc::Global;
 use std::test::Fail;
-use test_kit::{LOAD, PlainNode, STAGE, bank, program};
-
-/// Reads of the first bytes of the banks 0 to 7, as packet lines.
-const READS: [&str; 8] = [
-    "0 FE014C0067000100A0000000000010C9 EOP",
-    "0 FE014C0067000101A000000000001034 EOP",
-    "0 FE014C0067000102A0000000000010F2 EOP",
-    "0 FE014C0067000103A00000000000100F EOP",
-    "0 FE014C0067000104A0000000000010BF EOP",
-    "0 FE014C0067000105A000000000001042 EOP",
-    "0 FE014C0067000106A000000000001084 EOP",
-    "0 FE014C0067000107A000000000001079 EOP",
-];
+use test_kit::{LOAD, PlainNode, READS, STAGE, bank, program};
 
 /// The ports of a bank's entries and their numbers, oldest first.
 fn entries(alloc: Global, bank: &Bank) -> Result<Vec<(u8, u64)>, Fail> {

@@ -2,6 +2,10 @@
 
 use std::fmt::Debug;
 use std::process::Abort;
+use std::test::Fail;
+
+/// What the body of a test comes to.
+pub type Tested = Result<(), Fail>;
 
 /// Ends the test where what was found is not what is wanted. `what` says of which row or call it is.
 pub fn same<T: Copy + PartialEq + Debug>(rt: &impl Abort, what: &str, found: T, wanted: T) {

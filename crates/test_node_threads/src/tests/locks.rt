@@ -2,7 +2,7 @@
 
 ghost use Rattle.std.specs.Prelude.{◌≡◌};
 
-use crate::tests::checks::same;
+use crate::tests::checks::{Tested, same};
 use bank::Applied;
 use node_parts::{BankConfig, Served};
 use rcrc::crc;
@@ -14,7 +14,7 @@ use std::process::Abort;
 use std::sync::Wait;
 use std::test::Fail;
 use target::{Family, Opened};
-use test_kit::{BASE, LOAD, PLAIN_READ, PLAIN_WRITE, Random, STAGE, bank, program};
+use test_kit::{BASE, LOAD, PLAIN_READ, PLAIN_WRITE, READS, Random, STAGE, bank, program};
 use test_kit_ports::LockedNode;
 
 /// A node of two ports and two banks, the second of 300 bytes from the address 0x1000 on, whose program says yes.
@@ -45,11 +45,7 @@ fn fresh_banks_behind_their_locks(rt: HostRuntime) -> Result<(), Fail> {
     fresh_banks::<Brand, _>(&rt, rt.alloc(), Opened::new())
 }
 
-fn fresh_banks<J: Family, R: Wait + Abort>(
-    rt: &R,
-    alloc: Global,
-    opened: Opened,
-) -> Result<(), Fail>
+fn fresh_banks<J: Family, R: Wait + Abort>(rt: &R, alloc: Global, opened: Opened) -> Tested
     requires { opened ≡ J.book }
 {
     let shared = two_banks::<J, _>(rt, alloc, opened)?;
@@ -107,11 +103,7 @@ fn a_load_under_the_lock_judges_at_every_port(rt: HostRuntime) -> Result<(), Fai
     load_under_the_lock::<Brand, _>(&rt, rt.alloc(), Opened::new())
 }
 
-fn load_under_the_lock<J: Family, R: Wait + Abort>(
-    rt: &R,
-    alloc: Global,
-    opened: Opened,
-) -> Result<(), Fail>
+fn load_under_the_lock<J: Family, R: Wait + Abort>(rt: &R, alloc: Global, opened: Opened) -> Tested
     requires { opened ≡ J.book }
 {
     let mut shared = two_banks::<J, _>(rt, alloc, opened)?;
@@ -168,11 +160,7 @@ fn generated_commands_fit(rt: HostRuntime) -> Result<(), Fail> {
     generated_commands::<Brand, _>(&rt, rt.alloc(), Opened::new())
 }
 
-fn generated_commands<J: Family, R: Wait + Abort>(
-    rt: &R,
-    alloc: Global,
-    opened: Opened,
-) -> Result<(), Fail>
+fn generated_commands<J: Family, R: Wait + Abort>(rt: &R, alloc: Global, opened: Opened) -> Tested
     requires { opened ≡ J.book }
 {
     let mut shared = two_banks::<J, _>(rt, alloc, opened)?;
@@ -190,29 +178,13 @@ fn generated_commands<J: Family, R: Wait + Abort>(
     Ok(())
 }
 
-/// Reads of the first bytes of the banks 0 to 7, as packet lines.
-const READS: [&str; 8] = [
-    "0 FE014C0067000100A0000000000010C9 EOP",
-    "0 FE014C0067000101A000000000001034 EOP",
-    "0 FE014C0067000102A0000000000010F2 EOP",
-    "0 FE014C0067000103A00000000000100F EOP",
-    "0 FE014C0067000104A0000000000010BF EOP",
-    "0 FE014C0067000105A000000000001042 EOP",
-    "0 FE014C0067000106A000000000001084 EOP",
-    "0 FE014C0067000107A000000000001079 EOP",
-];
-
 /// As many banks as a node may have: each leaves the entry of its own command, and no other.
 #[test]
 fn a_command_at_each_of_eight_banks(rt: HostRuntime) -> Result<(), Fail> {
     eight_banks::<Brand, _>(&rt, rt.alloc(), Opened::new())
 }
 
-fn eight_banks<J: Family, R: Wait + Abort>(
-    rt: &R,
-    alloc: Global,
-    opened: Opened,
-) -> Result<(), Fail>
+fn eight_banks<J: Family, R: Wait + Abort>(rt: &R, alloc: Global, opened: Opened) -> Tested
     requires { opened ≡ J.book }
 {
     let eight = [bank(16); 8];
@@ -239,11 +211,7 @@ fn a_hundred_loads_of_one_port(rt: HostRuntime) -> Result<(), Fail> {
     hundred_loads::<Brand, _>(&rt, rt.alloc(), Opened::new())
 }
 
-fn hundred_loads<J: Family, R: Wait + Abort>(
-    rt: &R,
-    alloc: Global,
-    opened: Opened,
-) -> Result<(), Fail>
+fn hundred_loads<J: Family, R: Wait + Abort>(rt: &R, alloc: Global, opened: Opened) -> Tested
     requires { opened ≡ J.book }
 {
     let mut shared = two_banks::<J, _>(rt, alloc, opened)?;

@@ -5,7 +5,7 @@ ghost use Rattle.std.specs.Prelude.{◌≡◌, map, All, IfOk};
 ghost use Rattle.target.specs.Passes.{seat_of};
 ghost use Rattle.test_node_threads.specs.Seats.{IsAt, maps_of};
 
-use crate::tests::checks::same;
+use crate::tests::checks::{Tested, same};
 use bver::{Accepted, MapSizes, verify};
 use cells::{CellSeat, Cells};
 use node_parts::NodeConfig;
@@ -275,11 +275,7 @@ fn draw_in_threads<J: Family + Send + Sync, R: Threads + Wait + Abort + Sync>(
 }
 
 /// The ports take turns in one thread.
-fn draw_in_turn<J: Family, R: Wait + Abort>(
-    rt: &R,
-    alloc: Global,
-    opened: Opened,
-) -> Result<(), Fail>
+fn draw_in_turn<J: Family, R: Wait + Abort>(rt: &R, alloc: Global, opened: Opened) -> Tested
     requires { opened ≡ J.book }
 {
     let factory = quota(alloc)?;

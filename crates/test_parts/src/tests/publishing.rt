@@ -9,6 +9,12 @@ mod takes;
 use bpf::Image;
 use bver::{Accepted, MapSizes, verify};
 use std::alloc::Global;
+use std::test::Fail;
+
+/// The factory program of a node without maps.
+fn factory(alloc: Global) -> Result<Accepted, Fail> {
+    Ok(program(alloc, &MapSizes::new(&[])?, 2).ok_or("the factory program")?)
+}
 
 /// The program of that budget, where memory is given: `mov r0, 0; exit`.
 fn program(alloc: Global, sizes: &MapSizes, budget: u8) -> Option<Accepted>

@@ -56,8 +56,8 @@ fn load_and_two<J: Family, R: Wait + Abort>(
 ) -> Result<(), Fail>
     requires { opened ≡ J.book }
 {
-    let factory = program(alloc, 0)?;
     let one = [bank(16)];
+    let factory = program(alloc, 0)?;
     let (node, mut passes) = shared_node::<J, _>(rt, alloc, opened, 1, &one, factory)?;
     let pass = passes.pop().ok_or("no pass")?;
     let lines = [STAGE, LOAD, PLAIN_WRITE, PLAIN_READ];

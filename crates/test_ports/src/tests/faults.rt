@@ -13,8 +13,8 @@ use std::sync::Wait;
 use std::test::Fail;
 use std::thread::Threads;
 use target::{Family, Node, Opened};
-use test_kit::{BASE, PLAIN_READ, PLAIN_WRITE, bank, program};
-use test_kit_ports::{filled, served_port, shared_node, text_of, worker};
+use test_kit::{BASE, PLAIN_READ, PLAIN_WRITE, bank};
+use test_kit_ports::{filled, node_of_one, served_port, text_of, worker};
 
 /// Which sends of a sink fail.
 #[derive(Clone, Copy, Debug, PartialEq, Eq)]
@@ -161,17 +161,15 @@ fn serve_always_failing<J: Family + Send + Sync + 'static, R: Threads + Wait + A
 ) -> Result<(), Fail>
     requires { opened ≡ J.book }
 {
-    let factory = program(alloc, 0)?;
-    let (node, mut passes) = shared_node::<J, _>(rt, alloc, opened, 1, &[bank(1024)], factory)?;
-    let pass = passes.pop().ok_or("no pass")?;
-    let (port, _put_pass, serve_pass) = filled(rt, alloc, 2, &[PLAIN_WRITE])?;
-    let sink = Failing::new(alloc, pass.port(), Failure::Always);
-    let worker = worker(&node, &port, pass, serve_pass, sink)?;
-    let (workers, report) = serve_one(rt, alloc, &node, port, worker)?;
     let lost = Report {
         discarded: 0,
         lost: 1,
     };
+    let (node, pass) = node_of_one::<J, _>(rt, alloc, opened)?;
+    let (port, _put_pass, serve_pass) = filled(rt, alloc, 2, &[PLAIN_WRITE])?;
+    let sink = Failing::new(alloc, pass.port(), Failure::Always);
+    let worker = worker(&node, &port, pass, serve_pass, sink)?;
+    let (workers, report) = serve_one(rt, alloc, &node, port, worker)?;
     same(rt, "the report", (workers.len(), report), (1, Ok(lost)));
     Ok(())
 }

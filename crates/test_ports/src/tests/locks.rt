@@ -213,8 +213,8 @@ fn meet_round_each_packet<J: Family + Send + Sync, R: Threads + Wait + Abort + S
 ) -> Result<(), Fail>
     requires { opened ≡ J.book }
 {
-    let factory = program(alloc, 0)?;
     let banks = [bank(16), bank(16)];
+    let factory = program(alloc, 0)?;
     let (node, mut passes) = shared_node::<J, _>(rt, alloc, opened, 2, &banks, factory)?;
     let second = passes.pop().ok_or("no pass")?;
     let first = passes.pop().ok_or("no pass")?;

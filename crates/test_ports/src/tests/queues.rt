@@ -17,8 +17,8 @@ use std::sync::Wait;
 use std::test::Fail;
 use std::thread::{Threads, join, yield_now};
 use target::{Family, Node, Opened};
-use test_kit::{PLAIN_READ, PLAIN_WRITE, bank, packet, program};
-use test_kit_ports::{shared_node, text_of, worker};
+use test_kit::{PLAIN_READ, PLAIN_WRITE, packet};
+use test_kit_ports::{node_of_one, text_of, worker};
 
 /// Puts a packet and then the end mark, each as soon as there is room.
 fn put_at_last(rt: &impl Wait, port: &Port, mut pass: PutPass, packet: Packet) -> PutPass
@@ -107,9 +107,7 @@ fn full_until_taken<J: Family + Send + Sync, R: Threads + Wait + Abort + Sync>(
 ) -> Result<(), Fail>
     requires { opened ≡ J.book }
 {
-    let factory = program(alloc, 0)?;
-    let (node, mut passes) = shared_node::<J, _>(rt, alloc, opened, 1, &[bank(1024)], factory)?;
-    let pass = passes.pop().ok_or("no pass")?;
+    let (node, pass) = node_of_one::<J, _>(rt, alloc, opened)?;
     let (port, put_pass, serve_pass, back) = full_port(rt, alloc)?;
     let sink = Replies::new(alloc, pass.port());
     let worker = worker(&node, &port, pass, serve_pass, sink)?;

@@ -97,9 +97,9 @@ fn load_beside<J: Family + Send + Sync + 'static, R: Threads + Wait + Abort + Sy
 ) -> Result<(), Fail>
     requires { opened ≡ J.book }
 {
-    let factory = program(alloc, 0)?;
     let lines: [&[&str]; 2] = [&[STAGE, LOAD, PLAIN_WRITE], &[PLAIN_WRITE]];
     let one = [bank(1024)];
+    let factory = program(alloc, 0)?;
     let served = served_ports::<J, _, _>(rt, alloc, opened, 2, &one, factory, 4, &lines, &NoGate)?;
     let found = (served.workers.len(), served.report);
     same(rt, "the report", found, (2, Ok(CLEAN)));

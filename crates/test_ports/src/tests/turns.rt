@@ -4,7 +4,7 @@ ghost use Rattle.std.specs.Prelude.{◌≡◌};
 ghost use Rattle.ports.specs.Queue.{IsPutPassOf};
 ghost use Rattle.ports.specs.Serves.{IsWorkerOf};
 
-use super::checks::same;
+use super::checks::{Tested, same};
 use super::queues::worked;
 use super::sinks::Counted;
 use super::workers::CLEAN;
@@ -21,7 +21,7 @@ use std::thread::{Threads, join, sleep, yield_now};
 use std::time::Duration;
 use target::{Family, Node, Opened};
 use test_kit::{PLAIN_READ, PLAIN_WRITE, bank, packet, program};
-use test_kit_ports::{served_at, shared_node, worker};
+use test_kit_ports::{node_of_one, served_at, shared_node, worker};
 
 /// How many packets the producer puts.
 const PACKETS: u64 = 100;
@@ -107,13 +107,11 @@ fn in_turn<J: Family + Send + Sync, R: Threads + Wait + Abort + Clock + Sync>(
 ) -> Result<(), Fail>
     requires { opened ≡ J.book }
 {
-    let factory = program(alloc, 0)?;
-    let (node, mut passes) = shared_node::<J, _>(rt, alloc, opened, 1, &[bank(1024)], factory)?;
-    let pass = passes.pop().ok_or("no pass")?;
     let mut packets = Vec::new(alloc);
     for _packet in 0..PACKETS {
         packets.push(packet(alloc, PLAIN_READ)?)?;
     }
+    let (node, pass) = node_of_one::<J, _>(rt, alloc, opened)?;
     let taken = AtomicU64::new(0);
     let (port, put_pass, serve_pass) = Port::new(alloc, 4)?;
     let sink = Counted::new(alloc, pass.port(), &taken);
@@ -170,15 +168,11 @@ fn a_gate_is_called_round_each_packet(rt: HostRuntime) -> Result<(), Fail> {
     round_each_packet::<Brand, _>(&rt, rt.alloc(), Opened::new())
 }
 
-fn round_each_packet<J: Family, R: Wait + Abort>(
-    rt: &R,
-    alloc: Global,
-    opened: Opened,
-) -> Result<(), Fail>
+fn round_each_packet<J: Family, R: Wait + Abort>(rt: &R, alloc: Global, opened: Opened) -> Tested
     requires { opened ≡ J.book }
 {
-    let factory = program(alloc, 0)?;
     let taken = AtomicU64::new(0);
+    let factory = program(alloc, 0)?;
     let (node, mut passes) = shared_node::<J, _>(rt, alloc, opened, 2, &[bank(1024)], factory)?;
     let pass = passes.pop().ok_or("no pass")?;
     let gate = Looking {

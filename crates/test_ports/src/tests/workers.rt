@@ -2,7 +2,7 @@
 
 ghost use Rattle.std.specs.Prelude.{◌≡◌};
 
-use super::checks::same;
+use super::checks::{Tested, same};
 use super::gates::InTurn;
 use ports::{NoGate, Replies, Report};
 use std::alloc::Global;
@@ -66,8 +66,8 @@ fn nobody<J: Family + Send + Sync + 'static, R: Threads + Wait + Abort + Sync>(
 ) -> Result<(), Fail>
     requires { opened ≡ J.book }
 {
-    let factory = program(alloc, 0)?;
     let one = [bank(1024)];
+    let factory = program(alloc, 0)?;
     let served = served_ports::<J, _, _>(rt, alloc, opened, 1, &one, factory, 1, &[], &NoGate)?;
     let found = (served.workers.len(), served.report);
     same(rt, "nobody", found, (0, Ok(CLEAN)));
@@ -115,11 +115,7 @@ fn a_write_beside_another_bank(rt: HostRuntime) -> Result<(), Fail> {
     write_beside::<Brand, _>(&rt, rt.alloc(), Opened::new())
 }
 
-fn write_beside<J: Family, R: Wait + Abort>(
-    rt: &R,
-    alloc: Global,
-    opened: Opened,
-) -> Result<(), Fail>
+fn write_beside<J: Family, R: Wait + Abort>(rt: &R, alloc: Global, opened: Opened) -> Tested
     requires { opened ≡ J.book }
 {
     let banks = [bank(1024), bank(1024)];
@@ -155,9 +151,9 @@ fn full_journal<J: Family + Send + Sync + 'static, R: Threads + Wait + Abort + S
 ) -> Result<(), Fail>
     requires { opened ≡ J.book }
 {
-    let factory = program(alloc, 0)?;
     let one = [bank(1)];
     let lines: [&[&str]; 1] = [&[PLAIN_WRITE, PLAIN_WRITE, WRITE_ZEROS]];
+    let factory = program(alloc, 0)?;
     let served = served_ports::<J, _, _>(rt, alloc, opened, 1, &one, factory, 4, &lines, &NoGate)?;
     same(rt, "the report", served.report, Ok(CLEAN));
     let found = text_of(alloc, served.replies(0)?)?;

@@ -2,7 +2,7 @@
 
 ghost use Rattle.std.specs.Prelude.{◌≡◌};
 
-use super::checks::{check, same};
+use super::checks::{Tested, check, same};
 use super::marks::{begin, end, tell};
 use brun::Counters;
 use node_parts::Served;
@@ -107,13 +107,8 @@ fn published(generation: u8) -> (Served, [u8; 8]) {
     )
 }
 
-/// Compares a load that was not done with what a refusal leaves, and tells its load result.
-fn compare_refused(
-    rt: &(impl Abort + Print),
-    load: (Served, [u8; 8]),
-    before: &Parts,
-    after: &Parts,
-) -> Result<(), Fail> {
+/// Compares the answer to a load that was not done with those of a refusal, and tells its load result.
+pub fn compare_refusal(rt: &(impl Abort + Print), load: (Served, [u8; 8])) -> Tested {
     same(
         rt,
         "its status",
@@ -129,17 +124,24 @@ fn compare_refused(
     }
     let is_told = CODES.iter().any(|(number, _)| code == *number);
     check(rt, "the code", is_told);
+    Ok(())
+}
+
+/// Compares a load that was not done with what a refusal leaves, and tells its load result.
+fn compare_refused(
+    rt: &(impl Abort + Print),
+    load: (Served, [u8; 8]),
+    before: &Parts,
+    after: &Parts,
+) -> Tested {
+    compare_refusal(rt, load)?;
     check(rt, "what stands after a refusal", before == after);
     Ok(())
 }
 
 /// A load behind a write, a ticket and a publish. Where memory was refused to it everything is as before, and the next
 /// load has the generation that it would have had.
-fn load_behind<J: Family, R: Wait + Abort + Print>(
-    rt: &R,
-    alloc: Global,
-    opened: Opened,
-) -> Result<(), Fail>
+fn load_behind<J: Family, R: Wait + Abort + Print>(rt: &R, alloc: Global, opened: Opened) -> Tested
     requires { opened ≡ J.book }
 {
     let mut loading = Loading::<J, _>::new(rt, alloc, opened)?;

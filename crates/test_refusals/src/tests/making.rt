@@ -8,7 +8,7 @@ use super::programs::operations;
 use bank::{Bank, BankFault, Journal};
 use brun::Counters;
 use cells::{CellSeat, Cells};
-use node_parts::{BankConfig, NodeConfig, NodeFault};
+use node_parts::NodeFault;
 use node_programs::{STAGING_BYTES, Staging};
 use ports::{NoGate, Port, Replies};
 use publish::{Family, Opened, Programs};
@@ -19,7 +19,7 @@ use std::process::Abort;
 use std::sync::Wait;
 use std::test::Fail;
 use target::{Node, Pass};
-use test_kit::{BASE, PLAIN_READ, bank, counts, sizes};
+use test_kit::{BASE, PLAIN_READ, bank, counts, node_config, sizes, small_bank};
 use test_kit_ports::{accepted, served_at, text_of};
 
 /// The sizes of the maps.
@@ -203,17 +203,8 @@ fn node_is_made<J: Family, R: Wait + Abort>(
     requires { opened ≡ J.book }
 {
     let factory = accepted(alloc, "mov r0, 0; exit", 2, MAPS)?;
-    let small = BankConfig {
-        base: 0x1000,
-        size: 300,
-        room: 1,
-    };
-    let config = NodeConfig {
-        address: 0xFE,
-        ports: 2,
-        banks: &[bank(1024), small],
-        sizes: factory.sizes(),
-    };
+    let banks = [bank(1024), small_bank()];
+    let config = node_config(2, &banks, factory.sizes());
     begin(alloc)?;
     let made = Node::<J, _>::new(alloc, rt, opened, &config, factory);
     end(alloc)?;

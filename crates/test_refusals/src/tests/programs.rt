@@ -2,7 +2,7 @@
 
 ghost use Rattle.std.specs.Prelude.{◌≡◌, IfOk};
 
-use super::checks::{check, same};
+use super::checks::{Tested, check, same};
 use super::images::COUNTDOWN;
 use super::marks::{begin, end, tell};
 use bpf::Image;
@@ -140,11 +140,7 @@ fn of_budget(alloc: Global, sizes: &MapSizes, budget: u32) -> Result<Accepted, F
 
 /// Four programs are published for writes, one after the other. Memory is refused to one of them at most: what is
 /// shown is then as before, and that program is published once more.
-fn installed<J: Family, R: Wait + Abort + Print>(
-    rt: &R,
-    alloc: Global,
-    opened: Opened,
-) -> Result<(), Fail>
+fn installed<J: Family, R: Wait + Abort + Print>(rt: &R, alloc: Global, opened: Opened) -> Tested
     requires { opened ≡ J.book }
 {
     let factory = accepted(alloc, "mov r0, 0; exit", 2, "")?;

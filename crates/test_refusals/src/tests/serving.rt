@@ -4,7 +4,7 @@ ghost use Rattle.std.specs.Prelude.{◌≡◌, IfOk, length};
 ghost use Rattle.ports.specs.Queue.{IsPutPassOf};
 ghost use Rattle.test_kit_ports.specs.Desks.{ArePutPasses};
 
-use super::checks::same;
+use super::checks::{Tested, same};
 use super::marks::{begin, end, tell};
 use ports::{NoGate, Port, PutPass, Replies, Report, ServeFault, Worker, serve};
 use std::alloc::Global;
@@ -96,9 +96,9 @@ fn two_served<J: Family + Send + Sync + 'static, R: Threads + Wait + Abort + Pri
 ) -> Result<(), Fail>
     requires { opened ≡ J.book }
 {
+    let lines: [&[&str]; 2] = [&LINES, &LINES];
     let factory = program(alloc, 0)?;
     let (node, passes) = shared_node::<J, _>(rt, alloc, opened, 2, &[bank(1024)], factory)?;
-    let lines: [&[&str]; 2] = [&LINES, &LINES];
     let (ports, mut put_passes, workers) = filled_desks(rt, alloc, &node, passes, 4, &lines)?;
     begin(alloc)?;
     let (workers, report) = serve(rt, alloc, &node, &ports, workers, &NoGate);
@@ -159,11 +159,7 @@ const EXCHANGES: [(&str, &[u8]); 4] = [
 ];
 
 /// Serves packets whose memory was made before: from then on no request is needed.
-fn four_served<J: Family, R: Wait + Abort>(
-    rt: &R,
-    alloc: Global,
-    opened: Opened,
-) -> Result<(), Fail>
+fn four_served<J: Family, R: Wait + Abort>(rt: &R, alloc: Global, opened: Opened) -> Tested
     requires { opened ≡ J.book }
 {
     let factory = program(alloc, 0)?;

@@ -1,17 +1,20 @@
 //! Memory that is refused to a node of one thread, and what it does without a request.
 
-use super::checks::{check, same};
+use super::checks::{Tested, check, same};
+use super::loads::compare_refusal;
 use super::marks::{begin, end, tell};
 use bank::{Bank, Journal};
 use bver::Accepted;
-use node_parts::{NodeConfig, NodeFault, Served};
+use node_parts::{NodeFault, Served};
 use rmap::{ReplyBuf, Status};
 use single_node::SingleNode;
 use spw::Packet;
 use std::alloc::Global;
 use std::process::Abort;
 use std::test::Fail;
-use test_kit::{BASE, LOAD, PLAIN_READ, PLAIN_REPLY, PLAIN_WRITE, STAGE, bank, packet};
+use test_kit::{
+    BASE, LOAD, PLAIN_READ, PLAIN_REPLY, PLAIN_WRITE, STAGE, bank, node_config, packet,
+};
 use test_kit_ports::accepted;
 
 /// The sizes of the maps.
@@ -27,12 +30,8 @@ struct Solo {
 
 /// A fresh node, at which that program judges at first.
 fn made(alloc: Global, factory: Accepted) -> Result<SingleNode, NodeFault> {
-    let config = NodeConfig {
-        address: 0xFE,
-        ports: 1,
-        banks: &[bank(16)],
-        sizes: factory.sizes(),
-    };
+    let banks = [bank(16)];
+    let config = node_config(1, &banks, factory.sizes());
     SingleNode::new(alloc, &config, factory)
 }
 
@@ -147,13 +146,6 @@ fn a_single_node_takes_no_memory(rt: HostRuntime) -> Result<(), Fail> {
     Ok(())
 }
 
-/// The codes of a load that was refused memory: for the image, by the verifier, and in publishing; with how they are told.
-const CODES: [(u8, &str); 3] = [
-    (40, "28 00 00 00 00 00 00 00"),
-    (17, "11 00 00 00 00 00 00 00"),
-    (65, "41 00 00 00 00 00 00 00"),
-];
-
 /// A load that published with generation 1.
 const LOADED: (Served, [u8; 8]) = (Served::Window(Status::Success), [0, 0, 0, 0, 0, 0, 0, 1]);
 
@@ -167,25 +159,8 @@ fn load(node: &mut Solo) -> Result<(Served, [u8; 8]), Fail> {
 }
 
 /// Compares a load that was not done with what a refusal leaves, and tells its load result.
-fn compare_refused(
-    rt: &(impl Abort + Print),
-    node: &Solo,
-    load: (Served, [u8; 8]),
-) -> Result<(), Fail> {
-    same(
-        rt,
-        "its status",
-        load.0,
-        Served::Window(Status::GeneralError),
-    );
-    let code = load.1[0];
-    for (number, result) in CODES {
-        if code == number {
-            tell(rt, result)?;
-        }
-    }
-    let is_told = CODES.iter().any(|(number, _)| code == *number);
-    check(rt, "the code", is_told);
+fn compare_refused(rt: &(impl Abort + Print), node: &Solo, load: (Served, [u8; 8])) -> Tested {
+    compare_refusal(rt, load)?;
     let found = (
         node.node.loaded(),
         node.node.generation(1),

@@ -1,16 +1,18 @@
 //! Memory that is refused to worlds of schedules, and to their steps.
 
-use super::checks::{check, same};
+use super::checks::{Tested, check, same};
 use super::marks::{begin, end, tell};
 use bpf::Image;
 use bver::MapSizes;
-use node_parts::{BankConfig, NodeConfig};
 use sched::{Event, Outcome, Reply, World, WorldFault, step};
 use spw::Packet;
 use std::alloc::{AllocError, Global};
 use std::process::Abort;
 use std::test::Fail;
-use test_kit::{BASE, LOAD, PLAIN_READ, PLAIN_WRITE, STAGE, bank, image_of_text, packet, sizes};
+use test_kit::{
+    BASE, LOAD, PLAIN_READ, PLAIN_WRITE, STAGE, bank, image_of_text, node_config, packet, sizes,
+    small_bank,
+};
 
 /// Reads a cell, draws a ticket of it, raises a cell of the other map to that, and says yes.
 const ASKS: &str = ".version 2; ldmap r1, 0; mov r2, 0; call 1; ldmap r1, 0; mov r2, 0; call 2; \
@@ -57,17 +59,8 @@ fn parts(alloc: Global) -> Result<(MapSizes, Image), Fail> {
 
 /// A world of two ports and two banks, with these maps and that factory program.
 fn world(alloc: Global, sizes: MapSizes, factory: &Image) -> Result<World, WorldFault> {
-    let small = BankConfig {
-        base: 0x1000,
-        size: 300,
-        room: 1,
-    };
-    let config = NodeConfig {
-        address: 0xFE,
-        ports: 2,
-        banks: &[bank(16), small],
-        sizes,
-    };
+    let banks = [bank(16), small_bank()];
+    let config = node_config(2, &banks, sizes);
     World::new(alloc, &config, factory)
 }
 
@@ -194,12 +187,7 @@ fn came(
 }
 
 /// Compares what events come to.
-fn compare(
-    rt: &(impl Abort + Print),
-    alloc: Global,
-    world: &mut World,
-    rows: &str,
-) -> Result<(), Fail> {
+fn compare(rt: &(impl Abort + Print), alloc: Global, world: &mut World, rows: &str) -> Tested {
     for row in rows.lines() {
         let (text, wanted) = row.split_once('|').ok_or("an event without an outcome")?;
         let outcome = came(rt, alloc, world, text)?;

@@ -1,4 +1,4 @@
-use Rattle.basm.proofs.OperandReadings.{no_value}
+use Rattle.basm_lex.proofs.Readings.{no_value}
 use Rattle.basm.proofs.directives.field.Goals as goal
 
 pub returns-in-Err-Form-clause-exact : goal.returns-in-Err-Form-clause-exact

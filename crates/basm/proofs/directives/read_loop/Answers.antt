@@ -4,7 +4,7 @@ use Rattle.std.proofs.lemmas.Result.{IfOk-at_ok}
 use Rattle.basm.specs.Names.{slot_named}
 use Rattle.basm.proofs.Items.{four_from}
 use Rattle.basm.proofs.LoopReadings.{fitting, four_long, loop_read, same_loop}
-use Rattle.basm.proofs.OperandReadings.{no_value}
+use Rattle.basm_lex.proofs.Readings.{no_value}
 use Rattle.basm.proofs.directives.read_loop.Goals.{in_default-via-then-operands-lt4, in_default-via-else-operands-lt4+else-operands-lt5}
 use Rattle.basm.proofs.directives.read_loop.Goals as goal
 

@@ -1,5 +1,5 @@
 use Rattle.std.proofs.Common.{pos}
-use Rattle.basm.proofs.OperandReadings.{no_value}
+use Rattle.basm_lex.proofs.Readings.{no_value}
 use Rattle.basm.proofs.directives.read_short.Goals as goal
 
 pub returns-in_err-value-clause-exact : goal.returns-in_err-value-clause-exact

@@ -3,7 +3,8 @@ use Rattle.std.specs.Int.{w32}
 use Rattle.std.proofs.lemmas.Int.{to_z-of_z}
 use Rattle.bpf_parts.specs.Codes.{address_subtype, address_first, address_second}
 use Rattle.basm.proofs.Addresses.{load_address, same_load}
-use Rattle.basm.proofs.OperandReadings.{no_value, one_value}
+use Rattle.basm.proofs.OperandReadings.{one_value}
+use Rattle.basm_lex.proofs.Readings.{no_value}
 use Rattle.basm.specs.Relation.{texts}
 use Rattle.basm.proofs.instructions.address_load.Goals as goal
 

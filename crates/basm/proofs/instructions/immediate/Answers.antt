@@ -1,4 +1,4 @@
-use Rattle.basm.proofs.OperandReadings.{no_value}
+use Rattle.basm_lex.proofs.Readings.{no_value}
 use Rattle.basm.proofs.instructions.immediate.Goals as goal
 
 pub returns-in_err-number-clause-exact : goal.returns-in_err-number-clause-exact

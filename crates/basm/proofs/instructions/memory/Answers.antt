@@ -1,6 +1,7 @@
 use Rattle.std.proofs.Common.{ap}
 use Rattle.std.specs.Prelude.{Ok}
-use Rattle.basm.proofs.OperandReadings.{no_value, one_value}
+use Rattle.basm.proofs.OperandReadings.{one_value}
+use Rattle.basm_lex.proofs.Readings.{no_value}
 use Rattle.basm.proofs.instructions.memory.Goals as goal
 
 pub returns-in_err-read_memory_operand-clause-exact : goal.returns-in_err-read_memory_operand-clause-exact

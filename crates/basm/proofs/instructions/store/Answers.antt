@@ -4,7 +4,8 @@ use Rattle.std.specs.Int.{w32}
 use Rattle.std.proofs.lemmas.Int.{to_z-of_z}
 use Rattle.basm_lex.specs.Numbers.{WritesNumber}
 use Rattle.basm_lex.specs.Operands.{WritesMemoryOperand}
-use Rattle.basm.proofs.OperandReadings.{no_value, stored_number, two_read}
+use Rattle.basm.proofs.OperandReadings.{stored_number, two_read}
+use Rattle.basm_lex.proofs.Readings.{no_value}
 use Rattle.basm.proofs.instructions.store.Goals as goal
 
 pub returns-in_err-place-clause-exact : goal.returns-in_err-place-clause-exact

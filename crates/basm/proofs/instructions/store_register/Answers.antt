@@ -1,6 +1,7 @@
 use Rattle.std.proofs.Common.{sym, ◌∙◌}
 use Rattle.basm_lex.specs.Operands.{WritesMemoryOperand, WritesRegister}
-use Rattle.basm.proofs.OperandReadings.{no_value, stored_register, two_read}
+use Rattle.basm.proofs.OperandReadings.{stored_register, two_read}
+use Rattle.basm_lex.proofs.Readings.{no_value}
 use Rattle.basm.proofs.instructions.store_register.Goals as goal
 
 pub returns-in_err-place-clause-exact : goal.returns-in_err-place-clause-exact

@@ -1,7 +1,7 @@
 use Rattle.std.proofs.Common.{IfErr, sym, subst}
 use Rattle.job_parts.specs.Stops.{StopsBy}
 use Rattle.commands.specs.Performed.{IsEnded}
-use Rattle.doing.proofs.Stopping.{stops_by_both}
+use Rattle.commands.proofs.Stopping.{stops_by_both}
 use Rattle.doing.proofs.alone.attempt.Goals as goal
 
 pub returns-in-Policy-clause-stops : goal.returns-in-Policy-clause-stops

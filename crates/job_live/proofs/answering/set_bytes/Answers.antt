@@ -1,5 +1,5 @@
 use Rattle.job_live.specs.Answering.{is_inside}
-use Rattle.job_live.proofs.HandingOut.{covered_bank}
+use Rattle.job_nodes.proofs.Banks.{covered_bank}
 use Rattle.job_live.proofs.answering.set_bytes.Goals as goal
 
 pub print_bank-requires : goal.print_bank-requires

@@ -1,7 +1,7 @@
 use Rattle.std.proofs.Common.{ℕ, [], ◌∷◌, sym, ap₂, ◌∙◌}
 use Rattle.std.specs.Prelude.{slice_index}
 use Rattle.hex.specs.Hex.{upper_digits}
-use Rattle.job_live.proofs.PutText.{one_byte}
+use Rattle.job_parts.proofs.HexText.{one_byte}
 use Rattle.job_live.proofs.putting.digits_of.Goals as goal
 
 pub returns : goal.returns

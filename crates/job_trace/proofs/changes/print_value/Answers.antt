@@ -1,6 +1,6 @@
 use Rattle.std.proofs.Common.{rules, SFits, to_z-of_z}
 use Rattle.std.specs.Int.{w128}
-use Rattle.job_trace.proofs.Signs.{plus_or_minus}
+use Rattle.bpf_parts.proofs.Signs.{plus_or_minus}
 use Rattle.job_trace.proofs.changes.print_value.Goals as goal
 
 pub returns-in-Ptr : goal.returns-in-Ptr

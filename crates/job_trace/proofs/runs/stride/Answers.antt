@@ -1,5 +1,6 @@
 use Rattle.std.proofs.Common.{rules}
-use Rattle.job_trace.proofs.Striding.{still_asks, strides_ask}
+use Rattle.job_trace.proofs.Striding.{strides_ask}
+use Rattle.stepper.proofs.Walking.{still_asks}
 use Rattle.job_trace.proofs.runs.stride.Goals as goal
 
 pub answer-requires : goal.answer-requires

@@ -14,7 +14,7 @@ use Rattle.job_parts.specs.declared.stops.Halt.TheVariants.{Ended, Unwritten}
 use Rattle.job_trace.specs.Traced.{IsCutShort, IsNotTraced, IsStuck, TracesFile, TracesLineFrom, TracesLines}
 use Rattle.job_trace.specs.declared.trace.Tracing.{Tracing}
 use Rattle.job_trace.proofs.LinesInTurn.{cuts_short, traces_all}
-use Rattle.job_trace.proofs.Scheduled.{scheduled, world_in}
+use Rattle.job_nodes.proofs.Scheduled.{scheduled, world_in}
 use Rattle.job_trace.proofs.trace.trace_file.Goals as goal
 
 module _ {S : Type 0} (reads : Reads S) (args : NodeLines) (before after : S) (old new : Option (List ℕ)) (text : List ℕ) (made : Option WorldValue) (world : WorldValue)

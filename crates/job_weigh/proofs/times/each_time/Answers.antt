@@ -1,6 +1,6 @@
 use Rattle.std.proofs.lemmas.List.Elements.{All-more}
 use Rattle.job_weigh.specs.Times.{IsTimeIn, value_in}
-use Rattle.job_weigh.proofs.TimeLists.{map-one_more}
+use Rattle.job_parts.proofs.MapLists.{map-one_more}
 use Rattle.job_weigh.proofs.times.each_time.Goals as goal
 
 pub loop-part-preserved : goal.loop-part-preserved

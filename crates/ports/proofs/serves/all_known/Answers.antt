@@ -1,6 +1,6 @@
 use Rattle.std.proofs.Common.{arith, subst}
 use mathlib.Core.List.{IsPrefix}
-use Rattle.ports.proofs.Keeping.{prefix_trans}
+use Rattle.lemmas.proofs.Prefixes.{prefix_trans}
 use Rattle.ports.proofs.Served.{known_more}
 use Rattle.ports.specs.Serves.{IsTold}
 use Rattle.ports.proofs.serves.all_known.Goals as goal

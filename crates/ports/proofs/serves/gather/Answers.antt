@@ -9,7 +9,8 @@ use Rattle.annals.specs.Chains.{done_for}
 use Rattle.target.specs.Passes.{PortPass}
 use Rattle.ports.specs.Serves.{IsOneMissing, IsTold, IsTotalOf}
 use Rattle.ports.proofs.Reports.{one_missing, one_more}
-use Rattle.ports.proofs.Served.{all_more, both_begin, empty_is, same_worker}
+use Rattle.lemmas.proofs.Prefixes.{both_begin}
+use Rattle.ports.proofs.Served.{all_more, empty_is, same_worker}
 use Rattle.ports.proofs.serves.gather.Goals as goal
 
 pub loop-one-init : goal.loop-one-init

@@ -1,7 +1,7 @@
 use Rattle.std.proofs.Common.{subst, sym}
 use Rattle.rmap.specs.Windows.{WindowsValue}
 use Rattle.node_parts.specs.Steps.{IsAdmission}
-use Rattle.single_node.proofs.Prefixes.{prefix_same}
+use Rattle.node_parts.proofs.Loadings.{prefix_same}
 use Rattle.single_node.proofs.Serving.{run_paired}
 use Rattle.single_node.proofs.served.serve_at.Goals as goal
 

@@ -127,27 +127,21 @@ unreachable-requires g c =
 
 pub new-requires : goal.new-requires
 new-requires g c =
-    let ports = c.args.config.now.ports in
-    let place = length c.loop-line.yielded in
     let began = c.into_iter-line-iterator.ensures.into_iter_gives in
     let road = YieldsList-from_vec {s = c.into_iter-line-iterator.result} (vec_items c.args.lines) began.0 (began.1 ∙ c.args.lines.ok.0) in
     let turn = YieldsList-turn road c.loop-line.yielded c.loop-line.line-iterator c.loop-line.yielded_by c.next.result c.next.new.self c.in-Some.line c.in-Some.is c.next.ensures.steps in
-    let here = line_at ports place (vec_items c.args.lines) c.in-Some.line c.requires.lines turn.0 turn.1 in
-    let below : place < ports = here.0 in
-    let number : c.port-port.result ≡ place = c.port-port.ensures ∙ ap (λ (l : LineValue). l.port) here.1 in
-    omega (arith, c.requires.ports, below, number)
+    let here = line_at c.args.config.now.ports (length c.loop-line.yielded) (vec_items c.args.lines) c.in-Some.line c.requires.lines turn.0 turn.1 in
+    let number : c.port-port.result ≡ length c.loop-line.yielded = c.port-port.ensures ∙ ap (λ (l : LineValue). l.port) here.1 in
+    omega (arith, c.requires.ports, here.0, number)
 
 pub index_mut-requires : goal.index_mut-requires
 index_mut-requires g c =
-    let ports = c.args.config.now.ports in
-    let place = length c.loop-line.yielded in
     let began = c.into_iter-line-iterator.ensures.into_iter_gives in
     let road = YieldsList-from_vec {s = c.into_iter-line-iterator.result} (vec_items c.args.lines) began.0 (began.1 ∙ c.args.lines.ok.0) in
     let turn = YieldsList-turn road c.loop-line.yielded c.loop-line.line-iterator c.loop-line.yielded_by c.next.result c.next.new.self c.in-Some.line c.in-Some.is c.next.ensures.steps in
-    let here = line_at ports place (vec_items c.args.lines) c.in-Some.line c.requires.lines turn.0 turn.1 in
-    let below : place < ports = here.0 in
-    let number : c.port-port.result ≡ place = c.port-port.ensures ∙ ap (λ (l : LineValue). l.port) here.1 in
-    omega (arith, c.from.ensures, number, below, c.loop-line.invariant.count)
+    let here = line_at c.args.config.now.ports (length c.loop-line.yielded) (vec_items c.args.lines) c.in-Some.line c.requires.lines turn.0 turn.1 in
+    let number : c.port-port.result ≡ length c.loop-line.yielded = c.port-port.ensures ∙ ap (λ (l : LineValue). l.port) here.1 in
+    omega (arith, c.from.ensures, number, here.0, c.loop-line.invariant.count)
 
 pub returns : goal.returns
 returns g c = λ factory home begins.

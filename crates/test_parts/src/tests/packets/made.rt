@@ -4,7 +4,8 @@
 ghost use Rattle.std.specs.Prelude.{◌≡◌, ◌<◌, ◌≤◌};
 ghost use Rattle.initiator.specs.Writing.{AreFields};
 
-use crate::tests::checks::{check, same};
+use crate::tests::checks::{Tested, check, same};
+use crate::tests::packets::protocol::numbers;
 use initiator::{CommandFields, Reply, body_with_crc, write_command};
 use node_parts::{Served, Stop};
 use rmap::{Command, Instruction, Kind, Status, body_fault};
@@ -61,21 +62,7 @@ fn fields<'a>(
     }
 }
 
-/// The numbers of a header, in their order.
-fn numbers(command: &Command) -> [u32; 8] {
-    [
-        u32::from(command.target()),
-        u32::from(command.instruction().0),
-        u32::from(command.key()),
-        u32::from(command.initiator()),
-        u32::from(command.transaction()),
-        u32::from(command.extended()),
-        command.address(),
-        command.length(),
-    ]
-}
-
-/// The same of the fields of which it was made.
+/// The numbers of the header that these fields make, in their order.
 fn numbers_given(fields: &CommandFields) -> [u32; 8] {
     [
         u32::from(fields.target),
@@ -99,12 +86,7 @@ fn status_of(served: Served) -> Option<Status> {
 }
 
 /// Compares a reply, behind its path, with the command that it answers, and its data with the zeros of a fresh node.
-fn compare_reply(
-    rt: &impl Abort,
-    fields: &CommandFields,
-    status: Status,
-    reply: &[u8],
-) -> Result<(), Fail> {
+fn compare_reply(rt: &impl Abort, fields: &CommandFields, status: Status, reply: &[u8]) -> Tested {
     let path = reply.iter().position(|byte| *byte >= 32).unwrap_or(0);
     let found = Reply::view(reply.split_at(path.min(reply.len())).1)?;
     same(rt, "status of a reply", found.status(), status.code());
@@ -136,12 +118,7 @@ fn compare_reply(
 }
 
 /// Gives a packet to a fresh node, and compares its reply, where the command wants one.
-fn serve(
-    rt: &impl Abort,
-    alloc: Global,
-    fields: &CommandFields,
-    packet: Packet,
-) -> Result<(), Fail> {
+fn serve(rt: &impl Abort, alloc: Global, fields: &CommandFields, packet: Packet) -> Tested {
     let one = [bank(1024)];
     let factory = program(alloc, 0)?;
     let mut node = PlainNode::new(alloc, 1, &one, factory)?;

@@ -3,8 +3,7 @@
 use super::lines::long_line;
 use crate::tests::checks::{check, same};
 use spw::{End, Feed, LineFault, MAX_PACKET, packet_is_join, read_part};
-use std::alloc::Global;
-use std::process::Abort;
+use std::alloc::{AllocError, Global};
 use std::test::Fail;
 use test_kit::{PLAIN_WRITE, packet};
 
@@ -95,28 +94,21 @@ fn long_lines_of_pieces(rt: HostRuntime) -> Result<(), Fail> {
 }
 
 /// A feed, made again where memory was refused.
-fn made_again(rt: &impl Abort, alloc: Global) -> Result<Feed, LineFault> {
+fn made_again(alloc: Global) -> Result<Feed, AllocError> {
     match Feed::new(alloc) {
-        Err(fault) => {
-            same(rt, "a feed that is refused", fault, LineFault::Memory);
-            Feed::new(alloc)
-        }
+        Err(_) => Feed::new(alloc),
         made => made,
     }
 }
 
-/// Run with each allocation refused in turn: a refusal is `Memory`, and what was held is there when the packet
-/// is closed again.
+/// Run with each allocation refused in turn: what was held is there when the packet is closed again.
 #[test]
 fn memory_is_refused(rt: HostRuntime) -> Result<(), Fail> {
-    let mut feed = made_again(&rt, rt.alloc())?;
+    let mut feed = made_again(rt.alloc())?;
     feed.piece(&[1, 2])?;
     feed.piece(&[3])?;
     let packet = match feed.close(End::Eep) {
-        Err(fault) => {
-            same(&rt, "a packet that is refused", fault, LineFault::Memory);
-            feed.close(End::Eep)?
-        }
+        Err(_) => feed.close(End::Eep)?,
         Ok(packet) => packet,
     };
     check(&rt, "what was held", packet.bytes() == [1, 2, 3].as_slice());

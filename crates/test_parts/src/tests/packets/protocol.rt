@@ -11,7 +11,7 @@ use std::test::Fail;
 use test_kit::{packet, word};
 
 /// The numbers of the header, in their order.
-fn numbers(command: &Command) -> [u32; 8] {
+pub(crate) fn numbers(command: &Command) -> [u32; 8] {
     [
         u32::from(command.target()),
         u32::from(command.instruction().0),

@@ -4,8 +4,7 @@ ghost use Rattle.std.specs.Prelude.{◌≡◌, IfSome};
 ghost use mathlib.Core.List.{IsPrefix};
 
 use crate::tests::checks::same;
-use crate::tests::publishing::program;
-use bver::MapSizes;
+use crate::tests::publishing::{factory, program};
 use publish::{Family, Front, Line, Opened, Programs, Publisher, Reader, Told};
 use std::alloc::Global;
 use std::marker::Brand;
@@ -124,7 +123,7 @@ fn two_load<J: Family + Send + Sync, R: Threads + Wait + Abort + Sync>(
 ) -> Result<(), Fail>
     requires { opened ≡ J.book }
 {
-    let factory = program(alloc, &MapSizes::new(&[])?, 2).ok_or("the factory program")?;
+    let factory = factory(alloc)?;
     let front = opened.front::<J>();
     let (publisher, mut readers, line) = Programs::new::<J, _>(alloc, rt, opened, factory, 2)?;
     let desk = Mutex::new(Desk { publisher, line });
@@ -145,7 +144,7 @@ fn four_load<J: Family + Send + Sync, R: Threads + Wait + Abort + Sync>(
 ) -> Result<(), Fail>
     requires { opened ≡ J.book }
 {
-    let factory = program(alloc, &MapSizes::new(&[])?, 2).ok_or("the factory program")?;
+    let factory = factory(alloc)?;
     let front = opened.front::<J>();
     let (publisher, mut readers, line) = Programs::new::<J, _>(alloc, rt, opened, factory, 4)?;
     let desk = Mutex::new(Desk { publisher, line });

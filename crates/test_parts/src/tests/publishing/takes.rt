@@ -4,9 +4,8 @@ ghost use Rattle.std.specs.Prelude.{◌≡◌, ◌<◌, IfSome, Some};
 ghost use mathlib.Core.List.{IsPrefix};
 ghost use Rattle.node_programs.specs.Published.{generation_at};
 
-use crate::tests::checks::same;
-use crate::tests::publishing::program;
-use bver::MapSizes;
+use crate::tests::checks::{Tested, same};
+use crate::tests::publishing::{factory, program};
 use node_programs::PublishFault;
 use publish::{Family, Front, Opened, Programs, Reader};
 use std::alloc::Global;
@@ -31,7 +30,7 @@ fn take_shows_only_learnt(rt: HostRuntime) -> Result<(), Fail> {
 /// A reader that never let go of a program takes none, and its end leaves the table.
 #[test]
 fn a_program_is_never_let_go(rt: HostRuntime) -> Result<(), Fail> {
-    nothing_more_is_shown::<Brand, _>(&rt, rt.alloc(), Opened::new())
+    no_more_is_shown::<Brand, _>(&rt, rt.alloc(), Opened::new())
 }
 
 /// The budget and the generation of the program at a slot.
@@ -44,16 +43,11 @@ fn shown<J: Family>(reader: &mut Reader<J>, front: &mut Front<J>, slot: u8) -> O
     Some((taken.accepted().budget(), taken.generation()))
 }
 
-fn a_program_is_shown<J: Family, R: Wait + Abort>(
-    rt: &R,
-    alloc: Global,
-    opened: Opened,
-) -> Result<(), Fail>
+fn a_program_is_shown<J: Family, R: Wait + Abort>(rt: &R, alloc: Global, opened: Opened) -> Tested
     requires { opened ≡ J.book }
 {
-    let sizes = MapSizes::new(&[])?;
-    let factory = program(alloc, &sizes, 2).ok_or("the factory program")?;
     let mut front = opened.front::<J>();
+    let factory = factory(alloc)?;
     let (mut publisher, mut readers, mut line) = Programs::new::<J, _>(
         alloc, rt, opened, factory, 1,
     )?;
@@ -93,9 +87,8 @@ fn another_publish_is_shown<J: Family, R: Wait + Abort>(
 ) -> Result<(), Fail>
     requires { opened ≡ J.book }
 {
-    let sizes = MapSizes::new(&[])?;
-    let factory = program(alloc, &sizes, 2).ok_or("the factory program")?;
     let mut front = opened.front::<J>();
+    let factory = factory(alloc)?;
     let (mut publisher, mut readers, mut line) = Programs::new::<J, _>(
         alloc, rt, opened, factory, 2,
     )?;
@@ -122,16 +115,11 @@ fn another_publish_is_shown<J: Family, R: Wait + Abort>(
     Ok(())
 }
 
-fn nothing_more_is_shown<J: Family, R: Wait + Abort>(
-    rt: &R,
-    alloc: Global,
-    opened: Opened,
-) -> Result<(), Fail>
+fn no_more_is_shown<J: Family, R: Wait + Abort>(rt: &R, alloc: Global, opened: Opened) -> Tested
     requires { opened ≡ J.book }
 {
-    let sizes = MapSizes::new(&[])?;
-    let factory = program(alloc, &sizes, 2).ok_or("the factory program")?;
     let mut front = opened.front::<J>();
+    let factory = factory(alloc)?;
     let (publisher, mut readers, _line) = Programs::new::<J, _>(alloc, rt, opened, factory, 1)?;
     let mut reader = readers.pop().ok_or("a reader")?;
     mem::forget(reader.take(&mut front, 0));

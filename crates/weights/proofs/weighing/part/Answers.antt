@@ -1,7 +1,7 @@
 use Rattle.std.proofs.Common.{◌≡◌, arith, rules}
 use Rattle.bpf.specs.Weight.{times_at}
 use Rattle.weights.specs.Classes.{cost_by}
-use Rattle.weights.proofs.Summing.{saturated-mul}
+use Rattle.bpf.proofs.Weighed.{saturated-mul}
 use Rattle.weights.proofs.weighing.part.Goals as goal
 
 pub returns-in-Some : goal.returns-in-Some

@@ -1,5 +1,5 @@
 use mathlib.Core.List.{IsPrefix}
-use Rattle.annals.proofs.Fronts.{prefix_trans}
+use Rattle.lemmas.proofs.Prefixes.{prefix_trans}
 use Rattle.annals.proofs.chains.Chain.add.Goals as goal
 
 pub returns-clause-added : goal.returns-clause-added

@@ -2,7 +2,7 @@ use Rattle.std.proofs.Common.{◌≡◌, sym, refl, ◌∙◌, ap, subst, arith,
 use mathlib.Core.List.{IsPrefix}
 use Rattle.annals.specs.declared.deed.Link.{Link}
 use Rattle.annals.specs.Chains.{IsWhole, chain_of}
-use Rattle.annals.proofs.Fronts.{prefix_trans, prefix_whole}
+use Rattle.lemmas.proofs.Prefixes.{prefix_trans, prefix_whole}
 use Rattle.annals.proofs.Dues.{chain_prefix}
 use Rattle.annals.proofs.Turns.{looks_moves}
 use Rattle.annals.proofs.chains.Chain.begins_with.Goals as goal

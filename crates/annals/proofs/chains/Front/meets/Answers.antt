@@ -1,7 +1,7 @@
 use Rattle.std.proofs.Common.{ap, subst, List}
 use mathlib.Core.List.{IsPrefix}
 use Rattle.annals.specs.declared.deed.Link.{Link}
-use Rattle.annals.proofs.Fronts.{prefix_either}
+use Rattle.lemmas.proofs.Prefixes.{prefix_either}
 use Rattle.annals.proofs.chains.Front.meets.Goals as goal
 
 pub returns : goal.returns

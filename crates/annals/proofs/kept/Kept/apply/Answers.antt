@@ -8,7 +8,8 @@ use Rattle.annals.specs.declared.deed.Deed.TheVariants.{Does}
 use Rattle.annals.specs.declared.deed.Link.{Link}
 use Rattle.annals.specs.Chains.{IsLast, chain_of, line_with, link}
 use Rattle.annals.specs.Banks.{CountsOn, KeptValue, memory_after, answer_after, entries_of, IsDone}
-use Rattle.annals.proofs.Counts.{counts_on, counts_same, share_stays, fitting, next_share_is, numbers_before, counts_after, still_counted}
+use Rattle.annals.proofs.Counts.{counts_on, counts_same, share_stays, next_share_is, numbers_before, counts_after, still_counted}
+use Rattle.bank.proofs.Banks.{fitting}
 use Rattle.annals.proofs.Replays.{last_is, room_of, number_is, entries_after, same_memory, answers, replayed, at_place}
 use Rattle.annals.proofs.kept.Kept.apply.Goals as goal
 

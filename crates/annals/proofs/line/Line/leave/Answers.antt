@@ -5,7 +5,7 @@ use Rattle.annals.specs.declared.deed.Deed.{Deed}
 use Rattle.annals.specs.declared.deed.Deed.TheVariants.{Does, Asks}
 use Rattle.annals.specs.declared.deed.Link.{Link}
 use Rattle.annals.specs.Chains.{ChainValue, Due, IsDue, IsLastOf, IsLine, LineValue, asked_by, asked_in, chain_of, done_for, line_of, line_with, link, owner_of}
-use Rattle.annals.proofs.Fronts.{prefix_trans}
+use Rattle.lemmas.proofs.Prefixes.{prefix_trans}
 use Rattle.annals.proofs.Dues.{all_left, asked_more, asks_next, between_same}
 use Rattle.annals.proofs.line.Line.leave.Goals as goal
 

@@ -1,7 +1,7 @@
 use Rattle.std.proofs.Common.{◌≡◌, ℕ, List, ap, subst}
 use mathlib.Core.List.{IsPrefix}
 use Rattle.annals.specs.Chains.{LineValue, asked_by, done_for}
-use Rattle.annals.proofs.Fronts.{prefix_trans}
+use Rattle.lemmas.proofs.Prefixes.{prefix_trans}
 use Rattle.annals.proofs.Dues.{done_prefix}
 use Rattle.annals.proofs.line.Line.tell.Goals as goal
 

@@ -1,4 +1,5 @@
-use Rattle.single_node.proofs.Slots.{shown_sizes, slot_at}
+use Rattle.node_programs.proofs.Shelves.{slot_at}
+use Rattle.single_node.proofs.Slots.{shown_sizes}
 use Rattle.single_node.proofs.programs.SlotPrograms.shown.Goals as goal
 
 pub returns-clause-value : goal.returns-clause-value

@@ -6,7 +6,7 @@ use Rattle.ports.specs.Worked.{standing_of}
 use Rattle.target.specs.Lines.{CountsAllOf}
 use Rattle.target.specs.Passes.{PortPass}
 use Rattle.test_ports.specs.Accounts.{IsAccounted}
-use Rattle.test_ports.proofs.Prefixes.{both_begin}
+use Rattle.lemmas.proofs.Prefixes.{both_begin}
 use Rattle.test_ports.proofs.tests.accounts.accounted.Goals as goal
 
 pub returns : goal.returns

@@ -1,0 +1,5 @@
+pub mod Cases
+pub mod Options
+pub mod Pairs
+pub mod Places
+pub mod Prefixes
