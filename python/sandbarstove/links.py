@@ -52,18 +52,23 @@ def entry_of(line: str) -> Entry:
 
 class Lines:
     """A talk in lines, with `rmapctl live` or `tools/share`. Entries that come by themselves are added to `entries`. `damaged` is how
-    many entries came as `journal damaged`, since a bit of them flipped in the target's memory."""
+    many entries came as `journal damaged`, since a bit of them flipped in the target's memory. `scrubs` has the slot and the state,
+    `mended` or `withdrawn`, of each line `journal scrub SLOT STATE` that came (`live --scrub N`)."""
 
     def __init__(self, host: str = "127.0.0.1", port: int = 10031, timeout: Optional[float] = 20):
         self._socket = _connected(host, port, timeout)
         self._talk = self._socket.makefile("rw", encoding="ascii", newline="\n")
         self.entries: list[Entry] = []
         self.damaged = 0
+        self.scrubs: list[tuple[int, str]] = []
 
     def _keep(self, line: str) -> None:
         """Adds the entry of a line of a journal, if it has one."""
         if line == "journal damaged":
             self.damaged += 1
+        elif line.startswith("journal scrub "):
+            slot, state = line.split()[2:]
+            self.scrubs.append((int(slot), state))
         elif line.startswith("journal ") and not line.endswith(" entries"):
             self.entries.append(entry_of(line))
 

@@ -150,6 +150,7 @@ JOBS = [
     Job("trace lines --node zeros.toml", TRACED, {"lines": AT_ONE, "zeros.toml": ZEROS, "yes.img": YES}),
     Job("serve lines --ports 2", SERVED, {"lines": READ + READ.replace("0", "1", 1)}, ahead=2),
     Job("live", ANSWERS, given=TALK, status=1),
+    Job("live --scrub 1", ANSWERS, given=TALK, status=1),
     Job("live --frames", DUE, given=FRAMES),
 ]
 

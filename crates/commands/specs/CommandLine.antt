@@ -215,4 +215,5 @@ AsksFor words (Told text) = Unit {0}
 abbrev pub waits : Asked → (without_words : Bool) → Bool
 waits (Named (Live words)) without_words = not words.frames || without_words
 waits (Named (Once job)) without_words = without_words
+waits (Named (OnNode own)) without_words = without_words
 waits (Told text) without_words = false

@@ -1,6 +1,10 @@
 pub mod CommandLine
+pub mod Courses
+pub mod Given
+pub mod Losses
 pub mod Notes
 pub mod OnNodes
 pub mod Performed
+pub mod Refusals
 pub mod ShownTalk
 pub mod Words

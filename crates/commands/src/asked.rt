@@ -1,8 +1,9 @@
 //! What the words of a command line ask for: a work, or a text.
 
-ghost use Rattle.std.specs.Prelude.{◌≡◌, IfOk, is_some};
+ghost use Rattle.std.specs.Prelude.{◌≡◌, ◌&&◌, IfOk, is_some};
 ghost use Rattle.clap.specs.Walk.{texts};
 ghost use Rattle.commands.specs.CommandLine.{AsksFor, waits};
+ghost use Rattle.commands.specs.Given.{words_given};
 
 use crate::usage::{command_line, words};
 use crate::work::Work;
@@ -11,7 +12,7 @@ use job_parts::usage::UsageFault;
 use std::alloc::{AllocError, Global};
 
 /// What the program does where its command line has no word: it judges standard input.
-pub const WITHOUT_WORDS: [&str; 2] = ["judge", "-"];
+const WITHOUT_WORDS: [&str; 2] = ["judge", "-"];
 
 /// What is told before standard input is judged, where it is a terminal.
 const JUDGE_WAITS: &str = "judge -: reads packet lines; rmapctl --help has the words";
@@ -89,14 +90,37 @@ pub fn asked_of(alloc: Global, given: &[&str]) -> Result<Asked, UsageFault>
     }
 }
 
-/// What is told of what words ask for before it waits for standard input, where that is a terminal: of a talk, and where no word
-/// was given.
-pub fn told_wait(asked: &Asked, without_words: bool) -> Option<&'static str>
-    ensures { is_some result ≡ waits asked.now without_words }
+/// What decides whether the user is told that standard input is waited for.
+#[derive(Clone, Copy, Debug, PartialEq, Eq)]
+pub struct Waits {
+    /// Whether standard input is a terminal.
+    pub is_terminal: bool,
+    /// Whether no word was given.
+    pub without_words: bool,
+}
+
+/// What is told of what words ask for before it waits for standard input, if that is a terminal: of a talk, and if no word was
+/// given.
+pub fn told_wait(asked: &Asked, given: Waits) -> Option<&'static str>
+    ensures { is_some result ≡ (given.is_terminal && waits asked.now given.without_words) }
 {
+    if !given.is_terminal {
+        return None;
+    }
     match asked {
         Asked::Named(Work::Live(words)) if !words.frames => Some(LIVE_WAITS),
-        Asked::Named(_) if without_words => Some(JUDGE_WAITS),
+        Asked::Named(_) if given.without_words => Some(JUDGE_WAITS),
         Asked::Named(_) | Asked::Told(_) => None,
+    }
+}
+
+/// The words of a command line, or those that judge standard input if it has none.
+pub fn words_or_judge<'a>(given: &'a [&'a str]) -> &'a [&'a str]
+    ensures { texts result.now ≡ words_given (texts given.now) }
+{
+    if given.is_empty() {
+        &WITHOUT_WORDS
+    } else {
+        given
     }
 }

@@ -9,9 +9,10 @@ ghost use Rattle.commands.specs.OnNodes.{are_left, own_file, placed, takes_file,
 ghost use Rattle.job_config.specs.Configured.{numbers_in};
 ghost use Rattle.job_parts.specs.Inputs.{AreInputs, input, input_value};
 ghost use Rattle.job_parts.specs.declared.inputs.Content.TheVariants.{Node};
+ghost use Rattle.job_parts.specs.declared.status.Status.TheVariants.{Failed};
 ghost use Rattle.node_parts.specs.Nodes.{are_within, windows_of};
 
-use crate::jobs::Job;
+use crate::jobs::{Job, JobEnd};
 use clap::{ArgMatches, Command};
 use job_charts::compare::CompareWords;
 use job_charts::map::MapWords;
@@ -21,7 +22,9 @@ use job_decide::decide::DecideWords;
 use job_packets::packet::PacketWords;
 use job_packets::packet_options::HeaderWords;
 use job_parts::arguments::text_of;
+use job_parts::faults::Fault;
 use job_parts::inputs::{Content, Inputs};
+use job_parts::status::Status;
 use job_texts::images::ImageArgs;
 use job_texts::policies::PolicyWords;
 use job_weigh::weigh::WeighWords;
@@ -57,6 +60,19 @@ pub fn node_inputs(node: &str) -> Inputs<'_>
     ensures { AreInputs (Some (input node.now Node)) None None result }
 {
     Inputs::one(node, Content::Node)
+}
+
+impl<'a> JobEnd<'a> {
+    /// How a job ends if the file of its node has this fault.
+    pub fn refused(fault: Fault<'a>) -> JobEnd<'a>
+        ensures { result ≡ record { status = Failed; fault = Some fault.entry; full = None } }
+    {
+        JobEnd {
+            status: Status::Failed,
+            fault: Some(fault),
+            full: None,
+        }
+    }
 }
 
 /// The subcommand with the option `--node`.

@@ -6,6 +6,7 @@ use crate::usage::command_line;
 use clap::ArgMatches;
 use job_codes::topics::{CodeKind, KINDS};
 use job_config::sources::beside_node;
+use job_live::words::scrub_of;
 use job_packets::orders::Order;
 use job_packets::packet::packet_words;
 use job_packets::slips::{PacketFault, PacketWord, Slip};
@@ -23,6 +24,9 @@ const MAPS: &str =
 
 /// What `--ports` may be.
 const PORTS: &str = "a decimal number from 1 to 32";
+
+/// What `--scrub` may be.
+const SCRUB: &str = "a decimal number from 1 to 4294967295";
 
 /// What `--ports` may be beside `--frames`.
 const ONE_PORT: &str = "1 if frames come";
@@ -157,6 +161,9 @@ fn option_line(alloc: Global, found: &ArgMatches) -> Result<String, AllocError> 
     }
     if let Err(UsageFault::BadOption) = ports_of(found) {
         return line_of(alloc, "--ports", text_of(found, "ports"), PORTS);
+    }
+    if let Err(UsageFault::BadOption) = scrub_of(found) {
+        return line_of(alloc, "--scrub", text_of(found, "scrub"), SCRUB);
     }
     if let Err(UsageFault::BadOption) = slots_of(alloc, found) {
         let wanted = Slip::Bad(PacketWord::Slot).advice();

@@ -1,8 +1,10 @@
 //! What a command line names.
 
+ghost use Rattle.std.specs.Prelude.{◌≡◌};
+ghost use Rattle.commands.specs.Courses.{course_of};
+
 use crate::jobs::Job;
 use crate::node_jobs::NodeJob;
-use job_config::sources::NodeSource;
 use job_live::words::LiveWords;
 use job_show::show::ShowWords;
 
@@ -30,14 +32,16 @@ pub enum Course {
     /// What lines of standard input are is told as they come ([`show_talk`](crate::show_talk)).
     Show(ShowWords),
     /// A talk is held in lines.
-    Lines(NodeSource),
+    Lines(LiveWords),
     /// A talk is held in frames.
-    Frames(NodeSource),
+    Frames(LiveWords),
 }
 
 impl Work {
     /// How it is done: all that takes lines of standard input as they come is a talk.
-    pub fn course(self) -> Course {
+    pub fn course(self) -> Course
+        ensures { result ≡ course_of self }
+    {
         match self {
             Work::Once(Job::Show(words)) => {
                 if words.lines.as_str() == STANDARD_INPUT {
@@ -48,11 +52,11 @@ impl Work {
             }
             Work::Once(job) => Course::Perform(job),
             Work::OnNode(own) => Course::OnNode(own),
-            Work::Live(LiveWords { node, frames }) => {
-                if frames {
-                    Course::Frames(node)
+            Work::Live(words) => {
+                if words.frames {
+                    Course::Frames(words)
                 } else {
-                    Course::Lines(node)
+                    Course::Lines(words)
                 }
             }
         }

@@ -1,7 +1,8 @@
 -- What the words of a command line come to over the files of a folder.
-use Rattle.std.specs.Prelude.{◌≡◌, ◌⊎◌, ℕ, List, [], ◌∷◌, Some, string_bytes, codes, true, false}
+use Rattle.std.specs.Prelude.{◌≡◌, ◌⊎◌, ℕ, List, [], Some, string_bytes, codes, true, false}
 use Rattle.std.specs.Borrow.{Bor}
 use Rattle.commands.specs.CommandLine.{NamesWork}
+pub use Rattle.commands.specs.Given.{words_given}
 use Rattle.commands.specs.Notes.{is_dump, reads_dump}
 use Rattle.commands.specs.OnNodes.{placed}
 use Rattle.commands.specs.Performed.{Performs}
@@ -75,7 +76,7 @@ pub record HoldsLines (words : LiveWords) (before : FolderValue) (left : Left) :
   pub begun : start.folder ≡ before
   pub dump : reads_dump start.noted ≡ false
   pub silent : first.out.items ≡ []
-  pub lives : Lives DeskReads SpeechHears SpeechSends SpeechLoses SpeechMisses words.node start stop first last status
+  pub lives : Lives DeskReads SpeechHears SpeechSends SpeechLoses SpeechMisses words start stop first last status
   pub printed : left.done.out.items ≡ last.out.items
   pub ended : left.folder ≡ stop.folder
   pub code : left.done.status ≡ status_code status
@@ -156,8 +157,3 @@ pub record DoesNamed (words : List Text) (before : FolderValue) (left : Left) : 
 -- what words come to: the work that they name is done; or a text is told, and no file is another
 abbrev pub DoesWords : List Text → (before : FolderValue) → Left → Type 0
 DoesWords words before left = DoesNamed words before left ⊎ (left.folder ≡ before)
-
--- the words that are done: those that are given, or `judge -` where there are none
-abbrev pub words_given : List Text → List Text
-words_given [] = codes "judge" ∷ codes "-" ∷ []
-words_given (word ∷ words) = word ∷ words

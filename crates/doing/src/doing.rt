@@ -3,7 +3,8 @@
 ghost use Rattle.std.specs.Prelude.{◌≡◌, IfOk};
 ghost use Rattle.clap.specs.Walk.{texts};
 ghost use Rattle.doing.specs.Alone.{IsAlone};
-ghost use Rattle.doing.specs.Doings.{DoesJob, DoesLive, DoesOnNode, DoesOnce, DoesWords, DoesWork, HoldsLines, IsQuiet, RefusesOutput, ShowsInput, TellsFault, words_given};
+ghost use Rattle.commands.specs.Given.{words_given};
+ghost use Rattle.doing.specs.Doings.{DoesJob, DoesLive, DoesOnNode, DoesOnce, DoesWords, DoesWork, HoldsLines, IsQuiet, RefusesOutput, ShowsInput, TellsFault};
 ghost use Rattle.job_parts.specs.Printed.{fault_line};
 
 use crate::alone::perform_alone;
@@ -12,8 +13,8 @@ use crate::slate::Slate;
 use crate::talks::Speech;
 use commands::{
     Asked, Fault, Job, JobEnd, LiveWords, NodeJob, Noted, OWN_SOURCE, ShowWords, Status,
-    UsageFault, WITHOUT_WORDS, Work, asked_of, configuration_in, live, node_inputs, show_talk,
-    told_end, told_node, told_option,
+    UsageFault, Work, asked_of, configuration_in, live, node_inputs, show_talk, told_end,
+    told_node, told_option, words_or_judge,
 };
 use folders::Folder;
 use std::alloc::{AllocError, Global};
@@ -117,7 +118,7 @@ fn talk_lines<'a>(
     let mut speech = Speech::new(alloc, &slate, input.as_slice(), false);
     let mut desk = Desk::new(folder, Noted::new(words.node.inputs()));
     let mut place = None;
-    let Ok(status) = live(alloc, &words.node, &mut desk, &mut speech, &mut place) else {
+    let Ok(status) = live(alloc, words, &mut desk, &mut speech, &mut place) else {
         return Err(AllocError);
     };
     let out = speech.into_out();
@@ -198,11 +199,7 @@ fn refuse_node<'a>(
     ensures { IfOk result (TellsFault fault.entry desk.entry.folder) }
 {
     let out = fault_line(alloc, &fault)?;
-    let end = JobEnd {
-        status: Status::Failed,
-        fault: Some(fault),
-        full: None,
-    };
+    let end = JobEnd::refused(fault);
     let told = told_end(alloc, job, &end, desk.noted())?;
     let done = Done {
         status: Status::Failed.code(),
@@ -327,9 +324,5 @@ pub fn do_words<'a>(
 ) -> Result<Left<'a>, AllocError>
     ensures { IfOk result (DoesWords (words_given (texts given.now)) folder.entry) }
 {
-    if given.is_empty() {
-        do_given(alloc, &WITHOUT_WORDS, folder)
-    } else {
-        do_given(alloc, given, folder)
-    }
+    do_given(alloc, words_or_judge(given), folder)
 }

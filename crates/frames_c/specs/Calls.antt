@@ -1,5 +1,5 @@
 -- What a call does to the reader of a handle.
-use Rattle.std.specs.Prelude.{◌≡◌, ◌⊎◌, ℕ, List, nat_lt, Option, Some, None, if◌then◌else◌}
+use Rattle.std.specs.Prelude.{◌≡◌, ◌≢◌, ◌⊎◌, ℕ, List, length, nat_lt, Option, Some, None, if◌then◌else◌}
 use Rattle.frames.specs.Reading.{Reading, first_reading}
 use Rattle.frames_c.specs.Numbers.{came_numbers, packet_in}
 use Rattle.spw.specs.Rooms.{put_front}
@@ -30,3 +30,11 @@ abbrev pub Becomes : (Reading → Reading → Type 0) → (old new : Option Read
 Becomes Relates None new = ⊥
 Becomes Relates (Some before) None = ⊥
 Becomes Relates (Some before) (Some after) = Relates before after
+
+-- what a call that takes bytes answers and does: at any code but `OK` the reader, the room and the numbers are as before
+pub record TakesFrames (bytes room left : List ℕ) (before told : CameNumbers) (old new : Option Reading) (code : ℕ) : Type 0 where
+  pub is_code : code ≡ take_code old (length room)
+  pub taken : code ≡ OK → Becomes (TakesBytes bytes room left told) old new
+  pub same_reader : code ≢ OK → new ≡ old
+  pub same_room : code ≢ OK → left ≡ room
+  pub same_numbers : code ≢ OK → told ≡ before

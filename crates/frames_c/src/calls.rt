@@ -1,12 +1,12 @@
 //! The calls. Each answers a code: 0, or why it did nothing.
 
-ghost use Rattle.std.specs.Prelude.{◌≡◌, ◌≢◌, ◌++◌, ℕ, List, MatchOption, IfOk, length};
+ghost use Rattle.std.specs.Prelude.{◌≡◌, ◌++◌, ℕ, List, MatchOption, IfOk, length};
 ghost use Rattle.std.specs.declared.option.Option.TheVariants.{None, Some};
 ghost use Rattle.frames.specs.Heads.{head_bytes};
 ghost use Rattle.frames.specs.Reading.{first_reading};
 ghost use Rattle.frames.specs.Streams.{reply_frame_of};
 ghost use Rattle.frames.specs.declared.flags.Flag.TheVariants.{Last};
-ghost use Rattle.frames_c.specs.Calls.{Becomes, OpensFrames, TakesBytes, take_code};
+ghost use Rattle.frames_c.specs.Calls.{OpensFrames, TakesFrames};
 ghost use Rattle.frames_c.specs.declared.codes.TheConstants.{NO_NODE, OK};
 ghost use Rattle.spw.specs.declared.packets.End.TheVariants.{Eop};
 ghost use Rattle.spw.specs.declared.packets.TheConstants.{MAX_PACKET};
@@ -31,31 +31,10 @@ fn fresh(alloc: Global) -> Result<Box<Frames>, AllocError>
     }
 }
 
-/// Opens a reader, which takes all memory that it needs. A handle that holds one keeps it.
-pub fn open(alloc: Global, handle: &mut FramesHandle) -> u32
-    ensures { OpensFrames handle.old.kept handle.new.kept result }
-{
-    if let Some(frames) = take_out(alloc, handle) {
-        put_in(alloc, handle, frames);
-        return IS_OPEN;
-    }
-    match fresh(alloc) {
-        Ok(frames) => {
-            put_in(alloc, handle, frames);
-            OK
-        }
-        Err(AllocError) => NO_MEMORY,
-    }
-}
-
 /// Takes bytes, where there is room for a packet: a code.
 fn take_into(frames: &mut Frames, bytes: &[u8], packet: &mut [u8], came: &mut CameNumbers) -> u32
-    ensures code { result ≡ take_code (Some frames.old) (length packet.old) }
-    ensures taken { result ≡ OK
-        → TakesBytes bytes.now packet.old packet.new came.new frames.old frames.new }
-    ensures frames { result ≢ OK → frames.new ≡ frames.old }
-    ensures packet { result ≢ OK → packet.new ≡ packet.old }
-    ensures numbers { result ≢ OK → came.new ≡ came.old }
+    ensures { TakesFrames bytes.now packet.old packet.new came.old came.new
+        (Some frames.old) (Some frames.new) result }
 {
     if packet.len() < MAX_PACKET {
         return NO_ROOM;
@@ -64,38 +43,53 @@ fn take_into(frames: &mut Frames, bytes: &[u8], packet: &mut [u8], came: &mut Ca
     OK
 }
 
-/// Takes bytes up to the first with which something came whole, or all of them if nothing does, and tells how many, and what came.
-/// The bytes of a packet go to the front of the room. It asks for no memory. At any code but `OK` all that was lent is as before.
-pub fn take(
-    alloc: Global,
-    handle: &mut FramesHandle,
-    bytes: &[u8],
-    packet: &mut [u8],
-    came: &mut CameNumbers,
-) -> u32
-    ensures code { result ≡ take_code handle.old.kept (length packet.old) }
-    ensures taken { result ≡ OK
-        → Becomes (TakesBytes bytes.now packet.old packet.new came.new) handle.old.kept handle.new.kept }
-    ensures frames { result ≢ OK → handle.new.kept ≡ handle.old.kept }
-    ensures packet { result ≢ OK → packet.new ≡ packet.old }
-    ensures numbers { result ≢ OK → came.new ≡ came.old }
-{
-    let Some(mut frames) = take_out(alloc, handle) else {
-        return NO_NODE;
-    };
-    let code = take_into(&mut frames, bytes, packet, came);
-    put_in(alloc, handle, frames);
-    code
-}
+impl FramesHandle {
+    /// Opens a reader, which takes all memory that it needs. A handle that holds one keeps it.
+    pub fn open(&mut self, alloc: Global) -> u32
+        ensures { OpensFrames self.old.kept self.new.kept result }
+    {
+        if let Some(frames) = take_out(alloc, self) {
+            put_in(alloc, self, frames);
+            return IS_OPEN;
+        }
+        match fresh(alloc) {
+            Ok(frames) => {
+                put_in(alloc, self, frames);
+                OK
+            }
+            Err(AllocError) => NO_MEMORY,
+        }
+    }
 
-/// Ends a reader, and gives back its memory. What it held of a packet is gone.
-pub fn close(alloc: Global, handle: &mut FramesHandle) -> u32
-    ensures code { MatchOption handle.old.kept (result ≡ NO_NODE) (λ _. result ≡ OK) }
-    ensures closed { handle.new.kept ≡ None }
-{
-    match take_out(alloc, handle) {
-        Some(_ended) => OK,
-        None => NO_NODE,
+    /// Takes bytes up to the first with which something came whole, or all of them if nothing does, and tells how many, and what came.
+    /// The bytes of a packet go to the front of the room. It asks for no memory. At any code but `OK` all that was lent is as before.
+    pub fn take(
+        &mut self,
+        alloc: Global,
+        bytes: &[u8],
+        packet: &mut [u8],
+        came: &mut CameNumbers,
+    ) -> u32
+        ensures { TakesFrames bytes.now packet.old packet.new came.old came.new
+            self.old.kept self.new.kept result }
+    {
+        let Some(mut frames) = take_out(alloc, self) else {
+            return NO_NODE;
+        };
+        let code = take_into(&mut frames, bytes, packet, came);
+        put_in(alloc, self, frames);
+        code
+    }
+
+    /// Ends a reader, and gives back its memory. What it held of a packet is gone.
+    pub fn close(&mut self, alloc: Global) -> u32
+        ensures code { MatchOption self.old.kept (result ≡ NO_NODE) (λ _. result ≡ OK) }
+        ensures closed { self.new.kept ≡ None }
+    {
+        match take_out(alloc, self) {
+            Some(_ended) => OK,
+            None => NO_NODE,
+        }
     }
 }
 

@@ -13,7 +13,7 @@ mod numbers;
 mod reader;
 mod room;
 
-pub use crate::calls::{close, head, open, take};
+pub use crate::calls::head;
 pub use crate::handle::FramesHandle;
 pub use crate::laws::frames_are_taken;
 pub use crate::numbers::CameNumbers;

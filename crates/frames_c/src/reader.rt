@@ -1,7 +1,7 @@
 //! A reader of frames that takes memory only when it is made.
 
 ghost use Rattle.std.specs.Prelude.{◌≡◌, ◌≢◌, ◌≤◌, [], Some, IfOk, length};
-ghost use Rattle.frames.specs.Reading.{behind_end, came_of, comes, first_reading, in_body, in_head, is_between, next, step};
+ghost use Rattle.frames.specs.Reading.{behind_end, came_of, comes, first_reading, in_body, next, step};
 ghost use Rattle.frames.specs.declared.flags.Flag.TheVariants.{Last};
 ghost use Rattle.frames_c.specs.Numbers.{came_numbers, numbers_if, packet_in};
 ghost use Rattle.frames_c.specs.Taking.{take_whole, whole_in, whole_of};
@@ -28,12 +28,12 @@ pub struct Frames {
 
 impl Model for Frames {
     ghost use Rattle.std.specs.Prelude.{◌<◌, length};
-    ghost use Rattle.frames.specs.Reading.{Reading};
+    ghost use Rattle.frames.specs.Reading.{Reading, reading};
     ghost use Rattle.frames.specs.declared.heads.TheConstants.{HEAD_LENGTH};
 
     ghost Value = { Reading };
 
-    ghost view = { λ r. record { head = r.head.items; flag = r.flag; left = r.left; held = r.held } };
+    ghost view = { λ r. reading r.head.items r.flag r.left r.held };
 
     ghost invariant = { λ r. length r.head.items < HEAD_LENGTH };
 }
@@ -52,21 +52,6 @@ impl Frames {
         })
     }
 
-    /// Whether the last frame has ended, and no byte of another came.
-    fn is_between(&self) -> bool
-        ensures { result ≡ is_between self.now }
-    {
-        self.left == 0 && self.head.is_empty()
-    }
-
-    /// Takes a byte of a head.
-    fn take_head(&mut self, byte: u8)
-        requires { self.old.left ≡ 0 }
-        ensures { self.new ≡ in_head self.old byte }
-    {
-        take_head(&mut self.head, &mut self.flag, &mut self.left, byte);
-    }
-
     /// Takes a byte of a body.
     fn take_body(&mut self, byte: u8)
         requires { self.old.left ≢ 0 }
@@ -83,7 +68,7 @@ impl Frames {
         ensures { self.new ≡ next self.old byte }
     {
         if self.left == 0 {
-            self.take_head(byte);
+            take_head(&mut self.head, &mut self.flag, &mut self.left, byte);
         } else {
             self.take_body(byte);
         }
@@ -143,7 +128,7 @@ impl Frames {
         ensures read { self.new ≡ step self.old byte }
     {
         self.take_byte(byte);
-        if self.is_between() {
+        if self.left == 0 && self.head.is_empty() {
             self.end(taken, room)
         } else {
             None

@@ -78,22 +78,18 @@ module _ {S : Type 0} (reads : Reads S) (words : DecideWords) where
   -- each line of the file was taken in turn
   pub record DecidesFile (before after : S) (old new : Option (List ℕ)) : Type 0 where
     pub text : List ℕ
-    pub policy : PolicyValue
-    pub windows : Bor WindowsValue
+    pub first : Deciding
+    pub ready : IsReady before text first after
     pub left : Deciding
-    pub given : IsGiven before text policy after
-    pub windows_are : windows.now ≡ words.windows
-    pub all : AreTaken DecidesLine (lines_of text) (at_first policy words.ports windows) left old new
+    pub all : AreTaken DecidesLine (lines_of text) first left old new
 
   -- each line up to one was taken in turn, and that one is bad
   pub record StopsFile (before after : S) (old new : Option (List ℕ)) (fault : Fault) : Type 0 where
     pub text : List ℕ
-    pub policy : PolicyValue
-    pub windows : Bor WindowsValue
+    pub first : Deciding
+    pub ready : IsReady before text first after
     pub left : Deciding
-    pub given : IsGiven before text policy after
-    pub windows_are : windows.now ≡ words.windows
-    pub stop : StopsIn DecidesLine IsBadLine (lines_of text) (at_first policy words.ports windows) left old new fault
+    pub stop : StopsIn DecidesLine IsBadLine (lines_of text) first left old new fault
 
   -- why not all lines were taken
   abbrev pub IsNotDecided : (before after : S) → (old new : Option (List ℕ)) → Fault → Type 0

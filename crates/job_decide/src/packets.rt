@@ -126,20 +126,27 @@ fn table_of(alloc: Global, policy: &Policy, port: u8) -> Result<(Table, Vec<usiz
     Ok((table, lines))
 }
 
+/// The policy that decides on a command, and the port at which it came.
+#[derive(Clone, Copy)]
+struct PortPolicy<'a> {
+    policy: &'a Policy,
+    port: u8,
+}
+
 /// Decides on a command that no check of its header answers, and prints by which rule, and why by no rule before.
 fn decide_admitted<W: Write>(
     alloc: Global,
-    policy: &Policy,
+    at: PortPolicy<'_>,
     counts: &mut Counts,
-    port: u8,
     command: &Command,
     out: &mut W,
 ) -> Result<(), LineHalt>
-    ensures told { OnOk result (TellsDecision port policy.now command.now counts.old counts.new
+    ensures told { OnOk result (TellsDecision at.entry.port at.entry.policy.now command.now counts.old counts.new
         (W.contents out.old) (W.contents out.new)) }
     ensures stops { IfErr result (StopsLineBy (IsRefused (W.contents out.old) (W.contents out.new))) }
 {
     let (front, tail) = (command.front(), command.tail());
+    let PortPolicy { policy, port } = at;
     let (table, lines) = table_of(alloc, policy, port)?;
     let mut calls = Vec::new(alloc);
     let found = table.matched(front, tail, counts, &mut calls)?;
@@ -159,22 +166,21 @@ fn decide_admitted<W: Write>(
 fn decide_on<W: Write>(
     alloc: Global,
     windows: &Windows,
-    policy: &Policy,
+    at: PortPolicy<'_>,
     counts: &mut Counts,
-    port: u8,
     command: &Command,
     out: &mut W,
 ) -> Result<(), LineHalt>
-    ensures told { OnOk result (TellsCommand port policy.now command.now
+    ensures told { OnOk result (TellsCommand at.entry.port at.entry.policy.now command.now
         (header_check command.now windows.now) counts.old counts.new
         (W.contents out.old) (W.contents out.new)) }
     ensures stops { IfErr result (StopsLineBy (IsRefused (W.contents out.old) (W.contents out.new))) }
 {
     match header_check(command, windows) {
-        Ok(_place) => decide_admitted(alloc, policy, counts, port, command, out),
+        Ok(_place) => decide_admitted(alloc, at, counts, command, out),
         Err(fault) => {
             let why = fault_text(alloc, fault)?;
-            Ok(print_answered(out, port, fault.status(), why.as_str())?)
+            Ok(print_answered(out, at.port, fault.status(), why.as_str())?)
         }
     }
 }
@@ -195,7 +201,10 @@ pub fn decide_packet<W: Write>(
     ensures stops { IfErr result (StopsLineBy (IsRefused (W.contents out.old) (W.contents out.new))) }
 {
     match Command::view(packet) {
-        Ok(command) => decide_on(alloc, windows, policy, counts, port, &command, out),
+        Ok(command) => {
+            let at = PortPolicy { policy, port };
+            decide_on(alloc, windows, at, counts, &command, out)
+        }
         Err(discard) => Ok(print_discard(out, port, discard)?),
     }
 }

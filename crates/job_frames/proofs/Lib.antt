@@ -1,2 +1,1 @@
-mod Ports
 mod Told

@@ -1,24 +1,27 @@
 -- A node behind a link: what it makes of what comes with a frame.
-use Rattle.std.specs.Prelude.{◌≡◌, ℕ, ◌+◌, ◌-◌, ◌^◌, min, Bool, true, false, List, [], ◌∷◌, ◌++◌, length, Some}
+use Rattle.std.specs.Prelude.{◌≡◌, ℕ, ◌+◌, ◌-◌, ◌^◌, min, Bool, true, false, List, [], ◌∷◌, ◌++◌, length, Option, Some}
 use Rattle.spw.specs.Cargo.{Cargo}
 use Rattle.node_parts.specs.declared.served.Served.{Served}
+use Rattle.scrub.specs.declared.guard.Found.{Found}
 use Rattle.frames.specs.Streams.{reply_frame_of}
 use Rattle.frames.specs.declared.came.Came.{Came}
 use Rattle.frames.specs.declared.came.Came.TheVariants.{Whole, Piece, Time, Other}
-use Rattle.job_nodes.specs.JobNode.{JobNodeValue, Serves}
+use Rattle.job_nodes.specs.JobNode.{JobNodeValue}
 use Rattle.job_live.specs.Answering.{MakesRoom}
 use Rattle.job_live.specs.Journals.{Turns, journals_text}
+use Rattle.job_live.specs.LiveNodes.{KeepsGuard, LiveNodeValue, ServesLive, with_node}
+use Rattle.job_live.specs.ScrubLines.{found_text}
 use Rattle.job_frames.specs.Told.{fault_line, served_text}
 use Rattle.frames.specs.declared.faults.FrameFault.TheVariants.{ForBridge, CutOff}
 
 -- a node, how many frames came, and whether a packet goes on with the next
 pub record AnsweringValue : Type 0 where
-  pub node : JobNodeValue
+  pub node : LiveNodeValue
   pub count : ℕ
   pub is_open : Bool
 
 -- a node before a frame came
-abbrev pub first_answering : JobNodeValue → AnsweringValue
+abbrev pub first_answering : LiveNodeValue → AnsweringValue
 first_answering node = record { node = node; count = 0; is_open = false }
 
 -- the number of the next frame; they are counted up to 2⁶⁴ - 1
@@ -35,15 +38,16 @@ due_of [] = []
 due_of (byte ∷ reply) = reply_frame_of (byte ∷ reply)
 
 -- a packet, which ended with the frame of that number, met a journal with room for its command, and was served; its reply is
--- due, and behind it are told the journals that were full, and that the packet was discarded, if it was
-pub record AnswersPacket (packet : Cargo) (frame : ℕ) (before after : JobNodeValue) (reply text : List ℕ) : Type 0 where
+-- due, and then are told the journals that were full, what a scrub found, and that the packet was discarded, if it was
+pub record AnswersPacket (packet : Cargo) (frame : ℕ) (before after : LiveNodeValue) (reply text : List ℕ) : Type 0 where
   pub ready : JobNodeValue
   pub journal : List ℕ
+  pub found : Option Found
   pub served : Served
-  pub room : MakesRoom before ready (Some []) (Some journal)
-  pub serves : Serves served 0 packet ready after
-  pub replied : reply ≡ due_of after.reply
-  pub told : text ≡ journal ++ served_text frame served
+  pub room : MakesRoom before.node ready (Some []) (Some journal)
+  pub serves : ServesLive found served 0 packet (with_node before ready) after
+  pub replied : reply ≡ due_of after.node.reply
+  pub told : text ≡ journal ++ found_text found ++ served_text frame served
 
 -- nothing is due
 abbrev pub AreNone : (reply text : List ℕ) → Type 0
@@ -78,6 +82,7 @@ cut_text true frame = []
 cut_text false frame = fault_line frame CutOff
 
 -- the text that is due where no more bytes come: behind that the entries of the journals, which were handed out
-pub record EndsWith (is_whole : Bool) (behind : AnsweringValue) (after : JobNodeValue) (text : List ℕ) : Type 0 where
-  pub turned : Turns true (length behind.node.banks) behind.node after
-  pub told : text ≡ cut_text is_whole (next_number behind) ++ journals_text true behind.node.banks
+pub record EndsWith (is_whole : Bool) (behind : AnsweringValue) (after : LiveNodeValue) (text : List ℕ) : Type 0 where
+  pub turned : Turns true (length behind.node.node.banks) behind.node.node after.node
+  pub guard : KeepsGuard behind.node after
+  pub told : text ≡ cut_text is_whole (next_number behind) ++ journals_text true behind.node.node.banks

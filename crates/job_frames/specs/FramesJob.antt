@@ -1,7 +1,6 @@
 -- The job that answers frames: what it reads, sends and tells.
 use Rattle.std.specs.Prelude.{◌≡◌, ◌⊎◌, ◌&&◌, ℕ, Bool, true, false, not, List, codes}
 use Rattle.std.specs.Borrow.{Bor}
-use Rattle.job_config.specs.declared.sources.NodeSource.{NodeSource}
 use Rattle.job_parts.specs.Files.{Reads}
 use Rattle.job_parts.specs.declared.faults.Fault.{Fault}
 use Rattle.job_parts.specs.declared.faults.Fault.TheVariants.{CannotRead, NoMemory}
@@ -12,7 +11,9 @@ use Rattle.job_parts.specs.declared.stops.Halt.TheVariants.{Ended, Unwritten}
 use Rattle.job_parts.specs.declared.stops.WriteFault.{WriteFault}
 use Rattle.job_nodes.specs.JobNode.{JobNodeValue}
 use Rattle.job_nodes.specs.Sources.{HoldsNoNode, HoldsNode}
-use Rattle.job_live.specs.LiveJob.{TellsLast}
+use Rattle.job_live.specs.LiveJob.{HoldsLive, TellsLast}
+use Rattle.job_live.specs.LiveNodes.{LiveNodeValue}
+use Rattle.job_live.specs.declared.words.LiveWords.{LiveWords}
 use Rattle.frames.specs.Reading.{Reading, first_reading, is_between}
 use Rattle.linking.specs.Linking.{Fails, IsCutOff, IsWholeLink, Moves}
 use Rattle.linking.specs.declared.link.Broken.{Broken}
@@ -31,7 +32,7 @@ IsHalt Unsent halt = halt ≡ Unwritten (record {})
 IsHalt Untold halt = halt ≡ Unwritten (record {})
 
 -- what is due where no more bytes come was told, or could not be told, and the node is then this
-pub record TellsEnd {L : Type 0} (told : Moves L) (is_whole : Bool) (behind : AnsweringValue) (after : JobNodeValue) (last to : L) : Type 0
+pub record TellsEnd {L : Type 0} (told : Moves L) (is_whole : Bool) (behind : AnsweringValue) (after : LiveNodeValue) (last to : L) : Type 0
   where
     pub text : List ℕ
     pub ends : EndsWith is_whole behind after text
@@ -39,13 +40,13 @@ pub record TellsEnd {L : Type 0} (told : Moves L) (is_whole : Bool) (behind : An
 
 -- what is due where no more bytes come was not told: memory was refused to it, and the node is as before; or the text could not
 -- be told
-abbrev pub IsEndUntold : {L : Type 0} (untold : Moves L) (is_whole : Bool) (behind : AnsweringValue) (after : JobNodeValue) (last to : L) → Halt → Type 0
+abbrev pub IsEndUntold : {L : Type 0} (untold : Moves L) (is_whole : Bool) (behind : AnsweringValue) (after : LiveNodeValue) (last to : L) → Halt → Type 0
 IsEndUntold untold is_whole behind after last to (Ended fault) = (fault ≡ NoMemory) × (after ≡ behind.node) × (to ≡ last)
 IsEndUntold untold is_whole behind after last to (Unwritten refused) = TellsEnd untold is_whole behind after last to
 
 -- a link was held to its end: what is due for its frames was sent and told, frame for frame, and then what is due there; and
 -- whether it ended between two packets
-pub record HoldsLink {L : Type 0} (came sent told : Moves L) (start read : Reading) (before : AnsweringValue) (after : JobNodeValue)
+pub record HoldsLink {L : Type 0} (came sent told : Moves L) (start read : Reading) (before : AnsweringValue) (after : LiveNodeValue)
     (from to : L) (is_whole : Bool) : Type 0 where
   pub behind : AnsweringValue
   pub last : L
@@ -55,7 +56,7 @@ pub record HoldsLink {L : Type 0} (came sent told : Moves L) (start read : Readi
 
 module _ {L : Type 0} (came sent told : Moves L) (unread : Fails L) (unsent untold : Moves L) where
   -- bytes came to their end, and what is due there was not told
-  pub record StopsAtEnd (start read : Reading) (before : AnsweringValue) (after : JobNodeValue) (from to : L) (halt : Halt) :
+  pub record StopsAtEnd (start read : Reading) (before : AnsweringValue) (after : LiveNodeValue) (from to : L) (halt : Halt) :
       Type 0 where
     pub behind : AnsweringValue
     pub last : L
@@ -63,7 +64,7 @@ module _ {L : Type 0} (came sent told : Moves L) (unread : Fails L) (unsent unto
     pub end_untold : IsEndUntold untold (ends_whole read behind) behind after last to halt
 
   -- a link was cut off before its end
-  pub record StopsBefore (start read : Reading) (before : AnsweringValue) (after : JobNodeValue) (from to : L) (halt : Halt) :
+  pub record StopsBefore (start read : Reading) (before : AnsweringValue) (after : LiveNodeValue) (from to : L) (halt : Halt) :
       Type 0 where
     pub why : Broken
     pub behind : AnsweringValue
@@ -72,50 +73,50 @@ module _ {L : Type 0} (came sent told : Moves L) (unread : Fails L) (unsent unto
     pub is_halt : IsHalt why halt
 
   -- a link was cut off, or only what is due at its end was not told
-  abbrev pub StopsLink : (start read : Reading) (before : AnsweringValue) (after : JobNodeValue) (from to : L) → Halt → Type 0
+  abbrev pub StopsLink : (start read : Reading) (before : AnsweringValue) (after : LiveNodeValue) (from to : L) → Halt → Type 0
   StopsLink start read before after from to halt =
       StopsBefore start read before after from to halt ⊎ StopsAtEnd start read before after from to halt
 
--- nothing was read, and no frame came to the node, which is that of the source
-pub record AreReady {S : Type 0} (reads : Reads S) (source : NodeSource) (before : S) (read : Reading) (behind : AnsweringValue) (after : S) :
+-- nothing was read, and no frame came to the node, which is that of the words
+pub record AreReady {S : Type 0} (reads : Reads S) (words : LiveWords) (before : S) (read : Reading) (behind : AnsweringValue) (after : S) :
     Type 0 where
-  pub fresh : JobNodeValue
-  pub node : HoldsNode reads source before fresh after
+  pub fresh : LiveNodeValue
+  pub node : HoldsLive reads words before fresh after
   pub untouched : behind ≡ first_answering fresh
   pub unread : read ≡ first_reading
 
--- the node of the source was made, but memory was refused to the reader of frames
-pub record IsReaderUnmade {S : Type 0} (reads : Reads S) (source : NodeSource) (before after : S) (fault : Fault) : Type 0 where
+-- the node of the words was made, but memory was refused to the reader of frames
+pub record IsReaderUnmade {S : Type 0} (reads : Reads S) (words : LiveWords) (before after : S) (fault : Fault) : Type 0 where
   pub fresh : JobNodeValue
-  pub node : HoldsNode reads source before fresh after
+  pub node : HoldsNode reads words.node before fresh after
   pub is_fault : fault ≡ NoMemory
 
--- there is no node of the source, or no reader of frames
-abbrev pub IsNoLink : {S : Type 0} (reads : Reads S) (source : NodeSource) (before after : S) → Fault → Type 0
-IsNoLink reads source before after fault =
-    HoldsNoNode reads source before after fault ⊎ IsReaderUnmade reads source before after fault
+-- there is no node of the words, or no reader of frames
+abbrev pub IsNoLink : {S : Type 0} (reads : Reads S) (words : LiveWords) (before after : S) → Fault → Type 0
+IsNoLink reads words before after fault =
+    HoldsNoNode reads words.node before after fault ⊎ IsReaderUnmade reads words before after fault
 
-module _ {S L : Type 0} (reads : Reads S) (came sent told : Moves L) (unread : Fails L) (unsent untold : Moves L) (source : NodeSource) where
-  -- a link was held to its end on the node of the source
+module _ {S L : Type 0} (reads : Reads S) (came sent told : Moves L) (unread : Fails L) (unsent untold : Moves L) (words : LiveWords) where
+  -- a link was held to its end on the node of the words
   pub record HoldsFrames (before after : S) (start stop : L) (is_whole : Bool) : Type 0 where
-    pub fresh : JobNodeValue
-    pub left : JobNodeValue
+    pub fresh : LiveNodeValue
+    pub left : LiveNodeValue
     pub read : Reading
-    pub node : HoldsNode reads source before fresh after
+    pub node : HoldsLive reads words before fresh after
     pub link : HoldsLink came sent told first_reading read (first_answering fresh) left start stop is_whole
 
-  -- a link on the node of the source was cut off
+  -- a link on the node of the words was cut off
   pub record BreaksFrames (before after : S) (start stop : L) (halt : Halt) : Type 0 where
-    pub fresh : JobNodeValue
-    pub left : JobNodeValue
+    pub fresh : LiveNodeValue
+    pub left : LiveNodeValue
     pub read : Reading
-    pub node : HoldsNode reads source before fresh after
+    pub node : HoldsLive reads words before fresh after
     pub broken : StopsLink came sent told unread unsent untold first_reading read (first_answering fresh) left start stop halt
 
   -- why no link was held to its end: there is no such node, and nothing came, was sent or was told; or a link was cut off
   abbrev pub IsUnheld : (before after : S) (start stop : L) → Halt → Type 0
   IsUnheld before after start stop (Ended fault) =
-      (IsNoLink reads source before after fault × (stop ≡ start))
+      (IsNoLink reads words before after fault × (stop ≡ start))
       ⊎ BreaksFrames before after start stop (Ended fault)
   IsUnheld before after start stop (Unwritten refused) = BreaksFrames before after start stop (Unwritten refused)
 

@@ -1,6 +1,6 @@
 //! The node behind a link, which answers frames.
 
-ghost use Rattle.std.specs.Prelude.{◌≡◌, ◌≤◌, ◌<◌, ◌+◌, ◌++◌, [], ℕ, List, IfOk, OnErr, OnOk, length};
+ghost use Rattle.std.specs.Prelude.{◌≡◌, ◌≤◌, ◌+◌, ◌++◌, [], ℕ, IfOk, OnErr, OnOk, length};
 ghost use Rattle.std.specs.Vec.{vec_capacity, vec_len};
 ghost use Rattle.job_frames.specs.Answering.{Answers, AnswersPacket, AreNone, EndsWith, IsFaultDue, Refuses, cut_text, due_of, first_answering};
 ghost use Rattle.job_frames.specs.Told.{discard_words, served_text};
@@ -8,9 +8,10 @@ ghost use Rattle.job_parts.specs.Printed.{Prints};
 
 use crate::faults::print_fault;
 use frames::{Came, FrameFault, HEAD_LENGTH, reply_head};
-use job_live::answering::{hand_out, make_room};
-use job_live::putting::{drop_words, put, put_discard_code};
-use job_nodes::node::JobNode;
+use job_live::answering::{CODE, hand_out, make_room};
+use job_live::live_node::LiveNode;
+use job_live::putting::{put, put_discard_code};
+use job_live::scrub_lines::{MOST_OF_SCRUB, put_found};
 use linking::{Cannot, Due, Target};
 use node_parts::{Served, Stop};
 use rmap::MAX_REPLY;
@@ -22,8 +23,8 @@ use std::marker::Model;
 /// The port of the node that a link is.
 const PORT: u8 = 0;
 
-/// How many bytes a line has behind its words: a number of one digit, and the line feed.
-const CODE: usize = 2;
+/// How many bytes what is told of a packet has at most, besides the words before the number of a discard.
+const MOST_BESIDE: usize = MOST_OF_SCRUB + CODE;
 
 /// How many bytes the frame of the longest reply has.
 const MOST_OF_REPLY: usize = HEAD_LENGTH + MAX_REPLY;
@@ -52,39 +53,43 @@ fn discard_words(alloc: Global, frame: u64) -> io::Result<Vec<u8>>
     Ok(words)
 }
 
-/// Tells what became of a packet in the place of the words that stand in the text from `end` on: those before the number of a
-/// discard. Conditions: they stand there, and behind them is room for that number and the end of the line.
+/// Tells what became of a packet behind a text: that it was discarded, if it was, by these words before the number of the discard.
+/// The condition is room for them, for that number, and for the end of the line.
 #[tactic(auto, using(crate::proofs::Told::no_more))]
-fn tell_served(text: &mut Vec<u8>, end: usize, served: Served)
-    requires { vec_len text.old + CODE ≤ vec_capacity text.old }
-    ensures { (begun : List ℕ) (frame : ℕ) → length begun ≡ end
-        → text.old.items ≡ begun ++ discard_words frame
-        → text.new.items ≡ begun ++ served_text frame served }
+fn tell_served(text: &mut Vec<u8>, words: &[u8], served: Served)
+    requires { vec_len text.old + (length words.now + CODE) ≤ vec_capacity text.old }
+    ensures { (frame : ℕ) → words.now ≡ discard_words frame
+        → text.new.items ≡ text.old.items ++ served_text frame served }
 {
     match served {
-        Served::Stopped(Stop::Discarded(discard)) => put_discard_code(text, discard),
+        Served::Stopped(Stop::Discarded(discard)) => {
+            put(text, words);
+            put_discard_code(text, discard);
+        }
         Served::Stopped(Stop::Answered(_)) | Served::Unread | Served::Done(_) | Served::Window(_) =>
-            { drop_words(text, end) }
+            {}
     }
 }
 
 /// Serves a packet, for whose command the journal has room then, and gives the reply that is due, and what is told. Memory is
 /// taken before anything is done.
-#[tactic(auto, using(crate::proofs::Ports::served_ports, crate::proofs::Ports::ready_ports, crate::proofs::Told::packet_answered))]
-fn answer_packet(alloc: Global, node: &mut JobNode, packet: Packet, frame: u64) -> io::Result<Due>
-    requires { 0 < length node.old.passes }
+#[tactic(auto, using(crate::proofs::Told::packet_answered))]
+fn answer_packet(alloc: Global, node: &mut LiveNode, packet: Packet, frame: u64) -> io::Result<Due>
     ensures due { IfOk result (λ due. AnswersPacket packet frame node.old node.new
         due.reply.items due.text.items) }
     ensures kept { OnErr result (node.new ≡ node.old) }
-    ensures ports { length node.new.passes ≡ length node.old.passes }
 {
     let words = discard_words(alloc, frame)?;
     let mut reply = Vec::with_capacity(alloc, MOST_OF_REPLY)?;
     let mut text = Vec::new(alloc);
-    let end = make_room(node, words.as_slice(), CODE, &mut text)?;
-    let served = node.serve(alloc, PORT, packet);
-    put_due(&mut reply, node.reply());
-    tell_served(&mut text, end, served);
+    let more = words.len() + MOST_BESIDE;
+    make_room(&mut node.node, more, &mut text)?;
+    // A node has a port.
+    let _ports = node.node.ports();
+    let (found, served) = node.serve(alloc, PORT, packet);
+    put_due(&mut reply, node.node.reply());
+    put_found(&mut text, found);
+    tell_served(&mut text, words.as_slice(), served);
     Ok(Due { reply, text })
 }
 
@@ -111,20 +116,17 @@ fn fault_due(alloc: Global, frame: u64) -> io::Result<Due>
 #[derive(Drop)]
 pub struct Answering {
     alloc: Global,
-    node: JobNode,
+    node: LiveNode,
     count: u64,
     is_open: bool,
 }
 
 impl Model for Answering {
-    ghost use Rattle.std.specs.Prelude.{◌<◌, length};
     ghost use Rattle.job_frames.specs.Answering.{AnsweringValue};
 
     ghost Value = { AnsweringValue };
 
     ghost view = { λ a. record { node = a.node; count = a.count; is_open = a.is_open } };
-
-    ghost invariant = { λ a. 0 < length a.node.passes };
 }
 
 /// Prints what is told first where no more bytes come: that the frame of that number was cut off, if the input did not end
@@ -139,9 +141,8 @@ fn print_cut<W: Write>(out: &mut W, frame: u64, is_whole: bool) -> io::Result<()
 }
 
 impl Answering {
-    /// The node, before a frame came. The condition is that it has a port.
-    pub fn new(alloc: Global, node: JobNode) -> Answering
-        requires { 0 < length node.passes }
+    /// The node, before a frame came.
+    pub fn new(alloc: Global, node: LiveNode) -> Answering
         ensures { result ≡ first_answering node }
     {
         Answering {
@@ -167,7 +168,7 @@ impl Answering {
     {
         let mut text = Vec::new(self.alloc);
         print_cut(&mut text, self.count.saturating_add(1), is_whole)?;
-        hand_out(&mut self.node, &mut text)?;
+        hand_out(&mut self.node.node, &mut text)?;
         Ok(text)
     }
 }

@@ -7,8 +7,9 @@ ghost use Rattle.job_frames.specs.FramesJob.{AreReady, HoldsFrames, HoldsLink, I
 
 use crate::answering::Answering;
 use frames::FrameReader;
-use job_config::sources::NodeSource;
 use job_live::live::NO_MEMORY;
+use job_live::live_node::LiveNode;
+use job_live::words::LiveWords;
 use job_nodes::sources::{node_from, place_of};
 use job_parts::faults::Fault;
 use job_parts::status::Status;
@@ -21,20 +22,20 @@ use std::io::Write;
 /// The name of standard input, where the bytes cannot be read.
 const STANDARD_INPUT: &str = "-";
 
-/// A reader, and the node of this source, before a frame came.
+/// A reader, and the node of these words, before a frame came.
 fn ends_of_link<'a, F: Files>(
     alloc: Global,
-    source: &'a NodeSource,
+    words: &'a LiveWords,
     files: &mut F,
 ) -> Result<(FrameReader, Answering), Fault<'a>>
     ensures ready { IfOk result
-        (λ ends. AreReady F.reads source.now files.old ends.0 ends.1 files.new) }
-    ensures refused { IfErr result (IsNoLink F.reads source.now files.old files.new) }
+        (λ ends. AreReady F.reads words.now files.old ends.0 ends.1 files.new) }
+    ensures refused { IfErr result (IsNoLink F.reads words.now files.old files.new) }
 {
-    let node = node_from(alloc, source, files)?;
-    let _ports = node.ports();
+    let node = node_from(alloc, &words.node, files)?;
     let reader = FrameReader::new(alloc)?;
-    Ok((reader, Answering::new(alloc, node)))
+    let live = LiveNode::new(node, words.scrub);
+    Ok((reader, Answering::new(alloc, live)))
 }
 
 /// Why the job stops, where a link was cut off so.
@@ -87,19 +88,19 @@ fn hold_to_end<'a, L: Link>(
     Ok(is_whole)
 }
 
-/// Holds a link on the node of this source to its end: whether it ended between two packets.
+/// Holds a link on the node of these words to its end: whether it ended between two packets.
 fn hold_on<'a, F: Files, L: Link>(
     alloc: Global,
-    source: &'a NodeSource,
+    words: &'a LiveWords,
     files: &mut F,
     link: &mut L,
 ) -> Result<bool, Halt<'a>>
     ensures held { IfOk result (HoldsFrames F.reads L.came L.sent L.told L.unread L.unsent L.untold
-        source.now files.old files.new link.old link.new) }
+        words.now files.old files.new link.old link.new) }
     ensures stops { IfErr result (IsUnheld F.reads L.came L.sent L.told L.unread L.unsent L.untold
-        source.now files.old files.new link.old link.new) }
+        words.now files.old files.new link.old link.new) }
 {
-    let (mut reader, mut answering) = ends_of_link(alloc, source, files)?;
+    let (mut reader, mut answering) = ends_of_link(alloc, words, files)?;
     hold_to_end(&mut reader, &mut answering, link)
 }
 
@@ -127,7 +128,7 @@ fn status_of(is_whole: bool) -> Status
     }
 }
 
-/// Answers the frames of a link as they come, at port 0 of the node of this source, and gives the exit status:
+/// Answers the frames of a link as they come, at port 0 of the node of these words, and gives the exit status:
 /// `Failed` where the input ended within a frame or a packet, or a fault cut the link off, else `Done`. The reply to a
 /// packet is sent before other bytes are asked for, and what is told of it after that.
 ///
@@ -137,17 +138,17 @@ fn status_of(is_whole: bool) -> Status
 /// bad, `place` is then where, for the user.
 pub fn live_frames<F: Files, L: Link>(
     alloc: Global,
-    source: &NodeSource,
+    words: &LiveWords,
     files: &mut F,
     link: &mut L,
     place: &mut Option<String>,
 ) -> Result<Status, WriteFault>
     ensures lives { IfOk result (LivesFrames F.reads L.came L.sent L.told L.unread L.unsent L.untold
-        source.now files.old files.new link.old link.new) }
+        words.now files.old files.new link.old link.new) }
     ensures unsent { IfErr result (IsFramesUnsent F.reads L.came L.sent L.told L.unread L.unsent
-        L.untold source.now files.old files.new link.old link.new) }
+        L.untold words.now files.old files.new link.old link.new) }
 {
-    match hold_on(alloc, source, files, link) {
+    match hold_on(alloc, words, files, link) {
         Ok(is_whole) => Ok(status_of(is_whole)),
         Err(halt) => {
             let fault = halt.fault()?;

@@ -1,5 +1,5 @@
 -- Digits that are put behind a text.
-use Rattle.std.proofs.Common.{◌≡◌, ◌<◌, ◌≤◌, ◌+◌, ℕ, List, [], ◌∷◌, ◌++◌, length, take, get_or, refl, sym, ap, ◌∙◌, arith}
+use Rattle.std.proofs.Common.{◌≡◌, ◌<◌, ◌≤◌, ◌+◌, ℕ, List, [], ◌∷◌, ◌++◌, length, take, get_or, sym, ap, ◌∙◌, arith}
 use Rattle.std.specs.Prelude.{◌/◌, ◌%◌, ◌^◌, decimal}
 use Rattle.rmap.specs.Codes.{discard_code}
 use Rattle.rmap.specs.declared.discard.Discard.{Discard}
@@ -59,14 +59,9 @@ three_digits old new n large small put =
 pub code_put : (old new : List ℕ) (n : ℕ) → n < 10 → new ≡ old ++ (48 + n) ∷ 10 ∷ [] → new ≡ old ++ (decimal n ++ 10 ∷ [])
 code_put old new n small put = put ∙ ap (λ (l : List ℕ). old ++ (l ++ 10 ∷ [])) (sym (decimal_digit n small))
 
--- what stands before some words
-front : (begun words : List ℕ) → take (length begun) (begun ++ words) ≡ begun
-front [] words = refl
-front (first ∷ begun) words = ap (λ (l : List ℕ). first ∷ l) (front begun words)
-
-pub without_words : (begun words text new : List ℕ) (end : ℕ) → new ≡ take end text → length begun ≡ end → text ≡ begun ++ words → new ≡ begun
-without_words begun words text new end cut is text_is =
-    cut ∙ ap (λ (n : ℕ). take n text) (sym is) ∙ ap (λ (l : List ℕ). take (length begun) l) text_is ∙ front begun words
+-- nothing more
+pub none_more : (text new : List ℕ) → new ≡ text → new ≡ text ++ []
+none_more text new is = is ∙ sym (append-nil text)
 
 -- a line of words, a number and its end
 pub code_behind : (old new : List ℕ) (n : ℕ) (begun words : List ℕ) → new ≡ old ++ (decimal n ++ 10 ∷ []) → old ≡ begun ++ words

@@ -5,22 +5,22 @@ use Rattle.std.specs.Io.KnownBytes.{Appends}
 use Rattle.node_programs.specs.Published.{sizes_of}
 use Rattle.spw.specs.Line.{IsPort, words_of}
 use Rattle.spw.specs.declared.faults.LineFault.TheVariants.{NoPort, TooLong}
-use Rattle.node_parts.specs.declared.served.Served.{Served}
 use Rattle.bank.specs.Records.{JournalValue}
 use Rattle.job_parts.specs.Printed.{fault_line}
 use Rattle.job_parts.specs.declared.bad_lines.BadLine.{BadLine}
 use Rattle.job_parts.specs.declared.bad_lines.BadLine.TheVariants.{Line, NoPort as NoSuchPort}
 use Rattle.job_parts.specs.declared.faults.Fault.TheVariants.{BadLine as AtLine}
-use Rattle.job_nodes.specs.JobNode.{JobNodeValue, RefusesLine, SetsBytes, TakesLine}
-use Rattle.job_nodes.specs.Lines.{IsPrinted}
+use Rattle.job_nodes.specs.JobNode.{JobNodeValue, RefusesLine, SetsBytes}
 use Rattle.single_node.specs.Nodes.{covers_in}
 use Rattle.job_live.specs.Asks.{IsAsked}
 use Rattle.job_live.specs.CellLines.{cells_text}
+use Rattle.job_live.specs.LiveNodes.{KeepsGuard, LiveNodeValue, TakesLine, taken_text, with_node}
 use Rattle.job_live.specs.Settings.{IsNoSetting, WritesSetting}
 use Rattle.job_live.specs.Journals.{TellsJournals, bank_text}
 use Rattle.job_live.specs.declared.answering.TheConstants.{MAX_LINE}
 use Rattle.job_live.specs.declared.asks.Asks.{Asks}
 use Rattle.job_live.specs.declared.asks.Asks.TheVariants.{Packet, Journal, Cells, Set}
+use Rattle.job_live.specs.declared.live_node.Taken.{Taken}
 use Rattle.job_live.specs.declared.settings.Setting.{Setting}
 
 -- the journals were handed out, and their entries were printed
@@ -36,26 +36,24 @@ pub record TellsCells (before after : JobNodeValue) (old new : Option (List ℕ)
 abbrev pub MakesRoom : (before after : JobNodeValue) → (old new : Option (List ℕ)) → Type 0
 MakesRoom before after old new = TellsJournals false before after old new
 
--- the journals that are full were handed out before a packet; behind the text stand their entries, and behind them, from that
--- place on, these words
-pub record IsReady (words : List ℕ) (end : ℕ) (before after : JobNodeValue) (old new : List ℕ) : Type 0 where
-  pub begun : List ℕ
-  pub at : length begun ≡ end
-  pub text : new ≡ begun ++ words
-  pub room : MakesRoom before after (Some old) (Some begun)
+-- of a line that ended no packet nothing was printed, and else what came of its packet
+abbrev pub PrintsTaken : Option Taken → (reply : List ℕ) → (old new : Option (List ℕ)) → Type 0
+PrintsTaken None reply old new = new ≡ old
+PrintsTaken (Some taken) reply old new = Appends old new (taken_text taken reply)
 
 -- the node took a packet line, and what came of it was printed; or it refuses the line for that fault
-abbrev pub TakesOrRefuses : (line : List ℕ) (fault : Option BadLine) (before after : JobNodeValue) (old new : Option (List ℕ)) → Type 0
+abbrev pub TakesOrRefuses : (line : List ℕ) (fault : Option BadLine) (before after : LiveNodeValue) (old new : Option (List ℕ)) → Type 0
 TakesOrRefuses line None before after old new =
-    (came : Option (ℕ × Served)) × TakesLine line came before after × IsPrinted came after.reply old new
-TakesOrRefuses line (Some fault) before after old new = RefusesLine line fault before after × (new ≡ old)
+    (taken : Option Taken) × TakesLine line taken before after × PrintsTaken taken after.node.reply old new
+TakesOrRefuses line (Some fault) before after old new =
+    RefusesLine line fault before.node after.node × KeepsGuard before after × (new ≡ old)
 
 -- a packet line met a journal with room for its command
-pub record MeetsRoom (line : List ℕ) (fault : Option BadLine) (before after : JobNodeValue) (old new : Option (List ℕ)) : Type 0 where
+pub record MeetsRoom (line : List ℕ) (fault : Option BadLine) (before after : LiveNodeValue) (old new : Option (List ℕ)) : Type 0 where
   pub ready : JobNodeValue
   pub between : Option (List ℕ)
-  pub room : MakesRoom before ready old between
-  pub taken : TakesOrRefuses line fault ready after between new
+  pub room : MakesRoom before.node ready old between
+  pub taken : TakesOrRefuses line fault (with_node before ready) after between new
 
 -- the bytes of a write lie in the bank of its extended address, if there is one
 unfoldable pub is_inside : JobNodeValue → Setting → Bool
@@ -116,19 +114,22 @@ IsLongFault words Cells fault = IsFaultByPort words fault
 IsLongFault words Packet fault = IsFaultByPort words fault
 
 -- a line that is longer than any packet line does nothing
-abbrev pub RefusesLong : List (List ℕ) → Asks → (fault : Option BadLine) (before after : JobNodeValue) (old new : Option (List ℕ)) → Type 0
+abbrev pub RefusesLong : List (List ℕ) → Asks → (fault : Option BadLine) (before after : LiveNodeValue) (old new : Option (List ℕ)) → Type 0
 RefusesLong words asks None before after old new = ⊥
 RefusesLong words asks (Some fault) before after old new = IsLongFault words asks fault × (after ≡ before) × (new ≡ old)
 
--- what a line does that is not too long, by what it asks for
-abbrev pub DoesAsked : Asks → (line : List ℕ) (fault : Option BadLine) (before after : JobNodeValue) (old new : Option (List ℕ)) → Type 0
+-- what a line does that is not too long, by what it asks for; only a packet line may have a program scrubbed
+abbrev pub DoesAsked : Asks → (line : List ℕ) (fault : Option BadLine) (before after : LiveNodeValue) (old new : Option (List ℕ)) → Type 0
 DoesAsked Packet line fault before after old new = MeetsRoom line fault before after old new
-DoesAsked Journal line fault before after old new = (fault ≡ None) × TellsJournal before after old new
-DoesAsked Cells line fault before after old new = (fault ≡ None) × TellsCells before after old new
-DoesAsked Set line fault before after old new = SetsOrRefuses (words_of line) fault before after old new
+DoesAsked Journal line fault before after old new =
+    (fault ≡ None) × TellsJournal before.node after.node old new × KeepsGuard before after
+DoesAsked Cells line fault before after old new =
+    (fault ≡ None) × TellsCells before.node after.node old new × KeepsGuard before after
+DoesAsked Set line fault before after old new =
+    SetsOrRefuses (words_of line) fault before.node after.node old new × KeepsGuard before after
 
 -- what a line does that may be too long, by what it asks for
-abbrev pub DoesBy : (is_long : Bool) → Asks → (line : List ℕ) (fault : Option BadLine) (before after : JobNodeValue) (old new : Option (List ℕ)) → Type 0
+abbrev pub DoesBy : (is_long : Bool) → Asks → (line : List ℕ) (fault : Option BadLine) (before after : LiveNodeValue) (old new : Option (List ℕ)) → Type 0
 DoesBy true asks line fault before after old new = RefusesLong (words_of line) asks fault before after old new
 DoesBy false asks line fault before after old new = DoesAsked asks line fault before after old new
 
@@ -142,7 +143,7 @@ IsFaultPrinted number None old new = new ≡ old
 IsFaultPrinted number (Some fault) old new = Appends old new (fault_line (AtLine number fault))
 
 -- the node took a packet line or refuses it, and behind a text stands what came of it, or its fault
-pub record TakesAndTells (line : List ℕ) (number : ℕ) (is_bad : Bool) (before after : JobNodeValue) (old new : List ℕ) :
+pub record TakesAndTells (line : List ℕ) (number : ℕ) (is_bad : Bool) (before after : LiveNodeValue) (old new : List ℕ) :
     Type 0 where
   pub fault : Option BadLine
   pub between : List ℕ
@@ -161,7 +162,7 @@ pub record AnswersSetting (words : List (List ℕ)) (number : ℕ) (before after
 
 -- the line, which came as the one of that number, did what it asks for, and what is due for it was printed; it is bad
 -- where it has a fault
-pub record AnswersAsked (is_long : Bool) (asks : Asks) (line : List ℕ) (number : ℕ) (before after : JobNodeValue)
+pub record AnswersAsked (is_long : Bool) (asks : Asks) (line : List ℕ) (number : ℕ) (before after : LiveNodeValue)
     (old new : Option (List ℕ)) (is_bad : Bool) : Type 0 where
   pub fault : Option BadLine
   pub between : Option (List ℕ)
@@ -170,7 +171,7 @@ pub record AnswersAsked (is_long : Bool) (asks : Asks) (line : List ℕ) (number
   pub bad : is_bad ≡ is_some fault
 
 -- the same, by what its words ask for and by its length
-pub record Answers (line : List ℕ) (number : ℕ) (before after : JobNodeValue) (old new : Option (List ℕ)) (is_bad : Bool) :
+pub record Answers (line : List ℕ) (number : ℕ) (before after : LiveNodeValue) (old new : Option (List ℕ)) (is_bad : Bool) :
     Type 0 where
   pub asks : Asks
   pub asked : IsAsked (words_of line) asks

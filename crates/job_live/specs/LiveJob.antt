@@ -1,7 +1,6 @@
 -- The job `live`: the talk that it holds.
 use Rattle.std.specs.Prelude.{◌≡◌, ◌⊎◌, ◌||◌, ℕ, suc, Bool, true, false, List, [], ◌∷◌, length, codes, Option, Some, None}
 use Rattle.std.specs.Borrow.{Bor}
-use Rattle.job_config.specs.declared.sources.NodeSource.{NodeSource}
 use Rattle.job_parts.specs.Files.{Reads}
 use Rattle.job_parts.specs.Printed.{fault_line}
 use Rattle.job_parts.specs.declared.faults.Fault.{Fault}
@@ -14,7 +13,9 @@ use Rattle.job_parts.specs.declared.stops.WriteFault.{WriteFault}
 use Rattle.job_nodes.specs.JobNode.{JobNodeValue}
 use Rattle.job_nodes.specs.Sources.{HoldsNoNode, HoldsNode}
 use Rattle.job_live.specs.Answering.{Answers, TellsJournal}
+use Rattle.job_live.specs.LiveNodes.{IsLive, KeepsGuard, LiveNodeValue}
 use Rattle.job_live.specs.Talking.{Comes, Misses, Sends}
+use Rattle.job_live.specs.declared.words.LiveWords.{LiveWords}
 
 -- how many lines are counted: no talk gets there
 abbrev pub most_lines : ℕ
@@ -22,7 +23,7 @@ most_lines = 18446744073709551614
 
 module _ {T : Type 0} (came : Comes T) (sent : Sends T) where
   -- the line of this number came, its answer was made on the node, and was sent; it may be bad
-  pub record AnswersNext (line : List ℕ) (number : ℕ) (before after : JobNodeValue) (start stop : T) (is_bad : Bool) : Type 0
+  pub record AnswersNext (line : List ℕ) (number : ℕ) (before after : LiveNodeValue) (start stop : T) (is_bad : Bool) : Type 0
     where
       pub heard : T
       pub text : List ℕ
@@ -32,44 +33,45 @@ module _ {T : Type 0} (came : Comes T) (sent : Sends T) where
 
   -- lines came, behind so many others: each was taken on the node that those before left, and what is due for it was sent
   -- before the next was asked for; and whether one of them is bad
-  abbrev pub Talks : List (List ℕ) → (count : ℕ) (before after : JobNodeValue) (start stop : T) → (some_bad : Bool) → Type 0
+  abbrev pub Talks : List (List ℕ) → (count : ℕ) (before after : LiveNodeValue) (start stop : T) → (some_bad : Bool) → Type 0
   Talks [] count before after start stop some_bad = (after ≡ before) × (stop ≡ start) × (some_bad ≡ false)
   Talks (line ∷ lines) count before after start stop some_bad =
-      (next : JobNodeValue) × (between : T) × (is_bad : Bool) × (others : Bool)
+      (next : LiveNodeValue) × (between : T) × (is_bad : Bool) × (others : Bool)
       × AnswersNext line (suc count) before next start between is_bad
       × Talks lines (suc count) next after between stop others
       × (some_bad ≡ (is_bad || others))
 
   -- no line came any more, or one came, as the one of that number, and was answered
-  abbrev pub Exchanges : (number : ℕ) → (went : Option Bool) → (before after : JobNodeValue) (start stop : T) → Type 0
+  abbrev pub Exchanges : (number : ℕ) → (went : Option Bool) → (before after : LiveNodeValue) (start stop : T) → Type 0
   Exchanges number None before after start stop = (after ≡ before) × came start None stop
   Exchanges number (Some is_bad) before after start stop =
       (line : List ℕ) × AnswersNext line number before after start stop is_bad
 
   -- a whole talk: behind its lines no more came, or more than are counted
-  pub record IsWholeTalk (before after : JobNodeValue) (start stop : T) (some_bad : Bool) : Type 0 where
+  pub record IsWholeTalk (before after : LiveNodeValue) (start stop : T) (some_bad : Bool) : Type 0 where
     pub lines : List (List ℕ)
     pub last : T
     pub talks : Talks lines 0 before after start last some_bad
     pub ended : came last None stop ⊎ ((stop ≡ last) × (length lines ≡ most_lines))
 
 -- where no more lines come the journals were handed out, and their entries were sent
-pub record SendsEnd {T : Type 0} (sent : Sends T) (before after : JobNodeValue) (start stop : T) : Type 0 where
+pub record SendsEnd {T : Type 0} (sent : Sends T) (before after : LiveNodeValue) (start stop : T) : Type 0 where
   pub text : List ℕ
-  pub told : TellsJournal before after (Some []) (Some text)
+  pub told : TellsJournal before.node after.node (Some []) (Some text)
+  pub guard : KeepsGuard before after
   pub left : sent start text stop
 
 -- a whole talk, behind which the entries of the journal were sent
-pub record EndsTalk {T : Type 0} (came : Comes T) (sent : Sends T) (before after : JobNodeValue) (start stop : T) (some_bad : Bool) : Type 0
+pub record EndsTalk {T : Type 0} (came : Comes T) (sent : Sends T) (before after : LiveNodeValue) (start stop : T) (some_bad : Bool) : Type 0
   where
-    pub behind : JobNodeValue
+    pub behind : LiveNodeValue
     pub last : T
     pub talk : IsWholeTalk came sent before behind start last some_bad
     pub end : SendsEnd sent behind after last stop
 
 -- the entries of the journal were not sent where no more lines came: memory was refused to them, and the node is as before;
 -- or they could not be sent
-abbrev pub IsEndUnsent : {T : Type 0} (unsent : Sends T) (before after : JobNodeValue) (start stop : T) → Halt → Type 0
+abbrev pub IsEndUnsent : {T : Type 0} (unsent : Sends T) (before after : LiveNodeValue) (start stop : T) → Halt → Type 0
 IsEndUnsent unsent before after start stop (Ended fault) = (fault ≡ NoMemory) × (after ≡ before) × (stop ≡ start)
 IsEndUnsent unsent before after start stop (Unwritten refused) = SendsEnd unsent before after start stop
 
@@ -85,7 +87,7 @@ pub record TellsLast {T : Type 0} (sent : Sends T) (fault : Fault) (start stop :
 
 module _ {T : Type 0} (came : Comes T) (sent unsent : Sends T) (missed : Misses T) where
   -- a line came, and an answer was made to it on the node, of which not all could be sent
-  pub record LosesAnswer (number : ℕ) (before after : JobNodeValue) (start stop : T) : Type 0 where
+  pub record LosesAnswer (number : ℕ) (before after : LiveNodeValue) (start stop : T) : Type 0 where
     pub line : List ℕ
     pub heard : T
     pub text : List ℕ
@@ -96,7 +98,7 @@ module _ {T : Type 0} (came : Comes T) (sent unsent : Sends T) (missed : Misses 
 
   -- why no line of this number was answered: it could not be read; it came, but memory was refused to its answer, of which
   -- nothing was sent, and the node is as before; or its answer could not be sent
-  abbrev pub IsUnanswered : (number : ℕ) (before after : JobNodeValue) (start stop : T) → Halt → Type 0
+  abbrev pub IsUnanswered : (number : ℕ) (before after : LiveNodeValue) (start stop : T) → Halt → Type 0
   IsUnanswered number before after start stop (Ended fault) =
       (after ≡ before)
       × (((file : Bor (List ℕ)) × (fault ≡ CannotRead file) × (file.now ≡ codes "-") × missed start stop)
@@ -104,47 +106,54 @@ module _ {T : Type 0} (came : Comes T) (sent unsent : Sends T) (missed : Misses 
   IsUnanswered number before after start stop (Unwritten refused) = LosesAnswer number before after start stop
 
   -- some lines came and were answered in turn, and then the next was not
-  pub record IsBrokenOff (before after : JobNodeValue) (start stop : T) (halt : Halt) : Type 0 where
+  pub record IsBrokenOff (before after : LiveNodeValue) (start stop : T) (halt : Halt) : Type 0 where
     pub lines : List (List ℕ)
-    pub left : JobNodeValue
+    pub left : LiveNodeValue
     pub last : T
     pub some_bad : Bool
     pub talks : Talks came sent lines 0 before left start last some_bad
     pub unanswered : IsUnanswered (suc (length lines)) left after last stop halt
 
   -- a whole talk, behind which the entries of the journal were not sent
-  pub record StopsAtEnd (before after : JobNodeValue) (start stop : T) (halt : Halt) : Type 0 where
+  pub record StopsAtEnd (before after : LiveNodeValue) (start stop : T) (halt : Halt) : Type 0 where
     pub some_bad : Bool
-    pub behind : JobNodeValue
+    pub behind : LiveNodeValue
     pub last : T
     pub talk : IsWholeTalk came sent before behind start last some_bad
     pub end_unsent : IsEndUnsent unsent behind after last stop halt
 
   -- a line was not answered, or only the entries of the journal were not sent
-  abbrev pub StopsTalk : (before after : JobNodeValue) (start stop : T) → Halt → Type 0
+  abbrev pub StopsTalk : (before after : LiveNodeValue) (start stop : T) → Halt → Type 0
   StopsTalk before after start stop halt =
       IsBrokenOff before after start stop halt ⊎ StopsAtEnd before after start stop halt
 
-module _ {S T : Type 0} (reads : Reads S) (came : Comes T) (sent unsent : Sends T) (missed : Misses T) (source : NodeSource)
+-- the node of the words before a packet came, with a guard if its programs are scrubbed
+pub record HoldsLive {S : Type 0} (reads : Reads S) (words : LiveWords) (before : S) (fresh : LiveNodeValue) (after : S) : Type 0
   where
-    -- a whole talk was held on the node of the source, and the entries of its journal were sent last
+    pub node : JobNodeValue
+    pub holds : HoldsNode reads words.node before node after
+    pub live : IsLive words.scrub node fresh
+
+module _ {S T : Type 0} (reads : Reads S) (came : Comes T) (sent unsent : Sends T) (missed : Misses T) (words : LiveWords)
+  where
+    -- a whole talk was held on the node of the words, and the entries of its journal were sent last
     pub record HoldsTalk (before after : S) (start stop : T) (some_bad : Bool) : Type 0 where
-      pub fresh : JobNodeValue
-      pub left : JobNodeValue
-      pub node : HoldsNode reads source before fresh after
+      pub fresh : LiveNodeValue
+      pub left : LiveNodeValue
+      pub node : HoldsLive reads words before fresh after
       pub talk : EndsTalk came sent fresh left start stop some_bad
 
-    -- a talk on the node of the source was cut off, with the node left so
+    -- a talk on the node of the words was cut off, with the node left so
     pub record BreaksTalk (before after : S) (start stop : T) (halt : Halt) : Type 0 where
-      pub fresh : JobNodeValue
-      pub left : JobNodeValue
-      pub node : HoldsNode reads source before fresh after
+      pub fresh : LiveNodeValue
+      pub left : LiveNodeValue
+      pub node : HoldsLive reads words before fresh after
       pub broken : StopsTalk came sent unsent missed fresh left start stop halt
 
     -- why no whole talk was held: there is no such node, and nothing came or was sent; or a talk was cut off
     abbrev pub IsCutOff : (before after : S) (start stop : T) → Halt → Type 0
     IsCutOff before after start stop (Ended fault) =
-        (HoldsNoNode reads source before after fault × (stop ≡ start))
+        (HoldsNoNode reads words.node before after fault × (stop ≡ start))
         ⊎ BreaksTalk before after start stop (Ended fault)
     IsCutOff before after start stop (Unwritten refused) = BreaksTalk before after start stop (Unwritten refused)
 

@@ -1,27 +1,38 @@
 //! The answer to a line.
 
-ghost use Rattle.std.specs.Prelude.{◌≡◌, ◌≤◌, ◌+◌, ◌++◌, [], ℕ, List, IfErr, IfOk, OnErr, OnOk, Some, false, length, map, true};
+ghost use Rattle.std.specs.Prelude.{◌≡◌, ◌≤◌, ◌+◌, ◌++◌, [], ℕ, IfErr, IfOk, OnErr, OnOk, Some, false, length, map, true};
 ghost use Rattle.std.specs.Vec.{vec_capacity, vec_len};
 ghost use Rattle.job_parts.specs.Printed.{Prints, fault_line};
 ghost use Rattle.job_parts.specs.declared.faults.Fault.TheVariants.{BadLine as AtLine};
-ghost use Rattle.job_live.specs.Answering.{Answers, AnswersAsked, AnswersSetting, IsFaultByPort, IsLongFault, IsReady, IsUnset, TakesAndTells, TellsJournal, TellsSetting, WritesInside, fault_words, is_inside};
+ghost use Rattle.job_live.specs.Answering.{Answers, AnswersAsked, AnswersSetting, IsFaultByPort, IsLongFault, IsUnset, MakesRoom, TakesAndTells, TellsJournal, TellsSetting, WritesInside, fault_words, is_inside};
 ghost use Rattle.job_live.specs.Asks.{IsAsked};
+ghost use Rattle.job_live.specs.LiveNodes.{taken_text};
+ghost use Rattle.rmap.specs.declared.reply.TheConstants.{MAX_REPLY};
 ghost use Rattle.job_live.specs.declared.asks.Asks.TheVariants.{Packet, Set};
 
 use crate::asks::{Asks, asked};
 use crate::cell_lines::print_cells;
 use crate::journals::{print_bank, print_journals, turn_journals};
-use crate::putting::{MOST_OF_PACKET, drop_words, put_code, put_served};
+use crate::live_node::{LiveNode, Taken};
+use crate::putting::{MOST_OF_PACKET, put, put_code, put_served};
+use crate::scrub_lines::{MOST_OF_SCRUB, put_found};
 use crate::settings::{Setting, read_setting};
 use job_nodes::node::JobNode;
 use job_parts::bad_lines::BadLine;
 use job_parts::faults::Fault;
+use rmap::MAX_REPLY;
 use spw::{LineFault, read_port, words_of};
 use std::alloc::Global;
 use std::io::{self, Write};
 
 /// How many bytes a line has at most. Any packet line has fewer, if it has no more than one space between two words.
 pub const MAX_LINE: usize = 16_384;
+
+/// How many bytes a line has after its words: a number of one digit, and the line feed.
+pub const CODE: usize = 2;
+
+/// How many bytes what is told of a packet line has at most, besides the words before the number of its fault.
+const MOST_OF_LINES: usize = MOST_OF_SCRUB + MOST_OF_PACKET;
 
 /// Prints the entries of the journals of the node, bank by bank, and then begins empty ones.
 pub fn hand_out<W: Write>(node: &mut JobNode, out: &mut W) -> io::Result<()>
@@ -34,27 +45,20 @@ pub fn hand_out<W: Write>(node: &mut JobNode, out: &mut W) -> io::Result<()>
     Ok(())
 }
 
-/// Hands the journals out that are full, before a packet is served: their entries stand behind the text then, and behind them
-/// these words, and room for so many bytes more. Gives where the words begin.
+/// Hands the journals out that are full, before a packet is served: their entries are in the text then, and after them is room
+/// for so many bytes more.
 ///
-/// Where memory is refused the node is as before.
-pub fn make_room(
-    node: &mut JobNode,
-    words: &[u8],
-    more: usize,
-    text: &mut Vec<u8>,
-) -> io::Result<usize>
-    ensures ready { IfOk result (λ end. IsReady words.now end node.old node.new
-        text.old.items text.new.items) }
+/// If memory is refused the node is as before.
+pub fn make_room(node: &mut JobNode, more: usize, text: &mut Vec<u8>) -> io::Result<()>
+    ensures made { OnOk result (MakesRoom node.old node.new
+        (Some text.old.items) (Some text.new.items)) }
     ensures room { OnOk result (vec_len text.new + more ≤ vec_capacity text.new) }
     ensures kept { OnErr result (node.new ≡ node.old) }
 {
     print_journals(text, node, false)?;
-    let end = text.len();
-    text.extend_from_slice(words)?;
     text.reserve(more)?;
     turn_journals(node, false);
-    Ok(end)
+    Ok(())
 }
 
 /// The words before the number of a line's fault.
@@ -66,28 +70,50 @@ fn fault_words(alloc: Global, number: usize) -> io::Result<Vec<u8>>
     Ok(words)
 }
 
-/// Takes a packet line on the node, and puts what came of it in the place of the words that stand in the text from `end` on:
-/// those before the number of a fault. Whether the line is bad. Conditions: they stand there, and behind them is room for the
-/// longest line ([`MOST_OF_PACKET`]).
+/// Puts what came of a packet behind a text, with the reply that was due: the line of a scrub that did not find a program whole,
+/// and then the packet's. Conditions: a reply that is no longer than any ([`MAX_REPLY`]), and room for the longest lines.
+fn put_taken(text: &mut Vec<u8>, taken: Taken, reply: &[u8])
+    requires reply { length reply.now ≤ MAX_REPLY }
+    requires room { vec_len text.old + (MOST_OF_SCRUB + MOST_OF_PACKET) ≤ vec_capacity text.old }
+    ensures { text.new.items ≡ text.old.items ++ taken_text taken reply.now }
+{
+    put_found(text, taken.found);
+    put_served(text, taken.port, taken.served, reply);
+}
+
+/// Puts the line of a fault behind a text, whose words before its number are these. The condition is room for them and two bytes.
 #[tactic(auto, using(crate::proofs::PutText::small_number))]
-fn take_line(alloc: Global, node: &mut JobNode, line: &str, end: usize, text: &mut Vec<u8>) -> bool
-    requires { vec_len text.old + MOST_OF_PACKET ≤ vec_capacity text.old }
-    ensures { (begun : List ℕ) (number : ℕ) → length begun ≡ end
-        → text.old.items ≡ begun ++ fault_words number
-        → TakesAndTells line.now number result node.old node.new begun text.new.items }
+fn put_fault(text: &mut Vec<u8>, words: &[u8], fault: BadLine)
+    requires { vec_len text.old + (length words.now + CODE) ≤ vec_capacity text.old }
+    ensures { (number : ℕ) → words.now ≡ fault_words number
+        → text.new.items ≡ text.old.items ++ fault_line (AtLine number fault) }
+{
+    put(text, words);
+    put_code(text, fault.number());
+}
+
+/// Takes a packet line on the node, and puts what came of it behind a text, or its fault, whose words before its number are
+/// these. Whether the line is bad. The condition is room for the longest lines, and for those words and two bytes.
+fn take_line(
+    alloc: Global,
+    node: &mut LiveNode,
+    line: &str,
+    words: &[u8],
+    text: &mut Vec<u8>,
+) -> bool
+    requires told { vec_len text.old + (MOST_OF_SCRUB + MOST_OF_PACKET) ≤ vec_capacity text.old }
+    requires fault { vec_len text.old + (length words.now + CODE) ≤ vec_capacity text.old }
+    ensures { (number : ℕ) → words.now ≡ fault_words number
+        → TakesAndTells line.now number result node.old node.new text.old.items text.new.items }
 {
     match node.take_line(alloc, line) {
-        Ok(Some((port, served))) => {
-            drop_words(text, end);
-            put_served(text, port, served, node.reply());
+        Ok(Some(taken)) => {
+            put_taken(text, taken, node.node.reply());
             false
         }
-        Ok(None) => {
-            drop_words(text, end);
-            false
-        }
+        Ok(None) => false,
         Err(fault) => {
-            put_code(text, fault.number());
+            put_fault(text, words, fault);
             true
         }
     }
@@ -98,7 +124,7 @@ fn take_line(alloc: Global, node: &mut JobNode, line: &str, end: usize, text: &m
 #[tactic(auto, using(crate::proofs::Taken::packet_answered))]
 fn answer_packet(
     alloc: Global,
-    node: &mut JobNode,
+    node: &mut LiveNode,
     line: &str,
     number: usize,
     text: &mut Vec<u8>,
@@ -108,8 +134,9 @@ fn answer_packet(
     ensures kept { OnErr result (node.new ≡ node.old) }
 {
     let words = fault_words(alloc, number)?;
-    let end = make_room(node, words.as_slice(), MOST_OF_PACKET, text)?;
-    Ok(take_line(alloc, node, line, end, text))
+    let more = words.len() + MOST_OF_LINES;
+    make_room(&mut node.node, more, text)?;
+    Ok(take_line(alloc, node, line, words.as_slice(), text))
 }
 
 /// Whether the bytes of a write lie in the bank of its extended address, if there is one.
@@ -219,7 +246,7 @@ fn long_fault(words: &[&str], asks: Asks) -> BadLine
 /// Where memory is refused the node is as before the line.
 pub fn answer(
     alloc: Global,
-    node: &mut JobNode,
+    node: &mut LiveNode,
     line: &str,
     number: usize,
     text: &mut Vec<u8>,
@@ -237,20 +264,20 @@ pub fn answer(
     match asks {
         Asks::Packet => answer_packet(alloc, node, line, number, text),
         Asks::Journal => {
-            hand_out(node, text)?;
+            hand_out(&mut node.node, text)?;
             Ok(false)
         }
         Asks::Cells => {
-            print_cells(text, node)?;
+            print_cells(text, &node.node)?;
             Ok(false)
         }
-        Asks::Set => answer_setting(alloc, node, words.as_slice(), number, text),
+        Asks::Set => answer_setting(alloc, &mut node.node, words.as_slice(), number, text),
     }
 }
 
 /// The entries of the journals of the node, which are the last text of a talk: empty journals begin.
 ///
-/// Where memory is refused the node is as before.
+/// If memory is refused the node is as before.
 pub fn last_text(alloc: Global, node: &mut JobNode) -> io::Result<Vec<u8>>
     ensures tells { IfOk result (λ text. TellsJournal node.old node.new (Some []) (Some text.items)) }
     ensures kept { OnErr result (node.new ≡ node.old) }

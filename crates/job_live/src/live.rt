@@ -5,9 +5,9 @@ ghost use Rattle.job_parts.specs.declared.status.Status.TheVariants.{Done, Faile
 ghost use Rattle.job_live.specs.LiveJob.{EndsTalk, Exchanges, HoldsTalk, IsBrokenOff, IsCutOff, IsEndUnsent, IsUnanswered, IsUnsent, IsWholeTalk, Lives, SendsEnd, StopsTalk, TellsLast};
 
 use crate::answering::{answer, last_text};
+use crate::live_node::LiveNode;
 use crate::talk::Talk;
-use job_config::sources::NodeSource;
-use job_nodes::node::JobNode;
+use crate::words::LiveWords;
 use job_nodes::sources::{node_from, place_of};
 use job_parts::faults::Fault;
 use job_parts::status::Status;
@@ -25,7 +25,7 @@ pub const NO_MEMORY: &[u8] = b"no memory\n";
 /// Takes the next line, and sends what is due for it: whether it is bad, or `None` where no more came.
 fn exchange<'a, T: Talk>(
     alloc: Global,
-    node: &mut JobNode,
+    node: &mut LiveNode,
     talk: &mut T,
     number: usize,
 ) -> Result<Option<bool>, Halt<'a>>
@@ -59,7 +59,7 @@ fn either(first: bool, second: bool) -> bool
 }
 
 /// Holds a talk to its end: whether one of its lines was bad.
-fn hold<'a, T: Talk>(alloc: Global, node: &mut JobNode, talk: &mut T) -> Result<bool, Halt<'a>>
+fn hold<'a, T: Talk>(alloc: Global, node: &mut LiveNode, talk: &mut T) -> Result<bool, Halt<'a>>
     ensures held { IfOk result (IsWholeTalk T.came T.sent node.old node.new talk.old talk.new) }
     ensures stops { IfErr result (IsBrokenOff T.came T.sent T.unsent T.missed
         node.old node.new talk.old talk.new) }
@@ -75,11 +75,11 @@ fn hold<'a, T: Talk>(alloc: Global, node: &mut JobNode, talk: &mut T) -> Result<
 }
 
 /// Sends what is sent last, where no more lines come: the entries of the journal, which is handed out.
-fn send_end<'a, T: Talk>(alloc: Global, node: &mut JobNode, talk: &mut T) -> Result<(), Halt<'a>>
+fn send_end<'a, T: Talk>(alloc: Global, node: &mut LiveNode, talk: &mut T) -> Result<(), Halt<'a>>
     ensures sent { OnOk result (SendsEnd T.sent node.old node.new talk.old talk.new) }
     ensures stops { IfErr result (IsEndUnsent T.unsent node.old node.new talk.old talk.new) }
 {
-    let text = last_text(alloc, node).map_err(|_| Halt::Ended(Fault::NoMemory))?;
+    let text = last_text(alloc, &mut node.node).map_err(|_| Halt::Ended(Fault::NoMemory))?;
     let sent = talk.send(text.as_slice());
     sent.map_err(|_| Halt::Unwritten(WriteFault))
 }
@@ -87,7 +87,7 @@ fn send_end<'a, T: Talk>(alloc: Global, node: &mut JobNode, talk: &mut T) -> Res
 /// Holds a talk to its end, and sends the entries of the journal: whether one of its lines was bad.
 fn hold_to_end<'a, T: Talk>(
     alloc: Global,
-    node: &mut JobNode,
+    node: &mut LiveNode,
     talk: &mut T,
 ) -> Result<bool, Halt<'a>>
     ensures held { IfOk result (EndsTalk T.came T.sent node.old node.new talk.old talk.new) }
@@ -99,19 +99,20 @@ fn hold_to_end<'a, T: Talk>(
     Ok(some_bad)
 }
 
-/// Holds a talk on the node of this source to its end: whether one of its lines was bad.
+/// Holds a talk on the node of these words to its end: whether one of its lines was bad.
 fn live_on<'a, F: Files, T: Talk>(
     alloc: Global,
-    source: &'a NodeSource,
+    words: &'a LiveWords,
     files: &mut F,
     talk: &mut T,
 ) -> Result<bool, Halt<'a>>
-    ensures held { IfOk result (HoldsTalk F.reads T.came T.sent T.unsent T.missed source.now
+    ensures held { IfOk result (HoldsTalk F.reads T.came T.sent T.unsent T.missed words.now
         files.old files.new talk.old talk.new) }
-    ensures stops { IfErr result (IsCutOff F.reads T.came T.sent T.unsent T.missed source.now
+    ensures stops { IfErr result (IsCutOff F.reads T.came T.sent T.unsent T.missed words.now
         files.old files.new talk.old talk.new) }
 {
-    let mut node = node_from(alloc, source, files)?;
+    let plain = node_from(alloc, &words.node, files)?;
+    let mut node = LiveNode::new(plain, words.scrub);
     hold_to_end(alloc, &mut node, talk)
 }
 
@@ -139,7 +140,7 @@ fn status_of(some_bad: bool) -> Status
     }
 }
 
-/// Answers the lines of a talk as they come, on the node of this source, and gives the exit status: `Failed` where a line
+/// Answers the lines of a talk as they come, on the node of these words, and gives the exit status: `Failed` where a line
 /// was bad, or a fault cut the talk off, else `Done`. What is due for a line is sent before the next is asked for. Where no
 /// more lines come the journal is handed out, and its entries are sent last.
 ///
@@ -149,17 +150,17 @@ fn status_of(some_bad: bool) -> Status
 /// for the user.
 pub fn live<F: Files, T: Talk>(
     alloc: Global,
-    source: &NodeSource,
+    words: &LiveWords,
     files: &mut F,
     talk: &mut T,
     place: &mut Option<String>,
 ) -> Result<Status, WriteFault>
-    ensures lives { IfOk result (Lives F.reads T.came T.sent T.unsent T.missed source.now
+    ensures lives { IfOk result (Lives F.reads T.came T.sent T.unsent T.missed words.now
         files.old files.new talk.old talk.new) }
-    ensures unsent { IfErr result (IsUnsent F.reads T.came T.sent T.unsent T.missed source.now
+    ensures unsent { IfErr result (IsUnsent F.reads T.came T.sent T.unsent T.missed words.now
         files.old files.new talk.old talk.new) }
 {
-    match live_on(alloc, source, files, talk) {
+    match live_on(alloc, words, files, talk) {
         Ok(some_bad) => Ok(status_of(some_bad)),
         Err(halt) => {
             let fault = halt.fault()?;

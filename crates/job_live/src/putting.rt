@@ -49,17 +49,6 @@ fn put_hex(text: &mut Vec<u8>, bytes: &[u8])
     }
 }
 
-/// Drops the words that stand behind a text of so many bytes.
-#[tactic(auto, using(crate::proofs::PutText::without_words))]
-pub fn drop_words(text: &mut Vec<u8>, end: usize)
-    ensures text { (begun words : List ℕ) → length begun ≡ end → text.old.items ≡ begun ++ words
-        → text.new.items ≡ begun }
-    ensures room { vec_capacity text.new ≡ vec_capacity text.old }
-    ensures len { vec_len text.new ≤ vec_len text.old }
-{
-    text.truncate(end);
-}
-
 /// Puts a number below 10 behind the words of a line, and ends it. The condition is room for two bytes.
 pub fn put_code(text: &mut Vec<u8>, code: u8)
     requires small { code < 10 }
@@ -83,7 +72,7 @@ pub fn put_discard_code(text: &mut Vec<u8>, discard: Discard)
 }
 
 /// Puts a number behind a text. The condition is room for three digits.
-fn put_port(text: &mut Vec<u8>, port: u8)
+pub(crate) fn put_port(text: &mut Vec<u8>, port: u8)
     requires { vec_len text.old + 3 ≤ vec_capacity text.old }
     ensures items { text.new.items ≡ text.old.items ++ decimal port }
     ensures len { vec_len text.new ≤ vec_len text.old + 3 }

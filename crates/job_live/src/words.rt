@@ -1,12 +1,14 @@
 //! The words of the job `live`.
 
-ghost use Rattle.std.specs.Prelude.{◌≡◌, IfErr, IfOk, false};
+ghost use Rattle.std.specs.Prelude.{◌≡◌, IfErr, IfOk, MatchResult, codes, false};
+ghost use Rattle.clap.specs.Walk.{first_of};
+ghost use Rattle.job_parts.specs.Options.{IsBadValue, WritesSuch};
 ghost use Rattle.job_parts.specs.Matched.{app_of, fields_of, found_of, rows_of};
-ghost use Rattle.job_live.specs.Words.{NamesLive, RefusesLive, live_app, serves_frames};
+ghost use Rattle.job_live.specs.Words.{GivesScrub, IsScrubCount, NamesLive, RefusesLive, RefusesScrub, live_app, serves_frames};
 
 use clap::{ArgMatches, Command};
 use job_config::sources::{NodeSource, source_arguments, source_of};
-use job_parts::arguments::{flag, is_set};
+use job_parts::arguments::{flag, is_set, option, text_of};
 use job_parts::usage::UsageFault;
 use std::alloc::{AllocError, Global};
 
@@ -15,19 +17,25 @@ use std::alloc::{AllocError, Global};
 pub struct LiveWords {
     /// Where the node comes from.
     pub node: NodeSource,
+    /// Before each packet of so many the program that judges it is scrubbed, if there is a number: 1 to 4,294,967,295.
+    pub scrub: Option<u32>,
     /// Whether frames come, and not packet lines. They come in at port 0; a node without a file has no other port then.
     pub frames: bool,
 }
 
-/// `live [--image FILE] [--maps LIST] [--ports N] [--frames]` or `live --node FILE [--frames]`.
+/// `live [--image FILE] [--maps LIST] [--ports N] [--scrub N] [--frames]` or `live --node FILE [--scrub N] [--frames]`.
 pub fn live_command<'a>(alloc: Global) -> Result<Command<'a>, AllocError>
     ensures shape { IfOk result (λ c. app_of c ≡ live_app) }
     ensures local { IfOk result (λ c. (fields_of c).has_globals ≡ false) }
 {
     let about = "Answers packet lines, or frames, at standard input as they come";
+    let help = "Scrubs the program that judges, before each N-th packet; without it none";
+    let scrub = option(alloc, "scrub", "N", help);
     let help = "Answers frames, in bytes, of an initiator on a link, which is port 0";
     let frames = flag(alloc, "frames", help);
-    source_arguments(alloc, Command::new(alloc, "live").about(about))?.arg(frames)
+    source_arguments(alloc, Command::new(alloc, "live").about(about))?
+        .arg(scrub)?
+        .arg(frames)
 }
 
 /// Whether a node has one port, or a file that says how many.
@@ -40,15 +48,49 @@ fn serves_frames(node: &NodeSource) -> bool
     }
 }
 
+/// The count that a word writes, or `BadOption`.
+fn scrub_count(word: &str) -> Result<u32, UsageFault>
+    ensures { MatchResult result (WritesSuch IsScrubCount word.now)
+        (IsBadValue (IsScrubCount word.now)) }
+{
+    if word.starts_with('+') {
+        return Err(UsageFault::BadOption);
+    }
+    let count: u32 = word.parse().map_err(|_| UsageFault::BadOption)?;
+    if count >= 1 {
+        Ok(count)
+    } else {
+        Err(UsageFault::BadOption)
+    }
+}
+
+/// Before each packet of how many a program is scrubbed, by `--scrub`: a decimal number from 1 to 4,294,967,295, and `None` without
+/// the option. `BadOption` if its value is none such.
+pub fn scrub_of(found: &ArgMatches) -> Result<Option<u32>, UsageFault>
+    ensures ok { IfOk result
+        (GivesScrub (first_of (codes "scrub") (rows_of (found_of found.now)))) }
+    ensures err { IfErr result (RefusesScrub (rows_of (found_of found.now))) }
+{
+    match text_of(found, "scrub") {
+        Some(word) => Ok(Some(scrub_count(word)?)),
+        None => Ok(None),
+    }
+}
+
 /// The words of `live` with these matches. `BadOption` also where frames are to come at another number of ports than one.
 pub fn live_job(alloc: Global, found: &ArgMatches) -> Result<LiveWords, UsageFault>
     ensures ok { IfOk result (NamesLive (rows_of (found_of found.now))) }
     ensures err { IfErr result (RefusesLive (rows_of (found_of found.now))) }
 {
     let node = source_of(alloc, found)?;
+    let scrub = scrub_of(found)?;
     let frames = is_set(found, "frames");
     if frames && !serves_frames(&node) {
         return Err(UsageFault::BadOption);
     }
-    Ok(LiveWords { node, frames })
+    Ok(LiveWords {
+        node,
+        scrub,
+        frames,
+    })
 }

@@ -38,7 +38,7 @@ rooms_stay : (banks : List BankValue) (k : ℕ) (b new : BankValue) → slice_ge
 rooms_stay banks k b new at same = map-set_same room banks k new b (same ∙ ap room (sym (get_or_from_slice_get banks k b b at)))
 
 -- the banks behind a packet
-answered_rooms : (served : Served) (p : Cargo) (old new : PartsValue) (h after : PassValue) (reply : List ℕ) → IsAnswered served p old new h after reply
+pub answered_rooms : (served : Served) (p : Cargo) (old new : PartsValue) (h after : PassValue) (reply : List ℕ) → IsAnswered served p old new h after reply
     → rooms_of new.banks ≡ rooms_of old.banks
 answered_rooms (Stopped stop) p old new h after reply s = ap (λ (x : PartsValue). rooms_of x.banks) s.1.node
 answered_rooms Unread p old new h after reply s = ap (λ (x : PartsValue). rooms_of x.banks) s.1.node
@@ -48,7 +48,7 @@ answered_rooms (Done result) p old new h after reply s =
 answered_rooms (Window status) p old new h after reply s = ap rooms_of s.banks
 
 -- the same ports with as many bytes, and the same rooms
-stays : (before after : JobNodeValue) → rooms_of after.banks ≡ rooms_of before.banks → length after.passes ≡ length before.passes → after.held ≡ before.held
+pub stays : (before after : JobNodeValue) → rooms_of after.banks ≡ rooms_of before.banks → length after.passes ≡ length before.passes → after.held ≡ before.held
     → IsJobNode before → IsJobNode after
 stays before after rooms ports held is = record {
   some = subst (λ (n : ℕ). 1 ≤ n) (sym ports) is.some;

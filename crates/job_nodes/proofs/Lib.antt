@@ -1,5 +1,6 @@
 pub mod Banks
 mod Continuing
+mod Guarding
 mod Loaded
 pub mod Scheduled
 mod SettledNodes

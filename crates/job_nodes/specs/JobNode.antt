@@ -14,6 +14,10 @@ use Rattle.node_parts.specs.declared.served.Served.{Served}
 use Rattle.node_parts.specs.Nodes.{bank_of, first_pass, first_passes as all_first_passes, first_programs, fresh_banks}
 use Rattle.node_parts.specs.Passes.{PassValue}
 use Rattle.plain_cells.specs.Words.{zero_words}
+use Rattle.scrub.specs.Guarded.{IsGuarded, beside, scrubbing_each}
+use Rattle.scrub.specs.Lent.{ServesLent}
+use Rattle.scrub.specs.declared.guard.Found.{Found}
+use Rattle.scrub.specs.declared.guard.Guard.{Guard}
 use Rattle.single_node.specs.Nodes.{Rotates, SetsMemory, SingleNodeValue, room_in, single_node, staging_in}
 use Rattle.single_node.specs.Serving.{Serves as ServesAlone}
 use Rattle.job_nodes.specs.Feeds.{IsFed, IsNotFed}
@@ -86,11 +90,27 @@ pub record Serves (served : Served) (port : ℕ) (packet : Cargo) (before after 
 abbrev pub with_held : JobNodeValue → List (List ℕ) → JobNodeValue
 with_held node held = job_node node.banks node.words node.programs node.passes held node.reply
 
--- a port holds the line's piece, and no packet came
-pub record HoldsLine (line : List ℕ) (before after : JobNodeValue) : Type 0 where
+-- the same by what is kept of the node's programs, with what a scrub before the packet found
+pub record ServesGuarded (found : Option Found) (served : Served) (port : ℕ) (packet : Cargo) (old new : Guard)
+    (before after : JobNodeValue) : Type 0 where
+  pub lent : ServesLent found served port packet (beside old (alone before)) (beside new (alone after)) after.reply
+  pub held : after.held ≡ before.held
+
+-- what is kept of the node's programs, each of which may judge, with a scrub before each packet of so many
+pub record IsGuardOf (node : JobNodeValue) (each : ℕ) (guard : Guard) : Type 0 where
+  pub fresh : Guard
+  pub guarded : IsGuarded (alone node) (beside fresh (alone node))
+  pub guard_is : guard ≡ scrubbing_each fresh each
+
+-- a port holds the line's piece, and no packet came, or the packet of a port came
+pub record FeedsLine (line : List ℕ) (came : Option (ℕ × Cargo)) (before after : JobNodeValue) : Type 0 where
   pub held : List (List ℕ)
-  pub fed : IsFed line before.held held None
+  pub fed : IsFed line before.held held came
   pub same : after ≡ with_held before held
+
+-- a port holds the line's piece, and no packet came
+abbrev pub HoldsLine : (line : List ℕ) → (before after : JobNodeValue) → Type 0
+HoldsLine line before after = FeedsLine line None before after
 
 -- the line ended a packet of this port, and this became of it
 pub record ServesLine (line : List ℕ) (port : ℕ) (served : Served) (before after : JobNodeValue) : Type 0 where

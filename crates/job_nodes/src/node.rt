@@ -1,7 +1,7 @@
 //! The node that the jobs run.
 
-ghost use Rattle.std.specs.Prelude.{◌≡◌, ◌≤◌, ◌<◌, ◌+◌, ◌↔◌, IfErr, IfOk, IsSome, length, slice_get, true};
-ghost use Rattle.job_nodes.specs.JobNode.{HandsOut, IsConfig, IsFreshOf, RefusesLine, Serves, SetsBytes, TakesLine, alone, first_of, is_full, journal_of, load_reason};
+ghost use Rattle.std.specs.Prelude.{◌≡◌, ◌≤◌, ◌<◌, ◌+◌, ◌↔◌, IfErr, IfOk, IfSome, IsSome, length, slice_get, true};
+ghost use Rattle.job_nodes.specs.JobNode.{FeedsLine, HandsOut, IsConfig, IsFreshOf, IsGuardOf, RefusesLine, Serves, ServesGuarded, SetsBytes, TakesLine, alone, first_of, is_full, journal_of, load_reason};
 ghost use Rattle.machine.specs.Sizes.{IsInside};
 ghost use Rattle.node_programs.specs.Published.{sizes_of};
 ghost use Rattle.plain_cells.specs.Words.{word_in};
@@ -14,6 +14,7 @@ use job_config::own_node::{NODE_ADDRESS, OWN_BANK};
 use job_parts::bad_lines::BadLine;
 use node_parts::{NodeConfig, Served};
 use rmap::{MAX_REPLY, ReplyBuf};
+use scrub::{Found, Guard};
 use single_node::SingleNode;
 use spw::Packet;
 use std::alloc::{AllocError, Global};
@@ -93,13 +94,51 @@ impl JobNode {
         node.serve(alloc, port, packet, reply)
     }
 
+    /// What is kept of the node's programs, for scrubs of them: each may judge. Before each packet of so many that
+    /// [`JobNode::serve_guarded`] serves the program that judges it is scrubbed; before none where it is 0.
+    pub fn guard(&self, each: u32) -> Guard
+        ensures { IsGuardOf self.now each result }
+    {
+        let mut guard = Guard::new(&self.node);
+        guard.scrub_each(each);
+        guard
+    }
+
+    /// The same as [`JobNode::serve`], by what is kept of the node's programs: what a scrub before the packet found, if one
+    /// was due, and what became of the packet. A command for a slot that is withdrawn comes to no program. The condition is a
+    /// port below [`JobNode::ports`].
+    pub fn serve_guarded(
+        &mut self,
+        guard: &mut Guard,
+        alloc: Global,
+        port: u8,
+        packet: Packet,
+    ) -> (Option<Found>, Served)
+        requires { port < length self.old.passes }
+        ensures { ServesGuarded result.0 result.1 port packet guard.old guard.new self.old self.new }
+    {
+        let node = &mut self.node;
+        let reply = &mut self.reply;
+        guard.serve(node, alloc, port, packet, reply)
+    }
+
+    /// Takes a line, and serves nothing: the packet that it ends, and its port, or `None` where the line ends none.
+    pub fn feed_line(&mut self, alloc: Global, line: &str) -> Result<Option<(u8, Packet)>, BadLine>
+        ensures fed { IfOk result (λ came. FeedsLine line.now came self.old self.new) }
+        ensures port { IfOk result (λ came. IfSome came (λ own. own.0 < length self.new.passes)) }
+        ensures refused { IfErr result (λ fault. RefusesLine line.now fault self.old self.new) }
+    {
+        let came = self.feeds.take_line(alloc, line)?;
+        Ok(came)
+    }
+
     /// Takes a line, and serves the packet that it ends: its port and what became of it, or `None` where the line
     /// ends none. Nothing is served where the line has a fault.
     pub fn take_line(&mut self, alloc: Global, line: &str) -> Result<Option<(u8, Served)>, BadLine>
         ensures taken { IfOk result (λ came. TakesLine line.now came self.old self.new) }
         ensures refused { IfErr result (λ fault. RefusesLine line.now fault self.old self.new) }
     {
-        let Some((port, packet)) = self.feeds.take_line(alloc, line)? else {
+        let Some((port, packet)) = self.feed_line(alloc, line)? else {
             return Ok(None);
         };
         let served = self.serve(alloc, port, packet);

@@ -71,36 +71,30 @@ module _ {S : Type 0} (reads : Reads S) (args : NodeLines) where
     pub utf8 : IsUtf8 text
     pub holds : HoldsOwn reads args.node between own program after
 
-  -- the lines of the file write packets, each port of the node served its own from what it starts with on, quotas were kept, and
-  -- those are the replies and what the workers reported
-  pub record ServesWords (before after : S) (sinks : List SinkValue) (report : Report) : Type 0 where
+  -- the lines of the file write packets, each port of the node served its own from what it starts with on, and quotas were kept
+  pub record ServesLines (before after : S) (ends : List PortEnd) : Type 0 where
     pub text : List ℕ
     pub own : OwnNodeValue
     pub program : AcceptedValue
     pub packets : List (ℕ × Cargo)
     pub starts : ℕ → Standing
-    pub ends : List PortEnd
     pub given : AreGiven before text own program after
     pub lines : AreLines (lines_of text) own.ports packets
     pub are_starts : AreStarts own program starts
     pub served : ServePackets starts own.ports packets ends
     pub quotas : QuotasAreKept own.sizes ends
+
+  -- those are the replies then and what the workers reported
+  pub record ServesWords (before after : S) (sinks : List SinkValue) (report : Report) : Type 0 where
+    pub ends : List PortEnd
+    pub serves : ServesLines before after ends
     pub sinks_are : sinks ≡ map (λ (end : PortEnd). end.sink) ends
     pub report_is : report ≡ report_of ends
 
-  -- the same, and that was printed
+  -- that was printed then
   pub record ServesFile (before after : S) (old new : Option (List ℕ)) : Type 0 where
-    pub text : List ℕ
-    pub own : OwnNodeValue
-    pub program : AcceptedValue
-    pub packets : List (ℕ × Cargo)
-    pub starts : ℕ → Standing
     pub ends : List PortEnd
-    pub given : AreGiven before text own program after
-    pub lines : AreLines (lines_of text) own.ports packets
-    pub are_starts : AreStarts own program starts
-    pub served : ServePackets starts own.ports packets ends
-    pub quotas : QuotasAreKept own.sizes ends
+    pub serves : ServesLines before after ends
     pub printed : Appends old new (served_text ends)
 
   -- lines and node were read, and a line is bad

@@ -44,31 +44,7 @@ fn set_kept<J: Family>(
     Ok(())
 }
 
-/// Puts bytes at the beginning of the bank behind a lock, as its instrument does.
-fn set_bank<R: Wait, J: Family>(
-    rt: &R,
-    alloc: Global,
-    lock: &BankLock<J>,
-    line: &mut Line<J>,
-    known: &mut Front<J>,
-    bank: BankConfig,
-    bytes: &[u8],
-) -> Result<(), AllocError>
-    requires { line.old.port ≡ instrument }
-    ensures set { OnOk result (SetsBank lock.now bank.base bytes.now known.old known.new) }
-    ensures line { line.new.port ≡ instrument }
-{
-    let Ok(fresh) = Journal::new(alloc, bank.room) else {
-        return Err(AllocError);
-    };
-    let mut guard = lock.lock(rt);
-    let kept = &mut *guard;
-    let done = set_kept(kept, lock.number(), line, known, bank.base, bytes, fresh);
-    MutexGuard::unlock(guard);
-    done
-}
-
-/// The same, where there are bytes; no bytes change nothing.
+/// Puts bytes at the beginning of the bank behind a lock, as its instrument does, where there are bytes; no bytes change nothing.
 fn set_first<R: Wait, J: Family>(
     rt: &R,
     alloc: Global,
@@ -85,7 +61,14 @@ fn set_first<R: Wait, J: Family>(
     if bytes.is_empty() {
         return Ok(());
     }
-    set_bank(rt, alloc, lock, line, known, bank, bytes)
+    let Ok(fresh) = Journal::new(alloc, bank.room) else {
+        return Err(AllocError);
+    };
+    let mut guard = lock.lock(rt);
+    let kept = &mut *guard;
+    let done = set_kept(kept, lock.number(), line, known, bank.base, bytes, fresh);
+    MutexGuard::unlock(guard);
+    done
 }
 
 /// Puts the contents of each bank of a fresh node at its beginning.

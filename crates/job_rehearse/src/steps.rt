@@ -98,26 +98,29 @@ impl Rehearsing {
         let Ok(node) = SingleNode::new(alloc, &config, program) else {
             return Err(AllocError);
         };
-        Ok(Rehearsing {
+        Ok(Rehearsing::of(node))
+    }
+
+    /// A node of one thread, which has served nothing here.
+    pub fn of(node: SingleNode) -> Rehearsing
+        ensures node { result.node ≡ node }
+        ensures silent { result.reply ≡ [] }
+        ensures unrefused { result.refused ≡ false }
+    {
+        Rehearsing {
             node,
             reply: ReplyBuf::new(),
             refused: false,
-        })
+        }
     }
-}
 
-impl Rehearsing {
     /// That node, which has served nothing here.
     pub fn at(node: JobNode) -> Rehearsing
         ensures node { result.node ≡ alone node }
         ensures silent { result.reply ≡ [] }
         ensures unrefused { result.refused ≡ false }
     {
-        Rehearsing {
-            node: node.into_node(),
-            reply: ReplyBuf::new(),
-            refused: false,
-        }
+        Rehearsing::of(node.into_node())
     }
 }
 

@@ -70,6 +70,11 @@ abbrev pub jumped : (holds : Bool) → (slot next : ℕ) → Change
 jumped taken slot next =
     if next == slot + 1 then (if taken then changes.Taken else changes.NotTaken) else changes.Jumped next
 
+-- what was written to that register, if there is one, where the registers hold these values
+abbrev pub written : Option ℕ → (registers : ℕ → Value) → Change
+written None registers = changes.Nothing
+written (Some register) registers = changes.Written register (registers register)
+
 -- what an instruction at that slot changed, by the state behind its step. A store and a jump change no register, so their
 -- operands stand there as before. The last three go on by no step of their own
 abbrev pub change_of : Insn → (slot : ℕ) → State → Change

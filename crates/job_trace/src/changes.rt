@@ -4,7 +4,7 @@ ghost use Rattle.std.specs.Prelude.{◌≡◌, OnOk};
 ghost use Rattle.stepper.specs.Machine.{state_of};
 ghost use Rattle.bpf_parts.specs.Sizes.{size_bytes};
 ghost use Rattle.job_parts.specs.Printed.{Prints};
-ghost use Rattle.job_trace.specs.Changes.{change_of, change_text, holds, jumped, number_text, region_text, stack_text, value_text};
+ghost use Rattle.job_trace.specs.Changes.{change_of, change_text, holds, jumped, number_text, region_text, stack_text, value_text, written};
 
 use bpf_insn::{Comparison, Insn, MemoryOperand, Operand, Register, Size};
 use job_parts::replies::print_bytes;
@@ -74,24 +74,34 @@ fn jumped(holds: bool, slot: u32, next: u32) -> Change
     }
 }
 
+/// What was written to that register, if there is one.
+fn written(machine: &Machine<'_>, register: Option<Register>) -> Change
+    ensures { result ≡ written register (state_of machine.now).registers }
+{
+    match register {
+        Some(register) => Change::Written(register, machine.register(register)),
+        None => Change::Nothing,
+    }
+}
+
 /// What the instruction at a slot changed, where the machine stands behind its step.
 pub fn change_of(insn: &Insn, slot: u32, machine: &Machine<'_>) -> Change
     ensures { result ≡ change_of insn.now slot (state_of machine.now) }
 {
     match *insn {
-        Insn::Alu { dst, .. }
-        | Insn::Negate { dst, .. }
-        | Insn::MoveSigned { dst, .. }
-        | Insn::ByteSwap { dst, .. }
-        | Insn::Load { dst, .. }
-        | Insn::Wide { dst, .. }
-        | Insn::LoadMap { dst, .. } => Change::Written(dst, machine.register(dst)),
         Insn::Store { size, place, src } => stored(machine, size, &place, &src),
         Insn::Jump { comparison, .. } => {
             jumped(holds(machine, &comparison), slot, machine.slot())
         }
         Insn::Goto { .. } => Change::Jumped(machine.slot()),
         Insn::LoadAddress { .. } | Insn::Call { .. } | Insn::Exit => Change::Nothing,
+        Insn::Alu { .. }
+        | Insn::Negate { .. }
+        | Insn::MoveSigned { .. }
+        | Insn::ByteSwap { .. }
+        | Insn::Load { .. }
+        | Insn::Wide { .. }
+        | Insn::LoadMap { .. } => written(machine, insn.written()),
     }
 }
 

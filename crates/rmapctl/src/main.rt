@@ -2,14 +2,20 @@
 //! standard streams of this machine. docs/COMMANDS.md says what it does.
 #![tactic(auto)]
 
-ghost use Rattle.std.specs.Prelude.{◌≡◌, IfOk, true};
+ghost use Rattle.std.specs.Prelude.{◌≡◌, IfErr, IfOk, true};
+ghost use Rattle.commands.specs.Losses.{end_if_written, end_of};
+ghost use Rattle.commands.specs.Refusals.{AreUnknown};
+ghost use Rattle.job_parts.specs.Statuses.{status_code, usage_status};
+ghost use Rattle.job_parts.specs.declared.status.Status.TheVariants.{Failed};
+ghost use Rattle.job_parts.specs.declared.usage.UsageFault.TheVariants.{Memory};
 ghost use Rattle.node_parts.specs.Nodes.{are_within};
 
 use commands::{
-    Asked, Configuration, Course, DumpTalk, Fault, HostLink, HostTalk, Job, JobEnd, NodeJob,
-    NodeSource, Noted, OWN_SOURCE, ShowWords, Status, ToldFiles, ToldTalk, UsageFault,
-    WITHOUT_WORDS, Work, WriteFault, asked_of, configuration_in, live, live_frames, node_inputs,
-    own_source, perform_told, show_talk, told_end, told_node, told_option, told_wait,
+    Asked, Configuration, Course, DumpTalk, Fault, HostLink, HostTalk, Job, JobEnd, LiveWords,
+    NodeJob, OWN_SOURCE, Refusal, ShowWords, Status, Stream, ToldFiles, ToldTalk, Untold,
+    UsageFault, Waits, Work, WriteFault, argument_fault, asked_of, configuration_in, live,
+    live_frames, node_inputs, own_source, perform_told, show_talk, stream_of, told_end, told_fault,
+    told_loss, told_node, told_wait, usage_end, words_or_judge,
 };
 use std::alloc::{AllocError, Global};
 use std::io::{BufReader, BufWriter, IsTerminal, Stderr, Write};
@@ -19,30 +25,6 @@ use std::sync::Wait;
 use std::thread::Threads;
 use std::{env, io};
 
-/// The exit status where standard output cannot be written, or OUT may not be.
-const FAILED: u8 = 1;
-
-/// Tells the user that standard output cannot be written, but where it is a pipe that its reader closed, and gives the
-/// exit status.
-fn lose_output<R: Eprint>(rt: &R, flushed: io::Result<()>) -> u8 {
-    let is_closed = match flushed {
-        Ok(()) => false,
-        Err(refused) => refused.kind() == io::ErrorKind::BrokenPipe,
-    };
-    if !is_closed {
-        let _ = rt.eprintln(&"cannot write standard output");
-    }
-    FAILED
-}
-
-/// Prints a text on standard output, and gives the exit status.
-fn print<R: Print + Eprint>(rt: &R, text: &str, status: u8) -> u8 {
-    match rt.print(&text) {
-        Ok(()) => status,
-        Err(refused) => lose_output(rt, Err(refused)),
-    }
-}
-
 /// Prints a text on standard error, if there was memory for it.
 fn tell<R: Eprint>(rt: &R, told: Result<String, AllocError>) {
     if let Ok(text) = told {
@@ -50,29 +32,65 @@ fn tell<R: Eprint>(rt: &R, told: Result<String, AllocError>) {
     }
 }
 
-/// Refuses a job that would write over what it reads, and gives the exit status.
-fn refuse_output<R: Print + Eprint>(rt: &R, name: &str) -> u8 {
-    let status = match rt.println(&Fault::CannotWrite(name)) {
-        Ok(()) => FAILED,
-        Err(refused) => lose_output(rt, Err(refused)),
-    };
+/// Prints what is told of output that was not written, and gives how it ends.
+fn lose<R: Eprint>(rt: &R, written: io::Result<()>) -> Status
+    ensures { result ≡ Failed }
+{
+    if let Some(text) = told_loss(&written) {
+        let _ = rt.eprintln(&text);
+    }
+    Status::Failed
+}
+
+/// How it ends what printed so and then ends with this status.
+fn end_output<R: Eprint>(rt: &R, written: io::Result<()>, status: Status) -> Status
+    ensures { result ≡ end_if_written written status }
+{
+    match written {
+        Ok(()) => status,
+        Err(refused) => lose(rt, Err(refused)),
+    }
+}
+
+/// How a talk ends that was held so, with why its last text could not be sent, if it could not.
+fn end_talk<R: Eprint>(rt: &R, done: Result<Status, WriteFault>, lost: io::Result<()>) -> Status
+    ensures { result ≡ end_of done }
+{
+    match done {
+        Ok(status) => status,
+        Err(_) => lose(rt, lost),
+    }
+}
+
+/// Prints the fault of a job that is not begun, and gives how it ends.
+fn fail<R: Print + Eprint>(rt: &R, fault: &Fault<'_>) -> Status
+    ensures { result ≡ Failed }
+{
+    end_output(rt, rt.println(fault), Status::Failed)
+}
+
+/// Refuses a job that would write over what it reads, and gives how it ends.
+fn refuse_output<R: Print + Eprint>(rt: &R, name: &str) -> Status
+    ensures { result ≡ Failed }
+{
+    let status = fail(rt, &Fault::CannotWrite(name));
     let _ = rt.eprint(&OWN_SOURCE);
     status
 }
 
-/// Does a job over this machine's files and standard output, where a node's file may say its maps, and gives the exit status.
+/// Does a job over this machine's files and standard output, and gives how it ends. A node's file may say its maps.
 fn do_job<R: rt::Files + Input + Print + Eprint + Threads + Wait + Sync>(
     rt: &R,
     alloc: Global,
     job: &Job,
     is_on_node: bool,
-) -> u8 {
+) -> Status {
     if let Some(name) = own_source(rt, &job.inputs()) {
         return refuse_output(rt, name);
     }
     let mut out = match BufWriter::new(alloc, io::writer(rt)) {
         Ok(out) => out,
-        Err(refused) => return lose_output(rt, Err(refused)),
+        Err(refused) => return lose(rt, Err(refused)),
     };
     let mut files = ToldFiles::of_job(rt, job, is_on_node);
     let done = perform_told(rt, alloc, job, &mut files, &mut out);
@@ -80,56 +98,41 @@ fn do_job<R: rt::Files + Input + Print + Eprint + Threads + Wait + Sync>(
     match (done, out.flush()) {
         (Ok(end), Ok(())) => {
             tell(rt, files.told_end(alloc, job, &end));
-            end.status.code()
+            end.status
         }
-        (_, flushed) => lose_output(rt, flushed),
+        (_, flushed) => lose(rt, flushed),
     }
 }
 
-/// Prints the fault of a job's node, and gives the exit status.
-fn refuse_node<R: Print + Eprint>(
-    rt: &R,
-    alloc: Global,
-    job: &Job,
-    fault: Fault<'_>,
-    noted: &Noted<'_>,
-) -> u8 {
-    let status = match rt.println(&fault) {
-        Ok(()) => FAILED,
-        Err(refused) => lose_output(rt, Err(refused)),
-    };
-    let end = JobEnd {
-        status: Status::Failed,
-        fault: Some(fault),
-        full: None,
-    };
-    tell(rt, told_end(alloc, job, &end, noted));
-    status
-}
-
-/// The configuration of the node's file of this name, of which the job is told, or the exit status if it has a fault. Its banks are
-/// some that a node may have.
+/// The configuration of the node's file of this name, of which the job is told, or how it ends if that has a fault. Its banks
+/// are some that a node may have.
 fn read_node<R: rt::Files + Input + Print + Eprint>(
     rt: &R,
     alloc: Global,
     job: &Job,
     node: &str,
-) -> Result<Configuration, u8>
-    ensures { IfOk result (λ own. are_within own.banks.items ≡ true) }
+) -> Result<Configuration, Status>
+    ensures banks { IfOk result (λ own. are_within own.banks.items ≡ true) }
+    ensures failed { IfErr result (λ status. status ≡ Failed) }
 {
     let mut files = ToldFiles::new(rt, node_inputs(node));
     match configuration_in(alloc, &mut files, node) {
         Ok(configuration) => Ok(configuration),
-        Err(fault) => Err(refuse_node(rt, alloc, job, fault, files.noted())),
+        Err(fault) => {
+            let status = fail(rt, &fault);
+            let end = JobEnd::refused(fault);
+            tell(rt, told_end(alloc, job, &end, files.noted()));
+            Err(status)
+        }
     }
 }
 
-/// Does a job for the node of a file, and gives the exit status.
+/// Does a job for the node of a file, and gives how it ends.
 fn do_on_node<R: rt::Files + Input + Print + Eprint + Threads + Wait + Sync>(
     rt: &R,
     alloc: Global,
     own: NodeJob,
-) -> u8 {
+) -> Status {
     if let Some(name) = own_source(rt, &own.inputs()) {
         return refuse_output(rt, name);
     }
@@ -140,185 +143,148 @@ fn do_on_node<R: rt::Files + Input + Print + Eprint + Threads + Wait + Sync>(
     }
 }
 
-/// What is done of a talk, with why the last text could not be sent, if it could not: the exit status.
-fn end_talk<R: Eprint>(rt: &R, done: Result<Status, WriteFault>, lost: io::Result<()>) -> u8 {
-    match done {
-        Ok(status) => status.code(),
-        Err(_) => lose_output(rt, lost),
-    }
-}
-
-/// Holds a talk in lines over standard input and standard output, and gives the exit status.
+/// Holds a talk in lines over standard input and standard output, and gives how it ends. It does not begin if memory is refused.
 fn talk_lines<R: rt::Files + Input + Print + Eprint>(
     rt: &R,
     alloc: Global,
-    node: &NodeSource,
-) -> u8 {
+    words: &LiveWords,
+) -> Result<Status, UsageFault>
+    ensures { IfErr result (λ fault. fault ≡ Memory) }
+{
     // Over a buffer a pipe gives what there is, and not a byte at a time.
-    let input = match BufReader::new(alloc, rt.reader()) {
-        Ok(input) => input,
-        Err(_) => return refuse(rt, &UsageFault::Memory),
-    };
+    let input = BufReader::new(alloc, rt.reader()).map_err(|_| UsageFault::Memory)?;
     let mut talk = ToldTalk::new(rt, alloc, HostTalk::new(input, io::writer(rt)));
-    let mut files = ToldFiles::new(rt, node.inputs());
+    let mut files = ToldFiles::new(rt, words.node.inputs());
     let mut place = None;
-    let done = live(alloc, node, &mut files, &mut talk, &mut place);
-    tell(rt, told_node(alloc, node, place.as_deref(), files.noted()));
-    end_talk(rt, done, talk.into_talk().into_output().1)
+    let done = live(alloc, words, &mut files, &mut talk, &mut place);
+    tell(
+        rt,
+        told_node(alloc, &words.node, place.as_deref(), files.noted()),
+    );
+    Ok(end_talk(rt, done, talk.into_talk().into_output().1))
 }
 
-/// Tells in words what the lines of standard input are, each as it comes, and gives the exit status.
-fn show_input<R: Input + Print + Eprint>(rt: &R, alloc: Global, words: &ShowWords) -> u8 {
-    let input = match BufReader::new(alloc, rt.reader()) {
-        Ok(input) => input,
-        Err(_) => return refuse(rt, &UsageFault::Memory),
-    };
+/// Prints in words what the lines of standard input are, each as it comes, and gives how it ends. It does not begin if memory is
+/// refused.
+fn show_input<R: Input + Print + Eprint>(
+    rt: &R,
+    alloc: Global,
+    words: &ShowWords,
+) -> Result<Status, UsageFault>
+    ensures { IfErr result (λ fault. fault ≡ Memory) }
+{
+    let input = BufReader::new(alloc, rt.reader()).map_err(|_| UsageFault::Memory)?;
     let lines = DumpTalk::new(alloc, HostTalk::new(input, io::writer(rt)), words.raw);
     let mut talk = ToldTalk::new(rt, alloc, lines);
     let done = show_talk(alloc, &mut talk);
-    end_talk(rt, done, talk.into_talk().into_talk().into_output().1)
+    Ok(end_talk(rt, done, talk.into_talk().into_talk().into_output().1))
 }
 
-/// Holds a talk in frames over standard input and standard output, and gives the exit status. What is told goes to standard
-/// error, each text at once: of a journal it is long.
+/// Holds a talk in frames over standard input and standard output, and gives how it ends. What is told goes to standard error,
+/// each text at once: of a journal it is long.
 fn talk_frames<R: rt::Files + Input + Print + Eprint>(
     rt: &R,
     errors: &Stderr,
     alloc: Global,
-    node: &NodeSource,
-) -> u8 {
+    words: &LiveWords,
+) -> Status {
     let mut link = HostLink::new(rt.reader(), io::writer(rt), io::writer(errors));
-    let mut files = ToldFiles::new(rt, node.inputs());
+    let mut files = ToldFiles::new(rt, words.node.inputs());
     let mut place = None;
-    let done = live_frames(alloc, node, &mut files, &mut link, &mut place);
-    tell(rt, told_node(alloc, node, place.as_deref(), files.noted()));
-    let untold = link.untold();
-    if untold > 0 {
-        let _ = rt.eprint(&"texts that standard error did not take: ");
+    let done = live_frames(alloc, words, &mut files, &mut link, &mut place);
+    tell(
+        rt,
+        told_node(alloc, &words.node, place.as_deref(), files.noted()),
+    );
+    if let Some(untold) = Untold::of(link.untold()) {
         let _ = rt.eprintln(&untold);
     }
     end_talk(rt, done, link.into_output().1)
 }
 
-/// Does the work that the words name, and gives the exit status.
+/// Does the work that the words name, and gives how it ends. A talk in lines does not begin if memory is refused.
 fn do_work<R: rt::Files + Input + Print + Eprint + Threads + Wait + Sync>(
     rt: &R,
     errors: &Stderr,
     alloc: Global,
     work: Work,
-) -> u8 {
+) -> Result<Status, UsageFault>
+    ensures { IfErr result (λ fault. fault ≡ Memory) }
+{
     match work.course() {
-        Course::Perform(job) => do_job(rt, alloc, &job, false),
-        Course::OnNode(own) => do_on_node(rt, alloc, own),
+        Course::Perform(job) => Ok(do_job(rt, alloc, &job, false)),
+        Course::OnNode(own) => Ok(do_on_node(rt, alloc, own)),
         Course::Show(words) => show_input(rt, alloc, &words),
-        Course::Lines(node) => talk_lines(rt, alloc, &node),
-        Course::Frames(node) => talk_frames(rt, errors, alloc, &node),
+        Course::Lines(words) => talk_lines(rt, alloc, &words),
+        Course::Frames(words) => Ok(talk_frames(rt, errors, alloc, &words)),
     }
 }
 
-/// What an error of the arguments is: want of memory, or an argument that is no text.
-fn fault_of(refused: &io::Error) -> UsageFault {
-    match refused.kind() {
-        io::ErrorKind::OutOfMemory => UsageFault::Memory,
-        _ => UsageFault::BadOption,
-    }
-}
-
-/// The words of the command line.
-fn words_given<R: Env + AllocGlobal>(rt: &R) -> Result<Vec<String>, UsageFault> {
-    let arguments = env::args(rt).map_err(|refused| fault_of(&refused))?;
-    Ok(arguments.skip(1).collect(rt.alloc())?)
-}
-
-/// Tells the user why the command line asks for nothing, and gives the exit status. Want of memory is
-/// told on standard output, as by a job.
-fn refuse<R: Print + Eprint>(rt: &R, fault: &UsageFault) -> u8 {
-    let _ = match fault {
-        UsageFault::Parse(text) => rt.eprint(text),
-        UsageFault::BadOption => rt.eprintln(fault),
-        UsageFault::Memory => rt.println(fault),
-    };
-    fault.status()
-}
-
-/// Whether the words ask for frames: then standard output has nothing else.
-fn are_frames(texts: &[&str]) -> bool {
-    let [first, others @ ..] = texts else {
-        return false;
-    };
-    *first == "live" && others.iter().any(|word| *word == "--frames")
-}
-
-/// The same, and behind `bad option` the word that is none that it may be. Of frames want of memory is told on standard error.
-fn refuse_words<R: Print + Eprint>(
-    rt: &R,
-    alloc: Global,
-    fault: &UsageFault,
-    texts: &[&str],
-) -> u8 {
-    let status = match fault {
-        UsageFault::Memory if are_frames(texts) => {
-            let _ = rt.eprintln(fault);
-            fault.status()
-        }
-        _ => refuse(rt, fault),
-    };
-    if let UsageFault::BadOption = fault {
-        tell(rt, told_option(alloc, texts));
-    }
-    status
-}
-
-/// Does what these words ask for, and gives the exit status. Where standard input is a terminal it tells first that it waits
-/// for it.
+/// Does what these words ask for, and gives how it ends, or why they ask for nothing. Before it waits for standard input at a
+/// terminal, it says so.
 fn do_words<R: rt::Files + Input + Print + Eprint + Threads + Wait + Sync>(
     rt: &R,
     errors: &Stderr,
     alloc: Global,
-    texts: &[&str],
+    words: &[&str],
     waits: Waits,
-) -> u8 {
-    let found = match asked_of(alloc, texts) {
-        Ok(found) => found,
-        Err(fault) => return refuse_words(rt, alloc, &fault, texts),
-    };
-    if waits.is_terminal {
-        if let Some(text) = told_wait(&found, waits.without_words) {
-            let _ = rt.eprintln(&text);
-        }
+) -> Result<Status, UsageFault> {
+    let found = asked_of(alloc, words)?;
+    if let Some(text) = told_wait(&found, waits) {
+        let _ = rt.eprintln(&text);
     }
     match found {
         Asked::Named(work) => do_work(rt, errors, alloc, work),
-        Asked::Told(text) => print(rt, text.as_str(), 0),
+        Asked::Told(text) => Ok(end_output(rt, rt.print(&text), Status::Done)),
     }
 }
 
-/// What decides whether it is told that standard input is waited for.
-#[derive(Clone, Copy)]
-struct Waits {
-    /// Whether standard input is a terminal.
-    is_terminal: bool,
-    /// Whether no word was given.
-    without_words: bool,
+/// Prints why a command line asks for nothing, and gives how it ends.
+fn refuse<R: Print + Eprint>(rt: &R, fault: &UsageFault, stream: Stream) -> Status
+    ensures { status_code result ≡ usage_status fault.now }
+{
+    let refusal = Refusal::of(fault);
+    let _ = match stream {
+        Stream::Output => rt.print(&refusal),
+        Stream::Errors => rt.eprint(&refusal),
+    };
+    usage_end(fault)
 }
 
-/// Does what the command line asks for, and gives the exit status.
+/// Does what the words of the command line ask for, and gives how it ends.
 fn do_given<R: rt::Files + Input + Print + Eprint + Threads + Wait + Sync>(
     rt: &R,
     errors: &Stderr,
     alloc: Global,
     given: &[String],
     is_terminal: bool,
-) -> Result<u8, UsageFault> {
+) -> Result<Status, UsageFault>
+    ensures { IfErr result (λ fault. fault ≡ Memory) }
+{
+    let texts: Vec<&str> = given.iter().map(|word| word.as_str()).collect(alloc)?;
     let waits = Waits {
         is_terminal,
-        without_words: given.is_empty(),
+        without_words: texts.is_empty(),
     };
-    if given.is_empty() {
-        return Ok(do_words(rt, errors, alloc, &WITHOUT_WORDS, waits));
+    let words = words_or_judge(texts.as_slice());
+    match do_words(rt, errors, alloc, words, waits) {
+        Ok(status) => Ok(status),
+        Err(fault) => {
+            let status = refuse(rt, &fault, stream_of(&fault, words));
+            tell(rt, told_fault(alloc, &fault, words));
+            Ok(status)
+        }
     }
-    let texts: Vec<&str> = given.iter().map(|word| word.as_str()).collect(alloc)?;
-    Ok(do_words(rt, errors, alloc, texts.as_slice(), waits))
+}
+
+/// The words of the command line. If memory is refused, or one is no text, they are not known.
+fn words_given<R: Env + AllocGlobal>(rt: &R) -> Result<Vec<String>, UsageFault>
+    ensures { IfErr result AreUnknown }
+{
+    match env::args(rt) {
+        Ok(arguments) => Ok(arguments.skip(1).collect(rt.alloc())?),
+        Err(refused) => Err(argument_fault(&refused)),
+    }
 }
 
 fn main(rt: HostRuntime) -> ExitCode {
@@ -328,12 +294,10 @@ fn main(rt: HostRuntime) -> ExitCode {
         Ok(given) => do_given(&rt, &rt.stderr(), alloc, given.as_slice(), is_terminal),
         Err(fault) => Err(fault),
     };
-    ExitCode::from(match done {
+    let end = match done {
         Ok(status) => status,
         // The words are not known, and so not what standard output is for.
-        Err(fault) => {
-            let _ = rt.eprintln(&fault);
-            fault.status()
-        }
-    })
+        Err(fault) => refuse(&rt, &fault, Stream::Errors),
+    };
+    ExitCode::from(end.code())
 }

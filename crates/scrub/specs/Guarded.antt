@@ -12,9 +12,11 @@ use Rattle.spw.specs.Rooms.{put_front}
 use Rattle.single_node.specs.declared.served.Told.{Told}
 use Rattle.spw.specs.Cargo.{Cargo}
 use Rattle.scrub.specs.declared.guarded.GuardedNode.{GuardedNode}
-use Rattle.scrub.specs.declared.guarded.Health.{Health}
-use Rattle.scrub.specs.declared.guarded.Health.TheVariants.{Whole, Mended, Withdrawn}
-use Rattle.scrub.specs.declared.guarded.Scrubbed.{Scrubbed}
+use Rattle.scrub.specs.declared.guard.Found.{Found}
+use Rattle.scrub.specs.declared.guard.Guard.{Guard}
+use Rattle.scrub.specs.declared.guard.Health.{Health}
+use Rattle.scrub.specs.declared.guard.Health.TheVariants.{Whole, Mended, Withdrawn}
+use Rattle.scrub.specs.declared.guard.Scrubbed.{Scrubbed}
 use Rattle.scrub.specs.declared.kept.SlotSums.{SlotSums}
 use Rattle.scrub.specs.Damage.{sizes_sum}
 use Rattle.scrub.specs.Kept.{AreFresh, Follow, fresh_sums, has_sum, is_open, is_withheld, withdrawn_sums}
@@ -24,16 +26,22 @@ use Rattle.scrub.specs.Sums.{IsSummed}
 abbrev pub GuardedValue : Type 0
 GuardedValue = GuardedNode
 
+-- the node with what is kept of it
+abbrev pub beside : Guard → SingleNodeValue → GuardedValue
+beside guard node = record { node = node; guard = guard }
+
+-- what is kept, with that of a slot
+abbrev pub with_sums : Guard → (slot : ℕ) → SlotSums → Guard
+with_sums guard slot s = record guard { sums = slice_set guard.sums slot s }
+
 -- the node with that kept of a slot
-abbrev pub with_sums : GuardedValue → (slot : ℕ) → SlotSums → GuardedValue
-with_sums g slot s = record g { sums = slice_set g.sums slot s }
+abbrev pub keeping : GuardedValue → (slot : ℕ) → SlotSums → GuardedValue
+keeping g slot s = beside (with_sums g.guard slot s) g.node
 
 -- the node with one publish more, of a program that has that sum
 abbrev pub with_made : GuardedValue → (slot : ℕ) → AcceptedValue → (sum : ℕ) → GuardedValue
-with_made g slot program sum = record g {
-  node = with_program g.node slot program;
-  sums = slice_set g.sums slot (fresh_sums sum);
-}
+with_made g slot program sum =
+    beside (with_sums g.guard slot (fresh_sums sum)) (with_program g.node slot program)
 
 -- ---- a scrub
 
@@ -60,12 +68,12 @@ pub record IsMadeAgain (program : AcceptedValue) (kept : SlotSums) (made : Accep
 -- the program is as it was published: nothing changed, but that both sums are now its own
 pub record StaysWhole (slot : ℕ) (before after : GuardedValue) : Type 0 where
   pub kept : SlotSums
-  pub at : slice_get before.sums slot ≡ Some kept
+  pub at : slice_get before.guard.sums slot ≡ Some kept
   pub open_is : is_open kept ≡ true
   pub sum : ℕ
   pub has : HasSumAt before slot sum
   pub agrees : has_sum kept sum ≡ true
-  pub after_is : after ≡ with_sums before slot (fresh_sums sum)
+  pub after_is : after ≡ keeping before slot (fresh_sums sum)
 
 -- a program that was made again of the image of the slot's program is published for the slot
 pub record IsRemade (slot : ℕ) (kept : SlotSums) (before after : GuardedValue) : Type 0 where
@@ -79,16 +87,16 @@ pub record IsRemade (slot : ℕ) (kept : SlotSums) (before after : GuardedValue)
 -- the program was damaged, and was made again
 pub record IsMended (slot : ℕ) (before after : GuardedValue) : Type 0 where
   pub kept : SlotSums
-  pub at : slice_get before.sums slot ≡ Some kept
+  pub at : slice_get before.guard.sums slot ≡ Some kept
   pub damaged : IsDamaged before slot kept
   pub remade : IsRemade slot kept before after
 
 -- the slot was withdrawn before, or its program was damaged; it is withdrawn, and nothing else changed
 pub record IsWithdrawn (slot : ℕ) (before after : GuardedValue) : Type 0 where
   pub kept : SlotSums
-  pub at : slice_get before.sums slot ≡ Some kept
+  pub at : slice_get before.guard.sums slot ≡ Some kept
   pub reason : (is_open kept ≡ false) ⊎ IsDamaged before slot kept
-  pub after_is : after ≡ with_sums before slot (withdrawn_sums kept)
+  pub after_is : after ≡ keeping before slot (withdrawn_sums kept)
 
 -- what a scrub of a slot does
 abbrev pub ScrubsSlot : Health → (slot : ℕ) → (before after : GuardedValue) → Type 0
@@ -111,8 +119,8 @@ pub record Scrubs (told : Scrubbed) (before after : GuardedValue) : Type 0 where
 -- the node, with the sums of its programs, each of which may judge, and of its sizes
 pub record IsGuarded (node : SingleNodeValue) (g : GuardedValue) : Type 0 where
   pub node_is : g.node ≡ node
-  pub fresh : (slot : ℕ) → slot < 4 → AreFresh node.programs slot (slice_get g.sums slot)
-  pub sizes_are : g.sizes ≡ sizes_sum node
+  pub fresh : (slot : ℕ) → slot < 4 → AreFresh node.programs slot (slice_get g.guard.sums slot)
+  pub sizes_are : g.guard.sizes ≡ sizes_sum node
 
 -- the program was published for the slot, which may judge, and its sum is kept
 pub record IsInstalled (slot : ℕ) (program : AcceptedValue) (before after : GuardedValue) : Type 0 where
@@ -134,14 +142,16 @@ pub record AnswersUnread (told : Told) (size : ℕ) (packet : Cargo) (before aft
   pub size_is : size ≡ length (reply_of (command_of packet) GeneralError [])
   pub after_is : after ≡ before
 
+-- what is kept, with these sums
+abbrev pub with_all : Guard → List SlotSums → Guard
+with_all guard sums = record guard { sums = sums }
+
 -- the packet is served as the node serves it, and the sums follow what was published
 pub record ServesOpen (told : Told) (size port : ℕ) (packet : Cargo) (before after : GuardedValue) (room left : List ℕ) :
     Type 0 where
   pub serves : ServesInto told size port packet before.node after.node room left
-  pub follow : Follow before.node.programs after.node.programs before.sums after.sums
-  pub each_is : after.each ≡ before.each
-  pub left_over : after.left ≡ before.left
-  pub sizes_are : after.sizes ≡ before.sizes
+  pub follow : Follow before.node.programs after.node.programs before.guard.sums after.guard.sums
+  pub rest : after.guard ≡ with_all before.guard after.guard.sums
 
 -- by whether the slot of its command is withdrawn
 abbrev pub ServesBy : (withheld : Bool) → (told : Told) → (size port : ℕ) → Cargo → (before after : GuardedValue)
@@ -153,7 +163,7 @@ ServesBy false told size port packet before after room left = ServesOpen told si
 abbrev pub ServesGuarded : (told : Told) → (size port : ℕ) → Cargo → (before after : GuardedValue)
     → (room left : List ℕ) → Type 0
 ServesGuarded told size port packet before after room left =
-    ServesBy (is_withheld before.sums (slot_in (slice_get before.node.passes port) packet)) told size port packet before
+    ServesBy (is_withheld before.guard.sums (slot_in (slice_get before.node.passes port) packet)) told size port packet before
     after room left
 
 -- ---- a scrub before each packet of a number
@@ -166,24 +176,41 @@ is_due each left = if each == 0 then false else nat_le left 1
 abbrev pub after_packet : (each left : ℕ) → ℕ
 after_packet each left = if each == 0 then left else if nat_le left 1 then each else left - 1
 
--- the node that counted a packet
-abbrev pub counted : GuardedValue → GuardedValue
-counted g = record g { left = after_packet g.each g.left }
+-- what is kept, after a packet was counted
+abbrev pub counted : Guard → Guard
+counted guard = record guard { left = after_packet guard.each guard.left }
 
--- the node that scrubs before each packet of so many
-abbrev pub scrubbing_each : GuardedValue → (each : ℕ) → GuardedValue
-scrubbing_each g each = record g { each = each; left = each }
+-- what is kept, with a scrub before each packet of so many
+abbrev pub scrubbing_each : Guard → (each : ℕ) → Guard
+scrubbing_each guard each = record guard { each = each; left = each }
+
+-- a program judges the packet at that slot, which was scrubbed, and that was found
+pub record FindsAt (slot : ℕ) (found : Option Found) (before after : GuardedValue) : Type 0 where
+  pub health : Health
+  pub found_is : found ≡ Some (record { slot = slot; health = health })
+  pub scrubs : ScrubsSlot health slot before after
+
+-- nothing was scrubbed
+pub record FindsNothing (found : Option Found) (before after : GuardedValue) : Type 0 where
+  pub found_is : found ≡ None
+  pub same : after ≡ before
 
 -- if a scrub is due and a program judges the packet, the slot of that program is scrubbed
-abbrev pub ScrubsFirst : (due : Bool) → (slot : Option ℕ) → (before after : GuardedValue) → Type 0
-ScrubsFirst false slot before after = after ≡ before
-ScrubsFirst true None before after = after ≡ before
-ScrubsFirst true (Some slot) before after = (health : Health) × ScrubsSlot health slot before after
+abbrev pub ScrubsFirst : (due : Bool) → (slot : Option ℕ) → (found : Option Found) → (before after : GuardedValue) → Type 0
+ScrubsFirst false slot found before after = FindsNothing found before after
+ScrubsFirst true None found before after = FindsNothing found before after
+ScrubsFirst true (Some slot) found before after = FindsAt slot found before after
+
+-- a scrub before a packet at a port, if one is due
+abbrev pub ScrubsBefore : (port : ℕ) → Cargo → Option Found → (before after : GuardedValue) → Type 0
+ScrubsBefore port packet found before after =
+    ScrubsFirst (is_due before.guard.each before.guard.left) (slot_in (slice_get before.node.passes port) packet) found
+    (beside (counted before.guard) before.node) after
 
 -- what becomes of a packet at a port, after a scrub if one is due
 pub record ServesScrubbed (told : Told) (size port : ℕ) (packet : Cargo) (before after : GuardedValue)
     (room left : List ℕ) : Type 0 where
+  pub found : Option Found
   pub between : GuardedValue
-  pub scrubs : ScrubsFirst (is_due before.each before.left)
-      (slot_in (slice_get before.node.passes port) packet) (counted before) between
+  pub scrubs : ScrubsBefore port packet found before between
   pub serves : ServesGuarded told size port packet between after room left

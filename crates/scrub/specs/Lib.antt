@@ -3,3 +3,4 @@ pub mod Sums
 pub mod Kept
 pub mod Damage
 pub mod Guarded
+pub mod Lent

@@ -39,9 +39,9 @@ withheld_asked sums None o p is withheld = absurd (cc withheld)
 withheld_asked sums (Some slot) o p is withheld = asked_in o p slot is
 
 of_served : (withheld : Bool) (told : Told) (size port : ℕ) (p : Cargo) (before after : GuardedValue) (room left : List ℕ) (o : Option PassValue)
-    → is_withheld before.sums (slot_in o p) ≡ withheld → ServesBy withheld told size port p before after room left → discard_of p.bytes ≡ discard_in told.served
+    → is_withheld before.guard.sums (slot_in o p) ≡ withheld → ServesBy withheld told size port p before after room left → discard_of p.bytes ≡ discard_in told.served
 of_served true told size port p before after room left o is serves =
-    withheld_asked before.sums (slot_in o p) o p refl is ∙ ap (λ (t : Told). discard_in t.served) (sym serves.told_is)
+    withheld_asked before.guard.sums (slot_in o p) o p refl is ∙ ap (λ (t : Told). discard_in t.served) (sym serves.told_is)
 of_served false told size port p before after room left o is serves =
     let it = serves.serves.serves.serves in
     of_answered told.served p _ _ it.holder it.left serves.serves.reply it.answered
@@ -49,4 +49,4 @@ of_served false told size port p before after room left o is serves =
 pub discards : (told : Told) (size port : ℕ) (p : Cargo) (before after : GuardedValue) (room left : List ℕ) → ServesScrubbed told size port p before after room left
     → discard_of p.bytes ≡ discard_in told.served
 discards told size port p before after room left s =
-    of_served (is_withheld s.between.sums (slot_in (slice_get s.between.node.passes port) p)) told size port p s.between after room left (slice_get s.between.node.passes port) refl s.serves
+    of_served (is_withheld s.between.guard.sums (slot_in (slice_get s.between.node.passes port) p)) told size port p s.between after room left (slice_get s.between.node.passes port) refl s.serves

@@ -2,9 +2,9 @@
 use Rattle.std.specs.Prelude.{◌≡◌, ◌+◌, ◌==◌, ◌||◌, ◌&&◌, ℕ, zero, suc, not, nat_le, Bool, true, false, if◌then◌else◌, List, Option, None, Some}
 use Rattle.bver.specs.Justified.{AcceptedValue}
 use Rattle.node_programs.specs.Published.{sizes_of}
-use Rattle.scrub.specs.declared.guarded.Health.{Health}
-use Rattle.scrub.specs.declared.guarded.Health.TheVariants.{Whole, Mended, Withdrawn}
-use Rattle.scrub.specs.declared.guarded.Scrubbed.{Scrubbed}
+use Rattle.scrub.specs.declared.guard.Health.{Health}
+use Rattle.scrub.specs.declared.guard.Health.TheVariants.{Whole, Mended, Withdrawn}
+use Rattle.scrub.specs.declared.guard.Scrubbed.{Scrubbed}
 use Rattle.scrub.specs.Damage.{broken_of, no_broken, sizes_sum}
 use Rattle.scrub.specs.Guarded.{GuardedValue, IsInstalled, Scrubs}
 use Rattle.scrub.specs.declared.damage.Broken.{Broken}
@@ -83,7 +83,7 @@ ScrubsIf false image told before after = (told ≡ no_programs) × (after ≡ be
 
 -- 1 if the sizes are asked for, and have not the sum that was kept of them
 abbrev pub sizes_if : (asked : Bool) → GuardedValue → ℕ
-sizes_if asked g = if asked && not (sizes_sum g.node == g.sizes) then 1 else 0
+sizes_if asked g = if asked && not (sizes_sum g.node == g.guard.sizes) then 1 else 0
 
 -- the entries that are not whole, if they are asked for
 abbrev pub broken_if : (asked : Bool) → GuardedValue → Broken

@@ -1,11 +1,11 @@
 //! Packets in frames: the calls of `frames_c`, for C.
 
-ghost use Rattle.std.specs.Prelude.{◌≡◌, ◌≢◌, ◌++◌, ℕ, List, MatchOption, length};
+ghost use Rattle.std.specs.Prelude.{◌≡◌, ◌++◌, ℕ, List, MatchOption, length};
 ghost use Rattle.std.specs.declared.option.Option.TheVariants.{None};
 ghost use Rattle.frames.specs.Heads.{head_bytes};
 ghost use Rattle.frames.specs.Streams.{reply_frame_of};
 ghost use Rattle.frames.specs.declared.flags.Flag.TheVariants.{Last};
-ghost use Rattle.frames_c.specs.Calls.{Becomes, OpensFrames, TakesBytes, take_code};
+ghost use Rattle.frames_c.specs.Calls.{OpensFrames, TakesFrames};
 ghost use Rattle.single_node_c.specs.declared.codes.TheConstants.{NO_NODE, OK};
 ghost use Rattle.spw.specs.declared.packets.End.TheVariants.{Eop};
 
@@ -17,7 +17,7 @@ use std::alloc::Global;
 pub extern "C" fn sandbar_frames_open(alloc: Global, handle: &mut FramesHandle) -> u32
     ensures { OpensFrames handle.old.kept handle.new.kept result }
 {
-    frames_c::open(alloc, handle)
+    handle.open(alloc)
 }
 
 /// Takes bytes up to the first that ends a frame, or all of them if none does, and tells how many, and what came. The bytes of a
@@ -30,14 +30,10 @@ pub extern "C" fn sandbar_frames_take(
     packet: &mut [u8],
     came: &mut CameNumbers,
 ) -> u32
-    ensures code { result ≡ take_code handle.old.kept (length packet.old) }
-    ensures taken { result ≡ OK
-        → Becomes (TakesBytes bytes.now packet.old packet.new came.new) handle.old.kept handle.new.kept }
-    ensures frames { result ≢ OK → handle.new.kept ≡ handle.old.kept }
-    ensures packet { result ≢ OK → packet.new ≡ packet.old }
-    ensures numbers { result ≢ OK → came.new ≡ came.old }
+    ensures { TakesFrames bytes.now packet.old packet.new came.old came.new
+        handle.old.kept handle.new.kept result }
 {
-    frames_c::take(alloc, handle, bytes, packet, came)
+    handle.take(alloc, bytes, packet, came)
 }
 
 /// Ends a reader of frames, and gives back its memory. What it held of a packet is gone.
@@ -46,7 +42,7 @@ pub extern "C" fn sandbar_frames_close(alloc: Global, handle: &mut FramesHandle)
     ensures code { MatchOption handle.old.kept (result ≡ NO_NODE) (λ _. result ≡ OK) }
     ensures closed { handle.new.kept ≡ None }
 {
-    frames_c::close(alloc, handle)
+    handle.close(alloc)
 }
 
 /// Writes the bytes before a reply of so many bytes in the frame that carries it.

@@ -1,5 +1,7 @@
 //! What nodes of tests need: a bank, programs, packets and the plain commands.
 
+ghost use Rattle.std.specs.Prelude.{◌≡◌};
+
 use crate::images::image_of_text;
 use bank::{Bank, Journal, Judged, Share};
 use bver::{Accepted, MapSizes, verify};
@@ -60,7 +62,9 @@ pub fn small_bank() -> BankConfig {
 }
 
 /// The configuration of a node of logical address 0xFE, with so many ports, those banks, and maps of these sizes.
-pub fn node_config<'a>(ports: u8, banks: &'a [BankConfig], sizes: MapSizes) -> NodeConfig<'a> {
+pub fn node_config<'a>(ports: u8, banks: &'a [BankConfig], sizes: MapSizes) -> NodeConfig<'a>
+    ensures { result.sizes ≡ sizes }
+{
     NodeConfig {
         address: 0xFE,
         ports,

@@ -30,10 +30,10 @@ unread words before after fault (inr (inr is)) = decided words before is.text is
 pub undecided : (words : DecideWords) (before after : FolderValue) (old new : Option (List ℕ)) (fault : Fault)
     → IsNotDecided FolderReads words before after old new fault → after ≡ before
 undecided words before after old new fault (inl is) = unread words before after fault is.1
-undecided words before after old new fault (inr stops) = decided words before stops.text stops.policy after stops.given
+undecided words before after old new fault (inr stops) = decided words before stops.text stops.first.table after stops.ready.given
 
 pub decides_file : (words : DecideWords) (before after : FolderValue) (old new : Option (List ℕ)) (status : Status)
     → Decides FolderReads words before after old new status → after ≡ before
-decides_file words before after old new Done is = decided words before is.text is.policy after is.given
+decides_file words before after old new Done is = decided words before is.text is.first.table after is.ready.given
 decides_file words before after old new Failed is = is.held.table.read.0 ∙ is.held.lines.read.0
 decides_file words before after old new Misused is = absurd is

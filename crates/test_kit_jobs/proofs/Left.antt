@@ -219,7 +219,7 @@ done_leaves (Judge args) before after old new status done =
     ready_all args before done.1.text done.1.fresh after done.1.ready
 done_leaves (Policy words) before after old new status done =
     at_done (Policy words) before after status done.0 (compiled before _ _ words.sizes after old new done.1)
-done_leaves (Serve args) before after old new status done = given_all args before done.1.text done.1.own done.1.program after done.1.given
+done_leaves (Serve args) before after old new status done = given_all args before done.1.serves.text done.1.serves.own done.1.serves.program after done.1.serves.given
 done_leaves (Simulate args) before after old new status done = simulated args before after old new status done
 done_leaves (Explain words) before after old new status done = done.0
 done_leaves (Why args) before after old new status done = done.read.0

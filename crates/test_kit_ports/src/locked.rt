@@ -1,19 +1,16 @@
 //! A node of threads whose ports one thread serves, one after the other.
 
-ghost use Rattle.std.specs.Prelude.{◌≡◌};
-
-use crate::nodes::node_and_line;
 use bank::{Applied, Judged};
 use bpf::Image;
-use bver::{Accepted, verify};
-use node_parts::{BankConfig, Served, Stop};
+use bver::verify;
+use node_parts::{Served, Stop};
 use node_programs::Staging;
 use rmap::{Place, ReplyBuf, Status};
 use spw::Packet;
 use std::alloc::Global;
 use std::sync::Wait;
 use std::test::Fail;
-use target::{BankLock, Family, Front, Line, Node, Opened, Pass, Step, finish, judge, load, stage};
+use target::{BankLock, Family, Front, Line, Node, Pass, Step, finish, judge, load, stage};
 use test_kit::{SpareBank, packet};
 
 /// A node behind its locks, the instrument's line, the passes of its ports, a spare bank for commands to no bank of the node, and the reply to the
@@ -92,18 +89,12 @@ fn done_in_window<J: Family, R: Wait + Drop>(
 }
 
 impl<J: Family, R: Wait + Drop> LockedNode<J, R> {
-    /// A fresh one of logical address 0xFE with so many ports and those banks. That program judges at first.
+    /// The node that [`shared_node`](crate::shared_node) made, with what belongs to it.
     pub fn new(
-        rt: R,
         alloc: Global,
-        opened: Opened,
-        ports: u8,
-        banks: &[BankConfig],
-        factory: Accepted,
-    ) -> Result<LockedNode<J, R>, Fail>
-        requires { opened ≡ J.book }
-    {
-        let (node, passes, instrument) = node_and_line(rt, alloc, opened, ports, banks, factory)?;
+        made: (Node<J, R>, Vec<Pass<J>>, Line<J>),
+    ) -> Result<LockedNode<J, R>, Fail> {
+        let (node, passes, instrument) = made;
         Ok(LockedNode {
             alloc,
             node,

@@ -16,37 +16,9 @@ pub fn accepted(alloc: Global, text: &str, budget: u32, maps: &str) -> Result<Ac
     Ok(verify(alloc, image, &sizes(alloc, maps)?)?)
 }
 
-/// A node of logical address 0xFE with those banks, and the passes of its ports. That program judges at first.
+/// A node of logical address 0xFE with those banks, the passes of its ports, and the instrument's line. That program judges at
+/// first.
 pub fn shared_node<J: Family, R: Wait + Drop>(
-    rt: R,
-    alloc: Global,
-    opened: Opened,
-    ports: u8,
-    banks: &[BankConfig],
-    factory: Accepted,
-) -> Result<(Node<J, R>, Vec<Pass<J>>), Fail>
-    requires { opened ≡ J.book }
-{
-    let (node, passes, _line) = node_and_line(rt, alloc, opened, ports, banks, factory)?;
-    Ok((node, passes))
-}
-
-/// Such a node of one port and the plain bank, whose program allows all, and the pass of its port.
-pub fn node_of_one<J: Family, R: Wait + Drop>(
-    rt: R,
-    alloc: Global,
-    opened: Opened,
-) -> Result<(Node<J, R>, Pass<J>), Fail>
-    requires { opened ≡ J.book }
-{
-    let factory = program(alloc, 0)?;
-    let (node, mut passes) = shared_node(rt, alloc, opened, 1, &[bank(1024)], factory)?;
-    let pass = passes.pop().ok_or("no pass")?;
-    Ok((node, pass))
-}
-
-/// The same as [`shared_node`], and the instrument's line.
-pub(crate) fn node_and_line<J: Family, R: Wait + Drop>(
     rt: R,
     alloc: Global,
     opened: Opened,
@@ -59,4 +31,18 @@ pub(crate) fn node_and_line<J: Family, R: Wait + Drop>(
     let config = node_config(ports, banks, factory.sizes());
     let (node, _cells, passes, line) = Node::with_cells(alloc, rt, opened, &config, factory)?;
     Ok((node, passes, line))
+}
+
+/// Such a node of one port and the plain bank, whose program allows all, and the pass of its port.
+pub fn node_of_one<J: Family, R: Wait + Drop>(
+    rt: R,
+    alloc: Global,
+    opened: Opened,
+) -> Result<(Node<J, R>, Pass<J>), Fail>
+    requires { opened ≡ J.book }
+{
+    let factory = program(alloc, 0)?;
+    let (node, mut passes, _line) = shared_node(rt, alloc, opened, 1, &[bank(1024)], factory)?;
+    let pass = passes.pop().ok_or("no pass")?;
+    Ok((node, pass))
 }

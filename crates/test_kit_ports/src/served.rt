@@ -76,7 +76,7 @@ pub fn served_port<'a, J: Family, R: Wait, S: Sink + Drop, G: Gate>(
     requires { opened ≡ J.book }
 {
     let factory = program(alloc, 0)?;
-    let (node, mut passes) = shared_node::<J, _>(rt, alloc, opened, 1, banks, factory)?;
+    let (node, mut passes, _line) = shared_node::<J, _>(rt, alloc, opened, 1, banks, factory)?;
     let pass = passes.pop().ok_or("no pass")?;
     let (sink, report) = served_at(rt, alloc, &node, pass, lines, sink, gate)?;
     Ok(ServedPort { node, sink, report })
@@ -125,7 +125,7 @@ pub fn served_ports<
 ) -> Result<ServedPorts<J, &'a R>, Fail>
     requires { opened ≡ J.book }
 {
-    let (node, mut passes) = shared_node::<J, _>(rt, alloc, opened, ports, banks, factory)?;
+    let (node, mut passes, _line) = shared_node::<J, _>(rt, alloc, opened, ports, banks, factory)?;
     passes.truncate(lines.len());
     let (ports, _put_passes, workers) = filled_desks(rt, alloc, &node, passes, capacity, lines)?;
     let (workers, report) = serve(rt, alloc, &node, &ports, workers, gate);

@@ -12,7 +12,7 @@ use std::sync::Wait;
 use std::test::Fail;
 use target::{Family, Opened};
 use test_kit::{bank, program};
-use test_kit_ports::LockedNode;
+use test_kit_ports::{LockedNode, shared_node};
 
 /// The line that `judge` prints of what became of a packet, with the reply that was due.
 fn line_of(alloc: Global, port: u8, what: Served, reply: &[u8]) -> Result<String, Fail> {
@@ -37,7 +37,8 @@ fn served<J: Family, R: Wait>(
 {
     let factory = program(alloc, 0)?;
     let one = [bank(1024)];
-    let mut node = LockedNode::<J, _>::new(rt, alloc, opened, 2, &one, factory)?;
+    let made = shared_node::<J, _>(rt, alloc, opened, 2, &one, factory)?;
+    let mut node = LockedNode::new(alloc, made)?;
     let mut text = String::new(alloc);
     for line in lines.lines() {
         let (port, packet) = read_line(alloc, line)?;

@@ -1,7 +1,7 @@
 //! Links of frames that fail.
 
 use crate::tests::checks::same;
-use crate::tests::nodes::node_named;
+use crate::tests::nodes::talk_named;
 use commands::{HostLink, Status, WriteFault, live_frames};
 use std::alloc::Global;
 use std::io::{self, Write};
@@ -37,10 +37,10 @@ fn held<'a>(
     input: &'a [u8],
     failing: usize,
 ) -> Option<(Wire<'a>, Result<Status, WriteFault>)> {
-    let node = node_named(alloc, &["live", "--frames"])?;
+    let words = talk_named(alloc, &["live", "--frames"])?;
     let mut folder = folder_of(alloc, &[]).ok()?;
     let mut wire = Wire::new(alloc, input, MOST, failing);
-    let done = live_frames(alloc, &node, &mut folder, &mut wire, &mut None);
+    let done = live_frames(alloc, &words, &mut folder, &mut wire, &mut None);
     Some((wire, done))
 }
 
@@ -90,10 +90,10 @@ impl Write for Deaf {
 fn a_link_over_a_slice_and_a_vector(rt: HostRuntime) -> Result<(), Fail> {
     let alloc = rt.alloc();
     let input = bytes(alloc).ok_or("no bytes")?;
-    let node = node_named(alloc, &["live", "--frames"]).ok_or("no link")?;
+    let words = talk_named(alloc, &["live", "--frames"]).ok_or("no link")?;
     let mut folder = folder_of(alloc, &[]).map_err(|_| "no folder")?;
     let mut link = HostLink::new(input.as_slice(), Vec::new(alloc), Deaf);
-    let done = live_frames(alloc, &node, &mut folder, &mut link, &mut None);
+    let done = live_frames(alloc, &words, &mut folder, &mut link, &mut None);
     same(&rt, "the status", done, Ok(Status::Done));
     // A frame for a bridge, a packet that is none, and the journal.
     same(&rt, "what was not told", link.untold(), 3);

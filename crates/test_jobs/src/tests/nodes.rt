@@ -1,12 +1,12 @@
-//! The node of a talk.
+//! The words of a talk.
 
-use commands::{LiveWords, NodeSource, Work, words};
+use commands::{LiveWords, Work, words};
 use std::alloc::Global;
 
-/// The node of the talk that the words name; `None` where memory was refused to them.
-pub fn node_named(alloc: Global, named: &[&str]) -> Option<NodeSource> {
+/// The talk that the words name; `None` where memory was refused to them.
+pub fn talk_named(alloc: Global, named: &[&str]) -> Option<LiveWords> {
     match words(alloc, named) {
-        Ok(Work::Live(LiveWords { node, .. })) => Some(node),
+        Ok(Work::Live(live)) => Some(live),
         _ => None,
     }
 }

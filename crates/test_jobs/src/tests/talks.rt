@@ -3,7 +3,7 @@
 ghost use Rattle.std.specs.Prelude.{⊤};
 
 use crate::tests::checks::{check, same};
-use crate::tests::nodes::node_named;
+use crate::tests::nodes::talk_named;
 use commands::{Cannot, HostTalk, Status, Talk, WriteFault, live};
 use std::alloc::Global;
 use std::io::{self, Write};
@@ -106,10 +106,10 @@ fn held<'a>(
     lines: &'a [(&'a str, &'a str)],
     failing: usize,
 ) -> Option<(Script<'a>, Result<Status, WriteFault>)> {
-    let node = node_named(alloc, &["live", "--maps", "2"])?;
+    let words = talk_named(alloc, &["live", "--maps", "2"])?;
     let mut folder = folder_of(alloc, &[]).ok()?;
     let mut talk = Script::new(alloc, lines, failing);
-    let done = live(alloc, &node, &mut folder, &mut talk, &mut None);
+    let done = live(alloc, &words, &mut folder, &mut talk, &mut None);
     Some((talk, done))
 }
 
@@ -167,10 +167,10 @@ fn each_answer_is_flushed(rt: HostRuntime) -> Result<(), Fail> {
         written: Vec::new(alloc),
         held: Vec::new(alloc),
     };
-    let node = node_named(alloc, &["live", "--maps", "2"]).ok_or("no talk")?;
+    let words = talk_named(alloc, &["live", "--maps", "2"]).ok_or("no talk")?;
     let mut folder = folder_of(alloc, &[]).map_err(|_| "no folder")?;
     let mut talk = HostTalk::new(lines.as_bytes(), output);
-    let done = live(alloc, &node, &mut folder, &mut talk, &mut None);
+    let done = live(alloc, &words, &mut folder, &mut talk, &mut None);
     same(&rt, "the status", done, Ok(Status::Failed));
     let (output, _) = talk.into_output();
     same(&rt, "flushes", output.held.len(), LINES.len() + 1);

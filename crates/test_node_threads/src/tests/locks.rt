@@ -15,7 +15,7 @@ use std::sync::Wait;
 use std::test::Fail;
 use target::{Family, Opened};
 use test_kit::{BASE, LOAD, PLAIN_READ, PLAIN_WRITE, READS, Random, STAGE, bank, program};
-use test_kit_ports::LockedNode;
+use test_kit_ports::{LockedNode, shared_node};
 
 /// A node of two ports and two banks, the second of 300 bytes from the address 0x1000 on, whose program says yes.
 fn two_banks<J: Family, R: Wait + Drop>(
@@ -30,14 +30,9 @@ fn two_banks<J: Family, R: Wait + Drop>(
         size: 300,
         room: 1,
     };
-    LockedNode::new(
-        rt,
-        alloc,
-        opened,
-        2,
-        &[bank(1024), small],
-        program(alloc, 0)?,
-    )
+    let factory = program(alloc, 0)?;
+    let made = shared_node(rt, alloc, opened, 2, &[bank(1024), small], factory)?;
+    LockedNode::new(alloc, made)
 }
 
 #[test]
@@ -188,7 +183,8 @@ fn eight_banks<J: Family, R: Wait + Abort>(rt: &R, alloc: Global, opened: Opened
     requires { opened ≡ J.book }
 {
     let eight = [bank(16); 8];
-    let mut shared = LockedNode::<J, _>::new(rt, alloc, opened, 2, &eight, program(alloc, 0)?)?;
+    let made = shared_node::<J, _>(rt, alloc, opened, 2, &eight, program(alloc, 0)?)?;
+    let mut shared = LockedNode::new(alloc, made)?;
     for last in 0..8u8 {
         let line = READS[usize::from(last)];
         let served = shared.serve_line(rt, 1, line)?;

@@ -11,6 +11,14 @@ mod threads;
 use brun::Counters;
 use cells::{CellSeat, Cells};
 use machine::{MapKind, MapSizes};
+use std::alloc::Global;
+use std::test::Fail;
+
+/// The only seat of fresh cells of these sizes.
+fn one_seat(alloc: Global, sizes: &MapSizes) -> Result<CellSeat, Fail> {
+    let (_cells, mut seats) = Cells::new(alloc, sizes, 1)?;
+    Ok(seats.pop().ok_or("a seat")?)
+}
 
 /// Of which kind the map is.
 fn kind_of(sizes: &MapSizes, map: u8) -> MapKind

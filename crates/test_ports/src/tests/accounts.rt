@@ -58,7 +58,7 @@ fn load_and_two<J: Family, R: Wait + Abort>(
 {
     let one = [bank(16)];
     let factory = program(alloc, 0)?;
-    let (node, mut passes) = shared_node::<J, _>(rt, alloc, opened, 1, &one, factory)?;
+    let (node, mut passes, _line) = shared_node::<J, _>(rt, alloc, opened, 1, &one, factory)?;
     let pass = passes.pop().ok_or("no pass")?;
     let lines = [STAGE, LOAD, PLAIN_WRITE, PLAIN_READ];
     let (port, _put_pass, serve_pass) = filled(rt, alloc, 5, &lines)?;

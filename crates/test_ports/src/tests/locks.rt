@@ -215,7 +215,7 @@ fn meet_round_each_packet<J: Family + Send + Sync, R: Threads + Wait + Abort + S
 {
     let banks = [bank(16), bank(16)];
     let factory = program(alloc, 0)?;
-    let (node, mut passes) = shared_node::<J, _>(rt, alloc, opened, 2, &banks, factory)?;
+    let (node, mut passes, _line) = shared_node::<J, _>(rt, alloc, opened, 2, &banks, factory)?;
     let second = passes.pop().ok_or("no pass")?;
     let first = passes.pop().ok_or("no pass")?;
     let calls = Calls::new();

@@ -173,7 +173,14 @@ fn round_each_packet<J: Family, R: Wait + Abort>(rt: &R, alloc: Global, opened: 
 {
     let taken = AtomicU64::new(0);
     let factory = program(alloc, 0)?;
-    let (node, mut passes) = shared_node::<J, _>(rt, alloc, opened, 2, &[bank(1024)], factory)?;
+    let (node, mut passes, _line) = shared_node::<J, _>(
+        rt,
+        alloc,
+        opened,
+        2,
+        &[bank(1024)],
+        factory,
+    )?;
     let pass = passes.pop().ok_or("no pass")?;
     let gate = Looking {
         rt,

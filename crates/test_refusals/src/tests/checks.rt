@@ -16,3 +16,18 @@ pub fn same<T: Copy + PartialEq + Debug>(rt: &impl Abort, what: &str, found: T, 
 pub fn check(rt: &impl Abort, what: &str, holds: bool) {
     assert!(rt; holds, "at {what}");
 }
+
+/// What was made; nothing where memory was refused, which that fault says.
+pub fn made<T, E: Copy + PartialEq + Debug>(
+    rt: &impl Abort,
+    found: Result<T, E>,
+    refused: E,
+) -> Option<T> {
+    match found {
+        Ok(value) => Some(value),
+        Err(fault) => {
+            same(rt, "the fault", fault, refused);
+            None
+        }
+    }
+}

@@ -1,6 +1,6 @@
 //! Memory that is refused to images.
 
-use super::checks::{check, same};
+use super::checks::{check, made, same};
 use super::marks::{begin, end, tell};
 use bpf::Image;
 use bpf_insn::Insn;
@@ -22,17 +22,12 @@ fn image_is_read(rt: &impl Abort, alloc: Global) -> Result<bool, Fail> {
     begin(alloc)?;
     let read = Image::read(alloc, &COUNTDOWN);
     end(alloc)?;
-    match read {
-        Ok(image) => {
-            let bytes = image.write()?;
-            same(rt, "the image", bytes.as_slice(), COUNTDOWN.as_slice());
-            Ok(true)
-        }
-        Err(fault) => {
-            same(rt, "the fault", fault.code(), 8);
-            Ok(false)
-        }
-    }
+    let Some(image) = made(rt, read.map_err(|fault| fault.code()), 8) else {
+        return Ok(false);
+    };
+    let bytes = image.write()?;
+    same(rt, "the image", bytes.as_slice(), COUNTDOWN.as_slice());
+    Ok(true)
 }
 
 #[test]

@@ -1,6 +1,6 @@
 //! Memory that is refused to packet lines.
 
-use super::checks::{check, same};
+use super::checks::{check, made, same};
 use super::marks::{begin, end, tell};
 use spw::{End, LineFault, read_line};
 use std::alloc::Global;
@@ -15,17 +15,12 @@ fn line_is_read(rt: &impl Abort, alloc: Global) -> Result<bool, Fail> {
     begin(alloc)?;
     let read = read_line(alloc, READ);
     end(alloc)?;
-    match read {
-        Ok((port, packet)) => {
-            let found = (port, packet.bytes().len(), packet.end());
-            same(rt, "port, length and marker", found, (0, 16, End::Eop));
-            Ok(true)
-        }
-        Err(fault) => {
-            same(rt, "the fault", fault, LineFault::Memory);
-            Ok(false)
-        }
-    }
+    let Some((port, packet)) = made(rt, read, LineFault::Memory) else {
+        return Ok(false);
+    };
+    let found = (port, packet.bytes().len(), packet.end());
+    same(rt, "port, length and marker", found, (0, 16, End::Eop));
+    Ok(true)
 }
 
 /// A line asks for memory once: for its packet.

@@ -14,7 +14,7 @@ use std::sync::Wait;
 use std::test::Fail;
 use target::{Family, Opened};
 use test_kit::{LOAD, PLAIN_READ, PLAIN_WRITE, STAGE, bank, image_of_text, packet};
-use test_kit_ports::{LockedNode, accepted};
+use test_kit_ports::{LockedNode, accepted, shared_node};
 
 /// Draws a ticket and says yes.
 const DRAW: &str = "ldmap r1, 0; mov r2, 0; call 2; mov r0, 0; exit";
@@ -55,9 +55,10 @@ impl<J: Family, R: Wait + Drop> Loading<J, R> {
     {
         let factory = accepted(alloc, "mov r0, 0; exit", 2, "2 1")?;
         let one = [bank(16)];
+        let made = shared_node(rt, alloc, opened, 1, &one, factory)?;
         Ok(Loading {
             alloc,
-            node: LockedNode::new(rt, alloc, opened, 1, &one, factory)?,
+            node: LockedNode::new(alloc, made)?,
         })
     }
 

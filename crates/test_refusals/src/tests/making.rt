@@ -2,7 +2,7 @@
 
 ghost use Rattle.std.specs.Prelude.{◌≡◌};
 
-use super::checks::{check, same};
+use super::checks::{check, made, same};
 use super::marks::{begin, end, tell};
 use super::programs::operations;
 use bank::{Bank, BankFault, Journal};
@@ -62,19 +62,14 @@ fn memory_refused_to_cells(rt: HostRuntime) -> Result<(), Fail> {
 /// Whether a journal was made; then it is empty and has room.
 fn journal_is_made(rt: &impl Abort, alloc: Global) -> Result<bool, Fail> {
     begin(alloc)?;
-    let made = Journal::new(alloc, 1024);
+    let journal = Journal::new(alloc, 1024);
     end(alloc)?;
-    match made {
-        Ok(journal) => {
-            let found = (journal.entries().len(), journal.is_full());
-            same(rt, "a journal", found, (0, false));
-            Ok(true)
-        }
-        Err(fault) => {
-            same(rt, "the fault", fault, BankFault::Memory);
-            Ok(false)
-        }
-    }
+    let Some(journal) = made(rt, journal, BankFault::Memory) else {
+        return Ok(false);
+    };
+    let found = (journal.entries().len(), journal.is_full());
+    same(rt, "a journal", found, (0, false));
+    Ok(true)
 }
 
 #[test]
@@ -90,24 +85,19 @@ fn memory_refused_to_journal(rt: HostRuntime) -> Result<(), Fail> {
 fn bank_is_made(rt: &impl Abort, alloc: Global) -> Result<bool, Fail> {
     let journal = Journal::new(alloc, 3)?;
     begin(alloc)?;
-    let made = Bank::new(alloc, BASE, 5_000, journal, 2);
+    let bank = Bank::new(alloc, BASE, 5_000, journal, 2);
     end(alloc)?;
-    match made {
-        Ok((bank, shares)) => {
-            same(rt, "shares and ports", (shares.len(), bank.ports()), (2, 2));
-            let ends = (
-                bank.memory(BASE),
-                bank.memory(BASE + 4_999),
-                bank.memory(BASE + 5_000),
-            );
-            same(rt, "its memory", ends, (Some(0), Some(0), None));
-            Ok(true)
-        }
-        Err(fault) => {
-            same(rt, "the fault", fault, BankFault::Memory);
-            Ok(false)
-        }
-    }
+    let Some((bank, shares)) = made(rt, bank, BankFault::Memory) else {
+        return Ok(false);
+    };
+    same(rt, "shares and ports", (shares.len(), bank.ports()), (2, 2));
+    let ends = (
+        bank.memory(BASE),
+        bank.memory(BASE + 4_999),
+        bank.memory(BASE + 5_000),
+    );
+    same(rt, "its memory", ends, (Some(0), Some(0), None));
+    Ok(true)
 }
 
 #[test]
@@ -206,14 +196,10 @@ fn node_is_made<J: Family, R: Wait + Abort>(
     let banks = [bank(1024), small_bank()];
     let config = node_config(2, &banks, factory.sizes());
     begin(alloc)?;
-    let made = Node::<J, _>::new(alloc, rt, opened, &config, factory);
+    let node = Node::<J, _>::new(alloc, rt, opened, &config, factory);
     end(alloc)?;
-    let (node, mut passes) = match made {
-        Ok(made) => made,
-        Err(fault) => {
-            same(rt, "the fault", fault, NodeFault::Memory);
-            return Ok(false);
-        }
+    let Some((node, mut passes)) = made(rt, node, NodeFault::Memory) else {
+        return Ok(false);
     };
     same(rt, "banks and passes", (node.banks(), passes.len()), (2, 2));
     let pass = passes.pop().ok_or("no pass")?;

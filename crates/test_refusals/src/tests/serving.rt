@@ -98,7 +98,7 @@ fn two_served<J: Family + Send + Sync + 'static, R: Threads + Wait + Abort + Pri
 {
     let lines: [&[&str]; 2] = [&LINES, &LINES];
     let factory = program(alloc, 0)?;
-    let (node, passes) = shared_node::<J, _>(rt, alloc, opened, 2, &[bank(1024)], factory)?;
+    let (node, passes, _line) = shared_node::<J, _>(rt, alloc, opened, 2, &[bank(1024)], factory)?;
     let (ports, mut put_passes, workers) = filled_desks(rt, alloc, &node, passes, 4, &lines)?;
     begin(alloc)?;
     let (workers, report) = serve(rt, alloc, &node, &ports, workers, &NoGate);
@@ -164,7 +164,8 @@ fn four_served<J: Family, R: Wait + Abort>(rt: &R, alloc: Global, opened: Opened
 {
     let factory = program(alloc, 0)?;
     let one = [bank(1024)];
-    let mut node = LockedNode::<J, _>::new(rt, alloc, opened, 1, &one, factory)?;
+    let made = shared_node::<J, _>(rt, alloc, opened, 1, &one, factory)?;
+    let mut node = LockedNode::new(alloc, made)?;
     let mut packets = Vec::new(alloc);
     for (line, _wanted) in EXCHANGES {
         packets.push(packet(alloc, line)?)?;

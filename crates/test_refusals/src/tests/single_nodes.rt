@@ -1,6 +1,6 @@
 //! Memory that is refused to a node of one thread, and what it does without a request.
 
-use super::checks::{Tested, check, same};
+use super::checks::{self, Tested, check, same};
 use super::loads::compare_refusal;
 use super::marks::{begin, end, tell};
 use bank::{Bank, Journal};
@@ -104,14 +104,10 @@ impl Solo {
 fn node_is_made(rt: &impl Abort, alloc: Global) -> Result<bool, Fail> {
     let factory = accepted(alloc, "mov r0, 0; exit", 2, MAPS)?;
     begin(alloc)?;
-    let made = made(alloc, factory);
+    let node = made(alloc, factory);
     end(alloc)?;
-    let node = match made {
-        Ok(node) => node,
-        Err(fault) => {
-            same(rt, "the fault", fault, NodeFault::Memory);
-            return Ok(false);
-        }
+    let Some(node) = checks::made(rt, node, NodeFault::Memory) else {
+        return Ok(false);
     };
     let mut node = Solo::of(alloc, node);
     node.serve_line(PLAIN_READ)?;

@@ -1,6 +1,6 @@
 //! Memory that is refused to worlds of schedules, and to their steps.
 
-use super::checks::{Tested, check, same};
+use super::checks::{Tested, check, made, same};
 use super::marks::{begin, end, tell};
 use bpf::Image;
 use bver::MapSizes;
@@ -201,24 +201,15 @@ fn compare(rt: &(impl Abort + Print), alloc: Global, world: &mut World, rows: &s
 fn world_is_made(rt: &(impl Abort + Print), alloc: Global) -> Result<bool, Fail> {
     let (sizes, factory) = parts(alloc)?;
     begin(alloc)?;
-    let made = world(alloc, sizes, &factory);
+    let world = world(alloc, sizes, &factory);
     end(alloc)?;
-    match made {
-        Ok(mut world) => {
-            same(
-                rt,
-                "ports and banks",
-                (world.ports(), world.banks()),
-                (2, 2),
-            );
-            compare(rt, alloc, &mut world, FRESH)?;
-            Ok(true)
-        }
-        Err(fault) => {
-            same(rt, "the fault", fault, WorldFault::Memory);
-            Ok(false)
-        }
-    }
+    let Some(mut world) = made(rt, world, WorldFault::Memory) else {
+        return Ok(false);
+    };
+    let found = (world.ports(), world.banks());
+    same(rt, "ports and banks", found, (2, 2));
+    compare(rt, alloc, &mut world, FRESH)?;
+    Ok(true)
 }
 
 #[test]

@@ -24,17 +24,8 @@ returns-clause-done g c =
     let two : Appends mid new (report_line (report_of h.ends)) = subst (λ (text : List ℕ). Appends mid new text) (ap report_line h.report_is) c.in_ok-print_report.ensures in (
       refl,
       record {
-        text = h.text;
-        own = h.own;
-        program = h.program;
-        packets = h.packets;
-        starts = h.starts;
         ends = h.ends;
-        given = h.given;
-        lines = h.lines;
-        are_starts = h.are_starts;
-        served = h.served;
-        quotas = h.quotas;
+        serves = h.serves;
         printed = Appends-trans old mid new _ _ one two;
       },
     )

@@ -23,17 +23,19 @@ returns-clause-served g c =
     = subst (λ n. ArriveAll (lines_of (string_bytes c.in_ok-text.text)) n c.in_ok-arrivals.arrivals) c.ports.ensures
     (subst (λ t. ArriveAll (lines_of t) c.ports.result c.in_ok-arrivals.arrivals) same c.in_ok-arrivals.ensures.arrive) in
     let each = c.in_ok-served.ensures in record {
-      text = string_bytes c.in_ok-text.text;
-      own = own;
-      program = c.in_ok-text.read.program;
-      packets = all.packets;
-      starts = each.starts;
       ends = each.served.ends;
-      given = c.in_ok-text.ensures.given;
-      lines = all.lines_are;
-      are_starts = each.are_starts;
-      served = by_packets _ _ _ _ _ _ all each.served;
-      quotas = each.quotas;
+      serves = record {
+        text = string_bytes c.in_ok-text.text;
+        own = own;
+        program = c.in_ok-text.read.program;
+        packets = all.packets;
+        starts = each.starts;
+        given = c.in_ok-text.ensures.given;
+        lines = all.lines_are;
+        are_starts = each.are_starts;
+        served = by_packets _ _ _ _ _ _ all each.served;
+        quotas = each.quotas;
+      };
       sinks_are = each.served.sinks_are;
       report_is = each.served.report_is;
     }

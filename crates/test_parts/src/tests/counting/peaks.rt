@@ -1,7 +1,7 @@
 //! Cells of peak maps: seats of one thread, and seats in threads.
 
 use crate::tests::checks::same;
-use crate::tests::counting::{count, found, peak, ticket};
+use crate::tests::counting::{count, found, one_seat, peak, ticket};
 use cells::{CellSeat, Cells};
 use machine::{MapKind, MapSizes};
 use std::test::*;
@@ -44,8 +44,7 @@ fn two_seats_raise_one_word(rt: HostRuntime) -> Result<(), Fail> {
 #[test]
 fn a_peak_may_be_the_greatest(rt: HostRuntime) -> Result<(), Fail> {
     let sizes = MapSizes::with_kinds(&[(2, MapKind::Peak)])?;
-    let (_cells, mut seats) = Cells::new(rt.alloc(), &sizes, 1)?;
-    let mut seat = seats.pop().ok_or("a seat")?;
+    let mut seat = one_seat(rt.alloc(), &sizes)?;
     for number in [u64::MAX, 1] {
         same(&rt, "a peak", peak(&mut seat, 0, 1, number), Some(u64::MAX));
     }
@@ -57,8 +56,7 @@ fn a_peak_may_be_the_greatest(rt: HostRuntime) -> Result<(), Fail> {
 #[test]
 fn kinds_are_apart(rt: HostRuntime) -> Result<(), Fail> {
     let sizes = MapSizes::with_kinds(&[(1, MapKind::Peak), (1, MapKind::Counter)])?;
-    let (_cells, mut seats) = Cells::new(rt.alloc(), &sizes, 1)?;
-    let mut seat = seats.pop().ok_or("a seat")?;
+    let mut seat = one_seat(rt.alloc(), &sizes)?;
     same(
         &rt,
         "no ticket of a peak map",

@@ -1,7 +1,7 @@
 //! Cells by their places, and what seats of one thread see.
 
 use crate::tests::checks::same;
-use crate::tests::counting::{count, found, give_back, ticket};
+use crate::tests::counting::{count, found, give_back, one_seat, ticket};
 use cells::Cells;
 use machine::MapSizes;
 use std::test::*;
@@ -49,8 +49,7 @@ fn each_seat_draws_its_own(rt: HostRuntime) -> Result<(), Fail> {
 #[test]
 fn maps_have_their_own_cells(rt: HostRuntime) -> Result<(), Fail> {
     let sizes = MapSizes::new(&[2, 3])?;
-    let (_cells, mut seats) = Cells::new(rt.alloc(), &sizes, 1)?;
-    let mut seat = seats.pop().ok_or("a seat")?;
+    let mut seat = one_seat(rt.alloc(), &sizes)?;
     same(
         &rt,
         "a ticket of the last cell",
@@ -79,8 +78,7 @@ fn maps_have_their_own_cells(rt: HostRuntime) -> Result<(), Fail> {
 #[test]
 fn all_cells_are_apart(rt: HostRuntime) -> Result<(), Fail> {
     let sizes = MapSizes::new(&[32; 8])?;
-    let (_cells, mut seats) = Cells::new(rt.alloc(), &sizes, 1)?;
-    let mut seat = seats.pop().ok_or("a seat")?;
+    let mut seat = one_seat(rt.alloc(), &sizes)?;
     same(
         &rt,
         "a ticket of the last cell",

@@ -116,6 +116,45 @@ fn check(rt: &impl Abort, loads: u32, met: &[Met]) -> Result<(), Fail> {
     Ok(())
 }
 
+/// A desk, that many readers, and the history so far.
+fn set_up<J: Family, R: Wait + Drop>(
+    rt: R,
+    alloc: Global,
+    opened: Opened,
+    count: u8,
+) -> Result<(Mutex<Desk<J, R>>, Vec<Reader<J>>, Front<J>), Fail>
+    requires { opened ≡ J.book }
+{
+    let factory = factory(alloc)?;
+    let front = opened.front::<J>();
+    let (publisher, readers, line) = Programs::new::<J, _>(alloc, rt, opened, factory, count)?;
+    Ok((Mutex::new(Desk { publisher, line }), readers, front))
+}
+
+/// Two of some readers.
+fn two_of<J: Family>(readers: &mut Vec<Reader<J>>) -> Result<(Reader<J>, Reader<J>), Fail> {
+    let first = readers.pop().ok_or("two readers")?;
+    let second = readers.pop().ok_or("two readers")?;
+    Ok((first, second))
+}
+
+/// Two threads load programs of these budgets and take in turn.
+fn pair<J: Family + Send + Sync, R: Threads + Wait + Sync>(
+    rt: &R,
+    alloc: Global,
+    desk: &Mutex<Desk<J, &R>>,
+    readers: (Reader<J>, Reader<J>),
+    front: &Front<J>,
+    budgets: (u8, u8),
+) -> (Met, Met) {
+    let (first, second) = readers;
+    join(
+        rt,
+        || loads(rt, alloc, desk, first, front.again(), budgets.0),
+        || loads(rt, alloc, desk, second, front.again(), budgets.1),
+    )
+}
+
 fn two_load<J: Family + Send + Sync, R: Threads + Wait + Abort + Sync>(
     rt: &R,
     alloc: Global,
@@ -123,17 +162,9 @@ fn two_load<J: Family + Send + Sync, R: Threads + Wait + Abort + Sync>(
 ) -> Result<(), Fail>
     requires { opened ≡ J.book }
 {
-    let factory = factory(alloc)?;
-    let front = opened.front::<J>();
-    let (publisher, mut readers, line) = Programs::new::<J, _>(alloc, rt, opened, factory, 2)?;
-    let desk = Mutex::new(Desk { publisher, line });
-    let first = readers.pop().ok_or("two readers")?;
-    let second = readers.pop().ok_or("two readers")?;
-    let (a, b) = join(
-        rt,
-        || loads(rt, alloc, &desk, first, front.again(), 3),
-        || loads(rt, alloc, &desk, second, front.again(), 4),
-    );
+    let (desk, mut readers, front) = set_up::<J, _>(rt, alloc, opened, 2)?;
+    let both = two_of(&mut readers)?;
+    let (a, b) = pair(rt, alloc, &desk, both, &front, (3, 4));
     check(rt, 2 * LOADS, &[a, b])
 }
 
@@ -144,30 +175,13 @@ fn four_load<J: Family + Send + Sync, R: Threads + Wait + Abort + Sync>(
 ) -> Result<(), Fail>
     requires { opened ≡ J.book }
 {
-    let factory = factory(alloc)?;
-    let front = opened.front::<J>();
-    let (publisher, mut readers, line) = Programs::new::<J, _>(alloc, rt, opened, factory, 4)?;
-    let desk = Mutex::new(Desk { publisher, line });
-    let first = readers.pop().ok_or("four readers")?;
-    let second = readers.pop().ok_or("four readers")?;
-    let third = readers.pop().ok_or("four readers")?;
-    let fourth = readers.pop().ok_or("four readers")?;
+    let (desk, mut readers, front) = set_up::<J, _>(rt, alloc, opened, 4)?;
+    let some = two_of(&mut readers)?;
+    let others = two_of(&mut readers)?;
     let ((a, b), (c, d)) = join(
         rt,
-        || {
-            join(
-                rt,
-                || loads(rt, alloc, &desk, first, front.again(), 3),
-                || loads(rt, alloc, &desk, second, front.again(), 4),
-            )
-        },
-        || {
-            join(
-                rt,
-                || loads(rt, alloc, &desk, third, front.again(), 5),
-                || loads(rt, alloc, &desk, fourth, front.again(), 6),
-            )
-        },
+        || pair(rt, alloc, &desk, some, &front, (3, 4)),
+        || pair(rt, alloc, &desk, others, &front, (5, 6)),
     );
     check(rt, 4 * LOADS, &[a, b, c, d])
 }

@@ -90,42 +90,21 @@ fn each_refusal_has_its_cause(rt: HostRuntime) -> Result<(), Fail> {
         dst: r1,
     };
     let mut state = State::entry();
-    same(
-        &rt,
-        "each refusal has its cause",
-        state.apply(Spill::Forgets, &add(r4, 1)),
-        Err(Cause::UnsetOperand),
-    );
-    same(
-        &rt,
-        "each refusal has its cause",
-        state.apply(Spill::Forgets, &negate),
-        Err(Cause::KindMismatch),
-    );
-    same(
-        &rt,
-        "each refusal has its cause",
-        state.apply(Spill::Forgets, &load(r4, r1, 0)),
-        Err(Cause::OutOfRegion),
-    );
-    same(
-        &rt,
-        "each refusal has its cause",
-        state.apply(Spill::Forgets, &load(r4, r10, -8)),
-        Err(Cause::UnsetStack),
-    );
-    same(
-        &rt,
-        "each refusal has its cause",
-        state.apply(Spill::Forgets, &store(r1, 0)),
-        Err(Cause::HeaderWrite),
-    );
-    same(
-        &rt,
-        "each refusal has its cause",
-        state.apply(Spill::Forgets, &add(r1, 65_537)),
-        Err(Cause::PointerRange),
-    );
+    for (insn, cause) in [
+        (add(r4, 1), Cause::UnsetOperand),
+        (negate, Cause::KindMismatch),
+        (load(r4, r1, 0), Cause::OutOfRegion),
+        (load(r4, r10, -8), Cause::UnsetStack),
+        (store(r1, 0), Cause::HeaderWrite),
+        (add(r1, 65_537), Cause::PointerRange),
+    ] {
+        same(
+            &rt,
+            "each refusal has its cause",
+            state.apply(Spill::Forgets, &insn),
+            Err(cause),
+        );
+    }
     let entry = State::entry();
     check(
         &rt,

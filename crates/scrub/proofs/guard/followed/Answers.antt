@@ -4,7 +4,7 @@ use Rattle.scrub.specs.declared.kept.SlotSums.{SlotSums}
 use Rattle.scrub.specs.Kept.{FollowAt}
 use Rattle.scrub.proofs.Four.{four}
 use Rattle.scrub.proofs.Serving.{follow_found}
-use Rattle.scrub.proofs.guarded.followed.Goals as goal
+use Rattle.scrub.proofs.guard.followed.Goals as goal
 
 pub returns : goal.returns
 returns c =

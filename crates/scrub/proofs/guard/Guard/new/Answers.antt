@@ -3,13 +3,13 @@ use Rattle.std.specs.Prelude.{slice_get}
 use Rattle.scrub.specs.declared.kept.SlotSums.{SlotSums}
 use Rattle.scrub.specs.Kept.{AreFresh}
 use Rattle.scrub.proofs.Four.{four}
-use Rattle.scrub.proofs.guarded.GuardedNode.new.Goals as goal
+use Rattle.scrub.proofs.guard.Guard.new.Goals as goal
 
 pub returns : goal.returns
 returns c =
     let all : List SlotSums = c.fresh_at.result ∷ c.fresh_at-2.result ∷ c.fresh_at-3.result ∷ c.fresh_at-4.result ∷ [] in
     record {
       node_is = refl;
-      sizes_are = c.sizes_sum-sizes.ensures;
-      fresh = λ slot low. four (λ (s : ℕ). AreFresh c.args.node.programs s (slice_get all s)) c.fresh_at.ensures c.fresh_at-2.ensures c.fresh_at-3.ensures c.fresh_at-4.ensures slot low;
+      sizes_are = c.sizes_sum.ensures;
+      fresh = λ slot low. four (λ (s : ℕ). AreFresh c.args.node.now.programs s (slice_get all s)) c.fresh_at.ensures c.fresh_at-2.ensures c.fresh_at-3.ensures c.fresh_at-4.ensures slot low;
     }

@@ -2,7 +2,7 @@ use Rattle.std.proofs.Common.{◌≡◌, ℕ, List, [], ◌∷◌}
 use Rattle.std.specs.Prelude.{slice_get}
 use Rattle.node_programs.specs.Published.{generation_at}
 use Rattle.scrub.proofs.Four.{four}
-use Rattle.scrub.proofs.guarded.generations.Goals as goal
+use Rattle.scrub.proofs.guard.generations.Goals as goal
 
 pub returns : goal.returns
 returns c =

@@ -1,6 +1,6 @@
 use Rattle.std.proofs.Common.{rules}
 use Rattle.scrub.proofs.Serving.{follow_other, follow_same}
-use Rattle.scrub.proofs.guarded.followed_at.Goals as goal
+use Rattle.scrub.proofs.guard.followed_at.Goals as goal
 
 pub returns-then-generation : goal.returns-then-generation
 returns-then-generation c = λ before was.

@@ -1,0 +1,55 @@
+//! What is told, and how it ends, if standard output or standard error does not take all that is printed.
+
+ghost use Rattle.std.specs.Prelude.{◌≡◌, ◌≢◌, ◌<◌, IfErr, IsErrAnd, MatchOption, Some, codes};
+ghost use Rattle.std.specs.IoError.{error_kind};
+ghost use Rattle.commands.specs.Losses.{untold_text};
+
+use std::fmt;
+use std::io::{self, ErrorKind};
+
+/// What is told if standard output cannot be written.
+const LOST: &str = "cannot write standard output";
+
+/// What is told of output that was not written, if its reader did not just close the pipe.
+pub fn told_loss(written: &io::Result<()>) -> Option<&'static str>
+    ensures { MatchOption result
+        (IsErrAnd written.now (λ refused. error_kind refused ≡ ErrorKind.BrokenPipe))
+        (λ text. (text.now ≡ codes "cannot write standard output")
+        × IfErr written.now (λ refused. error_kind refused ≢ ErrorKind.BrokenPipe)) }
+{
+    match written {
+        Ok(()) => Some(LOST),
+        Err(refused) => match refused.kind() {
+            ErrorKind::BrokenPipe => None,
+            _ => Some(LOST),
+        },
+    }
+}
+
+/// That standard error did not take so many texts.
+#[derive(Clone, Copy, Debug)]
+pub struct Untold {
+    count: u64,
+}
+
+impl Untold {
+    /// What is told of that many texts, if there are any.
+    pub fn of(count: u64) -> Option<Untold>
+        ensures { MatchOption result (count ≡ 0) (λ untold. (0 < count) × (untold.count ≡ count)) }
+    {
+        if count == 0 {
+            None
+        } else {
+            Some(Untold { count })
+        }
+    }
+}
+
+impl fmt::Display for Untold {
+    ghost output = { λ untold. Some (untold_text untold.count) };
+
+    fn fmt<W: fmt::Write>(&self, f: &mut fmt::Formatter<W>) -> fmt::Result {
+        let count = self.count;
+        write!(f, "texts that standard error did not take: {count}")
+    }
+}

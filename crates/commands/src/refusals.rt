@@ -1,0 +1,110 @@
+//! Where the user is told of a command line that asks for nothing, and with which exit status.
+
+ghost use Rattle.std.specs.Prelude.{◌≡◌, IfOk, Some, string_bytes};
+ghost use Rattle.std.specs.IoError.{error_kind};
+ghost use Rattle.commands.specs.Refusals.{IsArgumentFault, TellsMore, ask_frames, fault_words, stream_of};
+ghost use Rattle.job_parts.specs.Statuses.{status_code, usage_status};
+
+use crate::slips::told_option;
+use job_parts::status::Status;
+use job_parts::usage::UsageFault;
+use std::alloc::{AllocError, Global};
+use std::fmt;
+use std::io::{self, ErrorKind};
+
+/// A stream that the program writes to.
+#[derive(Clone, Copy, Debug, PartialEq, Eq)]
+pub enum Stream {
+    /// Standard output.
+    Output,
+    /// Standard error.
+    Errors,
+}
+
+/// What an error of the arguments is: memory was refused, or an argument is no text.
+pub fn argument_fault(refused: &io::Error) -> UsageFault
+    ensures { IsArgumentFault (error_kind refused.now ≡ ErrorKind.OutOfMemory) result }
+{
+    match refused.kind() {
+        ErrorKind::OutOfMemory => UsageFault::Memory,
+        _ => UsageFault::BadOption,
+    }
+}
+
+/// Whether the words ask for a talk in frames. Then standard output has only frames.
+fn ask_frames(words: &[&str]) -> bool
+    ensures { result ≡ ask_frames words.now }
+{
+    match words {
+        [first, others @ ..] => *first == "live" && others.contains(&"--frames"),
+        [] => false,
+    }
+}
+
+/// Where the user is told of a fault of these words: of refused memory on standard output, as by a job, unless they ask for
+/// frames; of each other fault on standard error.
+pub fn stream_of(fault: &UsageFault, words: &[&str]) -> Stream
+    ensures { result ≡ stream_of words.now fault.now }
+{
+    match fault {
+        UsageFault::Parse(_) | UsageFault::BadOption => Stream::Errors,
+        UsageFault::Memory => {
+            if ask_frames(words) {
+                Stream::Errors
+            } else {
+                Stream::Output
+            }
+        }
+    }
+}
+
+/// How a program ends whose command line has this fault.
+pub fn usage_end(fault: &UsageFault) -> Status
+    ensures { status_code result ≡ usage_status fault.now }
+{
+    match fault {
+        UsageFault::Parse(_) | UsageFault::BadOption => Status::Misused,
+        UsageFault::Memory => Status::Failed,
+    }
+}
+
+/// What more the user is told of a fault of these words: of a bad option the word that it may not be ([`told_option`]).
+///
+/// # Errors
+///
+/// If memory was refused.
+pub fn told_fault(alloc: Global, fault: &UsageFault, words: &[&str]) -> Result<String, AllocError>
+    ensures { IfOk result (λ more. TellsMore fault.now (string_bytes more)) }
+{
+    match fault {
+        UsageFault::BadOption => told_option(alloc, words),
+        UsageFault::Parse(_) | UsageFault::Memory => Ok(String::new(alloc)),
+    }
+}
+
+/// What is printed of a fault of the command line, with its last line feed.
+#[derive(Clone, Copy, Debug)]
+pub struct Refusal<'a> {
+    fault: &'a UsageFault,
+}
+
+impl<'a> Refusal<'a> {
+    /// That of this fault.
+    pub fn of(fault: &'a UsageFault) -> Refusal<'a>
+        ensures { result.fault.now ≡ fault.now }
+    {
+        Refusal { fault }
+    }
+}
+
+impl fmt::Display for Refusal<'_> {
+    ghost output = { λ refusal. Some (fault_words refusal.fault.now) };
+
+    fn fmt<W: fmt::Write>(&self, f: &mut fmt::Formatter<W>) -> fmt::Result {
+        match self.fault {
+            UsageFault::Parse(text) => write!(f, "{text}"),
+            UsageFault::BadOption => write!(f, "bad option\n"),
+            UsageFault::Memory => write!(f, "no memory\n"),
+        }
+    }
+}

@@ -1,0 +1,368 @@
+//! What is kept of a node's programs, and scrubs of them.
+
+ghost use Rattle.std.specs.Prelude.{◌≡◌, ◌<◌, ◌≤◌, ◌==◌, ℕ, List, IfErr, IfOk, None, OnErr, OnOk, Some, false, length, slice_get, true};
+ghost use Rattle.node_programs.specs.Codes.{IsUnpublished};
+ghost use Rattle.node_programs.specs.Published.{generation_at, sizes_of};
+ghost use Rattle.node_programs.specs.declared.publishes.Publish.{Publish};
+ghost use Rattle.rmap.specs.Command.{discard_of};
+ghost use Rattle.single_node.specs.Nodes.{slot_in};
+ghost use Rattle.scrub.specs.Damage.{sizes_sum};
+ghost use Rattle.scrub.specs.Guarded.{IsGuarded, IsInstalled, IsRemade, ScrubsFirst, ScrubsSlot, Scrubs, beside, counted, is_due, scrubbing_each, with_all, with_sums};
+ghost use Rattle.scrub.specs.Kept.{AreFresh, AreGenerations, Follow, FollowAt, closed_in, is_withheld};
+ghost use Rattle.scrub.specs.Lent.{ServesLent};
+
+use crate::damage::sizes_sum;
+use crate::kept::{SlotSums, is_closed_at, set_sums, sums_at};
+use crate::made::made_again;
+use crate::op_sums::program_sum;
+use bver::Accepted;
+use node_parts::Served;
+use node_programs::PublishFault;
+use rmap::{Command, ReplyBuf, Status, put_reply};
+use single_node::SingleNode;
+use spw::Packet;
+use std::alloc::Global;
+
+/// How the program of a slot was found.
+#[derive(Clone, Copy, Debug, PartialEq, Eq)]
+pub enum Health {
+    /// Its operations have the sum that was kept.
+    Whole,
+    /// They had not, and a program that was made again of its image is published for the slot.
+    Mended,
+    /// They had not, and nothing could be made of its image; or the slot was withdrawn before.
+    Withdrawn,
+}
+
+/// How the programs of the four slots were found.
+#[derive(Clone, Copy, Debug, PartialEq, Eq)]
+pub struct Scrubbed {
+    /// The program for reads of banks, of slot 0.
+    pub reads: Health,
+    /// That for writes to banks, of slot 1.
+    pub writes: Health,
+    /// That for read-modify-writes of banks, of slot 2.
+    pub rmws: Health,
+    /// That for the boot window, of slot 3.
+    pub window: Health,
+}
+
+/// What a scrub before a packet found.
+#[derive(Clone, Copy, Debug, PartialEq, Eq)]
+pub struct Found {
+    /// The slot whose program judges the packet: 0 to 3.
+    pub slot: u8,
+    /// How its program was found.
+    pub health: Health,
+}
+
+/// What is kept of the programs of a node of one thread. Each call is lent that node: a program that is published there by
+/// itself, and not by [`Guard::install`] or a load that [`Guard::serve`] serves, is taken for a damaged one.
+#[derive(Clone, Copy, Debug, PartialEq, Eq)]
+pub struct Guard {
+    /// What is kept of each slot's program.
+    pub sums: [SlotSums; 4],
+    /// Before each packet of so many the program that judges it is scrubbed; before none where it is 0.
+    pub each: u32,
+    /// How many packets are left until then, with that one.
+    pub left: u32,
+    /// The sum of the node's sizes, as it was opened.
+    pub sizes: u64,
+}
+
+/// What is to be kept of the program that judges at a slot. The condition is a slot below 4.
+fn fresh_at(node: &SingleNode, slot: u8) -> SlotSums
+    requires { slot < 4 }
+    ensures { AreFresh node.now.programs slot (Some result) }
+{
+    SlotSums::of(program_sum(node.program(slot)))
+}
+
+/// The generations of the programs that judge at the four slots.
+pub(crate) fn generations(node: &SingleNode) -> [u32; 4]
+    ensures { AreGenerations node.now.programs result }
+{
+    [
+        node.generation(0),
+        node.generation(1),
+        node.generation(2),
+        node.generation(3),
+    ]
+}
+
+/// The generation at a slot. The condition is a slot below 4.
+fn generation_of(generations: &[u32; 4], slot: u8) -> u32
+    requires { slot < 4 }
+    ensures { slice_get generations.now slot ≡ Some result }
+{
+    generations[usize::from(slot)]
+}
+
+/// What is to be kept of a slot after a packet: what was, if its program has that generation. The condition is a slot below 4.
+fn followed_at(node: &SingleNode, slot: u8, generation: u32, kept: SlotSums) -> SlotSums
+    requires { slot < 4 }
+    ensures { (before : List Publish) → generation_at before slot ≡ Some generation
+        → FollowAt before node.now.programs slot (Some kept) (Some result) }
+{
+    if node.generation(slot) == generation {
+        return kept;
+    }
+    fresh_at(node, slot)
+}
+
+/// What is to be kept of the four slots after a packet, before which their programs had those generations.
+fn followed(node: &SingleNode, before: &[u32; 4], sums: &[SlotSums; 4]) -> [SlotSums; 4]
+    ensures { (programs : List Publish) → AreGenerations programs before.now
+        → Follow programs node.now.programs sums.now result }
+{
+    [
+        followed_at(node, 0, generation_of(before, 0), sums_at(sums, 0)),
+        followed_at(node, 1, generation_of(before, 1), sums_at(sums, 1)),
+        followed_at(node, 2, generation_of(before, 2), sums_at(sums, 2)),
+        followed_at(node, 3, generation_of(before, 3), sums_at(sums, 3)),
+    ]
+}
+
+/// Whether no slot is withdrawn.
+#[tactic(auto, using(crate::proofs::Four::none_closed))]
+fn are_open(sums: &[SlotSums; 4]) -> bool
+    ensures { result ≡ true → (slot : ℕ) → closed_in (slice_get sums.now slot) ≡ false }
+{
+    if is_closed_at(sums, 0) {
+        return false;
+    }
+    if is_closed_at(sums, 1) {
+        return false;
+    }
+    if is_closed_at(sums, 2) {
+        return false;
+    }
+    !is_closed_at(sums, 3)
+}
+
+impl Guard {
+    /// What is kept of a node's programs, each of which may judge. Before no packet is one scrubbed.
+    pub fn new(node: &SingleNode) -> Guard
+        ensures { IsGuarded node.now (beside result node.now) }
+    {
+        Guard {
+            sums: [
+                fresh_at(node, 0),
+                fresh_at(node, 1),
+                fresh_at(node, 2),
+                fresh_at(node, 3),
+            ],
+            each: 0,
+            left: 0,
+            sizes: sizes_sum(node),
+        }
+    }
+
+    /// Keeps that of the program of a slot.
+    fn keep(&mut self, slot: u8, kept: SlotSums)
+        requires { slot < 4 }
+        ensures { self.new ≡ with_sums self.old slot kept }
+    {
+        set_sums(&mut self.sums, slot, kept);
+    }
+
+    /// Publishes a program for a slot, which may judge then: its generation. The conditions are a slot below 4, and a program
+    /// that was accepted for the maps of the node.
+    ///
+    /// # Errors
+    ///
+    /// Those of [`SingleNode::publish`]. The node is then as before.
+    pub fn install(
+        &mut self,
+        node: &mut SingleNode,
+        alloc: Global,
+        slot: u8,
+        program: Accepted,
+    ) -> Result<u32, PublishFault>
+        requires slot { slot ≤ 3 }
+        requires sizes { program.sizes ≡ sizes_of node.old.programs }
+        ensures installed { OnOk result
+            (IsInstalled slot program (beside self.old node.old) (beside self.new node.new)) }
+        ensures generation { IfOk result (λ n. n ≡ length node.old.programs) }
+        ensures same { OnErr result (beside self.new node.new ≡ beside self.old node.old) }
+        ensures refused { IfErr result (IsUnpublished (length node.old.programs)) }
+    {
+        let sum = program_sum(&program);
+        let generation = node.publish(alloc, slot, program)?;
+        self.keep(slot, SlotSums::of(sum));
+        Ok(generation)
+    }
+
+    /// Publishes the program of a slot that was made again of its image, if its sum is one of those that are kept: whether it did.
+    fn mend(&mut self, node: &mut SingleNode, alloc: Global, slot: u8, kept: &SlotSums) -> bool
+        requires { slot < 4 }
+        ensures mended { result ≡ true
+            → IsRemade slot kept.now (beside self.old node.old) (beside self.new node.new) }
+        ensures same { result ≡ false → beside self.new node.new ≡ beside self.old node.old }
+    {
+        let Some((program, sum)) = made_again(alloc, node.program(slot), kept) else {
+            return false;
+        };
+        match node.publish(alloc, slot, program) {
+            Ok(_generation) => {
+                self.keep(slot, SlotSums::of(sum));
+                true
+            }
+            Err(_fault) => false,
+        }
+    }
+
+    /// From now on scrubs the program that judges a packet before each packet of so many; before none where it is 0.
+    pub fn scrub_each(&mut self, each: u32)
+        ensures { self.new ≡ scrubbing_each self.old each }
+    {
+        self.each = each;
+        self.left = each;
+    }
+
+    /// Counts one packet more: whether a scrub is due before it.
+    fn count(&mut self) -> bool
+        ensures due { result ≡ is_due self.old.each self.old.left }
+        ensures counted { self.new ≡ counted self.old }
+    {
+        if self.each == 0 {
+            return false;
+        }
+        if self.left <= 1 {
+            self.left = self.each;
+            return true;
+        }
+        self.left -= 1;
+        false
+    }
+
+    /// Scrubs the program of a slot. If its operations have a sum that is kept, nothing changes, but that both sums are then that
+    /// one. Else the program that the verifier accepts of its image is published for the slot, if it has a sum that is kept; it
+    /// takes memory for that. Else the slot is withdrawn, as it stays if it was withdrawn before. The condition is a slot below 4.
+    #[tactic(auto, using(crate::proofs::Serving::remade_banks, crate::proofs::Serving::remade_ports))]
+    fn scrub_slot(&mut self, node: &mut SingleNode, alloc: Global, slot: u8) -> Health
+        requires { slot < 4 }
+        ensures scrubs { ScrubsSlot result slot (beside self.old node.old) (beside self.new node.new) }
+        ensures banks { node.new.banks ≡ node.old.banks }
+        ensures ports { node.new.passes ≡ node.old.passes }
+    {
+        let kept = sums_at(&self.sums, slot);
+        if !kept.is_open() {
+            self.keep(slot, kept.withdrawn());
+            return Health::Withdrawn;
+        }
+        let sum = program_sum(node.program(slot));
+        if kept.has(sum) {
+            self.keep(slot, SlotSums::of(sum));
+            return Health::Whole;
+        }
+        if self.mend(node, alloc, slot, &kept) {
+            return Health::Mended;
+        }
+        self.keep(slot, kept.withdrawn());
+        Health::Withdrawn
+    }
+
+    /// Scrubs the programs of the four slots.
+    pub fn scrub(&mut self, node: &mut SingleNode, alloc: Global) -> Scrubbed
+        ensures { Scrubs result (beside self.old node.old) (beside self.new node.new) }
+    {
+        let reads = self.scrub_slot(node, alloc, 0);
+        let writes = self.scrub_slot(node, alloc, 1);
+        let rmws = self.scrub_slot(node, alloc, 2);
+        let window = self.scrub_slot(node, alloc, 3);
+        Scrubbed {
+            reads,
+            writes,
+            rmws,
+            window,
+        }
+    }
+
+    /// Whether the node's sizes have the sum that was kept of them: how many ports and banks it has, where the banks lie, and how many
+    /// cells its maps have.
+    pub fn has_sizes(&self, node: &SingleNode) -> bool
+        ensures { result ≡ (sizes_sum node.now == self.now.sizes) }
+    {
+        sizes_sum(node) == self.sizes
+    }
+
+    /// Whether the command of a packet that came in at a port is for a slot that is withdrawn. The condition is a port of the node.
+    pub(crate) fn withholds(&self, node: &SingleNode, port: u8, packet: &Packet) -> bool
+        requires { port < length node.now.passes }
+        ensures value { result
+            ≡ is_withheld self.now.sums (slot_in (slice_get node.now.passes port) packet.now) }
+        ensures command { result ≡ true → discard_of packet.now.bytes ≡ None }
+    {
+        if are_open(&self.sums) {
+            return false;
+        }
+        match node.slot_for(port, packet) {
+            Some(slot) => is_closed_at(&self.sums, slot),
+            None => false,
+        }
+    }
+
+    /// Scrubs the program that judges a packet, if a scrub is due before it: what it found. The condition is a port of the node.
+    #[tactic(auto, using(crate::proofs::Serving::first_not, crate::proofs::Serving::first_none, crate::proofs::Serving::first_some))]
+    pub(crate) fn scrub_first(
+        &mut self,
+        node: &mut SingleNode,
+        alloc: Global,
+        port: u8,
+        packet: &Packet,
+    ) -> Option<Found>
+        requires { port < length node.old.passes }
+        ensures scrubs { ScrubsFirst (is_due self.old.each self.old.left)
+            (slot_in (slice_get node.old.passes port) packet.now) result
+            (beside (counted self.old) node.old) (beside self.new node.new) }
+        ensures banks { node.new.banks ≡ node.old.banks }
+        ensures ports { node.new.passes ≡ node.old.passes }
+    {
+        if !self.count() {
+            return None;
+        }
+        let Some(slot) = node.slot_for(port, packet) else {
+            return None;
+        };
+        let health = self.scrub_slot(node, alloc, slot);
+        Some(Found { slot, health })
+    }
+
+    /// Keeps the sums of the programs that were published since the four slots had those generations.
+    pub(crate) fn follow(&mut self, node: &SingleNode, before: &[u32; 4])
+        ensures rest { self.new ≡ with_all self.old self.new.sums }
+        ensures follow { (programs : List Publish) → AreGenerations programs before.now
+            → Follow programs node.now.programs self.old.sums self.new.sums }
+    {
+        self.sums = followed(node, before, &self.sums);
+    }
+
+    /// Serves one packet as [`SingleNode::serve`] does, and keeps the sum of a program that it loads. If a scrub is due before it
+    /// ([`Guard::scrub_each`]), the program that judges it is scrubbed first: what that found comes with what became of the packet.
+    /// A command for a slot that is withdrawn comes to no program: it is answered by a general error, and nothing changes. The
+    /// condition is a port of the node.
+    #[tactic(auto, using(crate::proofs::Serving::lent_withheld, crate::proofs::Serving::lent_open))]
+    pub fn serve(
+        &mut self,
+        node: &mut SingleNode,
+        alloc: Global,
+        port: u8,
+        packet: Packet,
+        reply: &mut ReplyBuf,
+    ) -> (Option<Found>, Served)
+        requires { port < length node.old.passes }
+        ensures { ServesLent result.0 result.1 port packet (beside self.old node.old)
+            (beside self.new node.new) reply.new }
+    {
+        let found = self.scrub_first(node, alloc, port, &packet);
+        if self.withholds(node, port, &packet) {
+            put_reply(reply, &Command::again(&packet), Status::GeneralError, &[]);
+            return (found, Served::Unread);
+        }
+        let before = generations(node);
+        let served = node.serve(alloc, port, packet, reply);
+        self.follow(node, &before);
+        (found, served)
+    }
+}
