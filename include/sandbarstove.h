@@ -3,8 +3,9 @@
  * A SpaceWire RMAP target (ECSS-E-ST-50-52C) whose commands are judged by verified BPF programs.
  *
  * The library keeps no state of its own. All that a target has is in its ::sandbar_node, and two nodes share nothing. The
- * library starts no threads, takes no locks, reads no clock and opens no files. Of the C library it calls memcpy, memmove
- * and memset. Of the program it calls the heap of sandbarstove_heap.h: link/heap.c has one over malloc, realloc and free.
+ * library starts no threads, takes no locks, reads no clock and opens no files. It calls memcpy, memmove and memset of the C
+ * library. It also calls the heap of sandbarstove_heap.h, which your program has: link/heap.c has one over malloc, realloc
+ * and free.
  * One node takes one call at a time. If tasks share a node, put a lock round each call. No call is for interrupt or signal
  * handlers.
  *
@@ -12,8 +13,8 @@
  * that of the first test that fails, in the order in which the function names them. sandbarstove_text.h has a text for
  * each. At any code except ::SANDBAR_OK the call did nothing. It then wrote nothing, except @c why if the function says so.
  *
- * No pointer may be null, also if its length is 0. A pointer with a length must point to that many bytes or structs. What
- * a call writes must not overlap anything else that is passed to it.
+ * No pointer may be null, also if its length is 0. A pointer with a length must point to that many bytes or structs. Memory
+ * that a call writes must not overlap anything else that is passed to it.
  */
 #ifndef SANDBARSTOVE_H
 #define SANDBARSTOVE_H
@@ -63,7 +64,7 @@ enum sandbar_code {
   SANDBAR_NO_ENTRY = 12,  /**< the journal has no such entry */
   SANDBAR_IS_OPEN = 13,   /**< the node, or the reader of frames, is open */
   SANDBAR_NO_CELL = 14,   /**< the node has no such map or cell */
-  SANDBAR_DAMAGED = 15,   /**< a bit of memory flipped: the entry is not as it was made */
+  SANDBAR_DAMAGED = 15,   /**< a bit of memory flipped: the entry is not as it was made, or the reader as it was left */
   SANDBAR_NO_PART = 16    /**< the number is no ::sandbar_part */
 };
 
@@ -80,7 +81,7 @@ enum sandbar_end { SANDBAR_EOP = 0, SANDBAR_EEP = 1 };
 /** What became of a packet. */
 enum sandbar_kind {
   SANDBAR_DISCARDED = 0, /**< it is no command; @c status is why, 1 to 4, and there is no reply */
-  SANDBAR_ANSWERED = 1,  /**< a check of its header holds; @c status is the reply's, and no program was run */
+  SANDBAR_ANSWERED = 1,  /**< a check of its header holds, or its slot was withdrawn (status 1); @c status is the reply's, and no program was run */
   SANDBAR_JUDGED = 2     /**< a program judged it; @c status is the reply's */
 };
 
@@ -137,8 +138,8 @@ typedef struct sandbar_why {
 } sandbar_why;
 
 /**
- * What became of a packet, and what it asked for. A command was carried out if @c kind is ::SANDBAR_JUDGED and @c status
- * is 0, and only then. What it asked for is what its header says. For a packet that is no command these are 0. 40 bytes.
+ * The end of a packet, and what it asked for. A command was carried out if @c kind is ::SANDBAR_JUDGED and @c status
+ * is 0, and only then. Its header says what it asked for. For a packet that is no command these are 0. 40 bytes.
  */
 typedef struct sandbar_served {
   uint64_t verdict;      /**< of the program that judged, 0 is yes; 0 if none did (at 0) */
@@ -155,8 +156,8 @@ typedef struct sandbar_served {
 } sandbar_served;
 
 /**
- * What a scrub found. A bit a slot: 1 for slot 0, then 2, 4 and 8. A bit a bank: 1 for bank 0, then 2, 4 and so on. What is
- * not scrubbed is 0. 16 bytes.
+ * What a scrub found. A bit a slot: 1 for slot 0, then 2, 4 and 8. A bit a bank: 1 for bank 0, then 2, 4 and so on. A part
+ * that is not scrubbed is 0. 16 bytes.
  */
 typedef struct sandbar_scrubbed {
   uint64_t first;    /**< the place of the first damaged entry of the first journal that has one (at 0) */
@@ -217,8 +218,8 @@ SANDBAR_LAST_CALL
 uint32_t sandbar_close(sandbar_node *node);
 
 /**
- * Serves a whole packet, as it came in at a port. What is to be sent is then in the first @c reply_length bytes of
- * @p reply. The rest of @p reply is as before. Codes: ::SANDBAR_NO_NODE, ::SANDBAR_NO_PORT, ::SANDBAR_BAD_END,
+ * Serves a whole packet, as it came in at a port. The bytes to send are then the first @c reply_length of @p reply. The
+ * rest of @p reply is as before. Codes: ::SANDBAR_NO_NODE, ::SANDBAR_NO_PORT, ::SANDBAR_BAD_END,
  * ::SANDBAR_TOO_LONG, ::SANDBAR_NO_ROOM, ::SANDBAR_NO_MEMORY.
  *
  * It asks for memory once, for a copy of the packet, which the journal keeps. Loads of programs ask for more. If the copy
@@ -274,7 +275,8 @@ uint32_t sandbar_poke(sandbar_node *node, uint8_t bank, uint32_t address, const 
 /**
  * Writes the word of a cell of a map, both counted from 0. In a fresh node it is 0. It is how many tickets were drawn from
  * the cell, modulo 2^64. In a peak map it is the greatest number that was shown to the cell. The tickets that a quota has
- * left are its limit minus this word. Codes: ::SANDBAR_NO_NODE, ::SANDBAR_NO_CELL.
+ * left are its limit minus this word, or none if the word is above the limit. The word also counts commands for which
+ * none was left. Codes: ::SANDBAR_NO_NODE, ::SANDBAR_NO_CELL.
  */
 SANDBAR_CALL
 uint32_t sandbar_word(sandbar_node *node, uint8_t map, uint16_t cell, uint64_t *word);
@@ -282,13 +284,13 @@ uint32_t sandbar_word(sandbar_node *node, uint8_t map, uint16_t cell, uint64_t *
 /**
  * Compares a part of the node, a ::sandbar_part, with what was kept of it.
  *
- * Of programs: each slot's program, as it is run, with the sum that was kept when it was published. A program that differs is
- * made again of its image, by the next generation, if the verifier accepts it and it has that sum. It asks for memory for
- * that. Else its slot is withdrawn: each command for it is answered by a general error (status 1, ::SANDBAR_ANSWERED) until a
+ * The part of programs compares each slot's program, as it is run, with the sum that was kept when it was published. A
+ * program that differs is made again of its image, by the next generation, if the verifier accepts it and it has that sum.
+ * The call asks for memory for that. Else its slot is withdrawn: each command for it is answered by a general error (status 1, ::SANDBAR_ANSWERED) until a
  * load publishes another program. If slot 3 is withdrawn, no load is permitted: so the program of @p image is then published
  * for it, if it may judge. An image of no bytes is none.
  *
- * Of sizes and journals it reports what differs, and changes nothing. Journals take as long as reading all entries.
+ * The parts of sizes and journals report what differs, and change nothing. Journals take as long as reading all entries.
  * Codes: ::SANDBAR_NO_NODE, ::SANDBAR_NO_PART.
  */
 SANDBAR_CALL

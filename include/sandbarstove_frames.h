@@ -5,8 +5,8 @@
  *
  * A ::sandbar_frames takes the bytes of a stream, however they are cut, and gives the packets that the frames carry. It
  * knows no node: pass what it gives to ::sandbar_serve, and send what that gives. Only ::sandbar_frames_open asks for
- * memory. What sandbarstove.h says of calls, codes, pointers and tasks is true of these calls too, with a ::sandbar_frames
- * in place of a node.
+ * memory. The rules of sandbarstove.h on calls, codes, pointers and tasks are true of these calls too, with a
+ * ::sandbar_frames in place of a node.
  */
 #ifndef SANDBARSTOVE_FRAMES_H
 #define SANDBARSTOVE_FRAMES_H
@@ -57,10 +57,13 @@ uint32_t sandbar_frames_open(sandbar_frames *frames);
 /**
  * Takes bytes of the stream up to the first with which something came whole, or all of them if nothing did. A packet is
  * then in the first @c length bytes of @p packet, and the rest of @p packet is as before. Codes: ::SANDBAR_NO_NODE,
- * ::SANDBAR_NO_ROOM.
+ * ::SANDBAR_DAMAGED, ::SANDBAR_NO_ROOM.
  *
- * Bytes below 32 at the front of a packet are the path that a router takes away: the reader drops them. Of a packet with
- * over ::SANDBAR_MAX_PACKET bytes it gives the first, and each check of a target answers by those as by all. It reads each
+ * If a bit of the reader flipped since the last call, the code is ::SANDBAR_DAMAGED, and no byte is taken. It is so at each later call,
+ * too. Close the reader and the connection, and open both again: nothing in a frame marks the beginning of the next one.
+ *
+ * Bytes below 32 at the front of a packet are the path that a router takes away: the reader drops them. If a packet has
+ * over ::SANDBAR_MAX_PACKET bytes, it gives the first, and each check of a target answers by those as by all. It reads each
  * frame to its end, however many bytes that has.
  *
  * @param packet room for ::SANDBAR_MAX_PACKET bytes.
@@ -69,7 +72,7 @@ SANDBAR_CALL
 uint32_t sandbar_frames_take(sandbar_frames *frames, const uint8_t *bytes, size_t length, uint8_t *packet,
                              size_t packet_room, sandbar_came *came);
 
-/** Ends a reader, and gives back all its memory. What it has of a packet is gone. Code: ::SANDBAR_NO_NODE. */
+/** Ends a reader, and gives back all its memory. The packet that it has not ended is gone. Code: ::SANDBAR_NO_NODE. */
 SANDBAR_LAST_CALL
 uint32_t sandbar_frames_close(sandbar_frames *frames);
 

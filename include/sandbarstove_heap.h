@@ -7,7 +7,6 @@
 #ifndef SANDBARSTOVE_HEAP_H
 #define SANDBARSTOVE_HEAP_H
 
-#include <stdbool.h>
 #include <stddef.h>
 
 #ifdef __cplusplus
@@ -16,8 +15,8 @@ extern "C" {
 
 /** What a request comes to. */
 typedef struct rattle_block {
-  bool ok;  /**< whether there is a block */
-  void *at; /**< the block; if there is none, any pointer that is not null: nothing is read or written there */
+  unsigned char ok; /**< 1 if there is a block, else 0 */
+  void *at;         /**< the block; if there is none, any pointer that is not null: nothing is read or written there */
 } rattle_block;
 
 /**

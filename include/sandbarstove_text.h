@@ -16,7 +16,7 @@
 #endif
 #endif
 
-/** What a code means, in a few words. */
+/** The meaning of a code, in a few words. */
 static SANDBAR_INLINE const char *sandbar_text(uint32_t code) {
   switch (code) {
     case SANDBAR_OK: return "it was done";

@@ -5,6 +5,7 @@
 #include "sandbarstove_heap.h"
 
 #include <inttypes.h>
+#include <stdbool.h>
 #include <stdio.h>
 #include <stdlib.h>
 

@@ -3,6 +3,7 @@
  * one thread: a program of several puts a lock of its own round each of the three. */
 #include "sandbarstove_heap.h"
 
+#include <stdbool.h>
 #include <stdint.h>
 #include <string.h>
 

@@ -1,6 +1,7 @@
 """Jobs of a built rmapctl: a room of files, and what comes of a job there."""
 from __future__ import annotations
 
+import re
 import subprocess
 import tempfile
 from dataclasses import dataclass
@@ -11,6 +12,9 @@ PROVED = TOP / "crates" / "rmapctl" / "out" / "rmapctl"
 
 # The name of a file that cannot be written.
 LOCKED = "locked"
+
+# The last word of the version of a program that tools/unproved built: cases have the one that is proved.
+UNPROVED = re.compile(rb"\A(rmapctl \S+) unproved$", re.M)
 
 # A job that takes longer stands still.
 SECONDS = 120
@@ -64,7 +68,7 @@ class Room:
                                   env=environment, timeout=SECONDS)
         except subprocess.TimeoutExpired:
             raise Differs(f"$ {' '.join(words)}\ndid not end within {SECONDS} seconds") from None
-        return Done(done.stdout, done.stderr or b"", done.returncode)
+        return Done(UNPROVED.sub(rb"\1", done.stdout), done.stderr or b"", done.returncode)
 
     def printed(self, *words: str, given: str | bytes = b"") -> str:
         """What a job prints that has to end with status 0."""

@@ -1,8 +1,11 @@
-"""What the prose of a page is made of: its sentences, and how often it has words that docs/WRITING.md wants seldom."""
+"""What the prose of a page is made of: its sentences and cells, and how often it has what docs/WRITING.md wants seldom."""
 import re
 
-# The most words of a sentence, of a page for users and of one for those who change the code.
-MOST_WORDS, MOST_WORDS_INSIDE = 25, 40
+# The most words of a sentence, of a page for users and of one for those who change the code, and of a cell of a table.
+MOST_WORDS, MOST_WORDS_INSIDE, MOST_WORDS_OF_A_CELL = 25, 40, 60
+
+# How a sentence begins that has its subject late, if it is more than the label of a paragraph.
+LATE = re.compile(r"(?:Of|What)\b(?:\s+\S+){5}")
 
 # The words that are counted, each by what it is looked for as.
 WORDS = {
@@ -75,10 +78,22 @@ def sentences_of(name, page):
                 yield sentence.strip()
 
 
+def cells_of(name, page):
+    """The cells of the tables of a page of that name, with what is code in them as one word."""
+    if not name.endswith(".md"):
+        return
+    page = re.sub(r"^( *)```.*?^\1```[^\n]*$", "\n", re.sub(r"<!--.*?-->", "", page, flags=re.S), flags=re.S | re.M)
+    for line in re.findall(r"^ *\|(.*)\|\s*$", page, re.M):
+        line = re.sub(r"!?\[([^]]*)\]\([^)]*\)", r"\1", re.sub(r"`[^`]*`", "CODE", line)).replace("*", "")
+        yield from (cell.strip() for cell in re.split(r"(?<!\\)\|", line) if re.search(r"\w", cell))
+
+
 def counts_of(name, page, most=MOST_WORDS):
-    """How many sentences of a page have more than that many words, and how often it has each word that is counted."""
-    sentences = [*sentences_of(name, page)]
-    counts = {"long": sum(len(it.split()) > most for it in sentences)}
+    """How many sentences of a page have more than that many words, or cells more than theirs; how many sentences have their subject
+    late; and how often it has each word that is counted."""
+    sentences, cells = [*sentences_of(name, page)], [*cells_of(name, page)]
+    are_long = [len(it.split()) > most for it in sentences] + [len(it.split()) > MOST_WORDS_OF_A_CELL for it in cells]
+    counts = {"long": sum(are_long), "late": sum(bool(LATE.match(it)) for it in sentences)}
     for word, form in WORDS.items():
-        counts[word] = sum(len(re.findall(form, it, re.I)) for it in sentences)
+        counts[word] = sum(len(re.findall(form, it, re.I)) for it in sentences + cells)
     return counts

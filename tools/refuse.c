@@ -1,6 +1,6 @@
 /* Refuses memory to a program into which it is preloaded. The request of number REFUSE is answered with null, and with FROM set
    each one behind it too. Requests are numbered from the start with WHOLE set; else between two marks, which are requests of sizes
-   that nothing else asks for (crates/test_refusals/src/tests/marks.rt). At the end it says how many there were, and of how many
+   that nothing else asks for (crates/test_refusals/src/tests/marks.rattle). At the end it says how many there were, and of how many
    bytes. It includes nothing, so that the toolchain's compiler can make it too. */
 #define BEGIN 60013
 #define END 60017

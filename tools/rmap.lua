@@ -40,6 +40,9 @@ local fields = {
   mask = ProtoField.bytes("rmap.mask", "Mask"),
   data_crc = ProtoField.uint8("rmap.data_crc", "Data CRC", base.HEX),
   data_crc_bad = ProtoField.bool("rmap.data_crc.bad", "Data CRC is wrong"),
+  response_in = ProtoField.framenum("rmap.response_in", "Reply in", base.NONE, frametype.RESPONSE),
+  response_to = ProtoField.framenum("rmap.response_to", "Reply to", base.NONE, frametype.REQUEST),
+  time = ProtoField.relative_time("rmap.time", "Time from the command"),
 }
 rmap.fields = fields
 
@@ -51,6 +54,49 @@ local experts = {
   protocol = ProtoExpert.new("rmap.protocol.other", "Another protocol", expert.group.PROTOCOL, expert.severity.NOTE),
 }
 rmap.experts = experts
+
+-- What the first pass over a capture finds: the last command of each transaction, by the two ends of the talk; the command of each
+-- reply, and the frame of the reply to each command, by the frame and the bytes of the header.
+local commands, command_of, reply_of = {}, {}, {}
+
+function rmap.init()
+  commands, command_of, reply_of = {}, {}, {}
+end
+
+-- The key of a transaction: the ends of the talk as the command has them, the initiator and the transaction.
+local function transaction_key(packet, from_reply, initiator, transaction)
+  local here = string.format("%s:%s", tostring(packet.src), tostring(packet.src_port))
+  local there = string.format("%s:%s", tostring(packet.dst), tostring(packet.dst_port))
+  if from_reply then here, there = there, here end
+  return string.format("%s>%s %02X %04X", here, there, initiator, transaction)
+end
+
+local function place_key(packet, header)
+  return string.format("%d:%s", packet.number, tostring(header:bytes()))
+end
+
+-- Keeps a command that is due a reply, and names the frame of its reply.
+local function add_command_frames(packet, tree, header, initiator, transaction)
+  local place = place_key(packet, header)
+  if not packet.visited then
+    commands[transaction_key(packet, false, initiator, transaction)] = { frame = packet.number, time = packet.rel_ts, place = place }
+  end
+  if reply_of[place] then tree:add(fields.response_in, reply_of[place]):set_generated() end
+end
+
+-- Names the frame of the command of a reply, and the time between them.
+local function add_reply_frames(packet, tree, header, initiator, transaction)
+  local place, key = place_key(packet, header), transaction_key(packet, true, initiator, transaction)
+  if not packet.visited and commands[key] then
+    command_of[place], reply_of[commands[key].place] = commands[key], packet.number
+    commands[key] = nil
+  end
+  local command = command_of[place]
+  if not command then return end
+  tree:add(fields.response_to, command.frame):set_generated()
+  local between = packet.rel_ts - command.time
+  tree:add(fields.time, NSTime.new(math.floor(between), math.floor(between % 1 * 1e9 + 0.5))):set_generated()
+end
 
 -- One step of the register: a right shift, and E0 where the bit shifted out was 1 (ECSS-E-ST-50-52C, 8-bit CRC).
 local TABLE = {}
@@ -71,8 +117,8 @@ local function crc(buffer, start, length)
   return register
 end
 
--- Adds a CRC, and whether it is that of the bytes from `start` on.
-local function add_crc(tree, buffer, start, length, field, flag, wrong)
+-- Adds a CRC, and whether it is that of the bytes from `start` on: what the column Info has of it.
+local function add_crc(tree, buffer, start, length, field, flag, wrong, name)
   local at = buffer(start + length, 1)
   tree:add(field, at)
   local right = crc(buffer, start, length)
@@ -81,6 +127,7 @@ local function add_crc(tree, buffer, start, length, field, flag, wrong)
   if bad then
     tree:add_proto_expert_info(wrong, string.format("the CRC is %02X and should be %02X", at:uint(), right))
   end
+  return bad and string.format(", wrong %s CRC", name) or ""
 end
 
 -- Adds the instruction with its bits.
@@ -94,13 +141,13 @@ local function add_instruction(tree, byte)
   return kind
 end
 
--- Adds the data behind a header, or tells that they are too few or too many.
+-- Adds the data after a header, or says that they are too few or too many: what the column Info has of it.
 local function add_data(tree, buffer, start, length, halves)
   local there = buffer:len() - start
   if there < length + 1 then
     tree:add_proto_expert_info(experts.short)
     if there > 0 then tree:add(fields.data, buffer(start)) end
-    return
+    return ", too few bytes"
   end
   if halves and length % 2 == 0 and length > 0 then
     tree:add(fields.data, buffer(start, length / 2))
@@ -108,19 +155,23 @@ local function add_data(tree, buffer, start, length, halves)
   elseif length > 0 then
     tree:add(fields.data, buffer(start, length))
   end
-  add_crc(tree, buffer, start, length, fields.data_crc, fields.data_crc_bad, experts.data_crc)
-  if there > length + 1 then tree:add_proto_expert_info(experts.long) end
+  local said = add_crc(tree, buffer, start, length, fields.data_crc, fields.data_crc_bad, experts.data_crc, "data")
+  if there > length + 1 then
+    tree:add_proto_expert_info(experts.long)
+    said = said .. ", too many bytes"
+  end
+  return said
 end
 
 -- A command (ECSS-E-ST-50-52C, write command format, read command format, read-modify-write command format).
-local function command(buffer, tree)
+local function command(buffer, packet, tree)
   local path = 4 * (buffer(2, 1):uint() % 4)
   tree:add(fields.target, buffer(0, 1))
   tree:add(fields.protocol, buffer(1, 1))
   local kind = add_instruction(tree, buffer(2, 1))
   if buffer:len() < 16 + path then
     tree:add_proto_expert_info(experts.short)
-    return "command " .. kind
+    return "command " .. kind .. ", too few bytes"
   end
   tree:add(fields.key, buffer(3, 1))
   if path > 0 then tree:add(fields.reply_address, buffer(4, path)) end
@@ -129,18 +180,23 @@ local function command(buffer, tree)
   tree:add(fields.extended, buffer(7 + path, 1))
   tree:add(fields.address, buffer(8 + path, 4))
   tree:add(fields.length, buffer(12 + path, 3))
-  add_crc(tree, buffer, 0, 15 + path, fields.header_crc, fields.header_crc_bad, experts.header_crc)
-  local length = buffer(12 + path, 3):uint()
+  local said = add_crc(tree, buffer, 0, 15 + path, fields.header_crc, fields.header_crc_bad, experts.header_crc, "header")
+  local length, transaction = buffer(12 + path, 3):uint(), buffer(5 + path, 2):uint()
+  local is_answered = said == "" and bit32.extract(buffer(2, 1):uint(), 3) == 1
   if kind == "write" or kind == "rmw" then
-    add_data(tree, buffer, 16 + path, length, kind == "rmw")
+    said = said .. add_data(tree, buffer, 16 + path, length, kind == "rmw")
   elseif buffer:len() > 16 + path then
     tree:add_proto_expert_info(experts.long)
+    said = said .. ", too many bytes"
   end
-  return string.format("command %s transaction %04X address %08X length %d", kind, buffer(5 + path, 2):uint(), buffer(8 + path, 4):uint(), length)
+  if is_answered then
+    add_command_frames(packet, tree, buffer(0, 16 + path), buffer(4 + path, 1):uint(), transaction)
+  end
+  return string.format("command %s transaction %04X address %08X length %d%s", kind, transaction, buffer(8 + path, 4):uint(), length, said)
 end
 
--- A reply behind its path (ECSS-E-ST-50-52C, write reply format, read reply format, read-modify-write reply format).
-local function reply(buffer, tree)
+-- A reply after its path (ECSS-E-ST-50-52C, write reply format, read reply format, read-modify-write reply format).
+local function reply(buffer, packet, tree)
   tree:add(fields.initiator, buffer(0, 1))
   tree:add(fields.protocol, buffer(1, 1))
   local kind = add_instruction(tree, buffer(2, 1))
@@ -148,7 +204,7 @@ local function reply(buffer, tree)
   local header = writes and 8 or 12
   if buffer:len() < header then
     tree:add_proto_expert_info(experts.short)
-    return "reply " .. kind
+    return "reply " .. kind .. ", too few bytes"
   end
   tree:add(fields.status, buffer(3, 1))
   tree:add(fields.target, buffer(4, 1))
@@ -157,13 +213,16 @@ local function reply(buffer, tree)
     tree:add(fields.reserved, buffer(7, 1))
     tree:add(fields.length, buffer(8, 3))
   end
-  add_crc(tree, buffer, 0, header - 1, fields.header_crc, fields.header_crc_bad, experts.header_crc)
+  local said = add_crc(tree, buffer, 0, header - 1, fields.header_crc, fields.header_crc_bad, experts.header_crc, "header")
+  local transaction = buffer(5, 2):uint()
   if not writes then
-    add_data(tree, buffer, header, buffer(8, 3):uint(), false)
+    said = said .. add_data(tree, buffer, header, buffer(8, 3):uint(), false)
   elseif buffer:len() > header then
     tree:add_proto_expert_info(experts.long)
+    said = said .. ", too many bytes"
   end
-  return string.format("reply %s status %d transaction %04X", kind, buffer(3, 1):uint(), buffer(5, 2):uint())
+  add_reply_frames(packet, tree, buffer(0, header), buffer(0, 1):uint(), transaction)
+  return string.format("reply %s status %d transaction %04X%s", kind, buffer(3, 1):uint(), transaction, said)
 end
 
 -- How many bytes of a reply are its path: those below 20, since a logical address is 20 or more in SpaceWire.
@@ -182,7 +241,7 @@ function rmap.dissector(buffer, packet, root)
   packet.cols.protocol = "RMAP"
   local tree = root:add(rmap, buffer())
   if is_command(buffer) then
-    packet.cols.info = command(buffer, tree)
+    packet.cols.info = command(buffer, packet, tree)
     return
   end
   local path = path_length(buffer)
@@ -195,7 +254,7 @@ function rmap.dissector(buffer, packet, root)
     tree:add_proto_expert_info(experts.protocol)
     return
   end
-  packet.cols.info = reply(buffer(path):tvb(), tree)
+  packet.cols.info = reply(buffer(path):tvb(), packet, tree)
 end
 
 DissectorTable.get("wtap_encap"):add(wtap.USER0, rmap)

@@ -6,6 +6,10 @@ import re
 TOP = pathlib.Path(__file__).resolve().parent.parent
 OTHER = ("test_", "bench_")
 
+# The lists of crates: those that are proved, and those of tests.
+LISTS = ("crates.txt", "tests.txt")
+SUFFIXES = (".rt", ".rattle")
+
 Function = collections.namedtuple("Function", "crate owner name path start end is_law")
 
 STRINGS = re.compile(r'r?b?"(?:\\[\s\S]|[^"\\])*"|b?\'(?:\\.|[^\'\\\n])\'')
@@ -113,14 +117,15 @@ class Tree:
 
     def __init__(self, top=TOP):
         self.below, self.statics = {}, set()
-        for line in (top / "crates.txt").read_text().splitlines():
+        lines = [line for name in LISTS if (top / name).exists() for line in (top / name).read_text().splitlines()]
+        for line in lines:
             if ":" in line and not line.startswith("#"):
                 head, names = line.split(":")
                 self.below[head.split()[0]] = names.split()
                 if "staticlib" in head:
                     self.statics.add(head.split()[0])
         self.files = {
-            crate: [File(crate, path) for path in sorted((top / "crates" / crate / "src").rglob("*.rt"))]
+            crate: [File(crate, path) for path in sorted((top / "crates" / crate / "src").rglob("*")) if path.suffix in SUFFIXES]
             for crate in self.below
         }
         self.product = [crate for crate in self.below if not crate.startswith(OTHER)]

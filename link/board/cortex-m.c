@@ -29,6 +29,12 @@ _Noreturn void sandbar_trap(int why) { board_stop(256 + (uint32_t)why); }
 
 static _Noreturn void fault(void) { board_stop(512); }
 
+/* What comes of the processor's timer, and of a byte of the UART, if a program asks for these interrupts. */
+void board_tick(void);
+void board_byte(void);
+__attribute__((weak)) void board_tick(void) {}
+__attribute__((weak)) void board_byte(void) {}
+
 /* What the stack has not used yet is C5, so that a debugger sees how much it has. */
 _Noreturn void board_start(void) {
   uint32_t here;
@@ -44,5 +50,7 @@ _Noreturn void board_start(void) {
 __attribute__((section(".start"), used)) static const struct {
   uint32_t *stack;
   void (*start)(void);
-  void (*faults[14])(void);
-} vectors = {stack_to, board_start, {fault, fault, fault, fault, fault}};
+  void (*faults[13])(void);
+  void (*tick)(void);
+  void (*byte)(void);
+} vectors = {stack_to, board_start, {fault, fault, fault, fault, fault}, board_tick, board_byte};

@@ -4,10 +4,12 @@ from __future__ import annotations
 from ctypes import byref, c_uint8, c_uint64
 from dataclasses import dataclass
 from pathlib import Path
-from typing import Optional, Sequence, Union
+from typing import Iterable, Optional, Sequence, Union
 
 from . import library as c
 from .files import NodeFile, read_node_file
+from .journals import Damaged, Entry
+from .loads import load
 from .packets import load_packets
 
 #: The image of the program that says yes to every command: `mov r0, 0; exit`.
@@ -17,7 +19,7 @@ _ENDS = {"EOP": 0, "EEP": 1}
 _KINDS = ("discarded", "answered", "judged")
 _COMMANDS = (None, "read", "write", "rmw")
 _PLACES = (None, "bank", "window")
-_BAD_IMAGE, _REFUSED = 5, 6
+_BAD_IMAGE, _REFUSED, _DAMAGED = 5, 6, 15
 _ALL = 3
 
 
@@ -69,18 +71,6 @@ class Served:
 
 
 @dataclass(frozen=True)
-class Entry:
-    """An entry of a journal: a command that was judged."""
-    port: int
-    number: int
-    generation: int
-    verdict: int
-    status: int
-    packet: bytes
-    end: str = "EOP"
-
-
-@dataclass(frozen=True)
 class Scrubbed:
     """What a scrub found: the slots whose programs were mended, those that are withdrawn, and whether slot 3 was restored; whether the
     node's sizes are others; the banks whose journals have a damaged entry, and the place of the first one."""
@@ -116,7 +106,7 @@ class Node:
     def __init__(self, banks: Sequence[Bank] = (Bank(),), maps: Sequence[Map] = (), image: bytes = YES, *,
                  address: int = 0xFE, ports: int = 1):
         self._c, self._node, self._reply = c.library(), c.NodeHandle(), (c_uint8 * c.MAX_REPLY)()
-        self._rooms = [bank.room for bank in banks]
+        self._rooms, self._address = [bank.room for bank in banks], address
         _numbers(banks, maps, address, ports)
         why = c.Why()
         code = self._c.sandbar_open(
@@ -169,8 +159,14 @@ class Node:
         """The reply to a packet, or None where none is due."""
         return self.serve(packet, port).reply
 
-    def journal(self, bank: int = 0) -> list[Entry]:
-        """The entries of the journal of a bank, oldest first. They stay there."""
+    def load(self, image: bytes, slots: Union[str, int, Iterable[int]] = "all", port: int = 0, **fields: int) -> list[int]:
+        """Loads an image into slots by packets, as `load` does, and gives the generation of each. If a load is not carried out, this
+        raises LoadFault with the words of its load result."""
+        return load(self, image, slots, port, **{"address": self._address, **fields})
+
+    def journal(self, bank: int = 0) -> list[Union[Entry, Damaged]]:
+        """The entries of the journal of a bank, oldest first. They stay there. For one that a flipped bit damaged there is a `Damaged`
+        with its place."""
         return [self._entry(bank, place) for place in range(self._journal(bank).entries)]
 
     @property
@@ -183,14 +179,17 @@ class Node:
         self._done(self._c.sandbar_journal_of(byref(self._node), _byte("bank", bank), byref(told)))
         return told
 
-    def _entry(self, bank: int, place: int) -> Entry:
+    def _entry(self, bank: int, place: int) -> Union[Entry, Damaged]:
         packet, told = (c_uint8 * c.MAX_PACKET)(), c.EntryRecord()
-        self._done(self._c.sandbar_entry_at(byref(self._node), bank, place, packet, c.MAX_PACKET, byref(told)))
+        code = self._c.sandbar_entry_at(byref(self._node), bank, place, packet, c.MAX_PACKET, byref(told))
+        if code == _DAMAGED:
+            return Damaged(place, bank)
+        self._done(code)
         end = "EEP" if told.end else "EOP"
-        return Entry(told.port, told.number, told.generation, told.verdict, told.status, bytes(packet[:told.packet_length]), end)
+        return Entry(told.port, told.number, told.generation, told.verdict, told.status, bytes(packet[:told.packet_length]), end, bank)
 
-    def rotate(self, bank: int = 0) -> list[Entry]:
-        """Begins a new journal at a bank, and gives the entries of the old one."""
+    def rotate(self, bank: int = 0) -> list[Union[Entry, Damaged]]:
+        """Begins a new journal at a bank, and gives the entries of the old one. A damaged entry does not stop it."""
         entries = self.journal(bank)
         self._done(self._c.sandbar_rotate(byref(self._node), bank, self._rooms[bank]))
         return entries
@@ -201,7 +200,7 @@ class Node:
         self._done(self._c.sandbar_peek(byref(self._node), _byte("bank", bank), _word("address", address), room, length))
         return bytes(room[:length])
 
-    def poke(self, address: int, data: bytes, bank: int = 0) -> list[Entry]:
+    def poke(self, address: int, data: bytes, bank: int = 0) -> list[Union[Entry, Damaged]]:
         """Puts bytes into a bank, as the instrument does. No entry has it, so the bank gets a new journal; the
         entries of the old one come back."""
         entries = self.journal(bank)

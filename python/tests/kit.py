@@ -38,10 +38,11 @@ def free_port() -> int:
 class Shared:
     """`tools/share` over a built program."""
 
-    def __init__(self, *words: str):
+    def __init__(self, *words: str, spoil: Optional[str] = None):
         self.lines, self.frames = free_port(), free_port()
         share = os.environ.get("SANDBAR_SHARE", str(TOP / "tools/share"))
-        self.process = subprocess.Popen([share, str(self.lines), "--frames", str(self.frames), program(), "live", *words],
+        spoiled = [] if spoil is None else ["--spoil", spoil]
+        self.process = subprocess.Popen([share, str(self.lines), "--frames", str(self.frames), *spoiled, program(), "live", *words],
                                         stderr=subprocess.PIPE, text=True)
         self.ready = self.process.stderr.readline()
 
@@ -71,6 +72,32 @@ class Scripted:
                 link.sendall(part)
 
     def __enter__(self) -> Scripted:
+        return self
+
+    def __exit__(self, *_: object) -> None:
+        self.thread.join(5)
+        self.server.close()
+
+
+class Flood:
+    """A target that sends the same, as fast as it goes, until the other side leaves."""
+
+    def __init__(self, flooding: bytes):
+        self.server = socket.create_server(("127.0.0.1", 0))
+        self.port, self.flooding = self.server.getsockname()[1], flooding
+        self.thread = threading.Thread(target=self.serve, daemon=True)
+        self.thread.start()
+
+    def serve(self) -> None:
+        link, _ = self.server.accept()
+        with link:
+            try:
+                while True:
+                    link.sendall(self.flooding)
+            except OSError:
+                return
+
+    def __enter__(self) -> Flood:
         return self
 
     def __exit__(self, *_: object) -> None:

@@ -9,7 +9,7 @@ from pathlib import Path
 from unittest import mock
 
 import kit
-from sandbarstove import (Bank, LibraryFault, LoadFault, Map, Node, NodeFault, NodeFileFault, Reply, YES, command, load, reply,
+from sandbarstove import (Bank, Damaged, LibraryFault, LoadFault, Map, Node, NodeFault, NodeFileFault, Reply, YES, command, load, reply,
                           verify)
 from sandbarstove import library as c
 
@@ -104,6 +104,25 @@ class Nodes(unittest.TestCase):
             self.assertEqual(node.serve(packet, 1, "EEP").status, 7)
             self.assertEqual([(entry.number, entry.end) for entry in node.poke(0x104, b"\x55")], [(1, "EEP")])
             self.assertEqual((node.peek(0x104, 1), node.journal()), (b"\x55", []))
+
+    def test_damaged_entries(self):
+        with Node([Bank(0x100, 16, 4)]) as node:
+            for _ in range(3):
+                node.serve(command("read", 0x100, 1))
+            whole = node.journal()
+            entry_at = node._c.sandbar_entry_at
+            with mock.patch.object(node, "_c", mock.Mock(wraps=node._c)) as calls:
+                calls.sandbar_entry_at = lambda of, bank, place, *rest: 15 if place == 1 else entry_at(of, bank, place, *rest)
+                self.assertEqual(node.journal(), [whole[0], Damaged(1, 0), whole[2]])
+                self.assertEqual(node.rotate(), [whole[0], Damaged(1, 0), whole[2]])
+            self.assertEqual(node.journal(), [])
+
+    def test_load(self):
+        with Node(address=0x42) as node:
+            self.assertEqual(node.load(kit.DENY, [0, 1]), [1, 2])
+            self.assertEqual(node.serve(command("read", 0xA0000000, 1, target=0x42)).status, 10)
+            with self.assertRaisesRegex(LoadFault, "load result 33 place 0, the image does not begin with BPFA"):
+                node.load(b"no image", 1)
 
     def test_cells(self):
         image = self.image(ONE, "1")

@@ -7,9 +7,13 @@ from typing import Iterator, NamedTuple
 from objects.elf import CODE, EXECUTABLE, SECTION, WRITABLE, Object, Reference
 from objects.insns import CALL, WIDE, Insn, text_of
 from objects.refusal import Refusal
+from objects.tables import Tables, address_of
 
 HELPERS = {1: "count", 2: "ticket", 3: "peak"}
 MAX_MAPS = 8
+
+# The opcode of `stxdw`, and the register of the stack's end.
+KEEP, FRAME = 0x7B, 10
 MAX_CELLS = 256
 
 SIGNED_DIVISIONS = ("__divdi3", "__moddi3", "__divsi3", "__modsi3")
@@ -18,7 +22,7 @@ ATOMIC = ("an atomic operation", "draw a ticket of a cell")
 # What opcodes are for which there is no instruction here.
 UNKNOWN = {
     0x0D: ("a jump through a table", "compile with -fno-jump-tables"),
-    0x8D: ("a call by a pointer", "call the function by its name, and make it `always_inline`"),
+    0x8D: ("a call by a pointer", "call the function by its name, and put SANDBAR_ALWAYS_INLINE before it"),
     0xC3: ATOMIC,
     0xDB: ATOMIC,
 }
@@ -61,6 +65,11 @@ class Function(NamedTuple):
     start: int
     code: bytes
 
+    def is_plain(self) -> bool:
+        """Whether it was compiled without -O1, -O2 or -Os: it begins by keeping r1, r2 and r3 on the stack."""
+        first = [struct.unpack_from("<BBhi", self.code, at) for at in range(0, min(len(self.code) - 7, 24), 8)]
+        return [(op, registers) for op, registers, _, _ in first] == [(KEEP, number << 4 | FRAME) for number in (1, 2, 3)]
+
     def calls_another(self) -> bool:
         return any(self.code[at] == CALL and self.code[at + 1] >> 4 == 1 for at in range(0, len(self.code) - 7, 8))
 
@@ -78,8 +87,11 @@ def function_of(whole: Object, section_name: str) -> Function:
     callers = [it for it in found if it.calls_another()]
     if len(found) > 1 and not callers:
         raise Refusal(f"{section_name} has {len(found)} functions, {', '.join(it.name for it in found)}",
-                      "make all but one `always_inline`, or put each into a section of its own and name one by --section")
-    return (callers or found)[0]
+                      "put SANDBAR_ALWAYS_INLINE before all but one, or put each into a section of its own and name one by --section")
+    chosen = (callers or found)[0]
+    if chosen.is_plain():
+        raise Refusal(f"{chosen.name} was compiled without optimisation", "compile with -O2")
+    return chosen
 
 
 class Decoder:
@@ -87,6 +99,7 @@ class Decoder:
 
     def __init__(self, whole: Object, function: Function, maps: Maps):
         self.whole, self.function, self.maps = whole, function, maps
+        self.tables = Tables(whole)
         self.references = whole.references(function.section)
 
     def insns(self) -> Iterator[Insn]:
@@ -101,7 +114,10 @@ class Decoder:
             if text_of(insn) is None or max(insn.dst, insn.src if insn.map is None else 0) > 10:
                 what = f"an instruction of opcode {op:02X}, for which there is none here"
                 raise Refusal(*UNKNOWN.get(op, (what, "write it in other words")), slot)
-            yield insn
+            if insn.table is None:
+                yield insn
+            else:
+                yield from address_of(slot, insn.dst, insn.table)
             slot += insn.slots
 
     def reference(self, insn: Insn) -> Reference | None:
@@ -119,14 +135,14 @@ class Decoder:
         at = self.place_of(insn, reference)
         if section.name == ".maps":
             return insn._replace(map=self.maps.number_at(at, insn.slot))
-        names = [it.name for it in self.whole.variables(section.name) if it.value <= at < it.value + it.size]
-        name = f"{names[0]} in {section.name}" if names else section.name
+        variables = [it for it in self.whole.variables(section.name) if it.value <= at < it.value + it.size]
+        name = f"{variables[0].name} in {section.name}" if variables else section.name
         if section.flags & WRITABLE:
             raise Refusal(f"{name}, a variable that outlasts a run", "count in a map: COUNTERS, PEAKS", insn.slot)
         if section.flags & EXECUTABLE:
-            raise Refusal(f"the address of a function in {name}", "call it by its name, and make it `always_inline`", insn.slot)
-        raise Refusal(f"{name}, constant data", "write the table as `if` or `switch`, and compile with -fno-jump-tables",
-                      insn.slot)
+            raise Refusal(f"the address of a function in {name}", "call it by its name, and put SANDBAR_ALWAYS_INLINE before it", insn.slot)
+        variable = next((it for it in variables if it.section == symbol.section), None)
+        return insn._replace(table=self.tables.place(section, symbol.section, at, variable, insn.slot))
 
     def place_of(self, insn: Insn, reference: Reference) -> int:
         """The byte of its section that is wanted. An assembler that is not clang's puts the value of the symbol into the
@@ -148,8 +164,8 @@ class Decoder:
                           insn.slot)
         if reference and self.whole.section_of(reference.symbol) is None:
             raise Refusal(f"a call of {name}, which is not in the file",
-                          "write out what it does, or define it as `always_inline`", insn.slot)
-        raise Refusal(f"a call of {name}, another function", "make it `always_inline`", insn.slot)
+                          "write out what it does, or define it with SANDBAR_ALWAYS_INLINE before it", insn.slot)
+        raise Refusal(f"a call of {name}, another function", "put SANDBAR_ALWAYS_INLINE before it", insn.slot)
 
     def callee(self, insn: Insn, reference: Reference | None) -> str:
         if reference and reference.symbol.kind != SECTION:

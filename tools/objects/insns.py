@@ -8,7 +8,7 @@ LD, LDX, ST, STX, ALU32, JMP, JMP32, ALU = range(8)
 WIDE, CALL, EXIT, GOTO, FAR_GOTO = 0x18, 0x85, 0x95, 0x05, 0x06
 
 # Codes of arithmetic and of comparisons.
-ADD, SUB, DIV, NEG, MOD, MOV, END = 0, 1, 3, 8, 9, 11, 13
+ADD, SUB, MUL, DIV, NEG, MOD, MOV, END = 0, 1, 2, 3, 8, 9, 11, 13
 OPERATIONS = {0: "add", 1: "sub", 2: "mul", 3: "div", 4: "or", 5: "and", 6: "lsh", 7: "rsh", 9: "mod", 10: "xor", 11: "mov",
               12: "arsh"}
 COMPARISONS = {1: "jeq", 2: "jgt", 3: "jge", 4: "jset", 5: "jne", 6: "jsgt", 7: "jsge", 10: "jlt", 11: "jle", 12: "jslt",
@@ -23,7 +23,8 @@ DOUBLE = MEM | 0x18
 
 
 class Insn(NamedTuple):
-    """An instruction at a slot of the function; `map` is the number of the map that it loads."""
+    """An instruction at a slot of the function; `map` is the number of the map that it loads, and `table` the byte of all tables of
+    constants whose place on the stack is its number."""
     slot: int
     op: int
     dst: int
@@ -32,6 +33,7 @@ class Insn(NamedTuple):
     imm: int
     high: int = 0
     map: int | None = None
+    table: int | None = None
 
     @property
     def family(self) -> int:

@@ -5,8 +5,9 @@ import os
 from typing import Iterator, NamedTuple
 
 from objects.elf import Line
-from objects.flow import Block, Blocks, Loop
+from objects.flow import Block, Blocks
 from objects.insns import GOTO, OPPOSITE, Insn, text_of
+from objects.loops import Loop
 
 
 def ordered(blocks: Blocks, loops: list[Loop], inside: set[int], head: int) -> list[int]:
@@ -67,11 +68,19 @@ class Layout:
         weights = [1] * len(self.items)
         for loop in self.loops:
             for place in self.places(loop):
-                weights[place] *= loop.bound
+                weights[place] *= loop.bound or 1
         return weights
 
     def slots(self) -> int:
         return sum(it.insn.slots for it in self.items)
+
+    def slot_of(self, block: int) -> int:
+        """The slot of the image at which a block begins."""
+        return sum(it.insn.slots for it in self.items[:self.starts[block]])
+
+    def slot_lines(self) -> list[int]:
+        """The slot of the function that each slot of the image came of."""
+        return [it.insn.slot for it in self.items for _ in range(it.insn.slots)]
 
     def labels(self) -> dict[int, str]:
         """Names of places: `loop1` and `again1` of a loop, `L1`, `L2` and so on of where other jumps lead."""
@@ -111,10 +120,16 @@ class Source(NamedTuple):
         at = self.start + 8 * slot
         return next((it for it in reversed(self.lines) if it.at <= at), None)
 
+    def line_of_file(self, slot: int) -> Line | None:
+        """The line of the file itself that is at a slot or comes next: where that of a header was put in."""
+        line = self.line(slot)
+        if line is None or os.path.basename(line.file) == self.file:
+            return line
+        return next((it for it in self.lines if it.at > self.start + 8 * slot and os.path.basename(it.file) == self.file), None)
+
     def comment(self, line: Line) -> str:
-        """A line in words; one of another file, as of a header, with the name of that."""
-        name = os.path.basename(line.file)
-        return f"; {'' if name == self.file else name + ' '}{line.number} {line.text}".rstrip()
+        """A line in words: its file, its number, and what stands there."""
+        return f"; {os.path.basename(line.file) or self.file}:{line.number} {line.text}".rstrip()
 
 
 def printed(layout: Layout, version: int, maps: str, source: Source) -> Iterator[str]:
@@ -125,7 +140,7 @@ def printed(layout: Layout, version: int, maps: str, source: Source) -> Iterator
     yield f".budget {sum(layout.weights())}"
     for loop in layout.loops:
         places = layout.places(loop)
-        yield f".loop {labels[places[0]]}, {labels[places[-1]]}, {loop.bound}, r{loop.register}"
+        yield f".loop {labels[places[0]]}, {labels[places[-1]]}, {loop.bound or 1}, r{loop.register}"
     said = None
     for place, (insn, target) in enumerate(layout.items):
         if place in labels:

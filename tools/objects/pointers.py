@@ -114,8 +114,19 @@ def version_of(blocks: Blocks) -> int:
     for at, kinds in sorted(kinds_at(blocks).items()):
         for it, known in zip(blocks[at].body, known_in(blocks[at].body, kinds)):
             if it.is_double(STX) and known[it.src]:
-                raise Refusal("a pointer is kept on the stack", "read what it points to before, or use fewer values at once",
-                              it.slot)
+                raise kept(blocks, it, known[it.src])
             if it.op == CALL and it.imm == 3 or it.is_double(LDX) and known[it.src] & STACK:
                 version = 2
     return version
+
+
+def kept(blocks: Blocks, store: Insn, kinds: int) -> Refusal:
+    """The refusal of a pointer that is kept on the stack: where it is taken from there again, and what it points to."""
+    names = {FRONT: "the front of the header", TAIL: "the tail of the header", STACK: "the stack", MAP: "a map"}
+    what = " or ".join(name for kind, name in names.items() if kinds & kind)
+    again = sorted(it.slot for block in blocks.values() for it in block.body
+                   if it.is_double(LDX) and (it.src, it.off) == (store.dst, store.off))
+    if not again:
+        return Refusal(f"a pointer to {what} is kept on the stack", "read what it points to before, or use fewer values at once", store.slot)
+    return Refusal(f"a pointer to {what} was kept on the stack until here, over a call or for want of registers",
+                   "read what is wanted of it into a variable before the first call, or use fewer values at once", again[0])

@@ -3,54 +3,140 @@ from __future__ import annotations
 
 import os
 import struct
+from typing import Callable
 
+from objects.asked import Answer, Asker
 from objects.elf import Object
-from objects.flow import Loops, blocks_of, shorten, walked
+from objects.flow import blocks_of, shorten, thread, walked
 from objects.function import Decoder, Function, Maps, function_of
 from objects.insns import Insn
 from objects.layout import Layout, Source, printed
+from objects.loops import MAX_BOUND, Loop, Loops
 from objects.pointers import put_pointers_first, version_of
 from objects.refusal import Refusal
 
 MAX_SLOTS = 512
 MAX_BUDGET = 65536
 
+# The code of the verifier for a loop that may begin with a counter outside its bound.
+LOOP_ENTRY = 4
+
 # What to write instead of a loop that has not the form.
-OTHER_LOOP = "end it by AGAIN, or write `#pragma unroll` before it"
+OTHER_LOOP = "count from a number by one number, end it by AGAIN, or write `#pragma unroll` before a `for` that ends at a number"
+UNKNOWN_ROUNDS = "begin its counter with a number, or bound it before by an `if` of its own: `if (i > 12) return ..`"
+NO_RMAPCTL = "begin its counter with a number, or let `rmapctl` be asked: name it by --rmapctl"
 OTHER_LOOP_OF_GCC = "write a `for` with `#pragma GCC unroll N` before it"
 
 
-def program_of(content: bytes, name: str, section: str) -> str:
-    """The text of the program of the object of this name, or a refusal that says where."""
+def program_of(content: bytes, name: str, section: str, asker: Asker | None = None,
+               tell: Callable[[str], None] | None = None) -> str:
+    """The text of the program of the object of this name, or a refusal that says where. What rmapctl has against it is told."""
     function = source = None
     try:
         whole = Object(content)
         function = function_of(whole, section)
         source = Source(whole.lines(section), function.start, whole.source())
         maps = Maps(whole)
-        layout, version = laid_out(list(Decoder(whole, function, maps).insns()), whole.is_of_gcc())
-        return "".join(f"{line}\n" for line in printed(layout, version, maps.listed(), source))
+        decoder = Decoder(whole, function, maps)
+        insns = list(decoder.insns())
+        laid = laid_out(insns, decoder.tables.put(insns), whole.is_of_gcc())
+        layout, said = bounded(laid, lambda it: text_of(it, laid.version, maps, source), maps.listed(), asker, tell is not None)
+        if tell and said and said.slot is not None:
+            slot = layout.slot_lines()[said.slot]
+            tell(f"{place(name, function, source, slot)}: rmapctl refuses this with V{said.code} at {said.lines[1]}; "
+                 f"tools/bpf --why {name} says what is known there")
+        return text_of(layout, laid.version, maps, source)
     except Refusal as it:
         raise Refusal(f"{place(name, function, source, it.slot)}: {it.what}", it.instead) from None
     except (struct.error, IndexError, ValueError, OverflowError):
         raise Refusal(f"{name}: the object is cut off, or none", "compile it again") from None
 
 
-def laid_out(insns: list[Insn], is_of_gcc: bool) -> tuple[Layout, int]:
-    """A function in its order, and its version."""
-    all_blocks = blocks_of(insns)
-    shorten(all_blocks)
-    blocks, back = walked(all_blocks)
-    check_slots(sum(it.slots for block in blocks.values() for it in block.body))
-    version = version_of(blocks)
-    put_pointers_first(blocks)
-    layout = Layout(blocks, Loops(blocks, OTHER_LOOP_OF_GCC if is_of_gcc else OTHER_LOOP).found(back))
-    check_slots(layout.slots())
-    weights = layout.weights()
-    if sum(weights) > MAX_BUDGET:
-        heaviest = layout.items[weights.index(max(weights))].insn.slot
-        raise Refusal(f"a weight of {sum(weights):,}, and {MAX_BUDGET:,} is possible", "loop fewer times", heaviest)
-    return layout, version
+def text_of(layout: Layout, version: int, maps: Maps, source: Source) -> str:
+    return "".join(f"{line}\n" for line in printed(layout, version, maps.listed(), source))
+
+
+def laid_out(insns: list[Insn], stores: list[Insn], is_of_gcc: bool) -> Laid:
+    """A function in its order; where its loops have no form, those that it has without the registers that only say where to go on."""
+    try:
+        return Laid(insns, stores, is_of_gcc, False)
+    except Refusal as first:
+        try:
+            return Laid(insns, stores, is_of_gcc, True)
+        except Refusal:
+            raise first from None
+
+
+class Laid:
+    """A function in its blocks and loops, and its version."""
+
+    def __init__(self, insns: list[Insn], stores: list[Insn], is_of_gcc: bool, threaded: bool):
+        all_blocks = blocks_of(insns)
+        shorten(all_blocks)
+        if threaded:
+            thread(all_blocks)
+            shorten(all_blocks)
+        self.blocks, back = walked(all_blocks)
+        check_slots(sum(it.slots for block in self.blocks.values() for it in block.body))
+        self.version = version_of(self.blocks)
+        put_pointers_first(self.blocks)
+        self.finder = Loops(self.blocks, OTHER_LOOP_OF_GCC if is_of_gcc else OTHER_LOOP)
+        self.loops = self.finder.found(back)
+        if stores and any(0 in it.body for it in self.loops):
+            raise Refusal("constant data, and a loop at the very beginning", "do something before the loop", stores[0].slot)
+        self.blocks[0].body = stores + self.blocks[0].body
+
+    def layout(self) -> Layout:
+        layout = Layout(self.blocks, list(self.loops))
+        check_slots(layout.slots())
+        weights = layout.weights()
+        if sum(weights) > MAX_BUDGET:
+            heaviest = layout.items[weights.index(max(weights))].insn.slot
+            raise Refusal(f"a weight of {sum(weights):,}, and {MAX_BUDGET:,} is possible", "loop fewer times", heaviest)
+        return layout
+
+
+def bounded(laid: Laid, text: Callable[[Layout], str], maps: str, asker: Asker | None, always: bool) -> tuple[Layout, Answer | None]:
+    """The layout with the bounds of its loops. Where a bound is not in the instructions, or is too small, it is what the verifier
+    knows of the counter at the head. And what it says of that at last, where it is asked."""
+    if not laid.loops and not always:
+        return laid.layout(), None
+    for _ in range(2 * len(laid.loops) + 1):
+        layout = laid.layout()
+        said = asker.why(text(layout), maps) if asker else None
+        if said is None or said.code != LOOP_ENTRY:
+            break
+        loop = next((it for it in laid.loops if layout.slot_of(it.head) == said.slot), None)
+        if loop is None or not take_bound(laid, loop, said):
+            break
+    for loop in laid.loops:
+        if not loop.bound:
+            if said is not None and said.code not in (None, LOOP_ENTRY):
+                return layout, said
+            known = said.known.get(loop.register if loop.upward is None else loop.upward.other) if said else None
+            what = f", only that its counter or end is {known[0]:,} to {known[1]:,}" if known else ""
+            raise laid.finder.refusal(f"a loop whose number of rounds is not known{what}", loop.latch, UNKNOWN_ROUNDS if asker else NO_RMAPCTL)
+    return layout, said
+
+
+def take_bound(laid: Laid, loop: Loop, said: Answer) -> bool:
+    """Takes the bound of a loop from what is known at its head; False where it is what it was."""
+    wanted = loop.register if loop.upward is None else loop.upward.other
+    if wanted is None or wanted not in said.known:
+        return False
+    least, most = said.known[wanted]
+    if loop.upward is not None:
+        rounds = loop.upward.rounds(least, most, MAX_BOUND)
+        if rounds is None or rounds == loop.bound:
+            return False
+        laid.finder.set_bound(loop, rounds)
+        return True
+    if most > MAX_BOUND or not most or most == loop.bound and least:
+        return False
+    if not least:
+        laid.finder.put_guard(loop)
+    laid.finder.set_bound(loop, most)
+    return True
 
 
 def check_slots(slots: int) -> None:
@@ -66,4 +152,6 @@ def place(name: str, function: Function | None, source: Source | None, slot: int
     if line is None or not line.file:
         return f"{name}: {function.name}" + (f", slot {slot}" if slot is not None else "")
     relative = os.path.relpath(line.file)
-    return f"{line.file if relative.startswith('..') else relative}: {function.name}, line {line.number}"
+    where = f"{line.file if relative.startswith('..') else relative}: {function.name}, line {line.number}"
+    outer = source.line_of_file(slot)
+    return where if outer in (None, line) else f"{source.file}: {function.name}, line {outer.number}, from {where}"

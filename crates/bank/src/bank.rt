@@ -216,6 +216,19 @@ impl Bank {
         !self.journal.is_full() && self.counts[usize::from(port)] < u64::MAX
     }
 
+    /// Whether the command may be done and recorded: the journal has room for another entry of its port, and its bytes
+    /// lie in the range of the bank's own bytes. What a caller knows of that range may be damaged, so it is looked at
+    /// once more where the bytes are used.
+    fn takes(&self, judged: &Judged) -> bool
+        requires { judged.now.port < length self.now.counts }
+        ensures inside { lies_inside self.now.first (length self.now.bytes) (command_of judged.now.packet) ≡ true
+            → result ≡ has_room self.now judged.now.port }
+        ensures outside { lies_inside self.now.first (length self.now.bytes) (command_of judged.now.packet) ≡ false
+            → result ≡ false }
+    {
+        self.has_room(judged.port()) && judged.command().lies_inside(self.first, self.bytes.len())
+    }
+
     /// Executes a judged command, if its verdict is yes, its body is right and there is room, and
     /// leaves the reply. While there is room each command leaves an entry, whatever its status. The condition is
     /// [`Bank::fits`].
@@ -231,7 +244,7 @@ impl Bank {
         ensures bank { self.new ≡ after_command self.old share.old judged }
         ensures share { share.new ≡ next_share self.old share.old judged }
     {
-        let room = self.has_room(judged.port());
+        let room = self.takes(&judged);
         let status = carry_out(&mut self.bytes, self.first, room, &judged, reply);
         if !room {
             drop(judged.into_packet());
@@ -333,7 +346,8 @@ impl Bank {
     }
 }
 
-/// Replies to a judged command on the bytes of a bank, and does to them what it asks for, if it may be done.
+/// Replies to a judged command on the bytes of a bank, and does to them what it asks for, if it may be done. If there is
+/// room for it, its bytes lie in the bank.
 fn carry_out(
     bytes: &mut Pages,
     first: u32,
@@ -341,7 +355,8 @@ fn carry_out(
     judged: &Judged,
     reply: &mut ReplyBuf,
 ) -> Status
-    requires inside { lies_inside first (length bytes.old) (command_of judged.now.packet) ≡ true }
+    requires inside { room ≡ true
+        → lies_inside first (length bytes.old) (command_of judged.now.packet) ≡ true }
     requires range { first + length bytes.old ≤ 2 ^ 32 }
     ensures status { result ≡ status_of room (command_of judged.now.packet) judged.now.verdict }
     ensures memory { memory_at first bytes.new ≡ memory_from result first bytes.old judged.now }

@@ -1,7 +1,8 @@
 //! What is told on standard error of a job that ended, after what it printed.
 
+use crate::foreign::foreign_words;
 use crate::jobs::{Job, JobEnd};
-use crate::line_paths::LinePaths;
+use crate::line_paths::{LinePaths, may_have_paths};
 use crate::noted::{Cause, Noted};
 use crate::shut_doors::{self, told_loaders};
 use crate::slips::{self, told_output};
@@ -46,6 +47,21 @@ fn add_form(text: &mut String, alloc: Global, bytes: Option<&[u8]>) -> Result<()
     write!(text, "    {line}")
 }
 
+/// Adds what the line of that number has of another system, if it was kept.
+fn add_foreign(text: &mut String, lines: Option<&str>, number: usize) -> Result<(), AllocError> {
+    let Some(lines) = lines else {
+        return Ok(());
+    };
+    let mut at = 0usize;
+    for line in lines_of(lines) {
+        at = at.saturating_add(1);
+        if at == number {
+            return text.push_str(foreign_words(line, at == 1));
+        }
+    }
+    Ok(())
+}
+
 /// Adds what is wrong with the line of that number.
 fn add_bad_line(
     text: &mut String,
@@ -80,7 +96,10 @@ fn add_failed(
             Some(cause) => add_cause(text, *name, Some(cause)),
             None => text.push_str(told_output(job)),
         },
-        Some(Fault::BadLine { number, fault }) => add_bad_line(text, job, *number, *fault),
+        Some(Fault::BadLine { number, fault }) => {
+            add_bad_line(text, job, *number, *fault)?;
+            add_foreign(text, noted.lines(), *number)
+        }
         Some(Fault::BadNode { place, .. }) => add_place(text, place.as_str()),
         Some(Fault::BadImage(_)) => add_form(text, alloc, noted.last()),
         Some(Fault::BadText(_) | Fault::BadTable(_)) | None => match noted.text() {
@@ -109,6 +128,9 @@ fn add_first_path(
     job: &Job,
     lines: &str,
 ) -> Result<(), AllocError> {
+    if !may_have_paths(lines) {
+        return Ok(());
+    }
     let mut paths = LinePaths::new();
     for line in lines_of(lines) {
         if paths.take(alloc, packet_part(job, line), text)? {

@@ -5,6 +5,7 @@ mod asked;
 mod denied_loads;
 mod dumps;
 mod ends;
+mod foreign;
 mod hints;
 mod jobs;
 mod line_paths;
@@ -18,6 +19,7 @@ mod slips;
 mod told_files;
 mod told_talk;
 mod usage;
+mod whole_file;
 mod word;
 mod work;
 

@@ -4,6 +4,7 @@ ghost use Rattle.std.specs.Prelude.{◌≡◌};
 
 use initiator::Seen;
 use job_show::paths::{add_path, path_in_front};
+use memchr::memmem;
 use rmap::Flaw;
 use spw::{Packet, first_word, read_part};
 use std::alloc::{AllocError, Global};
@@ -17,6 +18,13 @@ const GOES_ON: &str = "PART";
 pub struct LinePaths {
     number: usize,
     held: u32,
+}
+
+/// Whether the packet of some line may begin with a path. Its first byte is then below 32, so its first digit is 0 or 1, which
+/// comes after a space.
+pub fn may_have_paths(lines: &str) -> bool {
+    let bytes = lines.as_bytes();
+    memmem::find(bytes, b" 0").is_some() || memmem::find(bytes, b" 1").is_some()
 }
 
 /// Whether a line may be one of a piece, or of a packet that begins with a path.

@@ -7,6 +7,7 @@ ghost use Rattle.commands.specs.Notes.{is_dump, reads_dump};
 use crate::ends::told_end;
 use crate::jobs::{Job, JobEnd};
 use crate::noted::{Cause, MAX_TEXT, Noted, most_of};
+use crate::whole_file::write_whole;
 use job_parts::inputs::{Content, InputFile, Inputs};
 use job_parts::status::Status;
 use job_parts::storage::{Cannot, Files};
@@ -27,6 +28,7 @@ const STANDARD_PATH: &str = "/dev/stdin";
 #[derive(Drop)]
 pub struct ToldFiles<'a, R> {
     rt: &'a R,
+    alloc: Global,
     noted: Noted<'a>,
 }
 
@@ -78,21 +80,23 @@ pub fn own_source<'a, R: rt::Files>(rt: &R, inputs: &Inputs<'a>) -> Option<&'a s
 
 impl<'a, R: rt::Files + Input> ToldFiles<'a, R> {
     /// The files that are read of these.
-    pub fn new(rt: &'a R, inputs: Inputs<'a>) -> ToldFiles<'a, R>
+    pub fn new(rt: &'a R, alloc: Global, inputs: Inputs<'a>) -> ToldFiles<'a, R>
         ensures { reads_dump result.noted ≡ false }
     {
         ToldFiles {
             rt,
+            alloc,
             noted: Noted::new(inputs),
         }
     }
 
     /// The files that the job reads; whether a node's file says its maps. The lines of a dump are given as its packet lines.
-    pub fn of_job(rt: &'a R, job: &'a Job, is_on_node: bool) -> ToldFiles<'a, R>
+    pub fn of_job(rt: &'a R, alloc: Global, job: &'a Job, is_on_node: bool) -> ToldFiles<'a, R>
         ensures { reads_dump result.noted ≡ is_dump job.now }
     {
         ToldFiles {
             rt,
+            alloc,
             noted: Noted::of_job(job, is_on_node),
         }
     }
@@ -161,7 +165,7 @@ impl<R: rt::Files + Input> Files for ToldFiles<'_, R> {
         if name == STANDARD_INPUT {
             return Err(self.noted.refuse(Cause::Input));
         }
-        match fs::write(self.rt, name, bytes) {
+        match write_whole(self.rt, self.alloc, name, bytes) {
             Ok(()) => Ok(()),
             Err(refused) => Err(self.noted.refuse(Cause::System(refused))),
         }

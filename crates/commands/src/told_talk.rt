@@ -2,6 +2,7 @@
 
 ghost use Rattle.std.specs.Prelude.{◌≡◌};
 
+use crate::foreign::foreign_words;
 use crate::line_paths::LinePaths;
 use job_live::talk::Talk;
 use job_parts::bad_lines::BadLine;
@@ -23,6 +24,8 @@ pub struct ToldTalk<'a, R, T: Drop> {
     told: u8,
     paths: LinePaths,
     path: PathTold,
+    is_first: bool,
+    foreign: &'static str,
 }
 
 /// Whether a path was told.
@@ -71,6 +74,8 @@ impl<'a, R: Eprint, T: Talk + Drop> ToldTalk<'a, R, T> {
             told: 0,
             paths: LinePaths::new(),
             path: PathTold::None,
+            is_first: true,
+            foreign: "",
         }
     }
 
@@ -101,6 +106,7 @@ impl<'a, R: Eprint, T: Talk + Drop> ToldTalk<'a, R, T> {
         let _ = self.rt.eprint(&code);
         let _ = self.rt.eprint(&": ");
         let _ = self.rt.eprintln(&words);
+        let _ = self.rt.eprint(&self.foreign);
     }
 }
 
@@ -140,6 +146,8 @@ impl<R: Eprint, T: Talk + Drop> Talk for ToldTalk<'_, R, T> {
 
     fn next(&mut self, line: &mut String) -> Result<bool, Cannot> {
         let is_given = self.talk.next(line)?;
+        self.foreign = foreign_words(line.as_str(), self.is_first);
+        self.is_first = false;
         self.look(line.as_str());
         Ok(is_given)
     }

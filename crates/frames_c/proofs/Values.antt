@@ -19,7 +19,7 @@ use Rattle.frames_c.specs.Held.{mark}
 use Rattle.frames_c.specs.declared.handle.FramesHandle.{FramesHandle}
 use Rattle.frames_c.specs.contracts.handle.FramesHandle.{the_row as H, the_type}
 use Rattle.frames_c.proofs.handle.FramesHandle.TheLaws.{lowers}
-use Rattle.frames_c.specs.contracts.reader.Frames.{the_row as C}
+use Rattle.frames_c.specs.contracts.checked.CheckedFrames.{the_row as C}
 
 abbrev pub word : Ptr → ℕ → Val
 word p n = vstruct (vcons (ptr_val p) (vcons (vint w32 n) vnil))

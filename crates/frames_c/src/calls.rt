@@ -7,35 +7,44 @@ ghost use Rattle.frames.specs.Reading.{first_reading};
 ghost use Rattle.frames.specs.Streams.{reply_frame_of};
 ghost use Rattle.frames.specs.declared.flags.Flag.TheVariants.{Last};
 ghost use Rattle.frames_c.specs.Calls.{OpensFrames, TakesFrames};
+ghost use Rattle.frames_c.specs.Whole.{checked};
 ghost use Rattle.frames_c.specs.declared.codes.TheConstants.{NO_NODE, OK};
 ghost use Rattle.spw.specs.declared.packets.End.TheVariants.{Eop};
 ghost use Rattle.spw.specs.declared.packets.TheConstants.{MAX_PACKET};
 
-use crate::codes::{IS_OPEN, NO_MEMORY, NO_NODE, NO_ROOM, OK};
+use crate::checked::CheckedFrames;
+use crate::codes::{DAMAGED, IS_OPEN, NO_MEMORY, NO_NODE, NO_ROOM, OK};
 use crate::handle::FramesHandle;
 use crate::held::{put_in, take_out};
 use crate::numbers::CameNumbers;
-use crate::reader::Frames;
 use frames::{Flag, HEAD_LENGTH, Head};
 use spw::{End, MAX_PACKET};
 use std::alloc::{AllocError, Global};
 
 /// A reader that has read nothing, in a box.
-fn fresh(alloc: Global) -> Result<Box<Frames>, AllocError>
-    ensures { IfOk result (λ frames. frames.value ≡ first_reading) }
+fn fresh(alloc: Global) -> Result<Box<CheckedFrames>, AllocError>
+    ensures { IfOk result (λ frames. frames.value ≡ checked first_reading) }
 {
-    let frames = Frames::new(alloc)?;
+    let frames = CheckedFrames::new(alloc)?;
     match Box::new(alloc, frames) {
         Ok(frames) => Ok(frames),
         Err(_) => Err(AllocError),
     }
 }
 
-/// Takes bytes, where there is room for a packet: a code.
-fn take_into(frames: &mut Frames, bytes: &[u8], packet: &mut [u8], came: &mut CameNumbers) -> u32
+/// Takes bytes, if memory kept the reader, and there is room for a packet: a code.
+fn take_into(
+    frames: &mut CheckedFrames,
+    bytes: &[u8],
+    packet: &mut [u8],
+    came: &mut CameNumbers,
+) -> u32
     ensures { TakesFrames bytes.now packet.old packet.new came.old came.new
         (Some frames.old) (Some frames.new) result }
 {
+    if !frames.is_whole() {
+        return DAMAGED;
+    }
     if packet.len() < MAX_PACKET {
         return NO_ROOM;
     }

@@ -14,3 +14,6 @@ pub const NO_ROOM: u32 = 11;
 
 /// The reader is open.
 pub const IS_OPEN: u32 = 13;
+
+/// The reader is not as the last call left it: a bit of memory flipped.
+pub const DAMAGED: u32 = 15;

@@ -2,9 +2,9 @@
 
 ghost use Rattle.std.specs.Prelude.{◌≡◌, MatchOption, Option};
 ghost use Rattle.std.specs.declared.option.Option.TheVariants.{None, Some};
-ghost use Rattle.frames.specs.Reading.{Reading};
+ghost use Rattle.frames_c.specs.Whole.{CheckedReading};
 
-use crate::reader::Frames;
+use crate::checked::CheckedFrames;
 use loose::Loose;
 use std::alloc::Global;
 use std::marker::Model;
@@ -20,13 +20,13 @@ const LIVE: u32 = 0x3AA;
 pub struct FramesHandle {
     inside: *mut u8,
     live: u32,
-    pub ghost kept: { Option Reading },
+    pub ghost kept: { Option CheckedReading },
 }
 
 impl Model for FramesHandle {
     ghost use Rattle.loose.specs.Held.{held};
     ghost use Rattle.frames_c.specs.Held.{mark};
-    ghost use Rattle.frames_c.specs.contracts.reader.Frames.{the_row};
+    ghost use Rattle.frames_c.specs.contracts.checked.CheckedFrames.{the_row};
 
     ghost also_owns = { λ h. held mark the_row h.inside h.live h.kept };
 }
@@ -43,7 +43,7 @@ impl FramesHandle {
     }
 
     /// The handle of a block.
-    fn of_loose(loose: Loose<Frames, Global>) -> FramesHandle
+    fn of_loose(loose: Loose<CheckedFrames, Global>) -> FramesHandle
         ensures { result.kept ≡ Some loose.value }
     {
         let Loose { at, alloc: _ } = loose;
@@ -54,13 +54,13 @@ impl FramesHandle {
     }
 
     /// The block of a handle, if it holds one.
-    fn into_loose(self, alloc: Global) -> Option<Loose<Frames, Global>>
+    fn into_loose(self, alloc: Global) -> Option<Loose<CheckedFrames, Global>>
         ensures { MatchOption result (self.kept ≡ None) (λ loose. self.kept ≡ Some loose.value) }
     {
         let FramesHandle { inside, live } = self;
         if live == LIVE {
             Some(Loose {
-                at: inside as *mut Frames,
+                at: inside as *mut CheckedFrames,
                 alloc,
             })
         } else {
@@ -69,14 +69,14 @@ impl FramesHandle {
     }
 
     /// The handle of a reader.
-    pub fn of(frames: Box<Frames>) -> FramesHandle
+    pub fn of(frames: Box<CheckedFrames>) -> FramesHandle
         ensures { result.kept ≡ Some frames.value }
     {
         FramesHandle::of_loose(Loose::of(frames))
     }
 
     /// The reader again, if there is one.
-    pub fn into_box(self, alloc: Global) -> Option<Box<Frames>>
+    pub fn into_box(self, alloc: Global) -> Option<Box<CheckedFrames>>
         ensures { MatchOption result (self.kept ≡ None) (λ frames. self.kept ≡ Some frames.value) }
     {
         match self.into_loose(alloc) {

@@ -3,13 +3,13 @@
 ghost use Rattle.std.specs.Prelude.{◌≡◌, MatchOption};
 ghost use Rattle.std.specs.declared.option.Option.TheVariants.{None, Some};
 
+use crate::checked::CheckedFrames;
 use crate::handle::FramesHandle;
-use crate::reader::Frames;
 use std::alloc::Global;
 use std::mem::replace;
 
 /// The reader of a handle, which then holds none.
-pub fn take_out(alloc: Global, handle: &mut FramesHandle) -> Option<Box<Frames>>
+pub fn take_out(alloc: Global, handle: &mut FramesHandle) -> Option<Box<CheckedFrames>>
     ensures frames { MatchOption result (handle.old.kept ≡ None)
         (λ frames. handle.old.kept ≡ Some frames.value) }
     ensures left { handle.new.kept ≡ None }
@@ -18,7 +18,7 @@ pub fn take_out(alloc: Global, handle: &mut FramesHandle) -> Option<Box<Frames>>
 }
 
 /// Gives a handle a reader; one that it held is ended.
-pub fn put_in(alloc: Global, handle: &mut FramesHandle, frames: Box<Frames>)
+pub fn put_in(alloc: Global, handle: &mut FramesHandle, frames: Box<CheckedFrames>)
     ensures { handle.new.kept ≡ Some frames.value }
 {
     let _ended = replace(handle, FramesHandle::of(frames)).into_box(alloc);

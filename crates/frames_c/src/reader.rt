@@ -1,13 +1,15 @@
 //! A reader of frames that takes memory only when it is made.
 
 ghost use Rattle.std.specs.Prelude.{◌≡◌, ◌≢◌, ◌≤◌, [], Some, IfOk, length};
-ghost use Rattle.frames.specs.Reading.{behind_end, came_of, comes, first_reading, in_body, next, step};
+ghost use Rattle.frames.specs.Reading.{behind_end, came_of, comes, first_reading, in_body, in_head, next, step};
 ghost use Rattle.frames.specs.declared.flags.Flag.TheVariants.{Last};
+ghost use Rattle.frames_c.specs.Whole.{state_sum};
 ghost use Rattle.frames_c.specs.Numbers.{came_numbers, numbers_if, packet_in};
 ghost use Rattle.frames_c.specs.Taking.{take_whole, whole_in, whole_of};
 ghost use Rattle.spw.specs.Rooms.{put_front};
 ghost use Rattle.spw.specs.declared.packets.TheConstants.{MAX_PACKET};
 
+use crate::byte_sums::bytes_sum;
 use crate::numbers::{BRIDGE, CameNumbers, PACKET, TIME};
 use crate::room::PacketRoom;
 use arrayvec::ArrayVec;
@@ -15,25 +17,27 @@ use frames::{Flag, HEAD_LENGTH, take_head};
 use spw::{End, MAX_PACKET, put_front};
 use std::alloc::{AllocError, Global};
 use std::marker::Model;
+use sums::after_word;
 
 /// Reads frames from bytes as they come, and copies out the packets that they carry. It holds the head of a frame, and at most
-/// 4,200 bytes of a packet, however many a frame says that it has.
+/// 4,200 bytes of a packet, however many a frame says that it has. What a frame is it holds as its first byte: each byte is one.
 #[derive(Drop)]
 pub struct Frames {
     head: ArrayVec<u8, HEAD_LENGTH>,
-    flag: Flag,
+    code: u8,
     left: u128,
     held: PacketRoom,
 }
 
 impl Model for Frames {
     ghost use Rattle.std.specs.Prelude.{◌<◌, length};
+    ghost use Rattle.frames.specs.Heads.{flag_of};
     ghost use Rattle.frames.specs.Reading.{Reading, reading};
     ghost use Rattle.frames.specs.declared.heads.TheConstants.{HEAD_LENGTH};
 
     ghost Value = { Reading };
 
-    ghost view = { λ r. reading r.head.items r.flag r.left r.held };
+    ghost view = { λ r. reading r.head.items (flag_of r.code) r.left r.held };
 
     ghost invariant = { λ r. length r.head.items < HEAD_LENGTH };
 }
@@ -46,10 +50,42 @@ impl Frames {
         let held = PacketRoom::new(alloc)?;
         Ok(Frames {
             head: ArrayVec::new(),
-            flag: Flag::Part,
+            code: Flag::Part.code(),
             left: 0,
             held,
         })
+    }
+
+    /// How many bytes are left of a body.
+    pub fn left(&self) -> u128
+        ensures { result ≡ self.now.left }
+    {
+        self.left
+    }
+
+    /// The sum of all that is held, but for how many bytes are left, and the bytes of a packet. Of a head no byte after its place
+    /// is read, also if memory changed how many there are.
+    pub fn state_sum(&self) -> u64
+        ensures { result ≡ state_sum self.now }
+    {
+        let code = after_word(0, u64::from(self.code));
+        let held = after_word(code, self.held.len() as u64);
+        let head = after_word(held, self.head.len() as u64);
+        if self.head.len() < HEAD_LENGTH {
+            bytes_sum(head, self.head.as_slice())
+        } else {
+            head
+        }
+    }
+
+    /// Takes a byte of a head.
+    fn take_head(&mut self, byte: u8)
+        requires { self.old.left ≡ 0 }
+        ensures { self.new ≡ in_head self.old byte }
+    {
+        let mut flag = Flag::from_code(self.code);
+        take_head(&mut self.head, &mut flag, &mut self.left, byte);
+        self.code = flag.code();
     }
 
     /// Takes a byte of a body.
@@ -58,7 +94,7 @@ impl Frames {
         ensures { self.new ≡ in_body self.old byte }
     {
         self.left -= 1;
-        if self.flag.is_cargo() {
+        if Flag::from_code(self.code).is_cargo() {
             self.held.keep(byte);
         }
     }
@@ -68,7 +104,7 @@ impl Frames {
         ensures { self.new ≡ next self.old byte }
     {
         if self.left == 0 {
-            take_head(&mut self.head, &mut self.flag, &mut self.left, byte);
+            self.take_head(byte);
         } else {
             self.take_body(byte);
         }
@@ -104,7 +140,7 @@ impl Frames {
             ≡ put_front room.old (packet_in (whole_of (came_of self.old.flag self.old.held))) }
         ensures behind { self.new ≡ behind_end self.old }
     {
-        match self.flag {
+        match Flag::from_code(self.code) {
             Flag::Last(end) => Some(self.end_packet(end, taken, room)),
             Flag::Part => None,
             Flag::SendTime | Flag::GotTime => Some(CameNumbers {

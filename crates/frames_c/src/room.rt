@@ -47,6 +47,13 @@ impl PacketRoom {
         }
     }
 
+    /// How many bytes are held.
+    pub fn len(&self) -> usize
+        ensures { result ≡ length self.now }
+    {
+        self.held.len()
+    }
+
     /// What is held.
     pub fn bytes(&self) -> &[u8]
         ensures bytes { result.now ≡ self.now }

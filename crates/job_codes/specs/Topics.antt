@@ -84,9 +84,13 @@ IsDecimalCode text = (kind : CodeKind) × HasNumber kind text
 abbrev pub byte_text : ℕ → List ℕ
 byte_text byte = codes "load" ++ encode_upper (byte ∷ [])
 
--- there is such a load result, and the text writes its code so
+-- the same with 0x before the digits
+abbrev pub marked_byte_text : ℕ → List ℕ
+marked_byte_text byte = codes "load0x" ++ encode_upper (byte ∷ [])
+
+-- there is such a load result, and the text writes its code in hexadecimal digits, with 0x or without
 abbrev pub WritesByte : ℕ → List ℕ → Type 0
-WritesByte byte text = (has_code Load byte ≡ true) × IsWritten (byte_text byte) text
+WritesByte byte text = (has_code Load byte ≡ true) × (IsWritten (byte_text byte) text ⊎ IsWritten (marked_byte_text byte) text)
 
 -- the text writes the code of a load result so
 abbrev pub HasByte : List ℕ → Type 0

@@ -2,7 +2,7 @@
 
 ghost use Rattle.std.specs.Prelude.{◌≡◌, ◌↔◌, ◌<◌, ◌^◌, ◌++◌, ℕ, IfOk, IsTrue, MatchOption, Some, decimal, is_some};
 ghost use Rattle.node_parts.specs.Loads.{load_refusal_of_code};
-ghost use Rattle.job_codes.specs.Topics.{HasNumber, HasByte, IsCode, IsCodeOf, IsDecimalCode, IsWritten, Writes, WritesByte, byte_text, code_text, has_code, kind_at, kind_word};
+ghost use Rattle.job_codes.specs.Topics.{HasNumber, HasByte, IsCode, IsCodeOf, IsDecimalCode, IsWritten, Writes, WritesByte, byte_text, code_text, has_code, kind_at, kind_word, marked_byte_text};
 
 use basm::AsmCode;
 use bpf::ImageFault;
@@ -253,6 +253,15 @@ fn is_byte_written(alloc: Global, byte: u8, text: &str) -> Result<bool, AllocErr
     Ok(code.as_str().eq_ignore_ascii_case(text))
 }
 
+/// The same of a text with `0x` before the digits.
+fn is_marked_byte_written(alloc: Global, byte: u8, text: &str) -> Result<bool, AllocError>
+    ensures { IfOk result (λ is. IsTrue is ↔ IsWritten (marked_byte_text byte) text.now) }
+{
+    let digits = hex::encode_upper(alloc, &[byte])?;
+    let code = format!(in alloc; "load0x{digits}")?;
+    Ok(code.as_str().eq_ignore_ascii_case(text))
+}
+
 /// Whether a text is the code of a load result with this first byte, and there is such a code.
 fn is_load_byte(alloc: Global, byte: u8, text: &str) -> Result<bool, AllocError>
     ensures { IfOk result (λ is. IsTrue is ↔ WritesByte byte text.now) }
@@ -260,7 +269,10 @@ fn is_load_byte(alloc: Global, byte: u8, text: &str) -> Result<bool, AllocError>
     if CodeKind::Load.topic(byte).is_none() {
         return Ok(false);
     }
-    is_byte_written(alloc, byte, text)
+    if is_byte_written(alloc, byte, text)? {
+        return Ok(true);
+    }
+    is_marked_byte_written(alloc, byte, text)
 }
 
 /// The first byte of a load result that a text writes in hexadecimal digits, behind `load`.

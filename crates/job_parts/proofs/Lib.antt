@@ -1,5 +1,6 @@
 mod FactoryImage
 mod FactoryJustified
+mod HexLanes
 mod HexPrinted
 pub mod HexText
 mod InTurn

@@ -3,6 +3,7 @@ pub mod BadLines
 pub mod Factory
 pub mod Files
 pub mod Given
+pub mod HexBlocks
 pub mod Inputs
 pub mod Matched
 pub mod NodeCodes

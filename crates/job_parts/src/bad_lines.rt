@@ -10,9 +10,9 @@ use std::alloc::AllocError;
 use thiserror::Error;
 
 const NO_PORT: &str = "\
-A line names a port that the node does not have: it has those below the number in `--ports`, one without it. In
-`sim` a line may also be empty, begin with a word that is no event, or have words too many. In `live` a line `set`
-has not three words after it, or names bytes that lie outside the bank.
+A line names a port that the node does not have: it has those below the number in `--ports` or in its file, else
+one. In `sim` a line may also be empty, begin with a word that is no event, or have words too many. In `live` a
+line `set` has not three words after it, or names bytes that lie outside the bank.
 Give the node more ports, or compare the line with docs/COMMANDS.md.";
 
 const NO_ROOM: &str = "\

@@ -1,56 +1,35 @@
 //! The lines of replies.
 
-ghost use Rattle.std.specs.Prelude.{◌≡◌, ◌≤◌, ◌<◌, ◌*◌, OnOk, length, slice_index, take};
-ghost use Rattle.hex.specs.Hex.{encode_upper, upper_digits};
+ghost use Rattle.std.specs.Prelude.{◌≤◌, OnOk, length};
+ghost use Rattle.hex.specs.Hex.{encode_upper};
 ghost use Rattle.job_parts.specs.Replies.{reply_line, reply_text};
 ghost use Rattle.job_parts.specs.Printed.{Prints};
+ghost use Rattle.job_parts.specs.declared.hex_blocks.TheConstants.{BLOCK};
 
+use crate::hex_blocks::{BLOCK, block_digits};
+use spw::put_front;
 use std::io::{self, Write};
 
-/// How many bytes are printed at once.
-const CHUNK: usize = 128;
-
-/// The digit of a number below 16, in upper case. It is computed, and not looked up, so that a processor does many at once.
-#[inline(always)]
-#[tactic(auto, using(crate::proofs::HexText::low_digit, crate::proofs::HexText::high_digit))]
-fn digit(number: u8) -> u8
-    requires { number < 16 }
-    ensures { result ≡ slice_index upper_digits number }
+/// Prints no more bytes than a block has as hexadecimal digits, in upper case.
+fn print_few<W: Write>(out: &mut W, bytes: &[u8]) -> io::Result<()>
+    requires { length bytes.now ≤ BLOCK }
+    ensures { OnOk result (Prints W.contents out.old out.new (encode_upper bytes.now)) }
 {
-    if number < 10 {
-        b'0' + number
-    } else {
-        b'A' + (number - 10)
-    }
-}
-
-/// The digits of at most 128 bytes, two a byte, in upper case, with zeros behind them.
-fn digits_of(bytes: &[u8]) -> [u8; 2 * CHUNK]
-    requires { length bytes.now ≤ CHUNK }
-    ensures { take (2 * length bytes.now) result ≡ encode_upper bytes.now }
-{
-    let mut digits = [0; 2 * CHUNK];
-    let mut place = 0;
-    for byte in bytes {
-        digits[place] = digit(byte / 16);
-        digits[place + 1] = digit(byte % 16);
-        place += 2;
-    }
-    digits
+    let mut block = [0; BLOCK];
+    put_front(&mut block, bytes);
+    let digits = block_digits(&block);
+    out.write_all(&digits[..2 * bytes.len()])
 }
 
 /// Prints bytes as hexadecimal digits, in upper case, without memory of its own.
 pub fn print_hex<W: Write>(out: &mut W, bytes: &[u8]) -> io::Result<()>
     ensures { OnOk result (Prints W.contents out.old out.new (encode_upper bytes.now)) }
 {
-    let mut rest = bytes;
-    while !rest.is_empty() {
-        let (chunk, behind) = rest.split_at(rest.len().min(CHUNK));
-        let digits = digits_of(chunk);
-        out.write_all(&digits[..2 * chunk.len()])?;
-        rest = behind;
+    let (blocks, rest) = bytes.as_chunks::<BLOCK>();
+    for block in blocks {
+        out.write_all(&block_digits(block))?;
     }
-    Ok(())
+    print_few(out, rest)
 }
 
 /// Prints the bytes of a reply as hexadecimal digits, or `-` where none is due and it has no bytes.

@@ -10,10 +10,10 @@ The command was authorised and carried out.
 Nothing is to be done.";
 
 const GENERAL_ERROR: &str = "\
-There is no room for the command in the journal of its bank, or a load was refused, or the port was given no
-program.
-A journal has room for 1,024 commands at a node of rmapctl, where `live` hands a full one out and no other job
-does; a C program hands it out by `sandbar_rotate`. Of a load read the load result, whose first byte says why.";
+There is no room for the command in the journal of its bank, or a load was refused, or the slot has no program,
+since a scrub withdrew one that was damaged in memory.
+A journal has the room that the node's file says, else 1,024 commands. `live` hands a full one out, and a C
+program does so by `sandbar_rotate`. Of a load read the load result. Load a program into a slot that has none.";
 
 const UNUSED_CODE: &str = "\
 The packet type is reserved, or the four bits of command codes are none of a read, a write or a read-modify-
@@ -56,7 +56,7 @@ Send the data first and a mask of the same length after them.";
 
 const INVALID_LOGICAL_ADDRESS: &str = "\
 The packet came to a node with another logical address, or the program's verdict is 12.
-Put the node's own logical address first: FE here.";
+Put the node's own logical address first: `address` of its file, FE without a file.";
 
 /// How a command ended (ECSS-E-ST-50-52C, error and status codes).
 #[derive(Clone, Copy, Debug, PartialEq, Eq, Error)]

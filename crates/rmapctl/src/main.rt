@@ -92,7 +92,7 @@ fn do_job<R: rt::Files + Input + Print + Eprint + Threads + Wait + Sync>(
         Ok(out) => out,
         Err(refused) => return lose(rt, Err(refused)),
     };
-    let mut files = ToldFiles::of_job(rt, job, is_on_node);
+    let mut files = ToldFiles::of_job(rt, alloc, job, is_on_node);
     let done = perform_told(rt, alloc, job, &mut files, &mut out);
     // What was held back fails again where it failed before, with the reason.
     match (done, out.flush()) {
@@ -115,7 +115,7 @@ fn read_node<R: rt::Files + Input + Print + Eprint>(
     ensures banks { IfOk result (λ own. are_within own.banks.items ≡ true) }
     ensures failed { IfErr result (λ status. status ≡ Failed) }
 {
-    let mut files = ToldFiles::new(rt, node_inputs(node));
+    let mut files = ToldFiles::new(rt, alloc, node_inputs(node));
     match configuration_in(alloc, &mut files, node) {
         Ok(configuration) => Ok(configuration),
         Err(fault) => {
@@ -154,7 +154,7 @@ fn talk_lines<R: rt::Files + Input + Print + Eprint>(
     // Over a buffer a pipe gives what there is, and not a byte at a time.
     let input = BufReader::new(alloc, rt.reader()).map_err(|_| UsageFault::Memory)?;
     let mut talk = ToldTalk::new(rt, alloc, HostTalk::new(input, io::writer(rt)));
-    let mut files = ToldFiles::new(rt, words.node.inputs());
+    let mut files = ToldFiles::new(rt, alloc, words.node.inputs());
     let mut place = None;
     let done = live(alloc, words, &mut files, &mut talk, &mut place);
     tell(
@@ -189,7 +189,7 @@ fn talk_frames<R: rt::Files + Input + Print + Eprint>(
     words: &LiveWords,
 ) -> Status {
     let mut link = HostLink::new(rt.reader(), io::writer(rt), io::writer(errors));
-    let mut files = ToldFiles::new(rt, words.node.inputs());
+    let mut files = ToldFiles::new(rt, alloc, words.node.inputs());
     let mut place = None;
     let done = live_frames(alloc, words, &mut files, &mut link, &mut place);
     tell(

@@ -1,56 +1,59 @@
 -- The first line of a text, and the lines behind it.
-use Rattle.std.proofs.Common.{◌≡◌, ◌≢◌, ◌<◌, ◌≤◌, ℕ, suc, ◌+◌, Bool, true, false, cond, not, List, [], ◌∷◌, length, take, drop, refl, sym, ap, ap₂, ◌∙◌, arith, eqb, Option, Some, None, MatchOption}
-use Rattle.std.specs.Borrow.{Bor}
-use Rattle.std.specs.Option.{unwrap_or}
-use Rattle.std.specs.List.{onto_first, position_or_len, before_first, after_first}
+use Rattle.std.proofs.Common.{◌≡◌, ◌≢◌, ◌<◌, ◌≤◌, ℕ, zero, suc, ◌+◌, ◌-◌, Bool, true, false, cond, List, [], ◌∷◌, length, get_or, take, drop, refl, sym, ap, ap₂, ◌∙◌, subst, arith, eqb-true}
+use Rattle.std.specs.Prelude.{◌==◌, slice_range}
+use Rattle.std.specs.Str.{IsUtf8, IsCharBoundary}
+use Rattle.std.specs.List.{onto_first}
+use Rattle.std.proofs.lemmas.Bool.{false_from_ne_true}
+use Rattle.std.proofs.lemmas.Str.{IsCharBoundary-after_ascii}
+use Rattle.memchr.specs.Find.{Nowhere, NoneBefore, Passes, is_byte}
 use Rattle.spw.specs.Line.{lines_of}
 
-abbrev is_feed : ℕ → Bool
-is_feed byte = eqb byte 10
+-- a line feed ends the first line, if none is before it
+feed_cut : (end : ℕ) (text : List ℕ) → end < length text → ((i : ℕ) → i < end → (get_or text i 0 == 10) ≡ false) → (get_or text end 0 == 10) ≡ true
+    → lines_of text ≡ take end text ∷ lines_of (drop (end + 1) text)
+feed_cut end [] below none is = absurd (omega (arith, below))
+feed_cut zero (byte ∷ bytes) below none is = rw is refl
+feed_cut (suc end) (byte ∷ bytes) below none is =
+    let next : suc (end + 1) ≡ suc end + 1 = omega arith in
+    rw (none 0 (omega arith)) (ap (onto_first byte) (feed_cut end bytes (omega (arith, below)) (λ i less. none (suc i) (omega (arith, less))) is)
+    ∙ ap (λ k. take (suc end) (byte ∷ bytes) ∷ lines_of (drop k (byte ∷ bytes))) next)
 
--- how far it is to a line feed, where it is known whether the first byte is one
-abbrev far : Bool → List ℕ → ℕ
-far feed bytes = cond (not feed) (1 + position_or_len is_feed bytes) 0
+-- a text without line feeds is one line, if it is not empty
+one_line : (byte : ℕ) (bytes : List ℕ) → ((i : ℕ) → i < suc (length bytes) → (get_or (byte ∷ bytes) i 0 == 10) ≡ false) → lines_of (byte ∷ bytes) ≡ (byte ∷ bytes) ∷ []
+one_line byte [] none = rw (none 0 (omega arith)) refl
+one_line byte (next ∷ bytes) none = rw (none 0 (omega arith)) (ap (onto_first byte) (one_line next bytes (λ i less. none (suc i) (omega (arith, less)))))
 
--- the lines of a text, where it is known whether the first byte is a line feed
-abbrev lines : Bool → ℕ → List ℕ → List (List ℕ)
-lines feed byte bytes = cond feed ([] ∷ lines_of bytes) (onto_first byte (lines_of bytes))
+-- a line feed is found there, and none before it
+abbrev pub Feeds : List ℕ → ℕ → Type 0
+Feeds text end = NoneBefore (Passes (is_byte 10) text) 0 (length text) end × Passes (is_byte 10) text end
 
--- a line feed ends the first line
-cut_by : (byte : ℕ) (bytes : List ℕ) (feed : Bool) → (position_or_len is_feed bytes < length bytes → lines_of bytes ≡ before_first is_feed bytes ∷ lines_of (after_first is_feed bytes)) → far feed bytes < suc (length bytes)
-    → lines feed byte bytes ≡ take (far feed bytes) (byte ∷ bytes) ∷ lines_of (drop (far feed bytes + 1) (byte ∷ bytes))
-cut_by byte bytes true rest here = refl
-cut_by byte bytes false rest there =
-    let n = position_or_len is_feed bytes in
-    let behind : suc (n + 1) ≡ 1 + n + 1 = omega arith in
-    let more : suc n ≡ 1 + n = omega arith in
-    ap (onto_first byte) (rest (omega arith))
-    ∙ ap₂ (λ (i k : ℕ). take i (byte ∷ bytes) ∷ lines_of (drop k (byte ∷ bytes))) more behind
+module _ (text bytes : List ℕ) (end : ℕ) (same : bytes ≡ text) (found : Feeds bytes end) where
+  feeds : Feeds text end
+  feeds = subst (λ (t : List ℕ). Feeds t end) same found
 
-cut_first : (text : List ℕ) → position_or_len is_feed text < length text → lines_of text ≡ before_first is_feed text ∷ lines_of (after_first is_feed text)
-cut_first [] below = absurd (omega arith)
-cut_first (byte ∷ bytes) below = cut_by byte bytes (is_feed byte) (cut_first bytes) below
+  -- a text is its first line, and the lines behind its line feed
+  pub line_cut : (line rest : List ℕ) → line ≡ slice_range text 0 end → rest ≡ drop (end + 1) text → lines_of text ≡ line ∷ lines_of rest
+  line_cut line rest front behind =
+      let whole : end - 0 ≡ end = omega arith in
+      feed_cut end text feeds.0.high (λ i less. false_from_ne_true (get_or text i 0 == 10) (feeds.0.before i (omega arith) less)) feeds.1
+      ∙ ap₂ (λ (l r : List ℕ). l ∷ lines_of r) (sym (front ∙ ap (λ n. take n text) whole)) (sym behind)
 
--- no line feed ends it
-last_by : (byte : ℕ) (bytes : List ℕ) (feed : Bool) → (bytes ≢ [] → position_or_len is_feed bytes ≡ length bytes → lines_of bytes ≡ bytes ∷ []) → far feed bytes ≡ suc (length bytes)
-    → lines feed byte bytes ≡ (byte ∷ bytes) ∷ []
-last_by byte bytes true rest here = absurd (omega arith)
-last_by byte [] false rest there = refl
-last_by byte (next ∷ bytes) false rest there = ap (onto_first byte) (rest (λ e. absurd (omega (arith, ap (λ (l : List ℕ). length l) e))) (omega arith))
+  -- the text can be cut behind it
+  pub behind_feed : IsUtf8 text → IsCharBoundary text (end + 1)
+  behind_feed utf8 =
+      let is = eqb-true (get_or text end 0) 10 feeds.1 in
+      IsCharBoundary-after_ascii text end utf8 feeds.0.high (omega (arith, is))
 
-cut_last : (text : List ℕ) → text ≢ [] → position_or_len is_feed text ≡ length text → lines_of text ≡ text ∷ []
-cut_last [] some none = absurd (some refl)
-cut_last (byte ∷ bytes) some none = last_by byte bytes (is_feed byte) (cut_last bytes) none
-
--- the first line of a text that is not empty, and what is behind it
-pub next_line : (text nothing : Bor (List ℕ)) (cut : Option (Bor (List ℕ) × Bor (List ℕ))) → text.now ≢ [] → nothing.now ≡ []
-    → MatchOption cut (position_or_len is_feed text.now ≡ length text.now) (λ x. (x.0.now ≡ before_first is_feed text.now) × (x.1.now ≡ after_first is_feed text.now) × (position_or_len is_feed text.now < length text.now))
-    → lines_of text.now ≡ (unwrap_or cut (text, nothing)).0.now ∷ lines_of (unwrap_or cut (text, nothing)).1.now
-next_line text nothing None some none all = cut_last text.now some all ∙ ap (λ (l : List ℕ). text.now ∷ lines_of l) (sym none)
-next_line text nothing (Some x) some none at = cut_first text.now at.2 ∙ ap₂ (λ (line rest : List ℕ). line ∷ lines_of rest) (sym at.0) (sym at.1)
+-- no line feed ends a text, which is not empty
+pub last_line : (text bytes rest : List ℕ) → bytes ≡ text → Nowhere (Passes (is_byte 10) bytes) 0 (length bytes) → rest ≡ [] → text ≢ [] → lines_of text ≡ text ∷ lines_of rest
+last_line [] bytes rest same none empty some = absurd (some refl)
+last_line (byte ∷ text) bytes rest same none empty some =
+    let P : List ℕ → Type 0 = λ t. Nowhere (Passes (is_byte 10) t) 0 (length t) in
+    let nowhere = subst P same none in
+    one_line byte text (λ i less. false_from_ne_true (get_or (byte ∷ text) i 0 == 10) (nowhere i (omega arith) less)) ∙ ap (λ (l : List ℕ). (byte ∷ text) ∷ lines_of l) (sym empty)
 
 -- a line feed ends one more line, and any other byte at most begins one
-more_by : (feed : Bool) (byte : ℕ) (bytes : List ℕ) → length (lines feed byte bytes) ≤ suc (length (lines_of bytes))
+more_by : (feed : Bool) (byte : ℕ) (bytes : List ℕ) → length (cond feed ([] ∷ lines_of bytes) (onto_first byte (lines_of bytes))) ≤ suc (length (lines_of bytes))
 more_by true byte bytes = omega arith
 more_by false byte bytes = onto (lines_of bytes)
   where
@@ -61,4 +64,4 @@ more_by false byte bytes = onto (lines_of bytes)
 -- a text has no more lines than bytes
 pub few_lines : (text : List ℕ) → length (lines_of text) ≤ length text
 few_lines [] = omega arith
-few_lines (byte ∷ bytes) = omega (arith, more_by (is_feed byte) byte bytes, few_lines bytes)
+few_lines (byte ∷ bytes) = omega (arith, more_by (byte == 10) byte bytes, few_lines bytes)

@@ -28,16 +28,16 @@ with_pair digits pair = bit_or digits (bit_or (digit_of (get_or pair 0 0)) (digi
 -- ---- all digits at once
 
 -- no digit has the bit that stands for none, so the or of some has it not either
-or_is_digit : (a b : ℕ) → a < 16 → b < 16 → bit_or a b < 16
+pub or_is_digit : (a b : ℕ) → a < 16 → b < 16 → bit_or a b < 16
 or_is_digit a b first second = or_lt 4 a b first second
 
-of_or : (a b : ℕ) → bit_or a b < 16 → (a < 16) × (b < 16)
+pub of_or : (a b : ℕ) → bit_or a b < 16 → (a < 16) × (b < 16)
 of_or a b below = (omega (arith, below, le_or_l a b), omega (arith, below, le_or_r a b))
 
-digit_of-small : (c : ℕ) → digit_value c < 16 → digit_of c < 16
+pub digit_of-small : (c : ℕ) → digit_value c < 16 → digit_of c < 16
 digit_of-small c below = omega (arith, below)
 
-of_digit_of : (c : ℕ) → digit_of c < 16 → digit_value c < 16
+pub of_digit_of : (c : ℕ) → digit_of c < 16 → digit_value c < 16
 of_digit_of c below = omega (arith, below)
 
 -- each is a pair

@@ -5,4 +5,6 @@ pub mod LineLemmas
 pub mod WrittenLines
 pub mod CutLines
 pub mod DigitPairs
+pub mod BlockLanes
+pub mod DigitBlocks
 pub mod WordCuts

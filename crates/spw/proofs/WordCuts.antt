@@ -1,6 +1,8 @@
 -- The words on both sides of a space.
-use Rattle.std.proofs.Common.{◌≡◌, ◌≢◌, ℕ, suc, ◌<◌, Bool, true, false, cond, not, List, [], ◌∷◌, ◌++◌, length, take, drop, get_or, filter, refl, sym, subst, ap, ap₂, ◌∙◌, arith, eqb, Some, append_assoc, append-nil, lit<, inl, inr}
+use Rattle.std.proofs.Common.{◌≡◌, ◌≢◌, ℕ, zero, suc, ◌<◌, Bool, true, false, cond, not, List, [], ◌∷◌, ◌++◌, length, take, drop, get_or, filter, refl, sym, subst, ap, ap₂, ◌∙◌, arith, eqb, Some, append_assoc, append-nil, lit<, inl, inr}
 use Rattle.std.specs.Prelude.{All}
+use Rattle.std.specs.Char.{digit_value}
+use Rattle.std.specs.Str.Parse.{AllDigits}
 use Rattle.std.specs.List.{flat_map, onto_first, slice_split}
 use Rattle.std.specs.Str.Pattern.{RFindsChar}
 use Rattle.std.proofs.lemmas.Bool.{eqb-true, ne_eqb}
@@ -86,6 +88,20 @@ last_is text before word parts none some =
 pub last_is_none : (text before word : List ℕ) → text ≡ before ++ 32 ∷ word → eqb (length word) 0 ≡ true → words_of text ≡ words_of before
 last_is_none text before [] parts empty = ap words_of parts ∙ words_at_space before [] ∙ append-nil (words_of before)
 last_is_none text before (code ∷ word) parts empty = absurd (omega (arith, eqb-true _ _ empty))
+
+-- ---- a text of digits is one word
+
+no_space : (text : List ℕ) → AllDigits 16 text → HasNoSpace text
+no_space [] all i below = absurd (omega (arith, below))
+no_space (code ∷ text) all zero below = λ is. absurd (omega (arith, subst (λ c. digit_value c < 16) is all.0))
+no_space (code ∷ text) all (suc i) below = no_space text all.1 i (omega (arith, below))
+
+pub one_word : (text bytes : List ℕ) → IsHex text → bytes ≡ bytes_written text → WriteBytes (words_of text) bytes
+one_word [] bytes hex written = (All-nil IsHex, written)
+one_word (code ∷ text) bytes hex written =
+    let alone = word_alone (code ∷ text) (no_space (code ∷ text) hex.1) (ne_eqb (length (code ∷ text)) 0 (λ e. absurd (omega (arith, e)))) in
+    subst (λ (words : List (List ℕ)). WriteBytes words bytes) (sym alone)
+    (All-cons IsHex (code ∷ text) [] hex (All-nil IsHex), written ∙ sym (append-nil (bytes_written (code ∷ text))))
 
 -- ---- the bytes of the words, word by word
 

@@ -1,3 +1,4 @@
+pub mod Blocks
 pub mod Cargo
 pub mod Fault
 pub mod Feeding

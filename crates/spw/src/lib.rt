@@ -1,6 +1,7 @@
 //! SpaceWire packets, and the lines of text that write them.
 #![tactic(auto)]
 
+mod blocks;
 mod digits;
 mod faults;
 mod feed;

@@ -3,7 +3,7 @@
 ghost use Rattle.std.specs.Prelude.{◌≡◌, ◌≤◌, ◌++◌, map, length, All, IfOk, IfErr, OnOk, MatchResult};
 ghost use Rattle.spw.specs.Line.{words_of as words_in, AreNoParts, AreParts, IsBytesFault, IsHex, IsHexFault, IsNoMark, IsNoPort, IsReading, IsUnambiguous, WriteBytes, WritesPort, bytes_written, mark_word, marker_word};
 
-use crate::digits::append_pairs;
+use crate::digits::append_hex;
 use crate::faults::LineFault;
 use crate::packets::{End, MAX_PACKET, Packet};
 use crate::words::{first_word, last_word};
@@ -78,23 +78,24 @@ fn append_word(bytes: &mut Vec<u8>, word: &str) -> Result<(), LineFault>
         (IsHex word.now × (bytes.new.items ≡ bytes.old.items ++ bytes_written word.now)) }
     ensures err { IfErr result (IsHexFault (IsHex word.now)) }
 {
-    let (pairs, odd) = word.as_bytes().as_chunks::<2>();
-    if !odd.is_empty() {
-        return Err(LineFault::BadHex);
-    }
-    if append_pairs(bytes, pairs)? {
+    if append_hex(bytes, word.as_bytes())? {
         Ok(())
     } else {
         Err(LineFault::BadHex)
     }
 }
 
-/// The bytes that the words of a text write, joined.
+/// The bytes that the words of a text write, joined. Most texts are one word, which is read without a search for
+/// spaces: no space is a digit.
 fn bytes_of(alloc: Global, text: &str) -> Result<Vec<u8>, LineFault>
     ensures ok { IfOk result (λ bytes. WriteBytes (words_in text.now) bytes.items) }
     ensures err { IfErr result (IsHexFault (All IsHex (words_in text.now))) }
 {
     let mut bytes = Vec::with_capacity(alloc, text.len() / 2)?;
+    if append_hex(&mut bytes, text.as_bytes())? {
+        return Ok(bytes);
+    }
+    bytes.clear();
     let mut rest = text;
     while let Some((word, behind)) = first_word(rest) {
         append_word(&mut bytes, word)?;

@@ -1,8 +1,9 @@
 //! Lines of a text.
 
-ghost use Rattle.std.specs.Prelude.{◌≡◌, ◌≤◌, length};
+ghost use Rattle.std.specs.Prelude.{◌≡◌, ◌≢◌, ◌≤◌, [], ◌∷◌, length};
 ghost use Rattle.spw.specs.Line.{lines_of};
 
+use memchr::memchr;
 use std::marker::Model;
 
 /// The lines of a text that are still to come, in order. A line feed ends a line, and the last may lack its own; no
@@ -34,9 +35,19 @@ impl<'a> Iterator for TextLines<'a> {
         if self.rest.is_empty() {
             return None;
         }
-        let (line, rest) = self.rest.split_once('\n').unwrap_or((self.rest, ""));
+        let (line, rest) = cut(self.rest);
         self.rest = rest;
         Some(line)
+    }
+}
+
+/// The first line of a text that is not empty, and what is behind its line feed.
+fn cut(text: &str) -> (&str, &str)
+    ensures { text.now ≢ [] → lines_of text.now ≡ result.0.now ∷ lines_of result.1.now }
+{
+    match memchr(b'\n', text.as_bytes()) {
+        Some(end) => (&text[..end], &text[end + 1..]),
+        None => (text, ""),
     }
 }
 

@@ -1,3 +1,4 @@
+#define SANDBAR_SHORT_NAMES
 #include "sandbarstove_bpf.h"
 
 /* The check of the tail by the definition of the CRC, in two loops: eight bits of each of the twelve bytes. */

@@ -1,3 +1,4 @@
+#define SANDBAR_SHORT_NAMES
 #include "sandbarstove_bpf.h"
 
 /* A loop that ends early: the first byte that is above its place decides. */

@@ -1,3 +1,4 @@
+#define SANDBAR_SHORT_NAMES
 #include "sandbarstove_bpf.h"
 
 /* Two loops, one after the other: the bits of the key, then the bytes of the tail. */

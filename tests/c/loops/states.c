@@ -1,7 +1,8 @@
+#define SANDBAR_SHORT_NAMES
 #include "sandbarstove_bpf.h"
 
 /* A machine of four states over the bytes of the tail. */
-always_inline uint64_t after(uint64_t state, uint8_t byte) {
+SANDBAR_ALWAYS_INLINE uint64_t after(uint64_t state, uint8_t byte) {
   switch (state) {
     case 0: return byte & 1 ? 1 : 2;
     case 1: return byte & 2 ? 3 : 0;

@@ -1,3 +1,4 @@
+#define SANDBAR_SHORT_NAMES
 #include "sandbarstove_bpf.h"
 
 /* One loop over each part of the header, by pointers to its bytes. */

@@ -1,3 +1,4 @@
+#define SANDBAR_SHORT_NAMES
 #include "sandbarstove_bpf.h"
 
 /* Who shows three bad keys is locked out: the cell counts them by the initiator, and is looked at first. */

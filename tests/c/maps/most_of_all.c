@@ -1,3 +1,4 @@
+#define SANDBAR_SHORT_NAMES
 #include "sandbarstove_bpf.h"
 
 /* Of all 32 cells of a map the tickets are added up in a loop; a command that is denied draws none. */

@@ -1,3 +1,4 @@
+#define SANDBAR_SHORT_NAMES
 #include "sandbarstove_bpf.h"
 
 /* Five commands of each port, of which three of each initiator; who is denied by his initiator has drawn of the port too. */

@@ -1,3 +1,4 @@
+#define SANDBAR_SHORT_NAMES
 #include "sandbarstove_bpf.h"
 
 /* A ticket is drawn only where everything else says yes, so who may not write uses up nothing. */

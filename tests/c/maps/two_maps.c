@@ -1,3 +1,4 @@
+#define SANDBAR_SHORT_NAMES
 #include "sandbarstove_bpf.h"
 
 /* A quota, and the highest address of those that had a ticket: beyond it by more than 4,096 no read goes. */

@@ -1,3 +1,4 @@
+#define SANDBAR_SHORT_NAMES
 #include "sandbarstove_bpf.h"
 
 /* Writes begin at a multiple of four, and have whole words; a read-modify-write has one word and its mask. */

@@ -1,3 +1,4 @@
+#define SANDBAR_SHORT_NAMES
 #include "sandbarstove_bpf.h"
 
 /* Divisions and remainders of 32 and 64 bits, of which some are by zero: a quotient of 0, a remainder of the whole. */

@@ -1,7 +1,8 @@
+#define SANDBAR_SHORT_NAMES
 #include "sandbarstove_bpf.h"
 
 /* Bits that are turned round, and shifts by what a byte says. */
-always_inline uint32_t turned(uint32_t x, uint32_t by) { return x << (by & 31) | x >> (-by & 31); }
+SANDBAR_ALWAYS_INLINE uint32_t turned(uint32_t x, uint32_t by) { return x << (by & 31) | x >> (-by & 31); }
 
 uint64_t authorise(const struct front *f, const struct tail *t, uint64_t port) {
   uint32_t a = address_of(t);

@@ -1,3 +1,4 @@
+#define SANDBAR_SHORT_NAMES
 #include "sandbarstove_bpf.h"
 
 /* Numbers with a sign: how far the address lies from the middle of the bank, and in which direction. */

@@ -1,3 +1,4 @@
+#define SANDBAR_SHORT_NAMES
 #include "sandbarstove_bpf.h"
 
 /* Sums, products and shifts of 64 bits, with constants of 64 bits. */

@@ -1,3 +1,4 @@
+#define SANDBAR_SHORT_NAMES
 #include "sandbarstove_bpf.h"
 
 /* A switch without gaps whose cases give constants: without -fno-jump-tables a compiler makes a table of it. */

@@ -1,3 +1,4 @@
+#define SANDBAR_SHORT_NAMES
 #include "sandbarstove_bpf.h"
 
 /* Windows as values of a struct, each asked by a function. */
@@ -6,9 +7,9 @@ struct window {
   uint8_t key;
 };
 
-always_inline int holds(struct window w, uint64_t first, uint64_t last) { return first >= w.low && last <= w.high; }
+SANDBAR_ALWAYS_INLINE int holds(struct window w, uint64_t first, uint64_t last) { return first >= w.low && last <= w.high; }
 
-always_inline uint64_t verdict_of(struct window w, const struct front *f) { return f->key == w.key ? YES : INVALID_KEY; }
+SANDBAR_ALWAYS_INLINE uint64_t verdict_of(struct window w, const struct front *f) { return f->key == w.key ? YES : INVALID_KEY; }
 
 uint64_t authorise(const struct front *f, const struct tail *t, uint64_t port) {
   const struct window state = {0xA0000000, 0xA00003FF, 0x20}, data = {0xA0004000, 0xA0007FFF, 0x21};

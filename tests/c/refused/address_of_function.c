@@ -1,3 +1,4 @@
+#define SANDBAR_SHORT_NAMES
 #include "sandbarstove_bpf.h"
 
 __attribute__((noinline, section("elsewhere"))) static uint64_t judge(const struct tail *t) { return t->crc; }

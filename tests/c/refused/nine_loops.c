@@ -1,3 +1,4 @@
+#define SANDBAR_SHORT_NAMES
 #include "sandbarstove_bpf.h"
 
 #define SUM(label) { uint64_t i = 3; label: sum = sum * 3 + f->key; AGAIN(i, label); }

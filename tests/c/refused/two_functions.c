@@ -1,3 +1,4 @@
+#define SANDBAR_SHORT_NAMES
 #include "sandbarstove_bpf.h"
 
 uint64_t reads(const struct front *f, const struct tail *t, uint64_t port) { return t->crc & 1; }

@@ -1,9 +1,5 @@
-use Rattle.std.proofs.Common.{length}
-use Rattle.job_parts.proofs.HexPrinted.{IsPrinted}
+use Rattle.job_parts.proofs.HexPrinted.{ArePrinted}
 use Rattle.job_parts.proofs.replies.print_hex.Given as goal
 
-abbrev pub invariant-loop-rest : goal.invariant-loop-rest
-invariant-loop-rest g l = IsPrinted l.bytes l.rest (g.W.Write.contents l.fn.out) (g.W.Write.contents l.out)
-
-abbrev pub decreases-loop-rest : goal.decreases-loop-rest
-decreases-loop-rest g l = length l.rest
+abbrev pub invariant-loop-block : goal.invariant-loop-block
+invariant-loop-block g l = ArePrinted l.block-index l.blocks (g.W.Write.contents l.fn.out) (g.W.Write.contents l.out)

@@ -31,7 +31,7 @@ use Rattle.std.proofs.raw_atomic.Walks.{proved_at, leaves}
 use Rattle.std_alloc.proofs.ResultValues.{and_tt}
 use Rattle.loose.proofs.Values.{Loose, closed, fit, heap_al, holds, parts}
 use Rattle.frames_c.specs.contracts.handle.FramesHandle.{the_row as R}
-use Rattle.frames_c.specs.contracts.reader.Frames.{the_row as C}
+use Rattle.frames_c.specs.contracts.checked.CheckedFrames.{the_row as C}
 use Rattle.frames_c.specs.Held.{mark}
 use Rattle.frames_c.proofs.Values.{word, handle_out}
 use Rattle.frames_c.specs.contracts.handle.FramesHandle.into_loose as f

@@ -17,7 +17,7 @@ use Rattle.core.specs.declared.option.Option.TheVariants.{None}
 use Rattle.std.proofs.raw_atomic.Walks.{proved_at, leaves}
 use Rattle.loose.specs.Held.{held}
 use Rattle.frames_c.specs.Held.{mark}
-use Rattle.frames_c.specs.contracts.reader.Frames.{the_row as C}
+use Rattle.frames_c.specs.contracts.checked.CheckedFrames.{the_row as C}
 use Rattle.frames_c.proofs.Values.{word, handle_in}
 use Rattle.frames_c.specs.contracts.handle.FramesHandle.none as f
 use Rattle.frames_c.proofs.handle.FramesHandle.none.Statement.{statement}

@@ -1,5 +1,0 @@
-use Rattle.test_node.proofs.Laws.{generation_told}
-use Rattle.test_node.proofs.tests.laws.generation.Goals as goal
-
-pub returns : goal.returns
-returns c = generation_told c.published_agrees.ensures c.args.world.now c.args.slot _ c.generation.ensures

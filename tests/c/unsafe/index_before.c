@@ -1,0 +1,7 @@
+#define SANDBAR_SHORT_NAMES
+#include "sandbarstove_bpf.h"
+uint64_t authorise(const struct front *f, const struct tail *t, uint64_t port) {
+  const uint8_t *bytes = (const uint8_t *)t;
+  uint64_t at = port & 7;
+  return bytes[at - 1] == 1 ? YES : NOT_AUTHORISED; // V7
+}

@@ -1,0 +1,8 @@
+#define SANDBAR_SHORT_NAMES
+#include "sandbarstove_bpf.h"
+uint64_t authorise(const struct front *f, const struct tail *t, uint64_t port) {
+  const uint8_t *bytes = (const uint8_t *)t;
+  uint64_t one = t->crc & 7, other = f->key & 7;
+  if (port == 9) return INVALID_TARGET;
+  return bytes[one + other] == 7 ? YES : NOT_AUTHORISED; // V7
+}

@@ -1,0 +1,203 @@
+"""Loops that count up, or down to another number than 0: a counter is put beside the register that counts, in the form of the verifier.
+
+A round begins with `i = S - step * c`, where c counts from the greatest number of rounds down, so that the verifier knows i as well
+as c. What ends the loop in C ends it still. If c came to 0 before, which it cannot, the run would be a denial.
+"""
+from __future__ import annotations
+
+from dataclasses import dataclass
+from typing import NamedTuple
+
+from objects.insns import ADD, ALU, ALU32, JMP32, MOV, MUL, OPPOSITE, SUB, Insn
+from objects.pointers import WRITABLE, wanted_after, wanted_in
+
+BY_REGISTER = 8
+
+COMPARE = {
+    1: lambda a, b: a == b, 5: lambda a, b: a != b, 2: lambda a, b: a > b, 3: lambda a, b: a >= b, 10: lambda a, b: a < b,
+    11: lambda a, b: a <= b, 6: lambda a, b: signed(a) > signed(b), 7: lambda a, b: signed(a) >= signed(b),
+    12: lambda a, b: signed(a) < signed(b), 13: lambda a, b: signed(a) <= signed(b)}
+MIRRORED = {1: 1, 5: 5, 2: 10, 10: 2, 3: 11, 11: 3, 6: 12, 12: 6, 7: 13, 13: 7}
+
+
+def signed(number: int) -> int:
+    return number - (1 << 64) if number >> 63 else number
+
+
+@dataclass
+class Upward:
+    """The register that counts, the number with which it begins, its step, and the comparison that ends the loop: what is compared
+    with `other`, or with `number`, is so much more than the register at the beginning of the round. `small` if 32 bits count."""
+    register: int
+    start: int
+    step: int
+    offset: int
+    code: int
+    narrow: bool
+    other: int | None
+    number: int
+    small: bool
+    counter: int
+
+    def rounds(self, least: int, most: int, greatest: int) -> int | None:
+        """How many rounds there are at most where the other number is from `least` to `most`; None where it is more than `greatest`,
+        or where more numbers than one were wanted to say it."""
+        if least != most and not 0 <= least <= most < 1 << 31:
+            return None
+        found = [self.rounds_to(it) for it in {least, most}]
+        if None in found:
+            return None
+        last = self.start + self.step * (max(found) - 1)
+        passed = [it + more for it in (self.start, last) for more in (0, self.offset)]
+        if max(map(abs, (*passed, last + self.step))) >= 1 << 31 or self.small and min(passed) < 0:
+            return None
+        # Between two numbers lie no more rounds than at the one or the other; of `!=` only if each step goes by one and towards them.
+        if least != most and self.code == 1:
+            return None
+        if least != most and self.code == 5:
+            first = self.start + self.offset
+            if abs(self.step) != 1 or not (first <= least if self.step > 0 else first >= most):
+                return None
+        return max(found) if max(found) <= greatest else None
+
+    def rounds_to(self, number: int, limit: int = 4097) -> int | None:
+        mask = 0xFFFFFFFF if self.narrow else (1 << 64) - 1
+        at = self.start + self.offset
+        for done in range(1, limit):
+            a, b = at & mask & (0xFFFFFFFF if self.small else mask), number & mask
+            if self.narrow and self.code in (6, 7, 12, 13):
+                a, b = (it | ~mask & (1 << 64) - 1 if it >> 31 else it for it in (a, b))
+            if not COMPARE[self.code](a, b):
+                return done
+            at += self.step
+        return None
+
+
+class Value(NamedTuple):
+    """What a register is in a round: what another was at its beginning, and so much more; `small` if that went through 32 bits."""
+    register: int
+    more: int
+    small: bool
+
+
+Values = dict[int, Value]
+
+
+def upward_of(loops, loop) -> Upward | None:
+    """What counts in a loop, if a register does and what ends the loop is known of its comparison."""
+    known = values_in(loops, loop)
+    stays = known.get(loop.latch, {})
+    for register, end in sorted(stays.items()):
+        if end.register != register or not end.more:
+            continue
+        start = loops.start(loop, register)
+        test = test_of(loops, loop, register, known) if start is not None else None
+        if test is None:
+            continue
+        counter = free_register(loops.blocks, loop)
+        if counter is None:
+            raise loops.refusal("a loop that leaves no register for a counter of its rounds", loop.latch,
+                                "use fewer values in it, compile with -O2, or end it by AGAIN")
+        offset, code, narrow, other, number, small = test
+        return Upward(register, start, end.more, offset, code, narrow, other, number, small or end.small, counter)
+    return None
+
+
+def values_in(loops, loop) -> dict[int, Values]:
+    """What is known of each register at the end of each block of a loop, by what registers were at the beginning of the round."""
+    known: dict[int, Values] = {}
+    left = [loop.head]
+    while left:
+        at = left.pop()
+        values = {it: Value(it, 0, False) for it in WRITABLE} if at == loop.head else joined(
+            [known[way] for way in loops.before[at] if way in known])
+        for it in loops.blocks[at].body:
+            values = value_after(values, it)
+        if known.get(at) != values:
+            known[at] = values
+            left += [way for way in loops.blocks[at].next if way in loop.body and way != loop.head]
+    return known
+
+
+def joined(ways: list[Values]) -> Values:
+    """What is known on all of these ways."""
+    first, *others = ways
+    return {register: value for register, value in first.items() if all(it.get(register) == value for it in others)}
+
+
+def value_after(values: Values, insn: Insn) -> Values:
+    """What is known after an instruction."""
+    found = None
+    if insn.code == MOV and insn.by_register and not insn.off and insn.family in (ALU, ALU32):
+        found = values.get(insn.src)
+    elif insn.code == ADD and not insn.by_register and insn.family in (ALU, ALU32):
+        found = values.get(insn.dst)
+        found = found and found._replace(more=found.more + insn.imm)
+    after = {register: value for register, value in values.items() if register not in insn.writes()}
+    if found is not None:
+        after[insn.dst] = found._replace(small=found.small or insn.family == ALU32)
+    return after
+
+
+def each_round(loops, loop, at: int) -> bool:
+    """Whether each round goes through a block, whatever way it takes."""
+    if at in (loop.head, loop.latch):
+        return not any(at in it.body for it in loops.inside(loop))
+    seen, left = {at}, [loop.head]
+    while left:
+        block = left.pop()
+        if block == loop.latch:
+            return False
+        if block not in seen:
+            seen.add(block)
+            left += [way for way in loops.blocks[block].next if way in loop.body and way != loop.head]
+    return not any(at in it.body for it in loops.inside(loop))
+
+
+def test_of(loops, loop, register: int, known: dict[int, Values]) -> tuple[int, int, bool, int | None, int, bool] | None:
+    """The comparison of a register that ends a loop: how much more than the register it compares, its code that goes on, whether it
+    compares 32 bits, the other register or the number, and whether 32 bits count."""
+    stays = known[loop.latch]
+    for at in sorted(loop.body, reverse=True):
+        last = loops.blocks[at].last
+        if last is None or not last.compares or last.code not in COMPARE or not each_round(loops, loop, at):
+            continue
+        out = [way not in loop.body for way in loops.blocks[at].next]
+        one, other = known[at].get(last.dst), known[at].get(last.src) if last.by_register else None
+        code = last.code
+        if last.by_register and (one is None or one.register != register):
+            one, other, code = other, one, MIRRORED[code]
+        if sum(out) != 1 or one is None or one.register != register:
+            continue
+        if last.by_register and (other is None or other.more or stays.get(other.register) != Value(other.register, 0, False)):
+            continue
+        # The first of both ways is for where the comparison does not hold.
+        code = code if out[0] else OPPOSITE[code]
+        small = one.small or other is not None and other.small
+        return one.more, code, last.family == JMP32, other.register if other is not None else None, last.imm, small
+    return None
+
+
+def free_register(blocks, loop) -> int | None:
+    """A register that no instruction of the loop names, and whose value nobody wants after it."""
+    insns = [it for at in loop.body for it in (*blocks[at].body, *filter(None, [blocks[at].last]))]
+    after = wanted_after(blocks)
+    taken = set().union(*(it.reads() | it.writes() for it in insns), *(wanted_in(blocks[at], after[at])[0] for at in loop.body))
+    return next((it for it in reversed(WRITABLE) if it not in taken), None)
+
+
+def number_into(slot: int, register: int, number: int) -> Insn:
+    return Insn(slot, MOV << 4 | ALU, register, 0, 0, number)
+
+
+def round_of(upward: Upward, slot: int, rounds: int) -> list[Insn]:
+    """What sets the register that counts at the beginning of each round: each number on the way is within what the verifier knows."""
+    i, c, step = upward.register, upward.counter, abs(upward.step)
+    if upward.step > 0:
+        more = [] if step == 1 else [Insn(slot, MUL << 4 | ALU, i, 0, 0, step)]
+        first = rounds + (upward.start if step == 1 else 0)
+        end = [] if step == 1 or not upward.start else [Insn(slot, ADD << 4 | ALU, i, 0, 0, upward.start)]
+        return [number_into(slot, i, first), Insn(slot, SUB << 4 | BY_REGISTER | ALU, i, c, 0, 0), *more, *end]
+    more = [] if step == 1 else [Insn(slot, MUL << 4 | ALU, i, 0, 0, step)]
+    end = upward.start - step * rounds
+    return [Insn(slot, MOV << 4 | BY_REGISTER | ALU, i, c, 0, 0), *more, *([Insn(slot, ADD << 4 | ALU, i, 0, 0, end)] if end else [])]
