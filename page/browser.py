@@ -115,9 +115,10 @@ class Browser:
     def picture(self, path: Path) -> None:
         path.write_bytes(base64.b64decode(self.call("GET", self.own + "/screenshot")))
 
-    def printed(self, path: Path) -> bytes:
-        """The page on paper, as a PDF."""
-        content = base64.b64decode(self.call("POST", self.own + "/print", {"background": True}))
+    def printed(self, path: Path, width: float = 21.0, height: float = 29.7) -> bytes:
+        """The page on paper, as a PDF, of so many centimetres."""
+        given = {"printBackground": True, "preferCSSPageSize": False, "paperWidth": width / 2.54, "paperHeight": height / 2.54}
+        content = base64.b64decode(self.chrome("Page.printToPDF", given)["data"])
         path.write_bytes(content)
         return content
 

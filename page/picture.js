@@ -10,7 +10,11 @@ const picture = (() => {
     ['12', ['v12', 'address', 'verdict 12, invalid logical address']],
   ]);
   const SIGNS = new Map([['+', 'lets more pass'], ['-', 'lets fewer pass'], ['+-', 'lets more and fewer pass'], ['~', 'refuses or draws otherwise']]);
-  const FIELDS = ['KIND', 'KEY', 'INIT', 'EXT'];
+  // How an outline of each sign is drawn: solid, hatched, both, or dotted.
+  const OUTLINES = new Map([['+', 'more'], ['-', 'fewer'], ['+-', 'both'], ['~', 'otherwise']]);
+  const FIELDS = ['KIND', 'KEY', 'INIT', 'EXT'], HEADS = [...FIELDS, 'PORT'];
+  // How long a word of a label may be, and how many values it names one by one.
+  const MOST_LABEL = 16, MOST_VALUES = 4;
   const hex = (n) => n.toString(16).toUpperCase().padStart(8, '0');
   const wide = (text) => CHAR * text.length;
 
@@ -255,16 +259,18 @@ const picture = (() => {
     return best;
   }
 
-  function legend(drawing, x, y, courses, signs) {
+  // What the colours and the outlines say: of each a small picture and its words.
+  function legend(chart) {
+    const courses = chart.lines.map((line) => line.course);
     const used = [...VERDICTS.keys()].filter((verdict) => courses.some((course) => steps(course).some((step) => step.verdict === verdict)));
     const items = used.map((verdict) => [VERDICTS.get(verdict)[0], `${VERDICTS.get(verdict)[1]}: ${VERDICTS.get(verdict)[2]}`]);
     if (courses.some((course) => course.includes(' else '))) items.push(['quota', '0:0 < 3: if the ticket of cell 0 of map 0 is below 3']);
-    for (const sign of signs) items.push(['changed', `${sign} the new table ${SIGNS.get(sign)}`]);
-    for (const [name, words] of items) {
-      drawing.rect(x, y, 16, 12, name === 'changed' ? name : `${name} framed`);
-      drawing.text(x + 22, y + 10, words, 'small');
-      y += 17;
-    }
+    for (const sign of new Set(chart.differences.map((one) => one.sign))) items.push([`changed ${OUTLINES.get(sign)}`, `${sign} the new table ${SIGNS.get(sign)}`]);
+    return items.map(([name, words]) => {
+      const drawing = new Drawing(words, '');
+      drawing.rect(2, 2, 18, 12, name.startsWith('changed') ? name : `${name} framed`);
+      return { svg: drawing.done(), words };
+    });
   }
 
   // The range of first addresses of a pair, up to where that of last addresses begins.
@@ -277,74 +283,92 @@ const picture = (() => {
 
   // Outlines a difference in a row: its last addresses, and its first ones thinner where they are others.
   function outline(drawing, x, axis, y, height, one) {
-    const own = one.ranges, told = `${one.sign} ${wordsOf(one)}`;
+    const own = one.ranges, told = `${one.sign} ${wordsOf(one)}`, name = `changed ${OUTLINES.get(one.sign)}`;
     const [from, to] = own.length ? own[own.length - 1].map((edge) => axis.place.get(edge)) : [0, axis.width];
-    drawing.rect(x + from + 1.5, y + 1.5, to - from - 3, height - 3, 'changed').dataset.told = told;
+    drawing.rect(x + from + 1.5, y + 1.5, to - from - 3, height - 3, name).dataset.told = told;
     if (own.length < 2 || own[0][0] >= own[1][0]) return;
     const begin = axis.place.get(own[0][0]), end = Math.min(axis.place.get(own[0][1]), from);
-    if (end > begin) drawing.rect(x + begin + 1.5, y + 1.5, end - begin - 3, height - 3, 'changed begins').dataset.told = told;
+    if (end > begin) drawing.rect(x + begin + 1.5, y + 1.5, end - begin - 3, height - 3, `${name} begins`).dataset.told = told;
   }
 
-  function drawBand(drawing, band, axis, left, y, differences) {
-    const alone = band.lines.filter((line) => line.ranges.length < 2), pairs = band.lines.filter((line) => line.ranges.length === 2);
-    const height = STEP * Math.max(1, ...alone.map((line) => steps(line.course).length));
+  // The lines of a band that have a row for all, and those that have each a row of its own, since they name first and last addresses.
+  const aloneIn = (band) => band.lines.filter((line) => line.ranges.length < 2), pairsIn = (band) => band.lines.filter((line) => line.ranges.length === 2);
+  const highOf = (line) => STEP * steps(line.course).length;
+  const rowOf = (band) => Math.max(STEP, ...aloneIn(band).map(highOf));
+  const heightOf = (band) => pairsIn(band).reduce((sum, line) => sum + 3 + highOf(line), rowOf(band)) + 6;
+
+  // A band as a picture, with the differences outlined, and the signs of these.
+  function drawnBand(chart, band) {
+    const { axis } = chart, drawing = new Drawing(`${band.words.join(' ')}: ${band.lines.map((line) => `${line.addresses} ${line.course}`).join('; ')}`, '');
+    const alone = aloneIn(band), height = rowOf(band);
+    drawing.reach(axis.width, 0);
     for (const line of [...alone.filter((own) => own.ranges.length === 0), ...alone.filter((own) => own.ranges.length === 1)]) {
       const [own] = line.ranges;
       const [from, to] = own ? own.map((edge) => axis.place.get(edge)) : [0, axis.width];
-      const at = own ? [from, to] : freeStretch(axis, alone);
-      courseBox(drawing, left + from, y, to - from, height, line.course, at.map((n) => left + n), line.text);
+      courseBox(drawing, from, 1, to - from, height, line.course, own ? [from, to] : freeStretch(axis, alone), line.text);
     }
-    const own = differences.filter((one) => bandMeets(one, band));
+    const own = chart.sets.filter(([one]) => bandMeets(one, band)).flatMap(([, some]) => some);
     const here = own.filter((one) => alone.some((line) => addressesMeet(one.ranges, line.ranges.length ? [line.ranges[0], line.ranges[0]] : [])));
-    let bottom = y + height;
-    const rows = [];
-    for (const line of pairs) {
-      const high = STEP * steps(line.course).length;
-      const [first, last] = line.ranges;
-      const [c, d] = last.map((edge) => left + axis.place.get(edge));
-      drawing.line([[left + axis.place.get(first[0]), bottom + 3 + high / 2], [d, bottom + 3 + high / 2]], 'link');
-      firstBox(drawing, left, axis, bottom + 3, high, line.ranges);
-      courseBox(drawing, c, bottom + 3, d - c, high, line.course, [c, d], line.text);
-      rows.push([bottom + 3, high, own.filter((one) => addressesMeet(one.ranges, line.ranges))]);
-      bottom += 3 + high;
-    }
-    for (const one of here) outline(drawing, left, axis, y, height, one);
-    for (const [at, high, some] of rows) for (const one of some) outline(drawing, left, axis, at, high, one);
-    const signs = [...new Set([...here, ...rows.flatMap(([, , some]) => some)].map((one) => one.sign))];
-    drawing.text(4, y + 15, signs.join(' '), 'sign');
-    return bottom;
+    for (const one of here) outline(drawing, 0, axis, 1, height, one);
+    const some = drawPairs(drawing, axis, band, 1 + height, own);
+    return { svg: drawing.done(), signs: [...new Set([...here, ...some].map((one) => one.sign))] };
   }
 
-  // What the table decides, in at most so many bands, with the differences outlined; and what is told of rules that never match.
-  function drawnMap(text, room, differences, most) {
-    const { lines, bands: all, notes } = readMap(text), bands = all.slice(0, most);
-    const drawing = new Drawing('What the policy table decides', '');
-    const heads = bands.some((band) => band.port !== '*') ? [...FIELDS, 'PORT'] : FIELDS;
-    const wordsIn = (band) => [...band.fields, band.port].slice(0, heads.length);
-    const columns = heads.map((head, k) => Math.max(wide(head), ...bands.map((band) => wide(wordsIn(band)[k]))) + 12);
-    const mark = differences.length ? 30 : 0, left = 8 + mark + columns.reduce((a, b) => a + b, 0);
-    const told = bands.flatMap((band) => band.lines.flatMap((line) => line.ranges)).concat(differences.flatMap((one) => one.ranges));
-    const axis = axisOf(told, Math.max(300, room - left - 12));
-    const top = 34;
-    let x = 4 + mark;
-    heads.forEach((head, k) => { drawing.text(x, top, head, 'head'); x += columns[k]; });
-    drawAxis(drawing, axis, left, top);
-    let y = top + 10, before = [];
+  // The rows of the lines that name first and last addresses; and the differences that are outlined there.
+  function drawPairs(drawing, axis, band, top, own) {
+    let y = top + 3;
+    return pairsIn(band).flatMap((line) => {
+      const high = highOf(line), [first, last] = line.ranges, at = y;
+      const [c, d] = last.map((edge) => axis.place.get(edge));
+      drawing.line([[axis.place.get(first[0]), at + high / 2], [d, at + high / 2]], 'link');
+      firstBox(drawing, 0, axis, at, high, line.ranges);
+      courseBox(drawing, c, at, d - c, high, line.course, [c, d], line.text);
+      const some = own.filter((one) => addressesMeet(one.ranges, line.ranges));
+      for (const one of some) outline(drawing, 0, axis, at, high, one);
+      y += high + 3;
+      return some;
+    });
+  }
+
+  // A word of a label, if it is long: a run of values by its ends, and other values by their number.
+  function short(word) {
+    const [, not, rest] = /^(!?)(.*)$/.exec(word), values = rest.split(',');
+    if (word.length <= MOST_LABEL && values.length <= MOST_VALUES) return word;
+    if (!/^[0-9A-F]+$/.test(values[0])) return word.slice(0, MOST_LABEL);
+    const base = values.every((value) => /^[0-9A-F]{2}$/.test(value)) ? 16 : 10, numbers = values.map((value) => parseInt(value, base));
+    if (numbers.every((number, k) => k === 0 || number === numbers[k - 1] + 1)) return `${not}${values[0]}..${values[values.length - 1]}`;
+    return `${not ? 'not ' : ''}${values.length} values`;
+  }
+
+  // What a map is drawn of: its bands with their words, the axis in so much room, and the differences by their words. With `is_above`
+  // all the room is for the bands.
+  function chartOf(text, room, differences, is_above = false) {
+    const { lines, bands, notes } = readMap(text), has_ports = bands.some((band) => band.port !== '*');
+    const heads = has_ports ? HEADS : FIELDS;
     for (const band of bands) {
-      if (band.fields[0] !== before[0]) { drawing.line([[4, y - 2], [left + axis.width, y - 2]]); y += 2; }
-      x = 4 + mark;
-      let same = true;
-      wordsIn(band).forEach((word, k) => {
-        same = same && before[k] === word;
-        drawing.text(x, y + 15, same ? '·' : word, same ? 'faint' : 'word');
-        x += columns[k];
-      });
-      before = wordsIn(band);
-      y = drawBand(drawing, band, axis, left, y, differences) + 5;
+      band.words = [...band.fields, band.port].slice(0, heads.length);
+      band.labels = band.words.map(short);
     }
-    const courses = bands.flatMap((band) => band.lines.map((line) => line.course));
-    legend(drawing, left, y + 6, courses, [...new Set(differences.map((one) => one.sign))]);
-    return { svg: drawing.done(), notes, lines, bands: all };
+    const columns = heads.map((head, k) => Math.max(wide(head), ...bands.map((band) => wide(band.labels[k]))) + 12);
+    const left = columns.reduce((a, b) => a + b, differences.length ? 30 : 0);
+    const told = lines.flatMap((line) => line.ranges).concat(differences.flatMap((one) => one.ranges));
+    const sets = new Map();
+    for (const one of differences) {
+      const name = [...one.fields, one.port].join(' ');
+      if (!sets.has(name)) sets.set(name, [one, []]);
+      sets.get(name)[1].push(one);
+    }
+    // Labels stand beside their band if half of the room is left for it, and else above it.
+    const is_narrow = is_above || left > room / 2, axis = axisOf(told, Math.max(260, room - (is_narrow ? 0 : left) - 20));
+    return { lines, bands, notes, heads, columns, left, axis, is_narrow, differences, sets: [...sets.values()] };
+  }
+
+  // The addresses, to stand above all bands.
+  function drawnAxis(chart) {
+    const drawing = new Drawing('Addresses', '');
+    drawing.reach(chart.axis.width, 33);
+    drawAxis(drawing, chart.axis, 0, 30);
+    return drawing.done();
   }
 
   // One difference: what is asked under the old table, and under the new one.
@@ -365,5 +389,5 @@ const picture = (() => {
     return drawing.done();
   }
 
-  return { drawnMap, drawnDifference, readCompare, readMap, rulesOf, wordsOf, SIGNS, FIELDS };
+  return { chartOf, drawnAxis, drawnBand, drawnDifference, heightOf, legend, readCompare, readMap, rulesOf, wordsOf, SIGNS, FIELDS, HEADS };
 })();
