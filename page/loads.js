@@ -39,6 +39,12 @@ function answerLine(head, { words, name }) {
 // The node of a load: the old policy judges there in place of its program, so the file of that is not asked for.
 const loadPlace = () => (is_node() ? ['--node', 'judged.toml'] : maps());
 
+// The maps of the node as an option, for a word that takes no node's file.
+function mapsOfNode() {
+  const sizes = [...$('node-text').textContent.matchAll(/^map \d+ cells (\d+)( peak)?$/gm)].map(([, cells, peak]) => `${cells}${peak ? 'p' : ''}`);
+  return sizes.length ? ['--maps', sizes.join(',')] : [];
+}
+
 // Who can load after the change, and before it: of the image of the other table, for that is what is loaded next.
 async function showLoaders(new_image, old_image, stale) {
   const is_old = old_image?.status === 0;
@@ -47,12 +53,15 @@ async function showLoaders(new_image, old_image, stale) {
     $('all-loaders').hidden = true;
     return;
   }
-  const any = (old, own) => perform(['rehearse', old, own, '--any', ...loadPlace()], judgeFiles());
+  const any = async (old, own) => {
+    const done = await perform(['rehearse', old, own, '--any', ...loadPlace()], judgeFiles());
+    return done.status === 2 && is_node() ? { ...await perform(['rehearse', old, own, '--any', ...mapsOfNode()]), is_wide: true } : done;
+  };
   const after = await any(is_old ? 'old.policy' : 'new.policy', 'new.policy'), before = is_old ? await any('new.policy', 'old.policy') : null;
   if (stale()) return;
   const own = answerOf(after, true), was = before ? answerOf(before, false) : null, size = (image) => image.written[0][1].length;
   const asked = `Asked of ${is_old ? `the image of old.policy, ${size(old_image)} bytes` : `its own image, ${size(new_image)} bytes`}`
-    + `${is_old ? `; before, of that of new.policy, ${size(new_image)} bytes` : ''}; at ${is_node() ? 'the node of node.toml' : 'a node of 32 ports'}.`;
+    + `${is_old ? `; before, of that of new.policy, ${size(new_image)} bytes` : ''}; at ${after.is_wide ? 'a node of 32 ports with the maps of node.toml' : is_node() ? 'the node of node.toml' : 'a node of 32 ports'}.`;
   $('loaders').replaceChildren(answerLine(is_old ? 'After the change' : 'With new.policy in slot 3', own), ...(was ? [answerLine('Before', was)] : []),
     made('p', { className: 'small', textContent: asked }));
   const is_long = own.askers > MOST_ASKERS || (was?.askers ?? 0) > MOST_ASKERS;
