@@ -3,6 +3,7 @@ from __future__ import annotations
 
 import base64
 import json
+import os
 import shutil
 import subprocess
 import tempfile
@@ -12,8 +13,8 @@ import urllib.request
 from pathlib import Path
 from typing import Any
 
-# The port of chromedriver on this machine.
-PORT = 9713
+# The port of chromedriver on this machine; DRIVER_PORT says another one, for two runs at once.
+PORT = int(os.environ.get("DRIVER_PORT", "9713"))
 # How long a script may take, in milliseconds.
 LONGEST = 600_000
 # The name of an element in what WebDriver answers.

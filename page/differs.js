@@ -6,6 +6,7 @@ const MOST_OPEN = 12;
 function showCompare(map, compare) {
   $('compare-text').textContent = compare ? compare.text + compare.told : '';
   $('older').hidden = $('differs').hidden = !compare;
+  document.querySelector('.skip[href="#h-differs"]').hidden = !compare;
   if (!compare) return;
   const is_fault = !/^(same$|[-+~]+ )/m.test(compare.text);
   const differences = is_fault ? [] : picture.readCompare(compare.text);
@@ -57,8 +58,23 @@ function groupItem(group, is_open) {
   const rules = made('div', { className: 'rules' }, made('div', {}, 'old.policy ', ...ruleButtons('old', group.old)),
     made('div', {}, 'new.policy ', ...ruleButtons('new', group.own)));
   const list = made('ul', { className: 'differences' }), item = made('details', { className: 'group', open: is_open }, summary, rules, list);
-  list.append(...group.all.map(differenceItem));
+  if (is_open) fill(list, group.all);
+  else item.addEventListener('toggle', () => fill(list, group.all), { once: true });
   return item;
+}
+
+// How many differences of a group are made at once. The next ones are made when the last of them comes near to the screen.
+const MOST_AT_ONCE = 200;
+function fill(list, all, from = 0) {
+  const next = from + MOST_AT_ONCE;
+  list.append(...all.slice(from, next).map(differenceItem));
+  if (next >= all.length) return;
+  const end = new IntersectionObserver((entries) => {
+    if (!entries.some(({ isIntersecting }) => isIntersecting)) return;
+    end.disconnect();
+    fill(list, all, next);
+  }, { rootMargin: '600px' });
+  end.observe(list.lastElementChild);
 }
 
 // Draws a difference when it comes near to the screen.

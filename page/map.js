@@ -138,7 +138,7 @@ function point(frame) {
 }
 
 // Shows all boxes of the rule in whose line the cursor is.
-let rule_of_cursor = '';
+let rule_of_cursor = '0';
 function pointRule() {
   const area = $('new');
   rule_of_cursor = String(area.value.slice(0, area.selectionStart).split('\n').length);

@@ -266,7 +266,7 @@ function soon() { clearTimeout(timer); timer = setTimeout(() => { timer = 0; see
 // The lines of help, each of which opens at its word.
 function helps() {
   for (const place_ of document.querySelectorAll('[data-words]')) {
-    place_.append(...WORDS[place_.dataset.words].map(([word, text]) => made('details', { className: 'word' }, made('summary', { textContent: word }), made('p', { textContent: text }))));
+    place_.append(...WORDS[place_.dataset.words].map(([word, text]) => made('details', { className: 'help' }, made('summary', { textContent: word }), made('p', { textContent: text }))));
   }
   $('not-covered').append(...NOT_COVERED.map((text) => made('li', { textContent: text })));
 }

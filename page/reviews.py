@@ -69,7 +69,7 @@ def try_node(browser: Browser, tally: Tally) -> None:
     begin(browser, TWO_BANKS, ONE_BANK, "".join(lines), node=NODE)
     said = text_of(browser, "#said-node")
     tally.note("a file that the node's file names and that was not given is named", "science.bin" in said and "flight.img" not in said, said)
-    tally.note("what does not need it is drawn", count_of(browser, "#map .frame") > 5 and count_of(browser, "#differences li") > 0 and len(rows_of(browser)) == 3)
+    tally.note("what does not need it is drawn", count_of(browser, "#map .frame") > 5 and count_of(browser, "#differences .group") > 0 and len(rows_of(browser)) == 3)
     tally.note("what needs it says so", "science.bin" in text_of(browser, "#said-judged") and "science.bin" in text_of(browser, "#rehearsed"), text_of(browser, "#said-judged"))
     drop(browser, "#node", {"science.bin": "What was seen in flight", "camera.toml": NODE})
     rows = rows_of(browser)
@@ -127,7 +127,7 @@ def try_loads(browser: Browser, tally: Tally) -> None:
 
 # ---- large maps
 
-SIXTY = "".join(f"{('read', 'write', 'any')[k % 3]} * {0x20 + k:02X} 00 {0xA0000000 + 0x1000 * k:08X} {0xA0000FFF + 0x1000 * k:08X} - {(0, 10)[k % 2]}\n" for k in range(60))
+SIXTY = ".version 2\n" + "".join(f"any * {0x20 + k:02X} * {0xA0000000 + 0x1000 * k:08X} {0xA0000FFF + 0x1000 * k:08X} - {(0, 10)[k % 2]}\n" for k in range(60))
 
 IN_VIEW = """const map = document.querySelector('#map'); map.scrollIntoView({ block: 'start' }); const own = map.getBoundingClientRect();
   const inside = (e, left) => { const b = e.getBoundingClientRect(); return b.width > 2 && b.right > left && b.left < Math.min(own.right, innerWidth) && b.bottom > own.top && b.top < Math.min(own.bottom, innerHeight); };
@@ -140,10 +140,10 @@ def try_drawn(browser: Browser, tally: Tally) -> None:
     for name in ("desk", "phone"):
         browser.resize(*WIDTHS[name])
         since = time.monotonic()
-        begin(browser, ".version 2\n" + SIXTY)
+        begin(browser, SIXTY)
         took = time.monotonic() - since
         boxes, labels, longest = browser.run(IN_VIEW)
-        tally.note(f"60 rules of 60 initiators, {WIDTHS[name][0]}: {boxes} boxes and {labels} labels are in view, drawn in {took:.1f} s", boxes > 0 and labels > 3 and longest <= 16, f"{boxes} {labels} {longest}")
+        tally.note(f"60 rules of 60 initiators, {WIDTHS[name][0]}: {boxes} boxes and {labels} labels are in view, drawn in {took:.1f} s", boxes > 0 and labels > 3 and longest <= 16 and count_of(browser, "#map.stale") == 0 and count_of(browser, "#map .band") > 59, f"{boxes} {labels} {longest}")
         browser.run("const map = $('map'); map.scrollTop = 400; map.scrollLeft = 300")
         time.sleep(0.2)
         kept = browser.run("""const map = $('map').getBoundingClientRect(), axis = document.querySelector('#map .axis').getBoundingClientRect();
@@ -154,10 +154,10 @@ def try_drawn(browser: Browser, tally: Tally) -> None:
     try_folds(browser, tally)
     try_groups(browser, tally)
     try_many(browser, tally)
-    words = count_of(browser, ".word")
-    browser.run("for (const word of document.querySelectorAll('.word')) word.open = true")
-    tally.note(f"each of {words} words opens a line of help", words > 20 and browser.run("return [...document.querySelectorAll('.word p')].every((p) => p.textContent.length > 20 && p.getClientRects().length > 0)"))
-    browser.run("for (const word of document.querySelectorAll('.word')) word.open = false")
+    words = count_of(browser, ".help")
+    browser.run("for (const word of document.querySelectorAll('.help')) word.open = true")
+    tally.note(f"each of {words} words opens a line of help", words > 20 and browser.run("return [...document.querySelectorAll('.help p')].every((p) => p.textContent.length > 20 && p.getClientRects().length > 0)"))
+    browser.run("for (const word of document.querySelectorAll('.help')) word.open = false")
     tally.note("what the page does not cover stands there", count_of(browser, "#not-covered li") >= 5)
     choose_first(browser)
 
@@ -177,12 +177,12 @@ def try_folds(browser: Browser, tally: Tally) -> None:
 def try_groups(browser: Browser, tally: Tally) -> None:
     old = ".version 2\n.range regs A0000000 A0000FFF\n" + "".join(f"read 20 {0x40 + k:02X} 00 regs - 0 ; reader {k}\n" for k in range(12))
     begin(browser, old.replace("A0000FFF", "A0001FFF").replace("read 20 43", "write 20 43").replace("regs - 0 ; reader 5", "regs - 3 ; reader 5"), old)
+    browser.run("for (const g of document.querySelectorAll('.group')) g.open = true")
+    time.sleep(0.3)
     groups, items = count_of(browser, "#differences .group"), count_of(browser, "#differences li")
     tally.note(f"{items} differences are in {groups} groups, by the rules that decide", 3 <= groups <= items and items == browser.run("return shown.differences.length"))
     text = browser.run("return [...document.querySelectorAll('#differences .rule')].map((e) => e.textContent).join('|')")
     tally.note("each group has the text of its rules, with comment and range", "regs - 0 ; reader 3" in text and "no rule" in text, text[:300])
-    browser.run("for (const g of document.querySelectorAll('.group')) g.open = true")
-    time.sleep(0.3)
     signs = browser.run("return [...new Set([...document.querySelectorAll('#map .changed')].map((e) => e.getAttribute('class')))]")
     styles = browser.run("""const of = (name) => { const e = document.querySelector('#map .changed.' + name); if (!e) return null; const s = getComputedStyle(e); return [s.fill, s.strokeDasharray]; };
       return [of('more'), of('fewer')]""")
@@ -202,10 +202,11 @@ def try_many(browser: Browser, tally: Tally) -> None:
       const since = performance.now(); shown = { text: lines.join('\\n'), differences: found }; drawMap(); showDifferences(found);
       const drawn = performance.now() - since;
       requestAnimationFrame(() => requestAnimationFrame(() => { const now = performance.now();
-        const far = document.querySelectorAll('#map .band')[1900]; far.scrollIntoView(); setTimeout(() => done([drawn, now - since, document.querySelectorAll('#map .band').length,
-          document.querySelectorAll('#map .band svg').length, document.querySelectorAll('#differences li').length, far.querySelectorAll('svg').length]), 500); }));""")
-    drawn, shown, bands, pictures, items, far = took
-    tally.note(f"2,000 bands and 20,000 differences: made in {drawn / 1000:.1f} s, on the screen after {shown / 1000:.1f} s, {pictures} bands drawn so far", bands == 2000 and items == 20000 and pictures < 400 and far == 1 and shown < 20_000, str(took))
+        const far = document.querySelectorAll('#map .band')[1900]; far.scrollIntoView(); setTimeout(() => { const group = document.querySelector('#differences .group'); group.open = true;
+          setTimeout(() => { group.querySelector('li:last-child').scrollIntoView(); setTimeout(() => done([drawn, now - since, document.querySelectorAll('#map .band').length, document.querySelectorAll('#map .band svg').length,
+            document.querySelectorAll('#differences .group').length, far.querySelectorAll('svg').length, group.querySelectorAll('li').length]), 500); }, 300); }, 500); }));""")
+    drawn, shown, bands, pictures, groups, far, items = took
+    tally.note(f"2,000 bands and 20,000 differences: made in {drawn / 1000:.1f} s, on the screen after {shown / 1000:.1f} s, {pictures} bands drawn so far", bands == 2000 and groups == 50 and items == 400 and pictures < 400 and far == 1 and shown < 10_000, str(took))
     choose_first(browser)
 
 
@@ -417,7 +418,7 @@ def try_steps(browser: Browser, tally: Tally, folder: Path | None = None) -> Non
         if folder:
             browser.run("window.scrollTo(0, 0)")
             browser.picture(folder / f"page_step_{number}.png")
-    tally.note("what changed is there", count_of(browser, "#differences li") > 2, str(count_of(browser, "#differences li")))
+    tally.note("what changed is there", count_of(browser, "#differences .group") > 2, str(count_of(browser, "#differences .group")))
     tally.note("who can load is there", count_of(browser, "#loaders .answer") == 2, text_of(browser, "#loaders"))
     tally.note("the page was printed", browser.run("return printed_") == 1)
     browser.run("document.activeElement.blur(); window.scrollTo(0, 0); document.querySelector('.skip').focus()")
