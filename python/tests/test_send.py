@@ -54,7 +54,7 @@ class AtAScript(unittest.TestCase):
                 (f"journal 0 0 0 0 0 {READ.hex()} EOP\n0 {REPLY.hex().upper()} EOP\njournal 1 entries\n", 0)]
         for text, status in rows:
             with kit.Scripted(frame(REPLY)) as target, self.subTest(text=text):
-                done = self.compared(target.port, text)
+                done = self.compared(target.port, text, "--quiet", "1500")
                 self.assertEqual((done.returncode, done.stdout), (status, f"0 {REPLY.hex().upper()} EOP\n"))
                 self.assertEqual("is due" in done.stderr, status == 1)
         with kit.Scripted(b"", b"") as target:
@@ -69,11 +69,61 @@ class AtAScript(unittest.TestCase):
             self.assertEqual((done.returncode, done.stdout), (1, ""))
             self.assertIn(words, done.stderr)
 
+    def test_a_reply_that_is_not_due(self):
+        with kit.Scripted(frame(REPLY)) as target:
+            done = self.compared(target.port, "0 discard 4\n", "--quiet", "500")
+        self.assertEqual((done.returncode, done.stdout), (1, f"0 {REPLY.hex().upper()} EOP\n"))
+
     def compared(self, port: int, text: str, *words: str) -> subprocess.CompletedProcess:
         with tempfile.NamedTemporaryFile("w", suffix=".txt") as file:
             file.write(text)
             file.flush()
             return sent(port, "--compare", file.name, *words)
+
+
+class Reported(unittest.TestCase):
+    def run_suite(self, due: str, reply: bytes, **words: str) -> tuple[int, str]:
+        with kit.Scripted(reply, b"") as target:
+            return self.run_at(target.port, due, **words)
+
+    def run_at(self, port: int, due: str, index: str = "1 read read of 4 bytes\n", profile: str = "") -> tuple[int, str]:
+        with tempfile.TemporaryDirectory() as folder:
+            names = {}
+            for name, text in (("due", due), ("index", index), ("profile", profile)):
+                names[name] = os.path.join(folder, name)
+                with open(names[name], "w", encoding="ascii") as file:
+                    file.write(text)
+            report = os.path.join(folder, "report.md")
+            done = sent(port, "--compare", names["due"], "--index", names["index"], "--report", report, "--wait", "1500", "--quiet", "500",
+                        *(["--profile", names["profile"]] if profile else []))
+            if not os.path.exists(report):
+                return done.returncode, done.stderr
+            with open(report, encoding="utf-8") as file:
+                return done.returncode, file.read()
+
+    def test_kinds(self):
+        due, denied = f"0 {REPLY.hex()} EOP\n", bytes.fromhex("67010C0AFE0001000000006E00")
+        rows = [(due, frame(REPLY), 0, "| read | 1 | 1 | 0 | 0 | 0 | 0 |"), (due, frame(denied), 1, "| read | 1 | 0 | 1 | 0 | 0 | 0 |"),
+                (due, b"", 1, "| read | 1 | 0 | 0 | 0 | 1 | 0 |"), (due, frame(REPLY) * 2, 1, "| read | 1 | 0 | 1 | 0 | 0 | 0 |"),
+                ("0 -\n", frame(REPLY), 1, "| read | 1 | 0 | 1 | 0 | 0 | 0 |")]
+        for text, reply, status, row in rows:
+            with self.subTest(row=row):
+                came, report = self.run_suite(text, reply)
+                self.assertEqual(came, status)
+                self.assertIn(row, report)
+
+    def test_a_choice(self):
+        due, denied = f"0 {REPLY.hex()} EOP\n", bytes.fromhex("67010C0AFE0001000000006E00")
+        came, report = self.run_suite(due, frame(denied), profile="word-width 8\n")
+        self.assertEqual(came, 0)
+        self.assertIn("- word-width: 1", report)
+
+    def test_files_that_are_wrong(self):
+        for words in ({"index": "2 read x\n"}, {"index": ""}, {"profile": "word-width 0\n"}, {"profile": "colour red\n"}):
+            with self.subTest(words=words):
+                came, told = self.run_at(kit.free_port(), "0 -\n", **words)
+                self.assertEqual(came, 1)
+                self.assertTrue("no line of" in told or "0 packets" in told or "no choice" in told, told)
 
 
 class Misused(unittest.TestCase):
