@@ -1,6 +1,6 @@
 //! What is told on standard error of a job that ended, after what it printed.
 
-use crate::foreign::foreign_words;
+use crate::foreign::Foreign;
 use crate::jobs::{Job, JobEnd};
 use crate::line_paths::{LinePaths, may_have_paths};
 use crate::noted::{Cause, Noted};
@@ -56,7 +56,7 @@ fn add_foreign(text: &mut String, lines: Option<&str>, number: usize) -> Result<
     for line in lines_of(lines) {
         at = at.saturating_add(1);
         if at == number {
-            return text.push_str(foreign_words(line, at == 1));
+            return text.push_str(Foreign::of(line, at == 1).words());
         }
     }
     Ok(())

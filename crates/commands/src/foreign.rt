@@ -9,13 +9,35 @@ const MARKED: &str = "    the file begins with a BOM: save it as UTF-8 without o
 /// What is printed of a line that has a carriage return before its line feed.
 const RETURNED: &str = "    the line ends in \\r: lines end in only a line feed\n";
 
-/// What is printed of a line that another system wrote, which is the first of its file or a later one; nothing of any other.
-pub fn foreign_words(line: &str, is_first: bool) -> &'static str {
-    if is_first && line.starts_with(BYTE_ORDER_MARK) {
-        MARKED
-    } else if line.ends_with('\r') {
-        RETURNED
-    } else {
-        ""
+/// What a line has of another system.
+#[derive(Clone, Copy, Debug, PartialEq, Eq)]
+pub enum Foreign {
+    /// Nothing.
+    Nothing,
+    /// A mark before the first line.
+    Mark,
+    /// A carriage return before its line feed.
+    Return,
+}
+
+impl Foreign {
+    /// What this line has, which is the first of its file or a later one.
+    pub fn of(line: &str, is_first: bool) -> Foreign {
+        if is_first && line.starts_with(BYTE_ORDER_MARK) {
+            Foreign::Mark
+        } else if line.ends_with('\r') {
+            Foreign::Return
+        } else {
+            Foreign::Nothing
+        }
+    }
+
+    /// What is printed of it; nothing if it is nothing.
+    pub fn words(self) -> &'static str {
+        match self {
+            Foreign::Nothing => "",
+            Foreign::Mark => MARKED,
+            Foreign::Return => RETURNED,
+        }
     }
 }

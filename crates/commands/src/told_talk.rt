@@ -2,7 +2,7 @@
 
 ghost use Rattle.std.specs.Prelude.{◌≡◌};
 
-use crate::foreign::foreign_words;
+use crate::foreign::Foreign;
 use crate::line_paths::LinePaths;
 use job_live::talk::Talk;
 use job_parts::bad_lines::BadLine;
@@ -25,7 +25,7 @@ pub struct ToldTalk<'a, R, T: Drop> {
     paths: LinePaths,
     path: PathTold,
     is_first: bool,
-    foreign: &'static str,
+    foreign: Foreign,
 }
 
 /// Whether a path was told.
@@ -75,7 +75,7 @@ impl<'a, R: Eprint, T: Talk + Drop> ToldTalk<'a, R, T> {
             paths: LinePaths::new(),
             path: PathTold::None,
             is_first: true,
-            foreign: "",
+            foreign: Foreign::Nothing,
         }
     }
 
@@ -106,7 +106,7 @@ impl<'a, R: Eprint, T: Talk + Drop> ToldTalk<'a, R, T> {
         let _ = self.rt.eprint(&code);
         let _ = self.rt.eprint(&": ");
         let _ = self.rt.eprintln(&words);
-        let _ = self.rt.eprint(&self.foreign);
+        let _ = self.rt.eprint(&self.foreign.words());
     }
 }
 
@@ -146,7 +146,7 @@ impl<R: Eprint, T: Talk + Drop> Talk for ToldTalk<'_, R, T> {
 
     fn next(&mut self, line: &mut String) -> Result<bool, Cannot> {
         let is_given = self.talk.next(line)?;
-        self.foreign = foreign_words(line.as_str(), self.is_first);
+        self.foreign = Foreign::of(line.as_str(), self.is_first);
         self.is_first = false;
         self.look(line.as_str());
         Ok(is_given)
