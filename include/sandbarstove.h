@@ -23,7 +23,7 @@
 #include <stdint.h>
 
 /** The number of this header and of sandbarstove_frames.h. It rises with each change of a call, a struct or a number. */
-#define SANDBAR_VERSION 5
+#define SANDBAR_VERSION 6
 
 /** For compilers that know it: the pointers of a call are not null, and its code is looked at. */
 #ifndef SANDBAR_CALL
@@ -101,6 +101,15 @@ enum sandbar_part {
   SANDBAR_ALL = 3       /**< all of these */
 };
 
+/** The finding of a scrub before a packet (::sandbar_scrub_each). */
+enum sandbar_found {
+  SANDBAR_UNSCRUBBED = 0, /**< no scrub was due before the packet */
+  SANDBAR_WHOLE = 1,      /**< the program that judges the packet is as it was published */
+  SANDBAR_MENDED = 2,     /**< it was damaged, and was made again of its image */
+  SANDBAR_WITHDRAWN = 3,  /**< it was damaged and not mended, or its slot was withdrawn before */
+  SANDBAR_NO_SLOT = 255   /**< the @c found_slot of a packet before which no scrub was due */
+};
+
 /** The place at which a command ended. */
 enum sandbar_place {
   SANDBAR_NOWHERE = 0,  /**< no program judged it */
@@ -138,7 +147,7 @@ typedef struct sandbar_why {
 } sandbar_why;
 
 /**
- * The end of a packet, and what it asked for. A command was carried out if @c kind is ::SANDBAR_JUDGED and @c status
+ * The end of a packet, what it asked for, and what a scrub before it found. A command was carried out if @c kind is ::SANDBAR_JUDGED and @c status
  * is 0, and only then. Its header says what it asked for. For a packet that is no command these are 0. 40 bytes.
  */
 typedef struct sandbar_served {
@@ -153,6 +162,8 @@ typedef struct sandbar_served {
   uint8_t command;       /**< ::sandbar_command (at 30) */
   uint8_t place;         /**< ::sandbar_place (at 31) */
   uint8_t extended;      /**< its extended address: the number of the bank, or 255 for the boot window (at 32) */
+  uint8_t found;         /**< ::sandbar_found, of a scrub before the packet (at 33) */
+  uint8_t found_slot;    /**< the slot of the program that was scrubbed, or ::SANDBAR_NO_SLOT (at 34) */
 } sandbar_served;
 
 /**
@@ -299,7 +310,9 @@ uint32_t sandbar_scrub(sandbar_node *node, uint8_t part, const uint8_t *image, s
 
 /**
  * From now on scrubs the program that judges a packet, before each packet of that number: 1 is each, 2 each second one. At 0,
- * with which a node is opened, it scrubs none. Codes: ::SANDBAR_NO_NODE.
+ * with which a node is opened, it scrubs none. If no program judges the packet before which a scrub is due, the scrub stays
+ * due until a packet comes that one judges. @c found and @c found_slot of ::sandbar_served say what a scrub found. Codes:
+ * ::SANDBAR_NO_NODE.
  */
 SANDBAR_CALL
 uint32_t sandbar_scrub_each(sandbar_node *node, uint32_t each);

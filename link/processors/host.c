@@ -224,6 +224,8 @@ static void take_served(module *it, uint64_t at, sandbar_served *served) {
   served->command = (uint8_t)number(it, at + 30, 1);
   served->place = (uint8_t)number(it, at + 31, 1);
   served->extended = (uint8_t)number(it, at + 32, 1);
+  served->found = (uint8_t)number(it, at + 33, 1);
+  served->found_slot = (uint8_t)number(it, at + 34, 1);
 }
 
 uint32_t sandbar_serve(sandbar_node *node, uint8_t port, const uint8_t *packet, size_t packet_length, uint8_t end,

@@ -3,4 +3,3 @@ pub mod Sums
 pub mod Kept
 pub mod Damage
 pub mod Guarded
-pub mod Lent

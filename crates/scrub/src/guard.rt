@@ -7,18 +7,15 @@ ghost use Rattle.node_programs.specs.declared.publishes.Publish.{Publish};
 ghost use Rattle.rmap.specs.Command.{discard_of};
 ghost use Rattle.single_node.specs.Nodes.{slot_in};
 ghost use Rattle.scrub.specs.Damage.{sizes_sum};
-ghost use Rattle.scrub.specs.Guarded.{IsGuarded, IsInstalled, IsRemade, ScrubsFirst, ScrubsSlot, Scrubs, beside, counted, is_due, scrubbing_each, with_all, with_sums};
+ghost use Rattle.scrub.specs.Guarded.{IsGuardOf, IsInstalled, IsRemade, ScrubsFirst, ScrubsSlot, Scrubs, beside, counted, is_due, renewed, scrubbing_each, with_all, with_sums};
 ghost use Rattle.scrub.specs.Kept.{AreFresh, AreGenerations, Follow, FollowAt, closed_in, is_withheld};
-ghost use Rattle.scrub.specs.Lent.{ServesLent};
 
 use crate::damage::sizes_sum;
 use crate::kept::{SlotSums, is_closed_at, set_sums, sums_at};
 use crate::made::made_again;
 use crate::op_sums::program_sum;
 use bver::Accepted;
-use node_parts::Served;
 use node_programs::PublishFault;
-use rmap::{Command, ReplyBuf, Status, put_reply};
 use single_node::SingleNode;
 use spw::Packet;
 use std::alloc::Global;
@@ -57,7 +54,9 @@ pub struct Found {
 }
 
 /// What is kept of the programs of a node of one thread. Each call is lent that node: a program that is published there by
-/// itself, and not by [`Guard::install`] or a load that [`Guard::serve`] serves, is taken for a damaged one.
+/// itself, and not by [`Guard::install`] or a load that [`GuardedNode::serve`] serves, is taken for a damaged one.
+///
+/// [`GuardedNode::serve`]: crate::GuardedNode::serve
 #[derive(Clone, Copy, Debug, PartialEq, Eq)]
 pub struct Guard {
     /// What is kept of each slot's program.
@@ -141,9 +140,10 @@ fn are_open(sums: &[SlotSums; 4]) -> bool
 }
 
 impl Guard {
-    /// What is kept of a node's programs, each of which may judge. Before no packet is one scrubbed.
-    pub fn new(node: &SingleNode) -> Guard
-        ensures { IsGuarded node.now (beside result node.now) }
+    /// What is kept of a node's programs, each of which may judge. Before each packet of so many the program that judges it is
+    /// scrubbed; before none if the number is 0.
+    pub fn new(node: &SingleNode, each: u32) -> Guard
+        ensures { IsGuardOf node.now each result }
     {
         Guard {
             sums: [
@@ -152,8 +152,8 @@ impl Guard {
                 fresh_at(node, 2),
                 fresh_at(node, 3),
             ],
-            each: 0,
-            left: 0,
+            each,
+            left: each,
             sizes: sizes_sum(node),
         }
     }
@@ -220,20 +220,31 @@ impl Guard {
         self.left = each;
     }
 
-    /// Counts one packet more: whether a scrub is due before it.
-    fn count(&mut self) -> bool
-        ensures due { result ≡ is_due self.old.each self.old.left }
-        ensures counted { self.new ≡ counted self.old }
+    /// Whether a scrub is due before the next packet.
+    fn is_due(&self) -> bool
+        ensures { result ≡ is_due self.now.each self.now.left }
     {
         if self.each == 0 {
             return false;
         }
-        if self.left <= 1 {
-            self.left = self.each;
-            return true;
+        self.left <= 1
+    }
+
+    /// Counts a packet before which no scrub is due.
+    fn count(&mut self)
+        ensures { self.new ≡ counted self.old }
+    {
+        if self.each == 0 {
+            return;
         }
-        self.left -= 1;
-        false
+        self.left = self.left.saturating_sub(1);
+    }
+
+    /// Counts anew: the scrub that was due is done.
+    fn renew(&mut self)
+        ensures { self.new ≡ renewed self.old }
+    {
+        self.left = self.each;
     }
 
     /// Scrubs the program of a slot. If its operations have a sum that is kept, nothing changes, but that both sums are then that
@@ -303,7 +314,8 @@ impl Guard {
         }
     }
 
-    /// Scrubs the program that judges a packet, if a scrub is due before it: what it found. The condition is a port of the node.
+    /// Scrubs the program that judges a packet, if a scrub is due before it: what it found. If no program judges it, the scrub stays
+    /// due. The condition is a port of the node.
     #[tactic(auto, using(crate::proofs::Serving::first_not, crate::proofs::Serving::first_none, crate::proofs::Serving::first_some))]
     pub(crate) fn scrub_first(
         &mut self,
@@ -315,16 +327,18 @@ impl Guard {
         requires { port < length node.old.passes }
         ensures scrubs { ScrubsFirst (is_due self.old.each self.old.left)
             (slot_in (slice_get node.old.passes port) packet.now) result
-            (beside (counted self.old) node.old) (beside self.new node.new) }
+            (beside self.old node.old) (beside self.new node.new) }
         ensures banks { node.new.banks ≡ node.old.banks }
         ensures ports { node.new.passes ≡ node.old.passes }
     {
-        if !self.count() {
+        if !self.is_due() {
+            self.count();
             return None;
         }
         let Some(slot) = node.slot_for(port, packet) else {
             return None;
         };
+        self.renew();
         let health = self.scrub_slot(node, alloc, slot);
         Some(Found { slot, health })
     }
@@ -336,33 +350,5 @@ impl Guard {
             → Follow programs node.now.programs self.old.sums self.new.sums }
     {
         self.sums = followed(node, before, &self.sums);
-    }
-
-    /// Serves one packet as [`SingleNode::serve`] does, and keeps the sum of a program that it loads. If a scrub is due before it
-    /// ([`Guard::scrub_each`]), the program that judges it is scrubbed first: what that found comes with what became of the packet.
-    /// A command for a slot that is withdrawn comes to no program: it is answered by a general error, and nothing changes. The
-    /// condition is a port of the node.
-    #[tactic(auto, using(crate::proofs::Serving::lent_withheld, crate::proofs::Serving::lent_open))]
-    pub fn serve(
-        &mut self,
-        node: &mut SingleNode,
-        alloc: Global,
-        port: u8,
-        packet: Packet,
-        reply: &mut ReplyBuf,
-    ) -> (Option<Found>, Served)
-        requires { port < length node.old.passes }
-        ensures { ServesLent result.0 result.1 port packet (beside self.old node.old)
-            (beside self.new node.new) reply.new }
-    {
-        let found = self.scrub_first(node, alloc, port, &packet);
-        if self.withholds(node, port, &packet) {
-            put_reply(reply, &Command::again(&packet), Status::GeneralError, &[]);
-            return (found, Served::Unread);
-        }
-        let before = generations(node);
-        let served = node.serve(alloc, port, packet, reply);
-        self.follow(node, &before);
-        (found, served)
     }
 }

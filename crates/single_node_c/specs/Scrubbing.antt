@@ -5,8 +5,8 @@ use Rattle.node_programs.specs.Published.{sizes_of}
 use Rattle.scrub.specs.declared.guard.Health.{Health}
 use Rattle.scrub.specs.declared.guard.Health.TheVariants.{Whole, Mended, Withdrawn}
 use Rattle.scrub.specs.declared.guard.Scrubbed.{Scrubbed}
-use Rattle.scrub.specs.Damage.{broken_of, no_broken, sizes_sum}
-use Rattle.scrub.specs.Guarded.{GuardedValue, IsInstalled, Scrubs}
+use Rattle.scrub.specs.Damage.{broken_of, no_broken}
+use Rattle.scrub.specs.Guarded.{GuardedValue, Installs, ScrubsGuarded, has_sizes}
 use Rattle.scrub.specs.declared.damage.Broken.{Broken}
 use Rattle.single_node_c.specs.Opening.{IsAccepted}
 use Rattle.single_node_c.specs.declared.codes.TheConstants.{NO_PART, OK}
@@ -39,7 +39,7 @@ withdrawn_bits told =
 pub record IsRestored (image : List ℕ) (before after : GuardedValue) : Type 0 where
   pub program : AcceptedValue
   pub accepted : IsAccepted (sizes_of before.node.programs) image program
-  pub installed : IsInstalled 3 program before after
+  pub installed : Installs 3 program before after
 
 -- by whether it was: 0 or 1
 abbrev pub Restores : List ℕ → (restored : ℕ) → (before after : GuardedValue) → Type 0
@@ -57,7 +57,7 @@ RestoresIf Withdrawn image restored before after = Restores image restored befor
 pub record ScrubsAll (image : List ℕ) (numbers : Programs) (before after : GuardedValue) : Type 0 where
   pub told : Scrubbed
   pub between : GuardedValue
-  pub scrubs : Scrubs told before between
+  pub scrubs : ScrubsGuarded told before between
   pub restores : RestoresIf told.window image numbers.restored between after
   pub mended_is : numbers.mended ≡ mended_bits told
   pub withdrawn_is : numbers.withdrawn ≡ withdrawn_bits told
@@ -83,7 +83,7 @@ ScrubsIf false image told before after = (told ≡ no_programs) × (after ≡ be
 
 -- 1 if the sizes are asked for, and have not the sum that was kept of them
 abbrev pub sizes_if : (asked : Bool) → GuardedValue → ℕ
-sizes_if asked g = if asked && not (sizes_sum g.node == g.guard.sizes) then 1 else 0
+sizes_if asked g = if asked && not (has_sizes g.guard g.node) then 1 else 0
 
 -- the entries that are not whole, if they are asked for
 abbrev pub broken_if : (asked : Bool) → GuardedValue → Broken

@@ -1,7 +1,7 @@
 //! Scrubbing of a node.
 
 ghost use Rattle.std.specs.Prelude.{◌≡◌, ◌≢◌, ◌≤◌};
-ghost use Rattle.scrub.specs.Guarded.{beside, scrubbing_each};
+ghost use Rattle.scrub.specs.Guarded.{SetsEach};
 ghost use Rattle.single_node_c.specs.Held.{BecomesGuarded, code_on};
 ghost use Rattle.single_node_c.specs.Scrubbing.{Restores, RestoresIf, ScrubsAll, ScrubsIf, ScrubsPart, asks, broken_if, mended_bit, mended_bits, part_code, place_number, sizes_if, withdrawn_bit, withdrawn_bits};
 ghost use Rattle.single_node_c.specs.declared.codes.TheConstants.{OK};
@@ -84,10 +84,7 @@ fn restore(alloc: Global, guarded: &mut GuardedNode, image: &[u8]) -> u8
     let Ok(program) = program_of(alloc, image, &sizes) else {
         return 0;
     };
-    match guarded
-        .guard
-        .install(&mut guarded.node, alloc, WINDOW, program)
-    {
+    match guarded.install(alloc, WINDOW, program) {
         Ok(_generation) => 1,
         Err(_fault) => 0,
     }
@@ -115,7 +112,7 @@ pub struct Programs {
 fn scrub_programs(alloc: Global, guarded: &mut GuardedNode, image: &[u8]) -> Programs
     ensures { ScrubsAll image.now result guarded.old guarded.new }
 {
-    let told = guarded.guard.scrub(&mut guarded.node, alloc);
+    let told = guarded.scrub(alloc);
     let restored = restore_if(alloc, guarded, told.window, image);
     Programs {
         mended: mended_bits(told),
@@ -142,7 +139,7 @@ fn scrub_if(alloc: Global, guarded: &mut GuardedNode, asked: bool, image: &[u8])
 fn sizes_if(guarded: &GuardedNode, asked: bool) -> u8
     ensures { result ≡ sizes_if asked guarded.now }
 {
-    if asked && !guarded.guard.has_sizes(&guarded.node) {
+    if asked && !guarded.has_sizes() {
         return 1;
     }
     0
@@ -230,14 +227,14 @@ pub extern "C" fn sandbar_scrub(
 #[unsafe(no_mangle)]
 pub extern "C" fn sandbar_scrub_each(alloc: Global, handle: &mut Handle, each: u32) -> u32
     ensures code { result ≡ code_on handle.old.kept (λ _. OK) }
-    ensures set { result ≡ OK → BecomesGuarded (λ before after. after ≡ beside (scrubbing_each before.guard each) before.node)
-        handle.old.kept handle.new.kept }
+    ensures set { result ≡ OK
+        → BecomesGuarded (SetsEach each) handle.old.kept handle.new.kept }
     ensures node { result ≢ OK → handle.new.kept ≡ handle.old.kept }
 {
     let Some(mut guarded) = take(alloc, handle) else {
         return NO_NODE;
     };
-    guarded.guard.scrub_each(each);
+    guarded.scrub_each(each);
     put(alloc, handle, guarded);
     OK
 }

@@ -69,10 +69,11 @@ fn serve_packet(
     ensures { ServesPacket port packet guarded.old guarded.new room.old room.new result }
 {
     let end = packet.end();
-    let (told, size) = guarded.serve(alloc, port, packet, room);
-    let parts = ServedParts::of(told.served, bytes, end);
-    let left = room_behind(&guarded.node, told.served, parts.extended);
-    ServedNumbers::of(told, parts, left, size as u32)
+    let answer = guarded.serve(alloc, port, packet, room);
+    let served = answer.told.served;
+    let parts = ServedParts::of(served, bytes, end);
+    let left = room_behind(&guarded.node, served, parts.extended);
+    ServedNumbers::of(answer, parts, left, answer.size as u32)
 }
 
 /// Serves the bytes of a packet, where the node may: a code.
