@@ -12,6 +12,7 @@
  * Each function returns a ::sandbar_code, except ::sandbar_crc, ::sandbar_version and ::sandbar_frames_head. The code is
  * that of the first test that fails, in the order in which the function names them. sandbarstove_text.h has a text for
  * each. At any code except ::SANDBAR_OK the call did nothing. It then wrote nothing, except @c why if the function says so.
+ * ::sandbar_scrub is the one call that does its work and returns ::SANDBAR_NO_MEMORY.
  *
  * No pointer may be null, also if its length is 0. A pointer with a length must point to that many bytes or structs. Memory
  * that a call writes must not overlap anything else that is passed to it.
@@ -101,12 +102,18 @@ enum sandbar_part {
   SANDBAR_ALL = 3       /**< all of these */
 };
 
+/** The difference that the part of sizes finds. */
+enum sandbar_difference {
+  SANDBAR_SIZES_DIFFER = 1, /**< the sizes are others than in the opening: do not call the node again */
+  SANDBAR_COUNT_DIFFERS = 2 /**< a number of ::sandbar_scrub_each changed: call it again; until then each packet has a scrub */
+};
+
 /** The finding of a scrub before a packet (::sandbar_scrub_each). */
 enum sandbar_found {
   SANDBAR_UNSCRUBBED = 0, /**< no scrub was due before the packet */
   SANDBAR_WHOLE = 1,      /**< the program that judges the packet is as it was published */
   SANDBAR_MENDED = 2,     /**< it was damaged, and was made again of its image */
-  SANDBAR_WITHDRAWN = 3,  /**< it was damaged and not mended, or its slot was withdrawn before */
+  SANDBAR_WITHDRAWN = 3,  /**< it was damaged and not mended: its slot is withdrawn */
   SANDBAR_NO_SLOT = 255   /**< the @c found_slot of a packet before which no scrub was due */
 };
 
@@ -173,9 +180,9 @@ typedef struct sandbar_served {
 typedef struct sandbar_scrubbed {
   uint64_t first;    /**< the place of the first damaged entry of the first journal that has one (at 0) */
   uint8_t mended;    /**< a bit a slot: its program was damaged, and was made again of its image (at 8) */
-  uint8_t withdrawn; /**< a bit a slot: its program was damaged and not mended, or it was withdrawn before (at 9) */
+  uint8_t withdrawn; /**< a bit a slot: its program was damaged and not mended (at 9) */
   uint8_t restored;  /**< 1: the image that was lent is now the program of slot 3, which was withdrawn; else 0 (at 10) */
-  uint8_t sizes;     /**< 1: the sizes are others than in the opening: do not call the node again; else 0 (at 11) */
+  uint8_t sizes;     /**< ::sandbar_difference, or 0 (at 11) */
   uint8_t journals;  /**< a bit a bank: its journal has an entry that ::sandbar_entry_at calls damaged (at 12) */
 } sandbar_scrubbed;
 
@@ -297,12 +304,15 @@ uint32_t sandbar_word(sandbar_node *node, uint8_t map, uint16_t cell, uint64_t *
  *
  * The part of programs compares each slot's program, as it is run, with the sum that was kept when it was published. A
  * program that differs is made again of its image, by the next generation, if the verifier accepts it and it has that sum.
- * The call asks for memory for that. Else its slot is withdrawn: each command for it is answered by a general error (status 1, ::SANDBAR_ANSWERED) until a
- * load publishes another program. If slot 3 is withdrawn, no load is permitted: so the program of @p image is then published
- * for it, if it may judge. An image of no bytes is none.
+ * The call asks for memory for that. Else its slot is withdrawn: each command for it is answered by a general error (status 1,
+ * ::SANDBAR_ANSWERED) until a later scrub mends it, or a load publishes another program. If slot 3 is withdrawn, no load is
+ * permitted: so the program of @p image is then published for it, if it may judge. An image of no bytes is none.
+ *
+ * If a slot is withdrawn since memory was refused, the code is ::SANDBAR_NO_MEMORY. The rest was done, and @p scrubbed was
+ * written. Call it again when there is memory.
  *
  * The parts of sizes and journals report what differs, and change nothing. Journals take as long as reading all entries.
- * Codes: ::SANDBAR_NO_NODE, ::SANDBAR_NO_PART.
+ * Codes: ::SANDBAR_NO_NODE, ::SANDBAR_NO_PART, ::SANDBAR_NO_MEMORY.
  */
 SANDBAR_CALL
 uint32_t sandbar_scrub(sandbar_node *node, uint8_t part, const uint8_t *image, size_t image_length,

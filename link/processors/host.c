@@ -354,7 +354,7 @@ uint32_t sandbar_scrub(sandbar_node *node, uint8_t part, const uint8_t *image, s
   size_t length = at_most(image_length, IMAGE_ROOM);
   put(it, inside->packet, image, length);
   uint32_t code = Z_sandbarZ_sandbar_scrub(it, inside->node, part, inside->packet, length, inside->small);
-  if (code != SANDBAR_OK) return code;
+  if (code != SANDBAR_OK && code != SANDBAR_NO_MEMORY) return code;
   scrubbed->first = number(it, inside->small, 8);
   scrubbed->mended = (uint8_t)number(it, inside->small + 8, 1);
   scrubbed->withdrawn = (uint8_t)number(it, inside->small + 9, 1);

@@ -2,7 +2,7 @@
 use Rattle.std.specs.Prelude.{ℕ, List, [], ◌∷◌, ◌++◌, codes, decimal, Option, None, Some}
 use Rattle.scrub.specs.declared.guard.Found.{Found}
 use Rattle.scrub.specs.declared.guard.Health.{Health}
-use Rattle.scrub.specs.declared.guard.Health.TheVariants.{Whole, Mended, Withdrawn}
+use Rattle.scrub.specs.declared.guard.Health.TheVariants.{Whole, Mended, Unmended, Withdrawn}
 use Rattle.job_nodes.specs.Lines.{served_line}
 use Rattle.job_nodes.specs.declared.live_node.Taken.{Taken}
 
@@ -15,6 +15,7 @@ abbrev pub health_text : (slot : ℕ) → Health → List ℕ
 health_text slot Whole = []
 health_text slot Mended = scrub_line slot (codes "mended")
 health_text slot Withdrawn = scrub_line slot (codes "withdrawn")
+health_text slot Unmended = scrub_line slot (codes "withdrawn")
 
 -- the same of what a scrub found, if one was due
 abbrev pub found_text : Option Found → List ℕ

@@ -2,12 +2,13 @@
 use Rattle.std.proofs.Common.{◌≡◌, ◌∙◌, ℕ, Bool, false, true, List, Option, None, Some, length, refl, sym, ap, subst}
 use Rattle.std.proofs.lemmas.List.{length-set}
 use Rattle.node_parts.specs.Passes.{PassValue}
-use Rattle.scrub.specs.Guarded.{AnswersBy, AnswersOn, GuardedValue, ScrubsFirst, ScrubsSlot, ServesGuarded, Watched, beside, counted, renewed}
+use Rattle.scrub.specs.Guarded.{AnswersBy, AnswersOn, GuardedValue, ScrubsFirst, ScrubsSlot, ServesGuarded, Watched, beside, counting_on}
+use Rattle.scrub.specs.Counting.{counted, renewed}
 use Rattle.scrub.specs.declared.answer.Answer.{Answer}
 use Rattle.scrub.specs.declared.guard.Found.{Found}
 use Rattle.scrub.specs.declared.guard.Guard.{Guard}
 use Rattle.scrub.specs.declared.guard.Health.{Health}
-use Rattle.scrub.specs.declared.guard.Health.TheVariants.{Whole, Mended, Withdrawn}
+use Rattle.scrub.specs.declared.guard.Health.TheVariants.{Whole, Mended, Unmended, Withdrawn}
 use Rattle.single_node.specs.Nodes.{SingleNodeValue}
 use Rattle.single_node.specs.Serving.{ServesInto}
 use Rattle.single_node.specs.declared.served.Told.{Told}
@@ -27,11 +28,12 @@ scrubbed_same : (health : Health) (slot : ℕ) (before after : Watched) → Scru
 scrubbed_same Whole slot before after s = (ap (λ (g : Watched). g.node.banks) s.after_is, ap (λ (g : Watched). g.node.passes) s.after_is)
 scrubbed_same Mended slot before after s = (ap (λ (g : Watched). g.node.banks) s.remade.after_is, ap (λ (g : Watched). g.node.passes) s.remade.after_is)
 scrubbed_same Withdrawn slot before after s = (ap (λ (g : Watched). g.node.banks) s.after_is, ap (λ (g : Watched). g.node.passes) s.after_is)
+scrubbed_same Unmended slot before after s = (ap (λ (g : Watched). g.node.banks) s.after_is, ap (λ (g : Watched). g.node.passes) s.after_is)
 
 first_same : (due : Bool) (slot : Option ℕ) (found : Option Found) (before after : Watched) → ScrubsFirst due slot found before after → AreSame before after
-first_same false slot found before after s = same_all (beside (counted before.guard) before.node) after s.same
+first_same false slot found before after s = same_all (counting_on before (counted before.guard.counting)) after s.same
 first_same true None found before after s = same_all before after s.same
-first_same true (Some slot) found before after s = scrubbed_same s.health slot (beside (renewed before.guard) before.node) after s.scrubs
+first_same true (Some slot) found before after s = scrubbed_same s.health slot (counting_on before (renewed before.guard.counting)) after s.scrubs
 
 -- as much room in each journal, and as many ports
 abbrev AreAsMany : (before after : SingleNodeValue) → Type 0

@@ -4,7 +4,8 @@ use Rattle.std.specs.Prelude.{slice_get}
 use Rattle.node_programs.specs.declared.publishes.Publish.{Publish}
 use Rattle.node_programs.specs.Published.{generation_at}
 use Rattle.scrub.specs.declared.kept.SlotSums.{SlotSums}
-use Rattle.scrub.specs.Guarded.{AnswersBy, AnswersRead, AnswersUnread, FindsAt, FindsNothing, IsRemade, ScrubsFirst, Watched, beside, counted, renewed}
+use Rattle.scrub.specs.Guarded.{AnswersBy, AnswersRead, AnswersUnread, FindsAt, FindsNothing, IsRemade, ScrubsFirst, Watched, counting_on}
+use Rattle.scrub.specs.Counting.{counted, renewed}
 use Rattle.scrub.specs.declared.guard.Found.{Found}
 use Rattle.scrub.specs.Kept.{AreFresh, FollowAt, closed_in, is_withheld}
 use Rattle.single_node.specs.declared.served.Told.{Told}
@@ -55,7 +56,7 @@ pub remade_ports : (slot : ℕ) (kept : SlotSums) (before after : Watched) → I
 remade_ports slot kept before after is = ap (λ (g : Watched). g.node.passes) is.after_is
 
 -- which slot is scrubbed first
-pub first_not : (due : Bool) (slot : Option ℕ) (found : Option Found) (before after : Watched) → due ≡ false → FindsNothing found (beside (counted before.guard) before.node) after
+pub first_not : (due : Bool) (slot : Option ℕ) (found : Option Found) (before after : Watched) → due ≡ false → FindsNothing found (counting_on before (counted before.guard.counting)) after
     → ScrubsFirst due slot found before after
 first_not true slot found before after is nothing = absurd (cc is)
 first_not false slot found before after is nothing = nothing
@@ -65,7 +66,7 @@ first_none false slot found before after is none nothing = absurd (cc is)
 first_none true None found before after is none nothing = nothing
 first_none true (Some s) found before after is none nothing = absurd (cc none)
 
-pub first_some : (due : Bool) (slot : Option ℕ) (s : ℕ) (found : Option Found) (before after : Watched) → due ≡ true → slot ≡ Some s → FindsAt s found (beside (renewed before.guard) before.node) after
+pub first_some : (due : Bool) (slot : Option ℕ) (s : ℕ) (found : Option Found) (before after : Watched) → due ≡ true → slot ≡ Some s → FindsAt s found (counting_on before (renewed before.guard.counting)) after
     → ScrubsFirst due slot found before after
 first_some false slot s found before after is some finds = absurd (cc is)
 first_some true slot s found before after is some finds =

@@ -1,6 +1,9 @@
 -- A node whose programs are scrubbed.
-use Rattle.std.specs.Prelude.{◌≡◌, ◌<◌, ◌⊎◌, ◌==◌, ◌-◌, ℕ, nat_le, Bool, false, true, List, [], length, Option, None, Some, slice_get, slice_set, if◌then◌else◌}
+use Rattle.std.specs.Prelude.{◌≡◌, ◌≢◌, ◌<◌, ◌≤◌, ◌^◌, ◌⊎◌, ◌==◌, ℕ, Bool, false, true, List, [], length, Option, None, Some, slice_get, slice_set}
 use Rattle.bver.specs.Justified.{AcceptedValue}
+use Rattle.bver.specs.Unjustified.{TellsUnjustified}
+use Rattle.bver_form.specs.declared.refusal.Refusal.TheVariants.{Memory as RefusedMemory}
+use Rattle.bver_form.specs.declared.refusal.Refused.{Refused}
 use Rattle.node_parts.specs.declared.served.Served.TheVariants.{Unread}
 use Rattle.node_programs.specs.Published.{program_at}
 use Rattle.rmap.specs.Command.{command_of}
@@ -16,11 +19,15 @@ use Rattle.scrub.specs.declared.guarded.GuardedNode.{GuardedNode}
 use Rattle.scrub.specs.declared.guard.Found.{Found}
 use Rattle.scrub.specs.declared.guard.Guard.{Guard}
 use Rattle.scrub.specs.declared.guard.Health.{Health}
-use Rattle.scrub.specs.declared.guard.Health.TheVariants.{Whole, Mended, Withdrawn}
+use Rattle.scrub.specs.declared.guard.Health.TheVariants.{Whole, Mended, Unmended, Withdrawn}
 use Rattle.scrub.specs.declared.guard.Scrubbed.{Scrubbed}
 use Rattle.scrub.specs.declared.kept.SlotSums.{SlotSums}
+use Rattle.scrub.specs.Counting.{agrees, counted, counting_of, is_due, renewed}
 use Rattle.scrub.specs.Damage.{sizes_sum}
-use Rattle.scrub.specs.Kept.{AreFresh, Follow, fresh_sums, has_sum, is_open, is_withheld, withdrawn_sums}
+use Rattle.scrub.specs.declared.counting.Counting.{Counting}
+use Rattle.scrub.specs.declared.made.MendFault.{MendFault}
+use Rattle.scrub.specs.declared.made.MendFault.TheVariants.{Memory, Image, Full}
+use Rattle.scrub.specs.Kept.{AreFresh, Follow, fresh_sums, has_sum, is_withheld, withdrawn_sums}
 use Rattle.scrub.specs.Sums.{IsSummed}
 
 -- a node, with what is kept of its programs, if they are scrubbed
@@ -57,25 +64,61 @@ pub record HasSumAt (g : Watched) (slot sum : ℕ) : Type 0 where
   pub shown : program_at g.node.programs slot ≡ Some program
   pub summed : IsSummed program sum
 
--- the slot may judge, and its program's sum is none of those that are kept
+-- the sum of the slot's program is none of those that are kept
 pub record IsDamaged (g : Watched) (slot : ℕ) (kept : SlotSums) : Type 0 where
   pub sum : ℕ
   pub has : HasSumAt g slot sum
-  pub open_is : is_open kept ≡ true
   pub differs : has_sum kept sum ≡ false
 
--- the program of the same image, for the same maps, and its sum is one of those that are kept
-pub record IsMadeAgain (program : AcceptedValue) (kept : SlotSums) (made : AcceptedValue) (sum : ℕ) : Type 0 where
+-- the program of the same image, for the same maps
+pub record IsVerifiedAgain (program made : AcceptedValue) : Type 0 where
   pub same : made.program ≡ program.program
   pub sizes : made.sizes ≡ program.sizes
+
+-- the same, and its sum is one of those that are kept
+pub record IsMadeAgain (program : AcceptedValue) (kept : SlotSums) (made : AcceptedValue) (sum : ℕ) : Type 0 where
+  pub verified : IsVerifiedAgain program made
   pub summed : IsSummed made sum
   pub agrees : has_sum kept sum ≡ true
 
--- the program is as it was published: nothing changed, but that both sums are now its own
+-- the same, and its sum is none of those that are kept
+pub record IsMadeOtherwise (program : AcceptedValue) (kept : SlotSums) : Type 0 where
+  pub made : AcceptedValue
+  pub sum : ℕ
+  pub verified : IsVerifiedAgain program made
+  pub summed : IsSummed made sum
+  pub differs : has_sum kept sum ≡ false
+
+-- the verifier refuses the program's image, and not for want of memory
+pub record IsRefusedAgain (program : AcceptedValue) : Type 0 where
+  pub refused : Refused
+  pub tells : TellsUnjustified program.program program.sizes refused
+  pub other : refused.code ≢ RefusedMemory
+
+-- why the verifier made no program of the image
+abbrev pub IsUnverified : AcceptedValue → MendFault → Type 0
+IsUnverified program Memory = Unit {0}
+IsUnverified program Image = IsRefusedAgain program
+IsUnverified program Full = ⊥
+
+-- why no program was made that has a sum that is kept
+abbrev pub IsUnmade : AcceptedValue → SlotSums → MendFault → Type 0
+IsUnmade program kept Memory = Unit {0}
+IsUnmade program kept Image = IsRefusedAgain program ⊎ IsMadeOtherwise program kept
+IsUnmade program kept Full = ⊥
+
+-- why the slot's program was not mended: memory was refused; no program with a sum that is kept can be made of its image; or
+-- no more programs can be published
+abbrev pub IsUnmended : (slot : ℕ) → SlotSums → Watched → MendFault → Type 0
+IsUnmended slot kept g Memory = Unit {0}
+IsUnmended slot kept g Image =
+    (program : AcceptedValue) × (program_at g.node.programs slot ≡ Some program) × IsUnmade program kept Image
+IsUnmended slot kept g Full = 2 ^ 32 ≤ length g.node.programs
+
+-- the program is as it was published: nothing changed, but that both sums are now its own, and that it may judge
 pub record StaysWhole (slot : ℕ) (before after : Watched) : Type 0 where
   pub kept : SlotSums
   pub at : slice_get before.guard.sums slot ≡ Some kept
-  pub open_is : is_open kept ≡ true
   pub sum : ℕ
   pub has : HasSumAt before slot sum
   pub agrees : has_sum kept sum ≡ true
@@ -97,18 +140,28 @@ pub record IsMended (slot : ℕ) (before after : Watched) : Type 0 where
   pub damaged : IsDamaged before slot kept
   pub remade : IsRemade slot kept before after
 
--- the slot was withdrawn before, or its program was damaged; it is withdrawn, and nothing else changed
-pub record IsWithdrawn (slot : ℕ) (before after : Watched) : Type 0 where
+-- how a slot is found whose program was not mended
+abbrev pub health_by : MendFault → Health
+health_by Memory = Unmended
+health_by Image = Withdrawn
+health_by Full = Withdrawn
+
+-- the program was damaged, and was not mended; its slot is withdrawn, and nothing else changed
+pub record IsWithdrawn (health : Health) (slot : ℕ) (before after : Watched) : Type 0 where
   pub kept : SlotSums
   pub at : slice_get before.guard.sums slot ≡ Some kept
-  pub reason : (is_open kept ≡ false) ⊎ IsDamaged before slot kept
+  pub damaged : IsDamaged before slot kept
+  pub fault : MendFault
+  pub reason : IsUnmended slot kept before fault
+  pub health_is : health ≡ health_by fault
   pub after_is : after ≡ keeping before slot (withdrawn_sums kept)
 
--- what a scrub of a slot does
+-- what a scrub of a slot does, whether it was withdrawn before or not
 abbrev pub ScrubsSlot : Health → (slot : ℕ) → (before after : Watched) → Type 0
 ScrubsSlot Whole slot before after = StaysWhole slot before after
 ScrubsSlot Mended slot before after = IsMended slot before after
-ScrubsSlot Withdrawn slot before after = IsWithdrawn slot before after
+ScrubsSlot Withdrawn slot before after = IsWithdrawn Withdrawn slot before after
+ScrubsSlot Unmended slot before after = IsWithdrawn Unmended slot before after
 
 -- a scrub of the four slots, one after the other
 pub record Scrubs (told : Scrubbed) (before after : Watched) : Type 0 where
@@ -126,8 +179,7 @@ pub record Scrubs (told : Scrubbed) (before after : Watched) : Type 0 where
 pub record IsGuardOf (node : SingleNodeValue) (each : ℕ) (guard : Guard) : Type 0 where
   pub fresh : (slot : ℕ) → slot < 4 → AreFresh node.programs slot (slice_get guard.sums slot)
   pub sizes_are : guard.sizes ≡ sizes_sum node
-  pub each_is : guard.each ≡ each
-  pub left_is : guard.left ≡ each
+  pub counting_is : guard.counting ≡ counting_of each each
 
 -- what is kept at first: with a number such a guard, and without one nothing
 abbrev pub BeginsGuard : (each : Option ℕ) → SingleNodeValue → Option Guard → Type 0
@@ -174,23 +226,24 @@ abbrev pub has_sizes : Option Guard → SingleNodeValue → Bool
 has_sizes None node = true
 has_sizes (Some guard) node = sizes_sum node == guard.sizes
 
+-- the numbers of scrubs agree with their complements, if there are some
+abbrev pub has_counting : Option Guard → Bool
+has_counting None = true
+has_counting (Some guard) = agrees guard.counting
+
 -- ---- a scrub before each packet of a number
 
--- a scrub is due before this packet: it is the last of so many, if they are counted
-abbrev pub is_due : (each left : ℕ) → Bool
-is_due each left = if each == 0 then false else nat_le left 1
-
--- what is kept, before a packet before which no scrub is due
-abbrev pub counted : Guard → Guard
-counted guard = record guard { left = if guard.each == 0 then guard.left else guard.left - 1 }
-
--- what is kept, once the scrub that was due was done
-abbrev pub renewed : Guard → Guard
-renewed guard = record guard { left = guard.each }
+-- what is kept, with these numbers
+abbrev pub with_counting : Guard → Counting → Guard
+with_counting guard counting = record guard { counting = counting }
 
 -- what is kept, with a scrub before each packet of so many
 abbrev pub scrubbing_each : Guard → (each : ℕ) → Guard
-scrubbing_each guard each = record guard { each = each; left = each }
+scrubbing_each guard each = with_counting guard (counting_of each each)
+
+-- the same with the node
+abbrev pub counting_on : Watched → Counting → Watched
+counting_on g counting = beside (with_counting g.guard counting) g.node
 
 -- from now on there is a scrub before each packet of so many
 pub record SetsEach (each : ℕ) (before after : GuardedValue) : Type 0 where
@@ -213,15 +266,14 @@ pub record FindsNothing (found : Option Found) (before after : Watched) : Type 0
 -- if no scrub is due the packet is counted. If one is due and a program judges the packet, the slot of that program is
 -- scrubbed; if none judges it, the scrub stays due
 abbrev pub ScrubsFirst : (due : Bool) → (slot : Option ℕ) → (found : Option Found) → (before after : Watched) → Type 0
-ScrubsFirst false slot found before after = FindsNothing found (beside (counted before.guard) before.node) after
+ScrubsFirst false slot found before after = FindsNothing found (counting_on before (counted before.guard.counting)) after
 ScrubsFirst true None found before after = FindsNothing found before after
-ScrubsFirst true (Some slot) found before after = FindsAt slot found (beside (renewed before.guard) before.node) after
+ScrubsFirst true (Some slot) found before after = FindsAt slot found (counting_on before (renewed before.guard.counting)) after
 
 -- a scrub before a packet at a port, if one is due
 abbrev pub ScrubsBefore : (port : ℕ) → Cargo → Option Found → (before after : Watched) → Type 0
 ScrubsBefore port packet found before after =
-    ScrubsFirst (is_due before.guard.each before.guard.left) (slot_in (slice_get before.node.passes port) packet) found before
-    after
+    ScrubsFirst (is_due before.guard.counting) (slot_in (slice_get before.node.passes port) packet) found before after
 
 -- ---- packets
 

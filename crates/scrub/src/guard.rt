@@ -6,13 +6,15 @@ ghost use Rattle.node_programs.specs.Published.{generation_at, sizes_of};
 ghost use Rattle.node_programs.specs.declared.publishes.Publish.{Publish};
 ghost use Rattle.rmap.specs.Command.{discard_of};
 ghost use Rattle.single_node.specs.Nodes.{slot_in};
+ghost use Rattle.scrub.specs.Counting.{agrees, counted, is_due, renewed};
 ghost use Rattle.scrub.specs.Damage.{sizes_sum};
-ghost use Rattle.scrub.specs.Guarded.{IsGuardOf, IsInstalled, IsRemade, ScrubsFirst, ScrubsSlot, Scrubs, beside, counted, is_due, renewed, scrubbing_each, with_all, with_sums};
+ghost use Rattle.scrub.specs.Guarded.{IsGuardOf, IsInstalled, IsRemade, IsUnmended, ScrubsFirst, ScrubsSlot, Scrubs, beside, health_by, scrubbing_each, with_all, with_counting, with_sums};
 ghost use Rattle.scrub.specs.Kept.{AreFresh, AreGenerations, Follow, FollowAt, closed_in, is_withheld};
 
+use crate::counting::Counting;
 use crate::damage::sizes_sum;
 use crate::kept::{SlotSums, is_closed_at, set_sums, sums_at};
-use crate::made::made_again;
+use crate::made::{MendFault, made_again};
 use crate::op_sums::program_sum;
 use bver::Accepted;
 use node_programs::PublishFault;
@@ -27,8 +29,10 @@ pub enum Health {
     Whole,
     /// They had not, and a program that was made again of its image is published for the slot.
     Mended,
-    /// They had not, and nothing could be made of its image; or the slot was withdrawn before.
+    /// They had not, and no program that has it can be made of its image, or no more programs can be published: the slot is withdrawn.
     Withdrawn,
+    /// They had not, and memory to make the program again was refused: the slot is withdrawn until the next scrub.
+    Unmended,
 }
 
 /// How the programs of the four slots were found.
@@ -61,12 +65,20 @@ pub struct Found {
 pub struct Guard {
     /// What is kept of each slot's program.
     pub sums: [SlotSums; 4],
-    /// Before each packet of so many the program that judges it is scrubbed; before none where it is 0.
-    pub each: u32,
-    /// How many packets are left until then, with that one.
-    pub left: u32,
+    /// Before which packets a program is scrubbed.
+    pub counting: Counting,
     /// The sum of the node's sizes, as it was opened.
     pub sizes: u64,
+}
+
+/// How a slot is found whose program was not mended.
+fn health_by(fault: MendFault) -> Health
+    ensures { result ≡ health_by fault }
+{
+    match fault {
+        MendFault::Memory => Health::Unmended,
+        MendFault::Image | MendFault::Full => Health::Withdrawn,
+    }
 }
 
 /// What is to be kept of the program that judges at a slot. The condition is a slot below 4.
@@ -152,8 +164,7 @@ impl Guard {
                 fresh_at(node, 2),
                 fresh_at(node, 3),
             ],
-            each,
-            left: each,
+            counting: Counting::of(each, each),
             sizes: sizes_sum(node),
         }
     }
@@ -193,22 +204,29 @@ impl Guard {
         Ok(generation)
     }
 
-    /// Publishes the program of a slot that was made again of its image, if its sum is one of those that are kept: whether it did.
-    fn mend(&mut self, node: &mut SingleNode, alloc: Global, slot: u8, kept: &SlotSums) -> bool
+    /// Publishes the program of a slot that was made again of its image, if its sum is one of those that are kept.
+    #[tactic(auto, using(crate::proofs::Mending::no_more))]
+    fn mend(
+        &mut self,
+        node: &mut SingleNode,
+        alloc: Global,
+        slot: u8,
+        kept: &SlotSums,
+    ) -> Result<(), MendFault>
         requires { slot < 4 }
-        ensures mended { result ≡ true
-            → IsRemade slot kept.now (beside self.old node.old) (beside self.new node.new) }
-        ensures same { result ≡ false → beside self.new node.new ≡ beside self.old node.old }
+        ensures mended { OnOk result
+            (IsRemade slot kept.now (beside self.old node.old) (beside self.new node.new)) }
+        ensures same { OnErr result (beside self.new node.new ≡ beside self.old node.old) }
+        ensures fault { IfErr result (IsUnmended slot kept.now (beside self.old node.old)) }
     {
-        let Some((program, sum)) = made_again(alloc, node.program(slot), kept) else {
-            return false;
-        };
+        let (program, sum) = made_again(alloc, node.program(slot), kept)?;
         match node.publish(alloc, slot, program) {
             Ok(_generation) => {
                 self.keep(slot, SlotSums::of(sum));
-                true
+                Ok(())
             }
-            Err(_fault) => false,
+            Err(PublishFault::GenerationsFull) => Err(MendFault::Full),
+            Err(PublishFault::Memory | PublishFault::Slot) => Err(MendFault::Memory),
         }
     }
 
@@ -216,41 +234,14 @@ impl Guard {
     pub fn scrub_each(&mut self, each: u32)
         ensures { self.new ≡ scrubbing_each self.old each }
     {
-        self.each = each;
-        self.left = each;
+        self.counting = Counting::of(each, each);
     }
 
-    /// Whether a scrub is due before the next packet.
-    fn is_due(&self) -> bool
-        ensures { result ≡ is_due self.now.each self.now.left }
-    {
-        if self.each == 0 {
-            return false;
-        }
-        self.left <= 1
-    }
-
-    /// Counts a packet before which no scrub is due.
-    fn count(&mut self)
-        ensures { self.new ≡ counted self.old }
-    {
-        if self.each == 0 {
-            return;
-        }
-        self.left = self.left.saturating_sub(1);
-    }
-
-    /// Counts anew: the scrub that was due is done.
-    fn renew(&mut self)
-        ensures { self.new ≡ renewed self.old }
-    {
-        self.left = self.each;
-    }
-
-    /// Scrubs the program of a slot. If its operations have a sum that is kept, nothing changes, but that both sums are then that
-    /// one. Else the program that the verifier accepts of its image is published for the slot, if it has a sum that is kept; it
-    /// takes memory for that. Else the slot is withdrawn, as it stays if it was withdrawn before. The condition is a slot below 4.
-    #[tactic(auto, using(crate::proofs::Serving::remade_banks, crate::proofs::Serving::remade_ports))]
+    /// Scrubs the program of a slot, whether it was withdrawn before or not. If its operations have a sum that is kept, it may judge,
+    /// and nothing else changes, but that both sums are then that one. Else the program that the verifier accepts of its image is
+    /// published for the slot, if it has a sum that is kept; it takes memory for that. Else the slot is withdrawn. The condition is a
+    /// slot below 4.
+    #[tactic(auto, using(crate::proofs::Serving::remade_banks, crate::proofs::Serving::remade_ports, crate::proofs::Mending::scrubs_by))]
     fn scrub_slot(&mut self, node: &mut SingleNode, alloc: Global, slot: u8) -> Health
         requires { slot < 4 }
         ensures scrubs { ScrubsSlot result slot (beside self.old node.old) (beside self.new node.new) }
@@ -258,20 +249,18 @@ impl Guard {
         ensures ports { node.new.passes ≡ node.old.passes }
     {
         let kept = sums_at(&self.sums, slot);
-        if !kept.is_open() {
-            self.keep(slot, kept.withdrawn());
-            return Health::Withdrawn;
-        }
         let sum = program_sum(node.program(slot));
         if kept.has(sum) {
             self.keep(slot, SlotSums::of(sum));
             return Health::Whole;
         }
-        if self.mend(node, alloc, slot, &kept) {
-            return Health::Mended;
+        match self.mend(node, alloc, slot, &kept) {
+            Ok(()) => Health::Mended,
+            Err(fault) => {
+                self.keep(slot, kept.withdrawn());
+                health_by(fault)
+            }
         }
-        self.keep(slot, kept.withdrawn());
-        Health::Withdrawn
     }
 
     /// Scrubs the programs of the four slots.
@@ -288,6 +277,13 @@ impl Guard {
             rmws,
             window,
         }
+    }
+
+    /// Whether the numbers of scrubs before packets agree with their complements.
+    pub fn has_counting(&self) -> bool
+        ensures { result ≡ agrees self.now.counting }
+    {
+        self.counting.agrees()
     }
 
     /// Whether the node's sizes have the sum that was kept of them: how many ports and banks it has, where the banks lie, and how many
@@ -325,22 +321,29 @@ impl Guard {
         packet: &Packet,
     ) -> Option<Found>
         requires { port < length node.old.passes }
-        ensures scrubs { ScrubsFirst (is_due self.old.each self.old.left)
+        ensures scrubs { ScrubsFirst (is_due self.old.counting)
             (slot_in (slice_get node.old.passes port) packet.now) result
             (beside self.old node.old) (beside self.new node.new) }
         ensures banks { node.new.banks ≡ node.old.banks }
         ensures ports { node.new.passes ≡ node.old.passes }
     {
-        if !self.is_due() {
-            self.count();
+        if !self.counting.is_due() {
+            self.count(self.counting.counted());
             return None;
         }
         let Some(slot) = node.slot_for(port, packet) else {
             return None;
         };
-        self.renew();
+        self.count(self.counting.renewed());
         let health = self.scrub_slot(node, alloc, slot);
         Some(Found { slot, health })
+    }
+
+    /// Keeps these numbers of scrubs before packets.
+    fn count(&mut self, counting: Counting)
+        ensures { self.new ≡ with_counting self.old counting }
+    {
+        self.counting = counting;
     }
 
     /// Keeps the sums of the programs that were published since the four slots had those generations.

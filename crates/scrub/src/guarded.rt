@@ -4,7 +4,7 @@ ghost use Rattle.std.specs.Prelude.{◌≡◌, ◌<◌, ◌≤◌, IfErr, IfOk, 
 ghost use Rattle.node_programs.specs.Codes.{IsUnpublished};
 ghost use Rattle.node_programs.specs.Published.{sizes_of};
 ghost use Rattle.rmap.specs.declared.reply.TheConstants.{MAX_REPLY};
-ghost use Rattle.scrub.specs.Guarded.{AnswersBy, AnswersWatched, BeginsGuard, HasGuard, Installs, IsGuarded, ScrubsGuarded, ServesGuarded, SetsEach, beside, has_sizes, unread};
+ghost use Rattle.scrub.specs.Guarded.{AnswersBy, AnswersWatched, BeginsGuard, HasGuard, Installs, IsGuarded, ScrubsGuarded, ServesGuarded, SetsEach, beside, has_counting, has_sizes, unread};
 ghost use Rattle.scrub.specs.Damage.{broken_of};
 ghost use Rattle.scrub.specs.Kept.{is_withheld};
 ghost use Rattle.single_node.specs.Nodes.{slot_in};
@@ -158,6 +158,16 @@ impl GuardedNode {
     {
         match &self.guard {
             Some(guard) => guard.has_sizes(&self.node),
+            None => true,
+        }
+    }
+
+    /// Whether the numbers of scrubs before packets agree with their complements, if there are some.
+    pub fn has_counting(&self) -> bool
+        ensures { result ≡ has_counting self.now.guard }
+    {
+        match &self.guard {
+            Some(guard) => guard.has_counting(),
             None => true,
         }
     }

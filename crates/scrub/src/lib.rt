@@ -8,6 +8,7 @@
 #![tactic(auto)]
 
 mod answer;
+mod counting;
 mod damage;
 mod guard;
 mod guarded;
@@ -16,6 +17,7 @@ mod made;
 mod op_sums;
 
 pub use answer::Answer;
+pub use counting::Counting;
 pub use damage::Broken;
 pub use guard::{Found, Guard, Health, Scrubbed};
 pub use guarded::GuardedNode;

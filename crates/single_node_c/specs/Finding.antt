@@ -10,6 +10,7 @@ abbrev pub health_number : Health → ℕ
 health_number health.Whole = WHOLE
 health_number health.Mended = MENDED
 health_number health.Withdrawn = WITHDRAWN
+health_number health.Unmended = WITHDRAWN
 
 -- the number of what a scrub found, or that none was due
 abbrev pub found_number : Option Found → ℕ

@@ -14,7 +14,7 @@ pub const WHOLE: u8 = 1;
 /// It was damaged, and was made again of its image.
 pub const MENDED: u8 = 2;
 
-/// It was damaged and not mended, or its slot was withdrawn before.
+/// It was damaged and not mended: its slot is withdrawn.
 pub const WITHDRAWN: u8 = 3;
 
 /// The slot where there is none.
@@ -27,7 +27,7 @@ fn health_number(health: Health) -> u8
     match health {
         Health::Whole => WHOLE,
         Health::Mended => MENDED,
-        Health::Withdrawn => WITHDRAWN,
+        Health::Withdrawn | Health::Unmended => WITHDRAWN,
     }
 }
 

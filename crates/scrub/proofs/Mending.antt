@@ -1,0 +1,30 @@
+-- How a slot is found whose program was not mended, and why no more programs are published.
+use Rattle.std.proofs.Common.{◌≡◌, ◌<◌, ◌≤◌, ◌^◌, ℕ, zero, suc, arith}
+use Rattle.node_programs.specs.Codes.{IsUnpublished}
+use Rattle.node_programs.specs.declared.faults.PublishFault.TheVariants.{GenerationsFull}
+use Rattle.scrub.specs.Guarded.{IsWithdrawn, ScrubsSlot, Watched, health_by}
+use Rattle.scrub.specs.declared.guard.Health.{Health}
+use Rattle.scrub.specs.declared.guard.Health.TheVariants.{Whole, Mended, Unmended, Withdrawn}
+use Rattle.scrub.specs.declared.made.MendFault.{MendFault}
+use Rattle.scrub.specs.declared.made.MendFault.TheVariants.{Memory, Image, Full}
+
+-- a number that is not below another is at least it
+at_least : (n m : ℕ) → (m < n → ⊥) → n ≤ m
+at_least zero m not_below = omega arith
+at_least (suc n) zero not_below = absurd (not_below (omega arith))
+at_least (suc n) (suc m) not_below = omega (arith, at_least n m (λ low. not_below (omega (arith, low))))
+
+-- if no program is published since there are too many, there are
+pub no_more : (count : ℕ) → IsUnpublished count GenerationsFull → 2 ^ 32 ≤ count
+no_more count is = at_least (2 ^ 32) count (λ low. cc (is.memory low))
+
+-- no slot whose program was not mended is found whole or mended
+pub scrubs_by : (fault : MendFault) (health : Health) (slot : ℕ) (before after : Watched) → health ≡ health_by fault → IsWithdrawn health slot before after → ScrubsSlot health slot before after
+scrubs_by Memory Whole slot before after is found = absurd (cc is)
+scrubs_by Image Whole slot before after is found = absurd (cc is)
+scrubs_by Full Whole slot before after is found = absurd (cc is)
+scrubs_by Memory Mended slot before after is found = absurd (cc is)
+scrubs_by Image Mended slot before after is found = absurd (cc is)
+scrubs_by Full Mended slot before after is found = absurd (cc is)
+scrubs_by fault Withdrawn slot before after is found = found
+scrubs_by fault Unmended slot before after is found = found
