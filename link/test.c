@@ -409,8 +409,22 @@ static void scrubs(void) {
   }
   for (uint32_t each = 0; each < 4; each += 1) {
     answers(sandbar_scrub_each(&node, each), SANDBAR_OK, "scrub each");
-    for (uint8_t k = 0; k < 5; k += 1)
-      holds(serve(&node, 0, packet, put_read(packet, k, 0, 0xA0000000u, 1), reply).status == 0, "served");
+    for (uint8_t k = 0; k < 5; k += 1) {
+      sandbar_served served = serve(&node, 0, packet, put_read(packet, k, 0, 0xA0000000u, 1), reply);
+      int due = each != 0 && (k + 1u) % each == 0;
+      holds(served.status == 0, "served");
+      holds(served.found == (due ? SANDBAR_WHOLE : SANDBAR_UNSCRUBBED), "what the scrub found");
+      holds(served.found_slot == (due ? 0 : SANDBAR_NO_SLOT), "at which slot");
+    }
+  }
+  answers(sandbar_scrub_each(&node, 1), SANDBAR_OK, "scrub each");
+  sandbar_served window = serve(&node, 0, packet, put_read(packet, 5, 0xFF, 0x10000, 8), reply);
+  holds(window.found == SANDBAR_WHOLE && window.found_slot == 3, "a scrub of the slot of the window");
+  answers(sandbar_scrub_each(&node, 2), SANDBAR_OK, "scrub each");
+  for (uint8_t k = 0; k < 4; k += 1) { /* each second packet is no command: the scrub waits for one that is */
+    sandbar_served served = k % 2 == 1 ? serve(&node, 0, packet, 1, reply)
+                                       : serve(&node, 0, packet, put_read(packet, 6, 0xFF, 0x10000, 8), reply);
+    holds(served.found == (k == 2 ? SANDBAR_WHOLE : SANDBAR_UNSCRUBBED), "a scrub that is due stays due");
   }
   answers(sandbar_journal_of(&node, 0, &journal), SANDBAR_OK, "journal");
   holds(journal.loaded == 0 && journal.entries == 20, "no program is published");
