@@ -65,7 +65,7 @@ enum sandbar_code {
   SANDBAR_NO_ENTRY = 12,  /**< the journal has no such entry */
   SANDBAR_IS_OPEN = 13,   /**< the node, or the reader of frames, is open */
   SANDBAR_NO_CELL = 14,   /**< the node has no such map or cell */
-  SANDBAR_DAMAGED = 15,   /**< a bit of memory flipped: the entry is not as it was made, or the reader as it was left */
+  SANDBAR_DAMAGED = 15,   /**< a bit of memory flipped: of the entry, of the reader of frames, or of the node's sizes */
   SANDBAR_NO_PART = 16    /**< the number is no ::sandbar_part */
 };
 
@@ -237,8 +237,11 @@ uint32_t sandbar_close(sandbar_node *node);
 
 /**
  * Serves a whole packet, as it came in at a port. The bytes to send are then the first @c reply_length of @p reply. The
- * rest of @p reply is as before. Codes: ::SANDBAR_NO_NODE, ::SANDBAR_NO_PORT, ::SANDBAR_BAD_END,
+ * rest of @p reply is as before. Codes: ::SANDBAR_NO_NODE, ::SANDBAR_DAMAGED, ::SANDBAR_NO_PORT, ::SANDBAR_BAD_END,
  * ::SANDBAR_TOO_LONG, ::SANDBAR_NO_ROOM, ::SANDBAR_NO_MEMORY.
+ *
+ * It returns ::SANDBAR_DAMAGED if ::sandbar_scrub_each is on and the part of sizes would find ::SANDBAR_SIZES_DIFFER. It does
+ * so at each call until you close the node.
  *
  * It asks for memory once, for a copy of the packet, which the journal keeps. Loads of programs ask for more. If the copy
  * is refused, the packet was not served. If a load is refused memory, its reply says so (status 1).
@@ -321,7 +324,7 @@ uint32_t sandbar_scrub(sandbar_node *node, uint8_t part, const uint8_t *image, s
 /**
  * From now on scrubs the program that judges a packet, before each packet of that number: 1 is each, 2 each second one. At 0,
  * with which a node is opened, it scrubs none. If no program judges the packet before which a scrub is due, the scrub stays
- * due until a packet comes that one judges. @c found and @c found_slot of ::sandbar_served say what a scrub found. Codes:
+ * due until a packet comes that one judges. Before each packet the sizes are compared, too (::sandbar_serve). @c found and @c found_slot of ::sandbar_served say what a scrub found. Codes:
  * ::SANDBAR_NO_NODE.
  */
 SANDBAR_CALL

@@ -1,5 +1,5 @@
 -- Before which packets a program is scrubbed: by numbers beside their complements, which may disagree.
-use Rattle.std.specs.Prelude.{ℕ, ◌-◌, ◌^◌, ◌==◌, ◌&&◌, nat_le, Bool, false, true, if◌then◌else◌}
+use Rattle.std.specs.Prelude.{ℕ, ◌-◌, ◌^◌, ◌==◌, ◌&&◌, nat_le, not, Bool, false, true, if◌then◌else◌}
 use Rattle.scrub.specs.declared.counting.Counting.{Counting}
 
 -- the complement of a number of 32 bits: each of its bits is the other one
@@ -22,6 +22,10 @@ is_last each left = if each == 0 then false else nat_le left 1
 -- a scrub is due before this packet: it is the last of so many, or a number and its complement disagree
 abbrev pub is_due : Counting → Bool
 is_due c = if agrees c then is_last c.each c.left else true
+
+-- packets are counted, or it is not known that they are not
+abbrev pub is_on : Counting → Bool
+is_on c = not (agrees c && (c.each == 0))
 
 -- how many packets are left after one before which no scrub is due
 abbrev pub counted : Counting → Counting

@@ -1,5 +1,5 @@
 -- A node whose programs are scrubbed.
-use Rattle.std.specs.Prelude.{◌≡◌, ◌≢◌, ◌<◌, ◌≤◌, ◌^◌, ◌⊎◌, ◌==◌, ℕ, Bool, false, true, List, [], length, Option, None, Some, slice_get, slice_set}
+use Rattle.std.specs.Prelude.{◌≡◌, ◌≢◌, ◌<◌, ◌≤◌, ◌^◌, ◌⊎◌, ◌==◌, ◌&&◌, not, ℕ, Bool, false, true, List, [], length, Option, None, Some, slice_get, slice_set}
 use Rattle.bver.specs.Justified.{AcceptedValue}
 use Rattle.bver.specs.Unjustified.{TellsUnjustified}
 use Rattle.bver_form.specs.declared.refusal.Refusal.TheVariants.{Memory as RefusedMemory}
@@ -22,7 +22,7 @@ use Rattle.scrub.specs.declared.guard.Health.{Health}
 use Rattle.scrub.specs.declared.guard.Health.TheVariants.{Whole, Mended, Unmended, Withdrawn}
 use Rattle.scrub.specs.declared.guard.Scrubbed.{Scrubbed}
 use Rattle.scrub.specs.declared.kept.SlotSums.{SlotSums}
-use Rattle.scrub.specs.Counting.{agrees, counted, counting_of, is_due, renewed}
+use Rattle.scrub.specs.Counting.{agrees, counted, counting_of, is_due, is_on, renewed}
 use Rattle.scrub.specs.Damage.{sizes_sum}
 use Rattle.scrub.specs.declared.counting.Counting.{Counting}
 use Rattle.scrub.specs.declared.made.MendFault.{MendFault}
@@ -225,6 +225,11 @@ pub record ScrubsGuarded (told : Scrubbed) (before after : GuardedValue) : Type 
 abbrev pub has_sizes : Option Guard → SingleNodeValue → Bool
 has_sizes None node = true
 has_sizes (Some guard) node = sizes_sum node == guard.sizes
+
+-- packets have scrubs before them, and the sizes are others than they were: no packet may be served
+abbrev pub is_damaged : Option Guard → SingleNodeValue → Bool
+is_damaged None node = false
+is_damaged (Some guard) node = is_on guard.counting && not (sizes_sum node == guard.sizes)
 
 -- the numbers of scrubs agree with their complements, if there are some
 abbrev pub has_counting : Option Guard → Bool

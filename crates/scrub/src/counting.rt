@@ -1,7 +1,7 @@
 //! Before which packets a program is scrubbed.
 
 ghost use Rattle.std.specs.Prelude.{◌≡◌, ◌&&◌};
-ghost use Rattle.scrub.specs.Counting.{agrees, complement, counted, counting_of, is_due, renewed};
+ghost use Rattle.scrub.specs.Counting.{agrees, complement, counted, counting_of, is_due, is_on, renewed};
 
 /// Before each packet of how many a program is scrubbed, and how many are left until then. Beside each number is its complement. No
 /// invariant says that they agree, since memory may change in one of them: if they do not, a scrub is due before each packet.
@@ -55,6 +55,13 @@ impl Counting {
             return false;
         }
         self.left <= 1
+    }
+
+    /// Whether packets are counted, or it is not known that they are not.
+    pub(crate) fn is_on(&self) -> bool
+        ensures { result ≡ is_on self.now }
+    {
+        !(self.agrees() && self.each == 0)
     }
 
     /// The numbers after a packet before which no scrub is due.

@@ -1,12 +1,12 @@
 //! What is kept of a node's programs, and scrubs of them.
 
-ghost use Rattle.std.specs.Prelude.{◌≡◌, ◌<◌, ◌≤◌, ◌==◌, ℕ, List, IfErr, IfOk, None, OnErr, OnOk, Some, false, length, slice_get, true};
+ghost use Rattle.std.specs.Prelude.{◌≡◌, ◌<◌, ◌≤◌, ◌==◌, ℕ, List, ◌&&◌, IfErr, IfOk, None, OnErr, OnOk, Some, false, length, not, slice_get, true};
 ghost use Rattle.node_programs.specs.Codes.{IsUnpublished};
 ghost use Rattle.node_programs.specs.Published.{generation_at, sizes_of};
 ghost use Rattle.node_programs.specs.declared.publishes.Publish.{Publish};
 ghost use Rattle.rmap.specs.Command.{discard_of};
 ghost use Rattle.single_node.specs.Nodes.{slot_in};
-ghost use Rattle.scrub.specs.Counting.{agrees, counted, is_due, renewed};
+ghost use Rattle.scrub.specs.Counting.{agrees, counted, is_due, is_on, renewed};
 ghost use Rattle.scrub.specs.Damage.{sizes_sum};
 ghost use Rattle.scrub.specs.Guarded.{IsGuardOf, IsInstalled, IsRemade, IsUnmended, ScrubsFirst, ScrubsSlot, Scrubs, beside, health_by, scrubbing_each, with_all, with_counting, with_sums};
 ghost use Rattle.scrub.specs.Kept.{AreFresh, AreGenerations, Follow, FollowAt, closed_in, is_withheld};
@@ -292,6 +292,13 @@ impl Guard {
         ensures { result ≡ (sizes_sum node.now == self.now.sizes) }
     {
         sizes_sum(node) == self.sizes
+    }
+
+    /// Whether packets have scrubs before them, and the node's sizes are others than they were.
+    pub fn is_damaged(&self, node: &SingleNode) -> bool
+        ensures { result ≡ (is_on self.now.counting && not (sizes_sum node.now == self.now.sizes)) }
+    {
+        self.counting.is_on() && !self.has_sizes(node)
     }
 
     /// Whether the command of a packet that came in at a port is for a slot that is withdrawn. The condition is a port of the node.

@@ -4,7 +4,7 @@ ghost use Rattle.std.specs.Prelude.{◌≡◌, ◌<◌, ◌≤◌, IfErr, IfOk, 
 ghost use Rattle.node_programs.specs.Codes.{IsUnpublished};
 ghost use Rattle.node_programs.specs.Published.{sizes_of};
 ghost use Rattle.rmap.specs.declared.reply.TheConstants.{MAX_REPLY};
-ghost use Rattle.scrub.specs.Guarded.{AnswersBy, AnswersWatched, BeginsGuard, HasGuard, Installs, IsGuarded, ScrubsGuarded, ServesGuarded, SetsEach, beside, has_counting, has_sizes, unread};
+ghost use Rattle.scrub.specs.Guarded.{AnswersBy, AnswersWatched, BeginsGuard, HasGuard, Installs, IsGuarded, ScrubsGuarded, ServesGuarded, SetsEach, beside, has_counting, has_sizes, is_damaged, unread};
 ghost use Rattle.scrub.specs.Damage.{broken_of};
 ghost use Rattle.scrub.specs.Kept.{is_withheld};
 ghost use Rattle.single_node.specs.Nodes.{slot_in};
@@ -169,6 +169,16 @@ impl GuardedNode {
         match &self.guard {
             Some(guard) => guard.has_counting(),
             None => true,
+        }
+    }
+
+    /// Whether packets have scrubs before them, and the node's sizes are others than they were: then no packet may be served.
+    pub fn is_damaged(&self) -> bool
+        ensures { result ≡ is_damaged self.now.guard self.now.node }
+    {
+        match &self.guard {
+            Some(guard) => guard.is_damaged(&self.node),
+            None => false,
         }
     }
 
