@@ -308,7 +308,7 @@ uint32_t sandbar_word(sandbar_node *node, uint8_t map, uint16_t cell, uint64_t *
  * The part of programs compares each slot's program, as it is run, with the sum that was kept when it was published. A
  * program that differs is made again of its image, by the next generation, if the verifier accepts it and it has that sum.
  * The call asks for memory for that. Else its slot is withdrawn: each command for it is answered by a general error (status 1,
- * ::SANDBAR_ANSWERED) until a later scrub mends it, or a load publishes another program. If slot 3 is withdrawn, no load is
+ * ::SANDBAR_ANSWERED). A later scrub may mend it, and a load publishes another program. If slot 3 is withdrawn, no load is
  * permitted: so the program of @p image is then published for it, if it may judge. An image of no bytes is none.
  *
  * If a slot is withdrawn since memory was refused, the code is ::SANDBAR_NO_MEMORY. The rest was done, and @p scrubbed was
