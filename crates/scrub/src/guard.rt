@@ -219,7 +219,10 @@ impl Guard {
         ensures same { OnErr result (beside self.new node.new ≡ beside self.old node.old) }
         ensures fault { IfErr result (IsUnmended slot kept.now (beside self.old node.old)) }
     {
-        let (program, sum) = made_again(alloc, node.program(slot), kept)?;
+        let (program, sum) = match made_again(alloc, node.program(slot), kept) {
+            Ok(made) => made,
+            Err(fault) => return Err(fault),
+        };
         match node.publish(alloc, slot, program) {
             Ok(_generation) => {
                 self.keep(slot, SlotSums::of(sum));
@@ -335,13 +338,15 @@ impl Guard {
         ensures ports { node.new.passes ≡ node.old.passes }
     {
         if !self.counting.is_due() {
-            self.count(self.counting.counted());
+            let counted = self.counting.counted();
+            self.count(counted);
             return None;
         }
         let Some(slot) = node.slot_for(port, packet) else {
             return None;
         };
-        self.count(self.counting.renewed());
+        let renewed = self.counting.renewed();
+        self.count(renewed);
         let health = self.scrub_slot(node, alloc, slot);
         Some(Found { slot, health })
     }

@@ -20,6 +20,7 @@ pub enum MendFault {
 }
 
 /// The program of an image that the verifier accepts again, or why there is none.
+#[tactic(auto, using(crate::proofs::Mending::refused_again))]
 fn verified(alloc: Global, program: &Accepted) -> Result<Accepted, MendFault>
     ensures made { IfOk result (IsVerifiedAgain program.now) }
     ensures fault { IfErr result (IsUnverified program.now) }
@@ -43,7 +44,10 @@ pub(crate) fn made_again(
     ensures made { IfOk result (λ made. IsMadeAgain program.now kept.now made.0 made.1) }
     ensures fault { IfErr result (IsUnmade program.now kept.now) }
 {
-    let made = verified(alloc, program)?;
+    let made = match verified(alloc, program) {
+        Ok(made) => made,
+        Err(fault) => return Err(fault),
+    };
     let sum = program_sum(&made);
     if kept.has(sum) {
         return Ok((made, sum));
