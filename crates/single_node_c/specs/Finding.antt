@@ -3,7 +3,7 @@ use Rattle.std.specs.Prelude.{ℕ, Option, None, Some}
 use Rattle.scrub.specs.declared.guard.Found.{Found}
 use Rattle.scrub.specs.declared.guard.Health.{Health}
 use Rattle.scrub.specs.declared.guard.Health.TheVariants as health
-use Rattle.single_node_c.specs.declared.found.TheConstants.{MENDED, NO_SLOT, UNSCRUBBED, WHOLE, WITHDRAWN}
+use Rattle.single_node_c.specs.declared.findings.TheConstants.{MENDED, NO_SLOT, UNSCRUBBED, WHOLE, WITHDRAWN}
 
 -- the number of how a program was found
 abbrev pub health_number : Health → ℕ

@@ -5,7 +5,7 @@
 #![tactic(auto)]
 
 mod codes;
-mod found;
+mod findings;
 mod framed;
 mod handle;
 mod held;

@@ -3,7 +3,7 @@
 ghost use Rattle.std.specs.Prelude.{◌≡◌};
 ghost use Rattle.single_node_c.specs.Numbers.{entry_numbers, end_number, end_of, kind_of, place_of, served_numbers, status_of};
 
-use crate::found::{found_number, found_slot};
+use crate::findings::{found_number, found_slot};
 use crate::parts::ServedParts;
 use bank::Entry;
 use node_parts::{Served, Stop};
