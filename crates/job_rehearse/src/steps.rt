@@ -120,7 +120,8 @@ impl Rehearsing {
         ensures silent { result.reply ≡ [] }
         ensures unrefused { result.refused ≡ false }
     {
-        Rehearsing::of(node.into_node())
+        let (single, _feeds) = node.into_parts();
+        Rehearsing::of(single)
     }
 }
 

@@ -5,6 +5,7 @@
 #![tactic(auto)]
 
 mod codes;
+mod findings;
 mod framed;
 mod handle;
 mod held;
