@@ -4,5 +4,6 @@ mod HandingOut
 mod HostReading
 mod LinesInTurn
 mod PutText
+mod SameNode
 mod SetLines
 mod Taken

@@ -141,7 +141,7 @@ pub record IsMade (address ports : ℕ) (banks : List BankNumbers) (numbers : Li
 pub data TellsOpening (address ports : ℕ) (banks : List BankNumbers) (numbers : List MapNumbers) (image : List ℕ)
     (kept : Option GuardedValue) (code : ℕ) (why : Why) : Type 0 where
   opened : (guarded : GuardedValue) → IsMade address ports banks numbers image guarded.node
-      → IsGuarded guarded.node guarded → kept ≡ Some guarded → code ≡ OK → why ≡ no_why
+      → IsGuarded (Some 0) guarded.node guarded → kept ≡ Some guarded → code ≡ OK → why ≡ no_why
       → TellsOpening address ports banks numbers image kept code why
   unopened : (fault : Unfit) → IsUnopened ports banks numbers image fault → kept ≡ None → code ≡ code_of fault
       → why ≡ why_of fault → TellsOpening address ports banks numbers image kept code why
