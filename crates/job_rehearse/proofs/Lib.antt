@@ -1,3 +1,4 @@
 mod Stopping
 mod Returning
 mod Runs
+mod Loading
