@@ -244,9 +244,14 @@ fn do_on_node<'a>(alloc: Global, own: NodeJob, folder: Folder<'a>) -> Result<Lef
     }
     let mut desk = Desk::new(folder, Noted::new(node_inputs(name)));
     match configuration_in(alloc, &mut desk, name) {
-        Ok(own) => {
-            let ports = Some(own.ports);
-            do_once(alloc, &job.placed(&own), ports, desk.into_folder())
+        Ok(configuration) => {
+            let ports = Some(configuration.ports);
+            do_once(
+                alloc,
+                &job.placed(&configuration),
+                ports,
+                desk.into_folder(),
+            )
         }
         Err(fault) => refuse_node(alloc, &job, fault, desk),
     }

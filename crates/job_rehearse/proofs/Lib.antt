@@ -2,3 +2,4 @@ mod Stopping
 mod Returning
 mod Runs
 mod Loading
+mod Starting

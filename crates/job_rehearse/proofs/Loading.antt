@@ -1,9 +1,12 @@
 -- Slots into which an image is loaded, one more at a time.
-use Rattle.std.proofs.Common.{◌≡◌, ◌++◌, ◌∷◌, [], ◌&&◌, not, ℕ, zero, suc, Bool, Decides, true, false, if◌then◌else◌, List, Some, tt, refl, sym, subst}
+use Rattle.std.proofs.Common.{◌≡◌, ◌≤◌, ◌<◌, ◌++◌, ◌∷◌, [], ◌&&◌, not, ℕ, zero, suc, Bool, true, false, List, Some, arith, refl, sym, ap, subst, ◌∙◌}
+use Rattle.std.specs.Prelude.{Decides, if◌then◌else◌, slice_get}
 use Rattle.std.proofs.lemmas.Bool.{false≢true}
 use Rattle.std.proofs.lemmas.Option.{none-some, same_Some}
 use Rattle.std.specs.List.{list_all, list_any}
-use Rattle.std.specs.Prelude.{slice_get}
+use Rattle.bpf.specs.Program.{image_bytes}
+use Rattle.bver.specs.Justified.{AcceptedValue}
+use Rattle.node_programs.specs.Published.{generation_at, program_at}
 use Rattle.node_programs.specs.declared.publishes.Publish.{Publish}
 use Rattle.job_rehearse.specs.Loads.{AreLoaded, IsLoaded, ending_of}
 use Rattle.job_rehearse.specs.declared.loads.Ending.{Ending}
@@ -47,3 +50,29 @@ each_of image count programs (s ∷ slots) (false ∷ rest) are all number slot 
 pub each_loaded : (image : List ℕ) (count : ℕ) (programs : List Publish) (slots : List ℕ) (loaded : List Bool) (refused failed : Bool) → AreLoaded image count programs slots loaded
     → ending_of loaded refused failed ≡ Loaded → (number slot : ℕ) → slice_get slots number ≡ Some slot → IsLoaded image count programs slot
 each_loaded image count programs slots loaded refused failed are is = each_of image count programs slots loaded are (all_set loaded refused failed is)
+
+-- ---- one slot
+
+-- there is no such slot
+pub not_there : (image : List ℕ) (count : ℕ) (programs : List Publish) (slot : ℕ) → ¬ (slot < 4) → Decides false (IsLoaded image count programs slot)
+not_there image count programs slot none = (λ e. absurd (false≢true e), λ is. absurd (none is.there))
+
+-- its last program was published before
+pub not_later : (image : List ℕ) (count : ℕ) (programs : List Publish) (slot generation : ℕ) → generation_at programs slot ≡ Some generation → generation < count
+    → Decides false (IsLoaded image count programs slot)
+not_later image count programs slot generation at before = (
+  λ e. absurd (false≢true e),
+  λ is.
+      let same : is.generation ≡ generation = same_Some is.generation generation (sym is.is_generation ∙ at) in
+      let later : count ≤ is.generation = is.later in
+      absurd (omega (arith, same, later, before)),
+)
+
+-- its last program was published after that, and is compared with the image
+pub by_bytes : (image : List ℕ) (count : ℕ) (programs : List Publish) (slot generation : ℕ) (program : AcceptedValue) (is : Bool)
+    → slot < 4 → generation_at programs slot ≡ Some generation → count ≤ generation → program_at programs slot ≡ Some program → Decides is (image_bytes program.program ≡ image)
+    → Decides is (IsLoaded image count programs slot)
+by_bytes image count programs slot generation program is there at later own same = (
+  λ e. record { there = there; generation = generation; is_generation = at; later = later; program = program; is_program = own; is_image = same.0 e },
+  λ loaded. same.1 (ap (λ (p : AcceptedValue). image_bytes p.program) (same_Some program loaded.program (sym own ∙ loaded.is_program)) ∙ loaded.is_image),
+)

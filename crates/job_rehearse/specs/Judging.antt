@@ -1,5 +1,5 @@
 -- What a program says of the writes of a load, in turn: the program that judges in slot 3, on cells that began so.
-use Rattle.std.specs.Prelude.{◌≡◌, ◌≤◌, ◌<◌, ◌*◌, ◌==◌, ◌&&◌, ◌++◌, ℕ, Bool, true, false, if◌then◌else◌, List, [], length}
+use Rattle.std.specs.Prelude.{◌≡◌, ◌≤◌, ◌<◌, ◌*◌, ◌==◌, ◌&&◌, ◌++◌, ℕ, Bool, true, if◌then◌else◌, List, [], length}
 use Rattle.bver.specs.Justified.{AcceptedValue}
 use Rattle.machine.specs.declared.calls.Call.{Call}
 use Rattle.spw.specs.Cargo.{Cargo}

@@ -1,13 +1,13 @@
 -- The cells of a node before a load: such that nobody asked, or such that are past every quota.
-use Rattle.std.specs.Prelude.{◌≡◌, ◌+◌, ◌-◌, ◌^◌, ◌%◌, ◌++◌, ◌∷◌, [], ℕ, List, map}
-use base.Stored.{Gv, gnil, gnum, gcons}
+use Rattle.std.specs.Prelude.{◌≡◌, ◌+◌, ◌-◌, ◌^◌, ◌%◌, [], ℕ, List, map}
+use base.Stored.{Gv, gnil, gnum}
 use Rattle.machine.specs.Runs.{call}
 use Rattle.machine.specs.Sizes.{Maps, kind_of_map}
 use Rattle.machine.specs.declared.calls.Call.{Call}
-use Rattle.machine.specs.declared.calls.Question.{Question}
 use Rattle.machine.specs.declared.kinds.MapKind.{MapKind}
 use Rattle.machine.specs.declared.kinds.MapKind.TheVariants.{Counter, Peak}
 use Rattle.plain_cells.specs.Words.{AreCallsOn, zero_words}
+use Rattle.job_rehearse.specs.declared.starts.LoadCells.{LoadCells}
 use Rattle.job_rehearse.specs.declared.starts.Start.{Start}
 use Rattle.job_rehearse.specs.declared.starts.Start.TheVariants.{Fresh, Spent}
 
@@ -37,31 +37,17 @@ abbrev pub home_of : Start → Gv
 home_of Fresh = gnil
 home_of Spent = gnum 1
 
--- how cells of that name began
-abbrev pub start_of : Gv → Start
-start_of gnil = Fresh
-start_of (gnum n) = Spent
-start_of (gcons first rest) = Spent
+-- the calls so far
+abbrev pub asked_so_far : LoadCells → List Call
+asked_so_far c = map (raised_call c.start c.cells.sizes) c.cells.asked
 
--- cells, with the calls so far
-pub record LoadCellsValue : Type 0 where
-  pub home : Gv
-  pub sizes : Maps
-  pub asked : List Call
-
--- the cells of these maps that began so, which nobody asked since
-abbrev pub begun_cells : Start → Maps → LoadCellsValue
-begun_cells start sizes = record { home = home_of start; sizes = sizes; asked = [] }
-
--- the cells behind these calls more
-abbrev pub with_calls : LoadCellsValue → List Call → LoadCellsValue
-with_calls before calls = record before { asked = before.asked ++ calls }
+-- nobody asked the cells of these maps, which began so
+pub record AreBegun (start : Start) (sizes : Maps) (c : LoadCells) : Type 0 where
+  pub start_is : c.start ≡ start
+  pub sizes_are : c.cells.sizes ≡ sizes
+  pub unasked : c.cells.asked ≡ []
 
 -- the maps stay, and how the cells began
-pub record Stays (before after : LoadCellsValue) : Type 0 where
-  pub sizes : after.sizes ≡ before.sizes
-  pub home : after.home ≡ before.home
-
--- the question was answered, and nothing else changed
-abbrev pub IsAsked : Question → (answer : ℕ) → (before after : LoadCellsValue) → Type 0
-IsAsked q answer before after = after ≡ with_calls before (call q answer ∷ [])
+pub record Stays (before after : LoadCells) : Type 0 where
+  pub sizes : after.cells.sizes ≡ before.cells.sizes
+  pub home : home_of after.start ≡ home_of before.start

@@ -3,7 +3,7 @@
 ghost use Rattle.std.specs.Prelude.{◌≡◌, ◌≤◌, ◌<◌, ◌^◌, IfOk, length};
 ghost use Rattle.rmap.specs.declared.boot.TheConstants.{STAGING_SIZE};
 ghost use Rattle.job_rehearse.specs.Judging.{HasAnswered, IsAnswer, LetsLoad, LetsPart, LetsPass, LetsWrites};
-ghost use Rattle.job_rehearse.specs.Starts.{Stays};
+ghost use Rattle.job_rehearse.specs.Starts.{Stays, asked_so_far};
 
 use crate::loaders::{Loader, header_of};
 use crate::starts::{LoadCells, Start};
@@ -19,8 +19,9 @@ use std::alloc::{AllocError, Global};
 /// The verdict of a program on the header of a command, at a port below 32, on cells with its maps.
 fn verdict_on(judge: &Accepted, port: u8, command: &Command, cells: &mut LoadCells) -> u64
     requires port { port < 32 }
-    requires sizes { cells.old.sizes ≡ judge.now.sizes }
-    ensures verdict { HasAnswered judge.now port command.now result cells.old.asked cells.new.asked }
+    requires sizes { cells.old.cells.sizes ≡ judge.now.sizes }
+    ensures verdict { HasAnswered judge.now port command.now result
+        (asked_so_far cells.old) (asked_so_far cells.new) }
     ensures stays { Stays cells.old cells.new }
 {
     let mut stack = [0; STACK_SIZE];
@@ -39,9 +40,10 @@ fn answer_to(
     requires port { loader.port < 32 }
     requires code { request.code < 16 }
     requires count { request.count < 2 ^ 24 }
-    requires sizes { cells.old.sizes ≡ judge.now.sizes }
+    requires sizes { cells.old.cells.sizes ≡ judge.now.sizes }
     ensures answer { IfOk result (λ verdict.
-        IsAnswer judge.now loader request verdict cells.old.asked cells.new.asked) }
+        IsAnswer judge.now loader request verdict
+        (asked_so_far cells.old) (asked_so_far cells.new)) }
     ensures stays { Stays cells.old cells.new }
 {
     discard_is_exact();
@@ -62,9 +64,10 @@ fn lets_pass(
     requires port { loader.port < 32 }
     requires code { request.code < 16 }
     requires count { request.count < 2 ^ 24 }
-    requires sizes { cells.old.sizes ≡ judge.now.sizes }
+    requires sizes { cells.old.cells.sizes ≡ judge.now.sizes }
     ensures passes { IfOk result (λ passes.
-        LetsPass judge.now loader request passes cells.old.asked cells.new.asked) }
+        LetsPass judge.now loader request passes
+        (asked_so_far cells.old) (asked_so_far cells.new)) }
     ensures stays { Stays cells.old cells.new }
 {
     let verdict = answer_to(alloc, judge, loader, request, cells)?;
@@ -82,9 +85,10 @@ fn lets_part(
 ) -> Result<bool, AllocError>
     requires port { loader.port < 32 }
     requires number { number < 4 }
-    requires sizes { cells.old.sizes ≡ judge.now.sizes }
+    requires sizes { cells.old.cells.sizes ≡ judge.now.sizes }
     ensures passes { IfOk result (λ passes.
-        LetsPart judge.now loader image.now number passes cells.old.asked cells.new.asked) }
+        LetsPart judge.now loader image.now number passes
+        (asked_so_far cells.old) (asked_so_far cells.new)) }
     ensures stays { Stays cells.old cells.new }
 {
     if image.len() <= PART_SIZE * usize::from(number) {
@@ -105,9 +109,10 @@ fn lets_writes(
 ) -> Result<bool, AllocError>
     requires port { loader.port < 32 }
     requires short { length image.now ≤ STAGING_SIZE }
-    requires sizes { cells.old.sizes ≡ judge.now.sizes }
+    requires sizes { cells.old.cells.sizes ≡ judge.now.sizes }
     ensures passes { IfOk result (λ passes.
-        LetsWrites judge.now loader image.now passes cells.old.asked cells.new.asked) }
+        LetsWrites judge.now loader image.now passes
+        (asked_so_far cells.old) (asked_so_far cells.new)) }
     ensures stays { Stays cells.old cells.new }
 {
     let first = lets_part(alloc, judge, loader, image, 0, cells)?;

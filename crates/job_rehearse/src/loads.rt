@@ -72,7 +72,10 @@ fn is_loaded(node: &SingleNode, image: &[u8], generation: u32, slot: u8) -> Resu
     ensures { IfOk result (λ is.
         Decides is (IsLoaded image.now (generation + 1) node.now.programs slot)) }
 {
-    if slot > 3 || node.generation(slot) <= generation {
+    if slot > 3 {
+        return Ok(false);
+    }
+    if node.generation(slot) <= generation {
         return Ok(false);
     }
     let bytes = node.program(slot).image().write()?;

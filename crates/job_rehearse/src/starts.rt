@@ -7,13 +7,12 @@ ghost use Rattle.machine.specs.Step.{question};
 ghost use Rattle.machine.specs.declared.helpers.Helper.TheVariants as helpers;
 ghost use Rattle.machine.specs.declared.kinds.MapKind.TheVariants.{Counter, Peak};
 ghost use Rattle.plain_cells.specs.Words.{IsOfCell};
-ghost use Rattle.job_rehearse.specs.Starts.{AreAnswered, IsAsked, begun_cells, raised_answer, start_of};
+ghost use Rattle.job_rehearse.specs.Starts.{AreAnswered, AreBegun, Stays, asked_so_far, raised_answer};
 
-use brun::{CallLog, Counters};
-use machine::{Call, Helper, MapKind, MapSizes, Question};
+use brun::Counters;
+use machine::{Helper, MapKind, MapSizes, Question};
 use plain_cells::PlainCells;
 use std::alloc::{AllocError, Global};
-use std::marker::Model;
 
 /// How the cells of a node are before a load.
 #[derive(Clone, Copy, Debug, PartialEq, Eq)]
@@ -51,10 +50,10 @@ fn kind_of(sizes: &MapSizes, map: u8) -> MapKind
 }
 
 /// Asks cells.
-fn ask(cells: &mut PlainCells, asked: Question) -> u64
-    requires { IsOfCell cells.old.sizes asked }
-    ensures asked { cells.new.asked ≡ cells.old.asked ++ call asked result ∷ [] }
-    ensures sizes { cells.new.sizes ≡ cells.old.sizes }
+fn ask<C: Counters>(cells: &mut C, asked: Question) -> u64
+    requires { IsOfCell (C.sizes cells.old) asked }
+    ensures asked { C.asked cells.new ≡ C.asked cells.old ++ call asked result ∷ [] }
+    ensures sizes { C.sizes cells.new ≡ C.sizes cells.old }
 {
     match asked.helper {
         Helper::Count => cells.count(asked.map, asked.key),
@@ -75,95 +74,87 @@ fn question(helper: Helper, map: u8, key: u16, argument: u64) -> Question
     }
 }
 
-/// The cells of a node before and in a load. Contracts see how they began, the maps, and the calls so far.
+/// The cells of a node before and in a load.
 #[derive(Drop)]
 pub struct LoadCells {
-    start: Start,
-    cells: PlainCells,
-    log: CallLog,
-}
-
-impl Model for LoadCells {
-    ghost use Rattle.std.specs.Prelude.{◌≡◌, map};
-    ghost use Rattle.job_rehearse.specs.Starts.{LoadCellsValue, home_of, raised_call};
-
-    ghost Value = { LoadCellsValue };
-
-    ghost view = { λ c. record { home = home_of c.start; sizes = c.cells.sizes; asked = c.log.calls } };
-
-    ghost invariant = { λ c. c.log.calls ≡ map (raised_call c.start c.cells.sizes) c.cells.asked };
+    /// How they began.
+    pub start: Start,
+    /// Cells that nobody asked before, which answer in their place.
+    pub cells: PlainCells,
 }
 
 impl LoadCells {
     /// The cells of those maps that began so.
     pub fn new(alloc: Global, sizes: &MapSizes, start: Start) -> Result<LoadCells, AllocError>
-        ensures { IfOk result (λ cells. cells ≡ begun_cells start sizes.now) }
+        ensures { IfOk result (AreBegun start sizes.now) }
     {
         Ok(LoadCells {
             start,
             cells: PlainCells::new(alloc, sizes)?,
-            log: CallLog::none(),
         })
     }
 
     /// A law and no work: cells that began so answered the calls so far, in order.
     pub fn answer_in_order(&self)
-        ensures { AreAnswered (start_of self.now.home) self.now.sizes self.now.asked }
+        ensures { AreAnswered self.now.start self.now.cells.sizes (asked_so_far self.now) }
     {
         self.cells.answer_in_order();
     }
 
     /// Answers a question for a cell that is there, in a map of a kind of which its helper may ask.
     fn answer(&mut self, asked: Question) -> u64
-        requires { IsOfCell self.old.sizes asked }
-        ensures { IsAsked asked result self.old self.new }
+        requires { IsOfCell self.old.cells.sizes asked }
+        ensures asked { asked_so_far self.new ≡ asked_so_far self.old ++ call asked result ∷ [] }
+        ensures stays { Stays self.old self.new }
     {
         let kind = kind_of(&self.cells.sizes(), asked.map);
         let own = ask(&mut self.cells, asked);
-        let answer = raised_answer(self.start, kind, own);
-        let call = Call {
-            question: asked,
-            answer,
-        };
-        self.log = self.log.with(&call);
-        answer
+        raised_answer(self.start, kind, own)
     }
 }
 
 /// Each call finds what the calls before it left.
 impl Counters for LoadCells {
-    ghost asked = { λ c. c.asked };
+    ghost use Rattle.job_rehearse.specs.Starts.{asked_so_far, home_of};
 
-    ghost sizes = { λ c. c.sizes };
+    ghost asked = { asked_so_far };
 
-    ghost home = { λ c. c.home };
+    ghost sizes = { λ c. c.cells.sizes };
+
+    ghost home = { λ c. home_of c.start };
 
     fn sizes(&self) -> MapSizes
-        ensures sizes { result ≡ self.now.sizes }
-        ensures limits { AreSizes self.now.sizes }
+        ensures sizes { result ≡ self.now.cells.sizes }
+        ensures limits { AreSizes self.now.cells.sizes }
     {
         self.cells.sizes()
     }
 
     fn count(&mut self, map: u8, key: u16) -> u64
-        requires { IsInside self.old.sizes map key }
-        ensures { IsAsked (question helpers.Count map key 0) result self.old self.new }
+        requires { IsInside self.old.cells.sizes map key }
+        ensures asked { asked_so_far self.new
+            ≡ asked_so_far self.old ++ call (question helpers.Count map key 0) result ∷ [] }
+        ensures stays { Stays self.old self.new }
     {
         self.answer(question(Helper::Count, map, key, 0))
     }
 
     fn ticket(&mut self, map: u8, key: u16) -> u64
-        requires inside { IsInside self.old.sizes map key }
-        requires kind { kind_of_map self.old.sizes map ≡ Counter }
-        ensures { IsAsked (question helpers.Ticket map key 0) result self.old self.new }
+        requires inside { IsInside self.old.cells.sizes map key }
+        requires kind { kind_of_map self.old.cells.sizes map ≡ Counter }
+        ensures asked { asked_so_far self.new
+            ≡ asked_so_far self.old ++ call (question helpers.Ticket map key 0) result ∷ [] }
+        ensures stays { Stays self.old self.new }
     {
         self.answer(question(Helper::Ticket, map, key, 0))
     }
 
     fn peak(&mut self, map: u8, key: u16, value: u64) -> u64
-        requires inside { IsInside self.old.sizes map key }
-        requires kind { kind_of_map self.old.sizes map ≡ Peak }
-        ensures { IsAsked (question helpers.Peak map key value) result self.old self.new }
+        requires inside { IsInside self.old.cells.sizes map key }
+        requires kind { kind_of_map self.old.cells.sizes map ≡ Peak }
+        ensures asked { asked_so_far self.new
+            ≡ asked_so_far self.old ++ call (question helpers.Peak map key value) result ∷ [] }
+        ensures stays { Stays self.old self.new }
     {
         self.answer(question(Helper::Peak, map, key, value))
     }
