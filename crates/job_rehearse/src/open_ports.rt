@@ -6,7 +6,7 @@ ghost use Rattle.job_rehearse.specs.OpenPorts.{AreOpen, IsAt, PassesAt, TellsAsk
 
 use crate::askers::{Asker, asker_text};
 use crate::loaders::Loader;
-use crate::passing::{Passing, is_kind, kind_words, passing};
+use crate::passing::{Passing, is_kind, kind_words, loader_passing};
 use bver::Accepted;
 use std::alloc::{AllocError, Global};
 
@@ -38,7 +38,7 @@ fn passing_at(
         key: asker.key.byte,
         target: node.target,
     };
-    passing(alloc, judge, loader, image)
+    loader_passing(alloc, judge, loader, image)
 }
 
 /// Whether a program lets the load of an asker pass at each port of the node, from 0 on.

@@ -72,7 +72,7 @@ pub fn kind_words(kind: Passing) -> &'static str
 }
 
 /// Whether a program lets the load of an image pass.
-pub fn passing(
+pub fn loader_passing(
     alloc: Global,
     judge: &Accepted,
     loader: Loader,

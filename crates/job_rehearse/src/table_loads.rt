@@ -10,7 +10,7 @@ ghost use Rattle.job_rehearse.specs.TableLoads.{AddsOwn, AsksOf, AsksTable, CanB
 use crate::askers::{Asker, table_askers};
 use crate::loaders::Loader;
 use crate::open_ports::{LoadedNode, loaders};
-use crate::passing::{Passing, is_kind, passing};
+use crate::passing::{Passing, is_kind, loader_passing};
 use crate::policies::bytes_of;
 use bver::{Accepted, verify};
 use job_config::own_node::NODE_ADDRESS;
@@ -209,7 +209,7 @@ fn lets_pass(alloc: Global, asked: &TableLoads, image: &[u8]) -> Result<Passing,
         key: 0,
         target: NODE_ADDRESS,
     };
-    passing(alloc, &asked.judge, loader, image)
+    loader_passing(alloc, &asked.judge, loader, image)
 }
 
 /// Whether a table lets initiator 67 load, whatever quotas are spent: the smallest image, and its own.
