@@ -1,6 +1,7 @@
 //! The load of an image at the node of a rehearsal.
 
 ghost use Rattle.std.specs.Prelude.{◌≡◌, ◌≤◌, ◌+◌, Decides, IfErr, IfOk, OnOk, length};
+ghost use Rattle.std.specs.List.{list_all, list_any};
 ghost use Rattle.rmap.specs.declared.boot.TheConstants.{STAGING_SIZE};
 ghost use Rattle.job_parts.specs.Stops.{StopsBy};
 ghost use Rattle.job_rehearse.specs.Loads.{AreLoaded, IsLoaded, Loads, StopsLoad, StopsTaking, TakesLoad, ending_of};
@@ -100,18 +101,32 @@ fn are_loaded(
     Ok(loaded)
 }
 
+/// Whether an image is loaded into some slot.
+fn is_any(loaded: &[bool]) -> bool
+    ensures { result ≡ list_any (λ is. is) loaded.now }
+{
+    loaded.iter().any(|is| *is)
+}
+
+/// Whether an image is loaded into each slot.
+fn is_each(loaded: &[bool]) -> bool
+    ensures { result ≡ list_all (λ is. is) loaded.now }
+{
+    loaded.iter().all(|is| *is)
+}
+
 /// How loads of an image into slots ended, by whether it is loaded into each, whether a program did not let a write of them be done,
 /// and whether one was not answered with status 0.
 fn ending_of(loaded: &[bool], is_refused: bool, is_failed: bool) -> Ending
     ensures { result ≡ ending_of loaded.now is_refused is_failed }
 {
     if is_refused {
-        if loaded.iter().any(|is| *is) {
+        if is_any(loaded) {
             return Ending::InPart;
         }
         return Ending::LockedOut;
     }
-    if loaded.iter().all(|is| *is) && !is_failed {
+    if is_each(loaded) && !is_failed {
         Ending::Loaded
     } else {
         Ending::NotLoaded
