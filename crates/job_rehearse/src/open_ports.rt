@@ -235,9 +235,9 @@ fn add_askers(
     Ok(())
 }
 
-/// Whose loads of an image a program in slot 3 lets pass, of these askers: a line for each run of the node's ports at which it lets
-/// two loads pass, the first of them alone, or the second alone. One comes on cells that nobody asked, and the other on cells that
-/// are past every quota. Each line begins with `lead`; who is in none of them cannot load.
+/// Whose loads of an image a program in slot 3 lets pass, of these askers. There is a line for each run of the node's ports at which
+/// it lets two loads pass, or only the first, or only the second. The first comes on cells that nobody asked, and the second on cells
+/// that are past every quota. Each line begins with `lead`; who is in none of them cannot load.
 pub fn loaders(
     alloc: Global,
     judge: &Accepted,

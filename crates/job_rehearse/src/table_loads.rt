@@ -176,8 +176,8 @@ fn told_both(alloc: Global, asked: &TableLoads, ports: u8) -> Result<String, All
     both(alloc, asked, ports, plain.as_str(), own.as_str())
 }
 
-/// Whose loads a table lets pass in slot 3 of a node with these maps and so many ports, in lines: of the smallest image, and of its
-/// own in lines that say its size, if these are others. It is empty if the text writes no table without a fault for these maps.
+/// Whose loads a table lets pass in slot 3 of a node with these maps and ports, in lines. They are of the smallest image, and if other
+/// loads of its own image pass, of that too, with its size. It is empty if the text writes no table without a fault for these maps.
 ///
 /// # Errors
 ///
@@ -346,8 +346,8 @@ fn told_doors(
     )
 }
 
-/// What is said of a table that lets nobody load another in slot 3 of a node with these maps and so many ports, with a line that
-/// mends it and was tried, or that none fits. If nobody loads one of the two images that [`told_loaders`] asks for, it is what that
+/// What is said of a table that lets nobody load another in slot 3 of a node with these maps and ports. It has a line that mends the
+/// table and was tried, or says that none fits. If nobody loads one of the two images that [`told_loaders`] asks for, it is what that
 /// says. It is empty if somebody loads both, and if the text writes no table without a fault for these maps.
 ///
 /// # Errors
