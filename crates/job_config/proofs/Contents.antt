@@ -45,7 +45,7 @@ module _ {S : Type 0} (reads : Reads S) (file : List ℕ) where
   pub goes_further : (list : List Value) (banks : List BankConfig) (index : ℕ) (before now next : S) (contents all : List (List ℕ))
       (value : Value) (d : BankConfig) (bytes : List ℕ) → index < length list → index < length banks
       → get_or list index value ≡ value → all ≡ contents ++ bytes ∷ []
-      → BeginsWith reads file (place Bank (index + 1)) (view value) (get_or banks index d).size now bytes next
+      → BeginsWith reads file (place Bank index) (view value) (get_or banks index d).size now bytes next
       → GoesOn list banks index before now contents → GoesOn list banks (index + 1) before next all
   goes_further list banks index before now next contents all value d bytes in_list in_banks at_value is begins so_far = λ others after more.
       let items : items_view (drop index list) ≡ item (view value) (items_view (drop (index + 1) list)) =
@@ -78,7 +78,7 @@ module _ {S : Type 0} (reads : Reads S) (file : List ℕ) where
   -- the next load
   pub loads_go_further : (list : List Value) (index : ℕ) (before now next : S) (loads all : List LoadValue) (value : Value)
       (load : LoadValue) → index < length list → get_or list index value ≡ value → all ≡ loads ++ load ∷ []
-      → HoldsLoad reads file (place Load (index + 1)) (view value) now load next
+      → HoldsLoad reads file (place Load index) (view value) now load next
       → LoadsGoOn list index before now loads → LoadsGoOn list (index + 1) before next all
   loads_go_further list index before now next loads all value load in_list at_value is holds so_far = λ others after more.
       let items : items_view (drop index list) ≡ item (view value) (items_view (drop (index + 1) list)) =

@@ -2,7 +2,7 @@
 use Rattle.std.specs.Prelude.{◌≡◌, ◌⊎◌, Option, None, Some, Result, Ok, Err}
 use Rattle.job_config.specs.declared.faults.ConfigFault.{ConfigFault}
 use Rattle.job_config.specs.declared.faults.ConfigFault.TheVariants.{Memory, NoToml, UnknownKey, BadNumber, BadPeak}
-use Rattle.job_config.specs.declared.faults.ConfigFault.TheVariants.{NoTable, BadCount, NoName, BadFile, NotLoaded}
+use Rattle.job_config.specs.declared.faults.ConfigFault.TheVariants.{NoTable, NoList, BadCount, NoName, BadFile, NotLoaded}
 use Rattle.job_config.specs.declared.places.Kind.{Kind}
 use Rattle.job_config.specs.declared.places.Kind.TheVariants as kinds
 use Rattle.job_config.specs.declared.places.NameKey.{NameKey}
@@ -43,6 +43,7 @@ code_of (UnknownKey place key) = Some codes.Key
 code_of (BadNumber place key found least most) = Some (number_code key)
 code_of (BadPeak place) = Some codes.Map
 code_of (NoTable place) = Some (kind_code place.kind)
+code_of (NoList kind) = Some (kind_code kind)
 code_of (BadCount kind count) = Some (kind_code kind)
 code_of (NoName place key) = Some (name_code key)
 code_of (BadFile place key name trouble) = Some (name_code key)

@@ -105,7 +105,7 @@ module _ {S : Type 0} (reads : Reads S) (file : List ℕ) where
   BeginWith number no_items (bank ∷ banks) before contents after = ⊥
   BeginWith number (item value items) (bank ∷ banks) before [] after = ⊥
   BeginWith number (item value items) (bank ∷ banks) before (bytes ∷ contents) after =
-      (middle : S) × BeginsWith (place Bank (number + 1)) value bank.size before bytes middle
+      (middle : S) × BeginsWith (place Bank number) value bank.size before bytes middle
       × BeginWith (number + 1) items banks middle contents after
 
   -- each of the banks begins with these bytes; the one bank of a file without banks with none
@@ -120,14 +120,18 @@ module _ {S : Type 0} (reads : Reads S) (file : List ℕ) where
     pub listed : list_at table Bank ≡ Ok list
     pub held : HoldsContents list banks before contents after
 
-  -- the load of a table: its slot, and the bytes of its image, which the staging has room for
+  -- the bytes of the image that a table names, which the staging has room for
+  pub record HoldsImage (at : Place) (table : Members) (before : S) (bytes : List ℕ) (after : S) : Type 0 where
+    pub name : List ℕ
+    pub named : name_at table at Image ≡ Ok (Some name)
+    pub held : HoldsBeside name STAGING_SIZE before bytes after
+
+  -- the load of a table: its slot, and the bytes of its image
   pub record HoldsLoad (at : Place) (value : Data) (before : S) (load : LoadValue) (after : S) : Type 0 where
     pub table : Members
-    pub name : List ℕ
     pub is_table : table_in value at ≡ Ok table
     pub slot : number_at table at Slot 0 3 ≡ Ok load.slot
-    pub named : name_at table at Image ≡ Ok (Some name)
-    pub held : HoldsBeside name STAGING_SIZE before load.image after
+    pub image : HoldsImage at table before load.image after
 
   -- the loads of a list of tables, in this order; so many loads stand before them
   abbrev pub HoldLoads : (number : ℕ) → Items → (before : S) → List LoadValue → (after : S) → Type 0
@@ -135,7 +139,7 @@ module _ {S : Type 0} (reads : Reads S) (file : List ℕ) where
   HoldLoads number no_items before (load ∷ loads) after = ⊥
   HoldLoads number (item value items) before [] after = ⊥
   HoldLoads number (item value items) before (load ∷ loads) after =
-      (middle : S) × HoldsLoad (place Load (number + 1)) value before load middle
+      (middle : S) × HoldsLoad (place Load number) value before load middle
       × HoldLoads (number + 1) items middle loads after
 
   -- the loads of a table

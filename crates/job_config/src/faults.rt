@@ -100,8 +100,10 @@ pub enum ConfigFault {
     },
     /// The key `peak` of a map holds neither true nor false.
     BadPeak(Place),
-    /// What stands there is no table; with the number 0 it is no list of tables.
+    /// What the file has there is no table.
     NoTable(Place),
+    /// What the file has under the key of a kind is no list of tables.
+    NoList(Kind),
     /// So many tables of a kind are too many, or too few.
     BadCount {
         /// The kind.
@@ -186,7 +188,9 @@ impl ConfigFault {
             ConfigFault::BadNumber { key, .. } => Some(code_of_number(*key)),
             ConfigFault::BadPeak(_) => Some(NodeCode::Map),
             ConfigFault::NoTable(place) => Some(code_of_kind(place.kind)),
-            ConfigFault::BadCount { kind, .. } => Some(code_of_kind(*kind)),
+            ConfigFault::NoList(kind) | ConfigFault::BadCount { kind, .. } => {
+                Some(code_of_kind(*kind))
+            }
             ConfigFault::NoName { key, .. } | ConfigFault::BadFile { key, .. } => {
                 Some(code_of_name(*key))
             }
@@ -272,12 +276,20 @@ fn print_count<W: fmt::Write>(f: &mut fmt::Formatter<W>, kind: Kind, count: usiz
     write!(f, "{count} {word}s: wanted {wanted}")
 }
 
-/// Prints that a table stands where none may, or that a list of tables is none.
-fn print_no_table<W: fmt::Write>(f: &mut fmt::Formatter<W>, place: &Place) -> fmt::Result {
-    let (word, number) = (place.kind.word(), place.number);
-    match number {
-        0 => write!(f, "{word} is no list of tables: wanted [[{word}]]"),
-        _ => write!(f, "{word} {number} is no table: wanted [[{word}]]"),
+/// Prints that a number is none that is wanted; of a logical address also the digits that a packet has.
+fn print_number<W: fmt::Write>(
+    f: &mut fmt::Formatter<W>,
+    place: &Place,
+    key: NumberKey,
+    found: &Found,
+    least: u32,
+    most: u32,
+) -> fmt::Result {
+    let word = key.word();
+    write!(f, "{place}{word}{found}: wanted {least} to {most}")?;
+    match key {
+        NumberKey::Address => write!(f, ", {least:02X} to {most:02X} hexadecimal"),
+        _ => Ok(()),
     }
 }
 
@@ -296,12 +308,16 @@ impl fmt::Display for ConfigFault {
                 found,
                 least,
                 most,
-            } => {
-                let key = key.word();
-                write!(f, "{place}{key}{found}: wanted {least} to {most}")
-            }
+            } => { print_number(f, place, *key, found, *least, *most) }
             ConfigFault::BadPeak(place) => write!(f, "{place}peak: wanted true or false"),
-            ConfigFault::NoTable(place) => print_no_table(f, place),
+            ConfigFault::NoTable(place) => {
+                let word = place.kind.word();
+                write!(f, "{place}is no table: wanted [[{word}]]")
+            }
+            ConfigFault::NoList(kind) => {
+                let word = kind.word();
+                write!(f, "{word} is no list of tables: wanted [[{word}]]")
+            }
             ConfigFault::BadCount { kind, count } => print_count(f, *kind, *count),
             ConfigFault::NoName { place, key } => {
                 let key = key.word();

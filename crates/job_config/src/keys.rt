@@ -45,10 +45,10 @@ fn check_list(alloc: Global, list: &[Value], kind: Kind) -> Result<(), ConfigFau
 {
     let mut number = 0;
     for item in list {
-        number += 1;
         if let Some(table) = item.as_table() {
             check_table(alloc, table, Place { kind, number })?;
         }
+        number += 1;
     }
     Ok(())
 }

@@ -7,6 +7,7 @@
 
 mod banks;
 pub mod configuration;
+mod every_fault;
 pub mod faults;
 mod keys;
 mod maps;

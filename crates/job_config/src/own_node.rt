@@ -14,6 +14,12 @@ use std::marker::Model;
 /// The logical address of a node of which nothing else is said.
 pub const NODE_ADDRESS: u8 = 0xFE;
 
+/// The least logical address: those below it are path addresses (ECSS-E-ST-50-12C).
+pub const LEAST_ADDRESS: u8 = 0x20;
+
+/// The greatest logical address: FF is reserved.
+pub const MOST_ADDRESS: u8 = 0xFE;
+
 /// The first address of the bank of such a node.
 pub const BANK_BASE: u32 = 0xA000_0000;
 

@@ -55,7 +55,7 @@ fn is_node_key(key: &str) -> bool
     key == "map" || key == "ports" || key == "program"
 }
 
-/// A table of a node's file: its kind, and its number, from 1, among those of its kind; that of the node's own is 0.
+/// A table of a node's file: its kind, and its number, from 0, among those of its kind; that of the node's own is 0.
 #[derive(Clone, Copy, Debug, PartialEq, Eq)]
 pub struct Place {
     /// Which kind of table it is.
@@ -70,7 +70,12 @@ impl fmt::Display for Place {
         let number = self.number;
         match self.kind {
             Kind::Node => Ok(()),
-            Kind::Bank | Kind::Map | Kind::Load => write!(f, "{word} {number} "),
+            Kind::Bank | Kind::Map => write!(f, "{word} {number} "),
+            // A load has the number of its generation, from 1.
+            Kind::Load => {
+                let number = number.saturating_add(1);
+                write!(f, "{word} {number} ")
+            }
         }
     }
 }

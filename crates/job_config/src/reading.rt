@@ -4,9 +4,11 @@ ghost use Rattle.std.specs.Prelude.{◌≡◌, ◌≤◌, ◌⊎◌, ◌∷◌, 
 ghost use Rattle.job_config.specs.Configured.{IsConfiguration, banks_at};
 ghost use Rattle.job_config.specs.Faults.{code_of};
 ghost use Rattle.job_config.specs.Names.{IsPathOf};
-ghost use Rattle.job_config.specs.Reads.{BeginWith, BeginsWith, Ends, HoldLoads, HoldsBanks, HoldsBeside, HoldsFirst, HoldsLoad, HoldsLoads, HoldsParts, IsBadNode, IsBadText, IsNoTable, ReadsConfiguration, ReadsNoConfiguration, ReadsNoNode, ReadsNode, SomeRead};
+ghost use Rattle.job_config.specs.Numbers.{number_at};
+ghost use Rattle.job_config.specs.Reads.{BeginWith, BeginsWith, Ends, HoldLoads, HoldsBanks, HoldsBeside, HoldsFirst, HoldsImage, HoldsLoad, HoldsLoads, HoldsParts, IsBadNode, IsBadText, IsNoTable, ReadsConfiguration, ReadsNoConfiguration, ReadsNoNode, ReadsNode, SomeRead};
 ghost use Rattle.job_config.specs.OwnNodes.{fit};
 ghost use Rattle.job_config.specs.declared.faults.ConfigFault.TheVariants.{Memory};
+ghost use Rattle.job_config.specs.declared.places.NumberKey.TheVariants.{Slot};
 ghost use Rattle.bver.specs.Justified.{IsJustified};
 ghost use Rattle.job_parts.specs.Arguments.{name_in};
 ghost use Rattle.job_parts.specs.Given.{HoldsProgram};
@@ -21,6 +23,7 @@ ghost use Rattle.toml.specs.Parse.{parse_document};
 ghost use Rattle.toml.specs.View.{items_view, table_view, view};
 
 use crate::configuration::{Configuration, configuration_of};
+use crate::every_fault::Faults;
 use crate::faults::{ConfigFault, Trouble, Word};
 use crate::names::{beside, name_at, name_in};
 use crate::numbers::number_at;
@@ -31,6 +34,7 @@ use bpf::{Image, ImageFault};
 use bver::{Accepted, MapSizes, Refusal, verify};
 use job_parts::factory::judging_program;
 use job_parts::faults::Fault;
+use job_parts::node_codes::NodeCode;
 use job_parts::programs::{bytes_in, text_in};
 use job_parts::storage::Files;
 use node_parts::BankConfig;
@@ -114,7 +118,7 @@ fn bytes_beside<F: Files>(
 }
 
 /// The bytes that a bank of a table begins with.
-fn contents_in<F: Files>(
+pub(crate) fn contents_in<F: Files>(
     alloc: Global,
     file: &str,
     files: &mut F,
@@ -154,7 +158,7 @@ fn contents_of<F: Files>(
     for index in 0..banks.len() {
         let place = Place {
             kind: Kind::Bank,
-            number: index + 1,
+            number: index,
         };
         let size = banks[index].size;
         let own = contents_in(alloc, file, files, &list[index], place, size)?;
@@ -245,7 +249,7 @@ fn read_program<'a, F: Files>(
 }
 
 /// The program that judges in all slots at first.
-fn first_program<F: Files>(
+pub(crate) fn first_program<F: Files>(
     alloc: Global,
     file: &str,
     files: &mut F,
@@ -277,6 +281,37 @@ fn trouble_in(alloc: Global, bytes: &[u8], sizes: MapSizes) -> Option<Trouble> {
     }
 }
 
+/// The slot that the table of a load names.
+pub(crate) fn slot_in(table: &Table, place: Place) -> Result<u8, ConfigFault>
+    ensures value { number_at (table_view table.now) place Slot 0 3 ≡ result }
+{
+    let slot = number_at(table, place, NumberKey::Slot, 0, u32::from(LAST_SLOT))?;
+    Ok(slot as u8)
+}
+
+/// The bytes of the image that the table of a load names, which may judge on a node with these maps.
+pub(crate) fn image_in<F: Files>(
+    alloc: Global,
+    file: &str,
+    files: &mut F,
+    table: &Table,
+    place: Place,
+    sizes: MapSizes,
+) -> Result<Vec<u8>, ConfigFault>
+    ensures held { IfOk result (λ bytes.
+        HoldsImage F.reads file.now place (table_view table.now) files.old bytes.items files.new) }
+    ensures read { SomeRead F.reads files.old files.new }
+{
+    let key = NameKey::Image;
+    let name = name_in(table, place, key)?;
+    let most = STAGING_SIZE as usize;
+    let image = bytes_beside(alloc, file, files, place, key, name, most)?;
+    match trouble_in(alloc, image.as_slice(), sizes) {
+        Some(trouble) => Err(bad_file(alloc, place, key, name, trouble)?),
+        None => Ok(image),
+    }
+}
+
 /// The load of a table.
 fn load_in<F: Files>(
     alloc: Global,
@@ -291,15 +326,9 @@ fn load_in<F: Files>(
     ensures read { SomeRead F.reads files.old files.new }
 {
     let table = table_in(item, place)?;
-    let slot = number_at(table, place, NumberKey::Slot, 0, u32::from(LAST_SLOT))?;
-    let name = name_in(table, place, NameKey::Image)?;
-    let most = STAGING_SIZE as usize;
-    let key = NameKey::Image;
-    let image = bytes_beside(alloc, file, files, place, key, name, most)?;
-    match trouble_in(alloc, image.as_slice(), sizes) {
-        Some(trouble) => Err(bad_file(alloc, place, key, name, trouble)?),
-        None => Ok(OwnLoad::new(slot as u8, image)),
-    }
+    let slot = slot_in(table, place)?;
+    let image = image_in(alloc, file, files, table, place, sizes)?;
+    Ok(OwnLoad::new(slot, image))
 }
 
 /// The loads of a list of tables.
@@ -318,7 +347,7 @@ fn loads_in<F: Files>(
     for index in 0..list.len() {
         let place = Place {
             kind: Kind::Load,
-            number: index + 1,
+            number: index,
         };
         let load = load_in(alloc, file, files, &list[index], place, sizes)?;
         loads.push(load)?;
@@ -438,17 +467,61 @@ fn node_of_text<F: Files>(
     node_with(alloc, file, files, &table, configuration)
 }
 
+/// What ends a job whose node's file has a fault with that code, or for `None` one to which memory was refused; each of its faults
+/// is in that text, if there was memory for it.
+fn ended<'a>(code: Option<NodeCode>, text: Result<String, AllocError>) -> Fault<'a>
+    ensures { Ends code result }
+{
+    match (code, text) {
+        (Some(code), Ok(place)) => Fault::BadNode { code, place },
+        (None, _) | (_, Err(_)) => Fault::NoMemory,
+    }
+}
+
 /// What ends a job whose node's file, which has this name, has that fault.
 pub fn fault_of<'a>(alloc: Global, name: &str, fault: &ConfigFault) -> Fault<'a>
     ensures { Ends (code_of fault.now) result }
 {
-    let Some(code) = fault.code() else {
-        return Fault::NoMemory;
-    };
-    match format!(in alloc; "{name} {fault}") {
-        Ok(place) => Fault::BadNode { code, place },
-        Err(_) => Fault::NoMemory,
+    ended(fault.code(), format!(in alloc; "{name} {fault}"))
+}
+
+/// The faults that the text of the node's file of this name has, of which that is the first that was found.
+fn text_faults(
+    alloc: Global,
+    name: &str,
+    text: &str,
+    fault: &ConfigFault,
+) -> Result<String, AllocError> {
+    let mut faults = Faults::new(alloc, name);
+    if let Some(table) = faults.note(table_of(alloc, text))? {
+        faults.note_numbers(alloc, &table)?;
     }
+    if faults.is_empty() {
+        faults.add(fault)?;
+    }
+    Ok(faults.into_text())
+}
+
+/// The faults of the node's file of this name with that text, and of the files that it names, of which that is the first that was
+/// found.
+fn file_faults<F: Files>(
+    alloc: Global,
+    name: &str,
+    text: &str,
+    files: &mut F,
+    fault: &ConfigFault,
+) -> Result<String, AllocError>
+    ensures read { SomeRead F.reads files.old files.new }
+{
+    let mut faults = Faults::new(alloc, name);
+    if let Some(table) = faults.note(table_of(alloc, text))? {
+        faults.note_node(alloc, files, &table)?;
+    }
+    if faults.is_empty() {
+        // A file that it names has changed since it was read.
+        faults.add(fault)?;
+    }
+    Ok(faults.into_text())
 }
 
 /// The text of the file of this name.
@@ -465,7 +538,8 @@ fn read_text<'a, F: Files>(alloc: Global, files: &mut F, name: &'a str) -> Resul
 /// in all slots at first.
 ///
 /// Faults are found in this order: the file (`CannotRead`, also where it is not UTF-8), that it is no TOML, a key that is
-/// unknown, the address, the ports, the banks, the maps, the contents of banks, the program, and the loads (`BadNode`).
+/// unknown, the address, the ports, the banks, the maps, the contents of banks, the program, and the loads (`BadNode`). The text
+/// beside the first has a line for each; for those of the files that the file names only if it has no other.
 pub fn node_in<'a, F: Files>(
     alloc: Global,
     files: &mut F,
@@ -478,14 +552,17 @@ pub fn node_in<'a, F: Files>(
     let text = read_text(alloc, files, name)?;
     match node_of_text(alloc, name, text.as_str(), files) {
         Ok(node) => Ok(node),
-        Err(fault) => Err(fault_of(alloc, name, &fault)),
+        Err(fault) => {
+            let faults = file_faults(alloc, name, text.as_str(), files, &fault);
+            Err(ended(fault.code(), faults))
+        }
     }
 }
 
 /// The configuration of the node's file of this name. Of the files that it names none is read.
 ///
 /// Faults are found in this order: the file (`CannotRead`, also where it is not UTF-8), that it is no TOML, a key that is
-/// unknown, the address, the ports, the banks and the maps (`BadNode`).
+/// unknown, the address, the ports, the banks and the maps (`BadNode`). The text beside the first has a line for each.
 pub fn configuration_in<'a, F: Files>(
     alloc: Global,
     files: &mut F,
@@ -499,6 +576,9 @@ pub fn configuration_in<'a, F: Files>(
     let text = read_text(alloc, files, name)?;
     match configuration_of_text(alloc, text.as_str()) {
         Ok(configuration) => Ok(configuration),
-        Err(fault) => Err(fault_of(alloc, name, &fault)),
+        Err(fault) => {
+            let faults = text_faults(alloc, name, text.as_str(), &fault);
+            Err(ended(fault.code(), faults))
+        }
     }
 }
