@@ -1,13 +1,14 @@
-"""The file of a node, in TOML: its address, ports, banks, maps, programs, and what is loaded before the first packet."""
+"""The file of a node, in TOML 1.0: its address, ports, banks, maps, and the programs that are published before the first packet."""
 from __future__ import annotations
 
 from dataclasses import dataclass, field
 from pathlib import Path
 from typing import Any, Optional, Union
 
-_ADDRESS, _WORD, _PORTS, _SLOT = (0, 0xFF), (0, 0xFFFFFFFF), (1, 32), (0, 3)
+_ADDRESS, _WORD, _PORTS, _SLOT = (0x20, 0xFE), (0, 0xFFFFFFFF), (1, 32), (0, 3)
 _SIZE, _ROOM, _CELLS = (1, 1 << 20), (1, 1 << 16), (1, 256)
 _BANKS, _MAPS = 8, 8
+_IMAGE = 16384
 
 
 class NodeFileFault(Exception):
@@ -29,7 +30,7 @@ class MapPart:
 
 
 @dataclass
-class LoadPart:
+class PublishPart:
     slot: int
     image: bytes
 
@@ -43,7 +44,7 @@ class NodeFile:
     program: Optional[bytes] = None
     banks: list[BankPart] = field(default_factory=list)
     maps: list[MapPart] = field(default_factory=list)
-    loads: list[LoadPart] = field(default_factory=list)
+    publishes: list[PublishPart] = field(default_factory=list)
 
     def fault(self, text: str) -> NodeFileFault:
         return NodeFileFault(f"{self.path}: {text}")
@@ -62,7 +63,8 @@ class _Table:
         if value is None:
             raise self.file.fault(f"{self.place}{key} is missing")
         if isinstance(value, bool) or not isinstance(value, int) or not bounds[0] <= value <= bounds[1]:
-            raise self.file.fault(f"{self.place}{key} {value}: wanted {bounds[0]} to {bounds[1]}")
+            hexadecimal = f", {bounds[0]:02X} to {bounds[1]:02X} hexadecimal" if key == "address" else ""
+            raise self.file.fault(f"{self.place}{key} {value}: wanted {bounds[0]} to {bounds[1]}{hexadecimal}")
         return value
 
     def flag(self, key: str) -> bool:
@@ -87,16 +89,17 @@ class _Table:
         rows = self.rows.pop(key, [])
         if not isinstance(rows, list) or (most is not None and len(rows) > most):
             raise self.file.fault(f"{key}: wanted " + (f"at most {most} tables" if isinstance(rows, list) else f"[[{key}]]"))
-        return [_Table(self.file, f"{key} {number} ", row) for number, row in enumerate(rows, 1)]
+        return [_Table(self.file, f"{key} {number} ", row) for number, row in enumerate(rows, key == "publish")]
 
     def end(self) -> None:
         for key in sorted(self.rows):
-            raise self.file.fault(f"{self.place}{key}: no such key")
+            since = ": [[load]] is [[publish]] since 1.0+6, without packets (CHANGELOG)" if not self.place and key == "load" else ""
+            raise self.file.fault(f"{self.place}{key}{since or ': no such key'}")
 
 
 def _bank(table: _Table) -> BankPart:
-    part = BankPart(table.number("base", _WORD, BankPart.base), table.number("size", _SIZE, BankPart.size),
-                    table.number("journal", _ROOM, BankPart.journal), table.bytes_of("contents") or b"")
+    part = BankPart(table.number("base", _WORD), table.number("size", _SIZE), table.number("journal", _ROOM),
+                    table.bytes_of("contents") or b"")
     table.end()
     if part.base + part.size > 1 << 32:
         raise table.file.fault(f"{table.place}size {part.size}: it goes past address FFFFFFFF")
@@ -111,9 +114,11 @@ def _map(table: _Table) -> MapPart:
     return part
 
 
-def _load(table: _Table) -> LoadPart:
-    part = LoadPart(table.number("slot", _SLOT), table.bytes_of("image", is_needed=True) or b"")
+def _publish(table: _Table) -> PublishPart:
+    part = PublishPart(table.number("slot", _SLOT), table.bytes_of("image", is_needed=True) or b"")
     table.end()
+    if len(part.image) > _IMAGE:
+        raise table.file.fault(f"{table.place}image: {len(part.image)} bytes, wanted at most {_IMAGE}")
     return part
 
 
@@ -130,14 +135,18 @@ def read_node_file(path: Union[str, Path]) -> NodeFile:
     except OSError as error:
         raise file.fault(error.strerror or str(error)) from None
     except (tomllib.TOMLDecodeError, UnicodeDecodeError) as error:
-        raise file.fault(str(error)) from None
+        raise file.fault(f"{error}: this module reads TOML 1.0, and rmapctl TOML 1.1") from None
     table = _Table(file, "", rows)
     file.address = table.number("address", _ADDRESS, file.address)
     file.ports = table.number("ports", _PORTS, file.ports)
-    file.banks = [_bank(row) for row in table.tables("bank", _BANKS)] or [BankPart()]
+    has_banks = "bank" in rows
+    file.banks = [_bank(row) for row in table.tables("bank", _BANKS)]
+    if not file.banks and has_banks:
+        raise file.fault("0 banks: wanted 1 to 8")
+    file.banks = file.banks or [BankPart()]
     file.maps = [_map(row) for row in table.tables("map", _MAPS)]
     file.program = table.bytes_of("program")
-    file.loads = [_load(row) for row in table.tables("load")]
+    file.publishes = [_publish(row) for row in table.tables("publish")]
     table.end()
     if sum(row.cells for row in file.maps) > 256:
         raise file.fault(f"map: {sum(row.cells for row in file.maps)} cells, wanted at most 256")

@@ -10,7 +10,6 @@ from . import library as c
 from .files import NodeFile, read_node_file
 from .journals import Damaged, Entry
 from .loads import load
-from .packets import load_packets
 
 #: The image of the program that says yes to every command: `mov r0, 0; exit`.
 YES = bytes.fromhex("42504641010002000200000000000000B7000000000000009500000000000000")
@@ -117,7 +116,7 @@ class Node:
 
     @classmethod
     def from_file(cls, path: Union[str, Path]) -> Node:
-        """Opens the node that a file says, with the contents of its banks, and its loads done."""
+        """Opens the node that a file says, with the contents of its banks, and its programs published."""
         return cls._of(read_node_file(path))
 
     @classmethod
@@ -131,16 +130,20 @@ class Node:
         for number, bank in enumerate(file.banks):
             if bank.contents:
                 node.poke(bank.base, bank.contents, number)
-        for number, row in enumerate(file.loads, 1):
-            status = node._load(row.image, row.slot, file.address)
-            if status:
-                raise file.fault(f"load {number}: status {status}")
+        for number, row in enumerate(file.publishes, 1):
+            try:
+                node.publish(row.image, row.slot)
+            except NodeFault as fault:
+                raise file.fault(f"publish {number} image: {fault}") from None
         return node
 
-    def _load(self, image: bytes, slot: int, address: int) -> int:
-        """Does a load as packets at port 0, and gives the status of its control write."""
-        *writes, _ = load_packets(image, slot, target=address)
-        return next((status for status in (self.serve(packet).status for packet in writes) if status), 0)
+    def publish(self, image: bytes, slot: int) -> None:
+        """Publishes the program of an image for a slot, without a packet. It has the next generation, and judges from the next
+        command on. If it may not judge, this raises NodeFault, and the node stays as it is."""
+        why = c.Why()
+        code = self._c.sandbar_publish(byref(self._node), _byte("slot", slot), image, len(image), byref(why))
+        if code:
+            raise NodeFault(code, why)
 
     def _done(self, code: int) -> None:
         if code:

@@ -16,7 +16,7 @@ use Rattle.job_config.specs.declared.faults.ConfigFault.{ConfigFault}
 use Rattle.job_config.specs.declared.faults.ConfigFault.TheVariants.{BadCount, BadPeak, Memory, NoList, NoTable, UnknownKey}
 use Rattle.job_config.specs.declared.own_node.TheConstants.{NODE_ADDRESS}
 use Rattle.job_config.specs.declared.places.Kind.{Kind}
-use Rattle.job_config.specs.declared.places.Kind.TheVariants.{Node, Bank, Map, Load}
+use Rattle.job_config.specs.declared.places.Kind.TheVariants.{Node, Bank, Map, Publish}
 use Rattle.job_config.specs.declared.places.NumberKey.TheVariants.{Address, Ports, Base, Size, Journal, Cells}
 use Rattle.job_config.specs.declared.places.Place.{Place}
 
@@ -70,11 +70,11 @@ unknown_listed kind (Some items) = unknown_among kind 0 items
 abbrev pub unknown_of_kind : Members → Kind → Option ConfigFault
 unknown_of_kind table kind = unknown_listed kind (array_in (get_member (kind_word kind) table))
 
--- the first key that is unknown: of the node's own table, then of banks, maps and loads
+-- the first key that is unknown: of the node's own table, then of banks, maps and publishes
 abbrev pub unknown_at_all : Members → Option ConfigFault
 unknown_at_all table =
     first_of (unknown own_place (unknown_key Node table)) (first_of (unknown_of_kind table Bank)
-    (first_of (unknown_of_kind table Map) (unknown_of_kind table Load)))
+    (first_of (unknown_of_kind table Map) (unknown_of_kind table Publish)))
 
 -- the list of tables that a value is
 abbrev pub list_of : Kind → Option Items → Result (Option Items) ConfigFault

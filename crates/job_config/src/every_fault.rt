@@ -105,12 +105,12 @@ impl<'a> Faults<'a> {
         }
     }
 
-    /// Adds each key that a node has not: of the node's own table, then of banks, maps and loads.
+    /// Adds each key that a node has not: of the node's own table, then of banks, maps and publishes.
     fn note_keys(&mut self, alloc: Global, table: &Table) -> Result<(), AllocError> {
         self.note_table(alloc, table, OWN)?;
         self.note_kind(alloc, table, Kind::Bank)?;
         self.note_kind(alloc, table, Kind::Map)?;
-        self.note_kind(alloc, table, Kind::Load)
+        self.note_kind(alloc, table, Kind::Publish)
     }
 
     /// Adds what is wrong with the table of a bank. Without a base its size may be what it is at 0.
@@ -201,8 +201,8 @@ impl<'a> Faults<'a> {
         Ok(())
     }
 
-    /// Adds what is wrong with the table of a load.
-    fn note_load<F: Files>(
+    /// Adds what is wrong with the table of a publish.
+    fn note_publish<F: Files>(
         &mut self,
         alloc: Global,
         files: &mut F,
@@ -216,13 +216,13 @@ impl<'a> Faults<'a> {
             return Ok(());
         };
         self.note(slot_in(table, place))?;
-        let image = image_in(alloc, self.name, files, table, place, sizes);
-        self.note(image)?;
+        let program = image_in(alloc, self.name, files, table, place, sizes);
+        self.note(program)?;
         Ok(())
     }
 
-    /// Adds what is wrong with the loads of a list of tables.
-    fn note_loads<F: Files>(
+    /// Adds what is wrong with the publishes of a list of tables.
+    fn note_publishes<F: Files>(
         &mut self,
         alloc: Global,
         files: &mut F,
@@ -231,17 +231,17 @@ impl<'a> Faults<'a> {
     ) -> Result<(), AllocError>
         ensures read { SomeRead F.reads files.old files.new }
     {
-        let kind = Kind::Load;
+        let kind = Kind::Publish;
         for number in 0..list.len() {
             let place = Place { kind, number };
-            self.note_load(alloc, files, &list[number], place, sizes)?;
+            self.note_publish(alloc, files, &list[number], place, sizes)?;
         }
         Ok(())
     }
 
     /// Adds what is wrong with the files that a table of that configuration names: the contents of banks, the program and the
-    /// loads.
-    fn note_named<F: Files>(
+    /// publishes.
+    fn note_files<F: Files>(
         &mut self,
         alloc: Global,
         files: &mut F,
@@ -256,14 +256,14 @@ impl<'a> Faults<'a> {
         }
         let program = first_program(alloc, self.name, files, table, sizes);
         self.note(program)?;
-        if let Some(Some(list)) = self.note(list_at(table, Kind::Load))? {
-            self.note_loads(alloc, files, list, sizes)?;
+        if let Some(Some(list)) = self.note(list_at(table, Kind::Publish))? {
+            self.note_publishes(alloc, files, list, sizes)?;
         }
         Ok(())
     }
 
-    /// Adds what is wrong with a table; if nothing is wrong with its numbers, what is wrong with the files that it names.
-    pub(crate) fn note_node<F: Files>(
+    /// Adds what is wrong with the files that a table names, whose numbers have no fault.
+    pub(crate) fn note_named<F: Files>(
         &mut self,
         alloc: Global,
         files: &mut F,
@@ -271,13 +271,9 @@ impl<'a> Faults<'a> {
     ) -> Result<(), AllocError>
         ensures read { SomeRead F.reads files.old files.new }
     {
-        self.note_numbers(alloc, table)?;
-        if !self.is_empty() {
-            return Ok(());
-        }
         let Some(configuration) = self.note(configuration_of(alloc, table))? else {
             return Ok(());
         };
-        self.note_named(alloc, files, table, &configuration)
+        self.note_files(alloc, files, table, &configuration)
     }
 }

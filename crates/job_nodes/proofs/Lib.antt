@@ -1,8 +1,7 @@
 pub mod Banks
 mod Continuing
 mod Guarding
-mod Loaded
+mod Made
 pub mod Scheduled
-mod SettledNodes
 pub mod Simulating
 mod FirstWorlds
