@@ -49,7 +49,7 @@ impl Word {
 }
 
 /// Why a file beside a node's file does not serve.
-#[derive(Clone, Copy, Debug, PartialEq, Eq)]
+#[derive(Clone, Copy, Debug)]
 pub enum Trouble {
     /// It cannot be read.
     Unread,

@@ -452,10 +452,10 @@ fn table_of(alloc: Global, text: &str) -> Result<Table, ConfigFault>
 fn ended<'a>(code: Option<NodeCode>, text: Result<String, AllocError>) -> Fault<'a>
     ensures { Ends code result }
 {
-    match (code, text) {
-        (Some(code), Ok(place)) => Fault::BadNode { code, place },
-        (None, _) | (_, Err(_)) => Fault::NoMemory,
-    }
+    let (Some(code), Ok(place)) = (code, text) else {
+        return Fault::NoMemory;
+    };
+    Fault::BadNode { code, place }
 }
 
 /// What ends a job whose node's file, which has this name, has that fault.

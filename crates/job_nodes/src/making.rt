@@ -72,9 +72,9 @@ fn publish_all(
     ensures { OnOk result (node.new ≡ with_publishes node.old publishes.now) }
 {
     for index in 0..publishes.len() {
-        let (slot, program) = &publishes[index];
-        let program = program.copy()?;
-        node.publish(alloc, *slot, program)?;
+        let publish = &publishes[index];
+        let program = publish.1.copy()?;
+        node.publish(alloc, publish.0, program)?;
     }
     Ok(())
 }

@@ -136,10 +136,10 @@ fn install_all<J: Family, R: Wait + Drop>(
     ensures owner { OnOk result (line.new.port ≡ line.old.port) }
 {
     for index in 0..firsts.len() {
-        let (slot, program) = &firsts[index];
-        let program = program.copy()?;
+        let first = &firsts[index];
+        let program = first.1.copy()?;
         // Memory alone can be refused to it: the slot is one of four, and a generation is left.
-        let Ok(_told) = publisher.install(line, *slot, program) else {
+        let Ok(_told) = publisher.install(line, first.0, program) else {
             return Err(AllocError);
         };
     }

@@ -157,9 +157,9 @@ impl World {
     {
         let mut world = World::with_factory(alloc, config, factory)?;
         for index in 0..firsts.len() {
-            let (slot, program) = &firsts[index];
-            let program = program.copy()?;
-            world.publish_first(alloc, *slot, program)?;
+            let first = &firsts[index];
+            let program = first.1.copy()?;
+            world.publish_first(alloc, first.0, program)?;
         }
         Ok(world)
     }

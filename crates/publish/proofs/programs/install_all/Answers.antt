@@ -12,7 +12,7 @@ pub loop-index-preserved : goal.loop-index-preserved
 loop-index-preserved g c =
     let firsts = c.args.firsts.now in
     let index = c.loop-index.index in
-    let first = c.index.result.now in
+    let first = c.index-first.result.now in
     let at_first : first ≡ get_or firsts index first = grind (arith, common_steps) in (
       publishes_next firsts index first first c.loop-index-test.true at_first _ _ _ c.loop-index.invariant.0 c.in-Ok.ensures.published,
       line_next firsts index first first c.loop-index-test.true at_first _ _ _ c.loop-index.invariant.1 c.in-Ok.ensures.asked,

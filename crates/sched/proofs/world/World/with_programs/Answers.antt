@@ -6,7 +6,7 @@ use Rattle.sched.proofs.world.World.with_programs.Goals as goal
 pub loop-index-preserved : goal.loop-index-preserved
 loop-index-preserved c =
     let before = c.loop-index.invariant in
-    let first = c.index.result in
+    let first = c.index-first.result in
     let at_first : first.now ≡ get_or c.args.firsts.now c.loop-index.index first.now = grind (arith, common_steps) in
     let adds = c.in_ok-publish_first.ensures in
     record {
