@@ -284,7 +284,8 @@ fn print_unknown<W: fmt::Write>(
 /// Prints that there are too many tables of a kind, or too few.
 fn print_count<W: fmt::Write>(f: &mut fmt::Formatter<W>, kind: Kind, count: usize) -> fmt::Result {
     let (word, wanted) = (kind.word(), wanted(kind));
-    write!(f, "{count} {word}s: wanted {wanted}")
+    let plural = if kind == Kind::Publish { "es" } else { "s" };
+    write!(f, "{count} {word}{plural}: wanted {wanted}")
 }
 
 /// Prints that a number is none that is wanted; of a logical address also the digits that a packet has.
