@@ -127,7 +127,7 @@ module _ {S : Type 0} (reads : Reads S) (file : List ℕ) where
     pub listed : list_at table Bank ≡ Ok list
     pub held : HoldsContents list banks before contents after
 
-  -- the program is that of the image in the file of that name beside the node's, which has at most so many bytes; it is
+  -- the program is that of the image in the file of that name beside the node's, which has at most that number of bytes; it is
   -- justified on its maps, and so safe
   pub record HoldsProgramOf (name : List ℕ) (most : ℕ) (before : S) (program : AcceptedValue) (after : S) : Type 0 where
     pub bytes : List ℕ
@@ -150,7 +150,7 @@ module _ {S : Type 0} (reads : Reads S) (file : List ℕ) where
     pub slot : number_at table at Slot 0 3 ≡ Ok publish.0
     pub image : HoldsImageAt at table before publish.1 after
 
-  -- the publishes of a list of tables, in this order; so many are before them
+  -- the publishes of a list of tables, in this order, after that number of them
   abbrev pub HoldPublishes : (number : ℕ) → Items → (before : S) → List (ℕ × AcceptedValue) → (after : S) → Type 0
   HoldPublishes number no_items before [] after = after ≡ before
   HoldPublishes number no_items before (publish ∷ publishes) after = ⊥

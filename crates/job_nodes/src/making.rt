@@ -80,8 +80,8 @@ fn publish_all(
 }
 
 impl JobNode {
-    /// The node of that configuration: banks of zeros that begin with their contents, this program in all slots, and behind that
-    /// the programs that are published before the first packet, each in its slot with the next generation, the first with 1.
+    /// The node of that configuration: banks of zeros that begin with their contents, this program in all slots, and then the
+    /// programs that are published before the first packet, each in its slot with the next generation, the first with 1.
     /// Stagings, load results and cells are those of a fresh node. The condition is a program that was accepted for the maps of the
     /// configuration.
     ///

@@ -108,7 +108,7 @@ impl TakesLines for Simulating {
     }
 }
 
-/// Steps through the events of a file, in order, from the beginning of the node of these arguments, behind what its file
+/// Steps through the events of a file, in order, from the beginning of the node of these arguments, after what its file
 /// publishes. What each event comes to is printed before the next line is read. `Misused`, with the line `bad option`, where a bank
 /// begins with bytes, which no schedule does.
 ///

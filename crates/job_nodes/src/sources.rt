@@ -132,7 +132,7 @@ fn world_from<'a, F: Files>(
 }
 
 /// The text of the file of lines, and the world of these arguments: that of their words at its beginning, or that of a file
-/// behind what it publishes. `None` in place of a world where a bank begins with bytes, which no world does.
+/// after what it publishes. `None` in place of a world where a bank begins with bytes, which no world does.
 ///
 /// Faults are found in this order: the file of lines (`CannotRead`, also where it is not UTF-8), and those of [`node_from`].
 pub fn lines_and_world<'a, F: Files>(

@@ -10,7 +10,7 @@ use job_config::own_node::{Contents, OwnNode};
 use sched::World;
 use std::alloc::{AllocError, Global};
 
-/// The world of that configuration behind no event: this program is in all slots, and behind that the programs of the configuration
+/// The world of that configuration before its first event: this program is in all slots, and then the programs of the configuration
 /// are published. The condition is a program that was accepted for its maps.
 ///
 /// `AllocError` where memory was refused, and where a world refuses the configuration.

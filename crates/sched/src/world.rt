@@ -131,8 +131,8 @@ impl World {
         Ok(World::of(alloc, config, banks, by_port, factory)?)
     }
 
-    /// The world of a node behind no event, as [`World::with_factory`] makes it, for which these programs were then published, in
-    /// order: each for its slot, with the next generation, the first with 1. Stagings, load results, banks and words are those of a
+    /// The world of a node before its first event, as [`World::with_factory`] makes it, for which these programs were then published,
+    /// in order: each for its slot, with the next generation, the first with 1. Stagings, load results, banks and words are those of a
     /// world without them. Conditions: programs that were accepted for the maps of the configuration, slots of 0 to 3, and at most
     /// 4,294,967,295 publishes.
     ///
