@@ -43,6 +43,7 @@ contents = "science.bin"
 [[bank]]
 base = 0x1000
 size = 16
+journal = 1
 
 [[map]]
 cells = 5
