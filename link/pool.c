@@ -21,6 +21,10 @@ static unit pool[POOL / sizeof(unit)];
 static unit list; /* its next is the first free block */
 static bool is_laid;
 
+void pool_clear(void); /* after a node was damaged, before the next is opened: all of the pool is free, whatever was in it */
+
+void pool_clear(void) { is_laid = false; }
+
 static size_t units_of(size_t size) { return (size + sizeof(unit) - 1) / sizeof(unit) + 1; }
 
 static void lay(void) {

@@ -10,6 +10,9 @@ from pathlib import Path
 from unittest import mock
 
 import kit
+
+sys.path.append(str(kit.TOP / "tests"))
+from node_files import GOOD, UNREAD, beside, node_files
 from sandbarstove import (Bank, Damaged, LibraryFault, LoadFault, Map, Node, NodeFault, NodeFileFault, Reply, YES, command, load, reply,
                           verify)
 from sandbarstove import library as c
@@ -44,7 +47,7 @@ contents = "science.bin"
 [[bank]]
 base = 0x1000
 size = 16
-journal = 1024
+journal = 1
 
 [[map]]
 cells = 5
@@ -56,35 +59,27 @@ peak = true
 slot = 1
 image = "deny.img"
 """
-# (the text, the refusal) of files that no node can be of.
+# (the text, the words of the refusal) of files that no node can be of: those of `rmapctl node`. What each file of tests/node_files.txt
+# is answered is compared too.
 BAD_FILES = [
     ("address = 256", "address 256: wanted 32 to 254, 20 to FE hexadecimal"),
     ("address = 0x1F", "address 31: wanted 32 to 254, 20 to FE hexadecimal"),
-    ("adress = 1", "adress: no such key"),
-    ("ports = 0", "ports 0: wanted 1 to 32"),
-    ("ports = true", "ports True: wanted 1 to 32"),
-    ("[[bank]]\nsize = 1\njournal = 1", "bank 0 base is missing"),
-    ("[[bank]]\nbase = 0\nsize = 0", "bank 0 size 0: wanted 1 to 1048576"),
-    ("[[bank]]\nbase = 0\nsize = 1\njournal = 1\n[[bank]]\nbase = 0xFFFFFFFF\nsize = 2\njournal = 1",
-     "bank 1 size 2: it goes past address FFFFFFFF"),
-    ("[[bank]]\nbase = 0\nsize = 1\njournal = 65537", "bank 0 journal 65537: wanted 1 to 65536"),
-    ("[[bank]]\nbase = 0\nsize = 1\njournal = 1\ncontents = 'science.bin'", "bank 0 contents: 4 bytes, and the bank has 1"),
-    ("[[bank]]\nbase = 0\nsize = 1\njournal = 1\ncontents = 'none.bin'", "bank 0 contents none.bin: No such file or directory"),
+    ("adress = 1", "key adress: wanted address, bank, map, ports, program or publish"),
+    ("ports = true", "ports is no number: wanted 1 to 32"),
+    ("[[bank]]\nsize = 0", "bank 0 base is missing: wanted 0 to 4294967295"),
+    ("[[bank]]\nbase = 0xFFFFFFFF\nsize = 2", "bank 0 size 2: wanted 1 to 1"),
+    ("[[bank]]\nbase = 0\nsize = 1\njournal = 1\ncontents = 'none.bin'", "bank 0 contents none.bin: cannot be read"),
+    ("[bank]\nsize = 1", "bank is no list of tables: wanted [[bank]]"),
+    ("bank = [1]", "bank 0 is no table: wanted [[bank]]"),
     ("bank = []", "0 banks: wanted 1 to 8"),
-    ("[bank]\nsize = 1", "bank: wanted [[bank]]"),
-    ("bank = [1]", "bank 0 wanted a table"),
-    ("[[bank]]\n" * 9, "bank: wanted at most 8 tables"),
-    ("[[map]]", "map 0 cells is missing"),
-    ("[[map]]\ncells = 2\npeak = 1", "map 0 peak 1: wanted true or false"),
-    ("[[map]]\ncells = 200\n[[map]]\ncells = 57", "map: 257 cells, wanted at most 256"),
-    ("program = 'science.bin'", "program: the bytes are no image"),
-    ("program = 5", "program 5: wanted a name"),
-    ("[[publish]]\nslot = 4\nimage = 'yes.img'", "publish 1 slot 4: wanted 0 to 3"),
-    ("[[publish]]\nslot = 1", "publish 1 image is missing"),
-    ("[[publish]]\nslot = 1\nimage = 'science.bin'", "publish 1 image: the bytes are no image"),
-    ("[[load]]\nslot = 1\nimage = 'yes.img'", "load: [[load]] is [[publish]] since 1.0+6"),
-    ("[[map]]\ncells = 1\n[[map]]\nx = {a = 1,}", "this module reads TOML 1.0"),
-    ("address = ", "Invalid value (at end of document)"),
+    ("[[map]]\n" * 9, "9 maps: wanted at most 8"),
+    ("[[map]]\ncells = 2\npeak = 1", "map 0 peak: wanted true or false"),
+    ("[[map]]\ncells = 200\n[[map]]\ncells = 57", "map 1 cells 57: wanted 1 to 56"),
+    ("program = 'science.bin'", "program science.bin: image fault 1 slot 0"),
+    ("program = 5", "program: wanted the name of a file"),
+    ("[[publish]]\nslot = 1\nimage = 'science.bin'", "publish 1 image science.bin: image fault 1 slot 0"),
+    ("[[load]]\nslot = 1\nimage = 'deny.img'", "key load: [[load]] is [[publish]] since 1.0+6"),
+    ("address = ", "is no TOML: Invalid value"),
 ]
 
 
@@ -254,8 +249,24 @@ class Files(unittest.TestCase):
         for text, wanted in BAD_FILES:
             with self.subTest(wanted), self.assertRaises(NodeFileFault) as caught:
                 Node.from_file(self.file(text))
-            self.assertIn(f"node.toml: {wanted}", str(caught.exception))
+            self.assertIn(f"node.toml {wanted}", str(caught.exception))
         self.assertRaisesRegex(NodeFileFault, "No such file", Node.from_file, "/nowhere/node.toml")
+
+    def test_list(self):
+        """Each file of tests/node_files.txt, also those of which only the library can say it."""
+        folder = Path(self.room.name, "beside")
+        folder.mkdir()
+        for name, data in beside().items():
+            (folder / name).write_bytes(data)
+        for file in node_files():
+            (folder / "node.toml").write_bytes(file.content)
+            with self.subTest(file.title):
+                try:
+                    Node.from_file(folder / "node.toml").close()
+                    answer = GOOD
+                except NodeFileFault as fault:
+                    answer = str(fault.code) if fault.code else UNREAD
+                self.assertEqual(answer, file.answer)
 
 
 class Loads(unittest.TestCase):

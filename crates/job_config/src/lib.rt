@@ -8,6 +8,7 @@
 
 mod banks;
 pub mod configuration;
+pub mod contents_named;
 mod every_fault;
 pub mod faults;
 mod keys;

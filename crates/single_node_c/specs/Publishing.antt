@@ -4,7 +4,7 @@ use Rattle.bver.specs.Justified.{AcceptedValue}
 use Rattle.node_programs.specs.Published.{sizes_of}
 use Rattle.node_programs.specs.declared.faults.PublishFault.{PublishFault}
 use Rattle.node_programs.specs.declared.faults.PublishFault.TheVariants.{Memory as NoRoom, Slot as NoSuchSlot, GenerationsFull}
-use Rattle.scrub.specs.Guarded.{GuardedValue, IsInstalled}
+use Rattle.scrub.specs.Guarded.{GuardedValue, Installs}
 use Rattle.single_node_c.specs.Opening.{IsAccepted, IsImageUnfit, code_of, no_why, why_of}
 use Rattle.single_node_c.specs.declared.codes.TheConstants.{NO_GENERATION, NO_SLOT, OK}
 use Rattle.single_node_c.specs.declared.numbers.Why.{Why}
@@ -13,11 +13,11 @@ use Rattle.single_node_c.specs.declared.publishing.Unpublished.TheVariants.{Slot
 use Rattle.single_node_c.specs.declared.unfit.Unfit.TheVariants.{Memory}
 
 -- the program that the image spells was accepted for the maps of the node, and published for the slot; what is kept of the slot's
--- program is that of this one
+-- program, if programs are scrubbed, is that of this one
 pub record IsPublished (slot : ℕ) (image : List ℕ) (before after : GuardedValue) : Type 0 where
   pub program : AcceptedValue
   pub accepted : IsAccepted (sizes_of before.node.programs) image program
-  pub installed : IsInstalled slot program before after
+  pub installed : Installs slot program before after
 
 -- why it was not, in the order of the tests
 abbrev pub IsUnpublished : (slot : ℕ) → (image : List ℕ) → GuardedValue → Unpublished → Type 0

@@ -60,9 +60,7 @@ fn publish(
         Ok(program) => program,
         Err(unfit) => return Err(Unpublished::Unfit(unfit)),
     };
-    guarded
-        .guard
-        .install(&mut guarded.node, alloc, slot, program)?;
+    guarded.install(alloc, slot, program)?;
     Ok(())
 }
 
