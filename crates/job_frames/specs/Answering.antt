@@ -9,6 +9,7 @@ use Rattle.frames.specs.declared.came.Came.TheVariants.{Whole, Piece, Time, Othe
 use Rattle.job_nodes.specs.JobNode.{JobNodeValue}
 use Rattle.job_live.specs.Answering.{MakesRoom}
 use Rattle.job_live.specs.Journals.{Turns, journals_text}
+use Rattle.job_live.specs.Entries.{HandsOutLeft, entries_text}
 use Rattle.job_live.specs.LiveNodes.{KeepsGuard, LiveNodeValue, ServesLive, with_node}
 use Rattle.job_live.specs.ScrubLines.{found_text}
 use Rattle.job_frames.specs.Told.{fault_line, served_text}
@@ -38,16 +39,21 @@ due_of [] = []
 due_of (byte ∷ reply) = reply_frame_of (byte ∷ reply)
 
 -- a packet, which ended with the frame of that number, met a journal with room for its command, and was served; its reply is
--- due, and then are told the journals that were full, what a scrub found, and that the packet was discarded, if it was
+-- due, and then are told the journals that were full, what a scrub found, the entries that are handed out at once, whose
+-- journals begin anew, and that the packet was discarded, if it was
 pub record AnswersPacket (packet : Cargo) (frame : ℕ) (before after : LiveNodeValue) (reply text : List ℕ) : Type 0 where
   pub ready : JobNodeValue
   pub journal : List ℕ
   pub found : Option Found
   pub served : Served
   pub room : MakesRoom before.node ready (Some []) (Some journal)
-  pub serves : ServesLive found served 0 packet (with_node before ready) after
-  pub replied : reply ≡ due_of after.node.reply
-  pub told : text ≡ journal ++ found_text found ++ served_text frame served
+  pub behind : LiveNodeValue
+  pub serves : ServesLive found served 0 packet (with_node before ready) behind
+  pub replied : reply ≡ due_of behind.node.reply
+  pub told : text
+      ≡ journal ++ found_text found ++ entries_text behind.at_once behind.node.banks ++ served_text frame served
+  pub turned : HandsOutLeft behind.at_once behind.node after.node
+  pub guard : KeepsGuard behind after
 
 -- nothing is due
 abbrev pub AreNone : (reply text : List ℕ) → Type 0

@@ -9,6 +9,7 @@ ghost use Rattle.job_parts.specs.Printed.{Prints};
 use crate::faults::print_fault;
 use frames::{Came, FrameFault, HEAD_LENGTH, reply_head};
 use job_live::answering::{CODE, hand_out, make_room};
+use job_live::entries::{put_left, room_of, turn_left};
 use job_live::live_node::LiveNode;
 use job_live::putting::{put, put_discard_code};
 use job_live::scrub_lines::{MOST_OF_SCRUB, put_found};
@@ -82,14 +83,16 @@ fn answer_packet(alloc: Global, node: &mut LiveNode, packet: Packet, frame: u64)
     let words = discard_words(alloc, frame)?;
     let mut reply = Vec::with_capacity(alloc, MOST_OF_REPLY)?;
     let mut text = Vec::new(alloc);
-    let more = words.len() + MOST_BESIDE;
+    let more = words.len() + MOST_BESIDE + room_of(node.at_once);
     make_room(&mut node.node, more, &mut text)?;
     // A node has a port.
     let _ports = node.node.ports();
     let (found, served) = node.serve(alloc, PORT, packet);
     put_due(&mut reply, node.node.reply());
     put_found(&mut text, found);
+    put_left(&mut text, &node.node, node.at_once);
     tell_served(&mut text, words.as_slice(), served);
+    turn_left(&mut node.node, node.at_once);
     Ok(Due { reply, text })
 }
 

@@ -34,7 +34,7 @@ fn ends_of_link<'a, F: Files>(
 {
     let node = node_from(alloc, &words.node, files)?;
     let reader = FrameReader::new(alloc)?;
-    let live = LiveNode::new(node, words.scrub);
+    let live = LiveNode::new(node, words.scrub, words.entries);
     Ok((reader, Answering::new(alloc, live)))
 }
 

@@ -14,6 +14,7 @@ use Rattle.job_nodes.specs.JobNode.{JobNodeValue, RefusesLine, SetsBytes}
 use Rattle.single_node.specs.Nodes.{covers_in}
 use Rattle.job_live.specs.Asks.{IsAsked}
 use Rattle.job_live.specs.CellLines.{cells_text}
+use Rattle.job_live.specs.Entries.{HandsOutLeft}
 use Rattle.job_live.specs.LiveNodes.{KeepsGuard, LiveNodeValue, TakesLine, taken_text, with_node}
 use Rattle.job_live.specs.Settings.{IsNoSetting, WritesSetting}
 use Rattle.job_live.specs.Journals.{TellsJournals, bank_text}
@@ -36,15 +37,19 @@ pub record TellsCells (before after : JobNodeValue) (old new : Option (List ℕ)
 abbrev pub MakesRoom : (before after : JobNodeValue) → (old new : Option (List ℕ)) → Type 0
 MakesRoom before after old new = TellsJournals false before after old new
 
--- of a line that ended no packet nothing was printed, and else what came of its packet
-abbrev pub PrintsTaken : Option Taken → (reply : List ℕ) → (old new : Option (List ℕ)) → Type 0
-PrintsTaken None reply old new = new ≡ old
-PrintsTaken (Some taken) reply old new = Appends old new (taken_text taken reply)
+-- of a line that ended no packet nothing was printed, and else what came of its packet; the entries that are handed out at once
+-- are among that, and their journals begin anew
+abbrev pub PrintsTaken : Option Taken → (served after : LiveNodeValue) → (old new : Option (List ℕ)) → Type 0
+PrintsTaken None served after old new = (after ≡ served) × (new ≡ old)
+PrintsTaken (Some taken) served after old new =
+    Appends old new (taken_text taken served) × HandsOutLeft served.at_once served.node after.node
+    × KeepsGuard served after
 
 -- the node took a packet line, and what came of it was printed; or it refuses the line for that fault
 abbrev pub TakesOrRefuses : (line : List ℕ) (fault : Option BadLine) (before after : LiveNodeValue) (old new : Option (List ℕ)) → Type 0
 TakesOrRefuses line None before after old new =
-    (taken : Option Taken) × TakesLine line taken before after × PrintsTaken taken after.node.reply old new
+    (taken : Option Taken) × (served : LiveNodeValue) × TakesLine line taken before served
+    × PrintsTaken taken served after old new
 TakesOrRefuses line (Some fault) before after old new =
     RefusesLine line fault before.node after.node × KeepsGuard before after × (new ≡ old)
 

@@ -132,7 +132,7 @@ pub record HoldsLive {S : Type 0} (reads : Reads S) (words : LiveWords) (before 
   where
     pub node : JobNodeValue
     pub holds : HoldsNode reads words.node before node after
-    pub live : IsLive words.scrub node fresh
+    pub live : IsLive words.scrub words.entries node fresh
 
 module _ {S T : Type 0} (reads : Reads S) (came : Comes T) (sent unsent : Sends T) (missed : Misses T) (words : LiveWords)
   where

@@ -6,12 +6,14 @@ ghost use Rattle.job_parts.specs.Printed.{Prints, fault_line};
 ghost use Rattle.job_parts.specs.declared.faults.Fault.TheVariants.{BadLine as AtLine};
 ghost use Rattle.job_live.specs.Answering.{Answers, AnswersAsked, AnswersSetting, IsFaultByPort, IsLongFault, IsUnset, MakesRoom, TakesAndTells, TellsJournal, TellsSetting, WritesInside, fault_words, is_inside};
 ghost use Rattle.job_live.specs.Asks.{IsAsked};
+ghost use Rattle.job_live.specs.Entries.{room_of};
 ghost use Rattle.job_live.specs.LiveNodes.{taken_text};
 ghost use Rattle.rmap.specs.declared.reply.TheConstants.{MAX_REPLY};
 ghost use Rattle.job_live.specs.declared.asks.Asks.TheVariants.{Packet, Set};
 
 use crate::asks::{Asks, asked};
 use crate::cell_lines::print_cells;
+use crate::entries::{put_left, room_of, turn_left};
 use crate::journals::{print_bank, print_journals, turn_journals};
 use crate::live_node::{LiveNode, Taken};
 use crate::putting::{MOST_OF_PACKET, put, put_code, put_served};
@@ -71,14 +73,14 @@ fn fault_words(alloc: Global, number: usize) -> io::Result<Vec<u8>>
 }
 
 /// Puts what came of a packet behind a text, with the reply that was due: the line of a scrub that did not find a program whole,
-/// and then the packet's. Conditions: a reply that is no longer than any ([`MAX_REPLY`]), and room for the longest lines.
-fn put_taken(text: &mut Vec<u8>, taken: Taken, reply: &[u8])
-    requires reply { length reply.now ≤ MAX_REPLY }
-    requires room { vec_len text.old + (MOST_OF_SCRUB + MOST_OF_PACKET) ≤ vec_capacity text.old }
-    ensures { text.new.items ≡ text.old.items ++ taken_text taken reply.now }
+/// those of the entries that are handed out at once, and then the packet's. The condition is room for the longest lines.
+fn put_taken(text: &mut Vec<u8>, taken: Taken, node: &LiveNode)
+    requires { vec_len text.old + (MOST_OF_SCRUB + MOST_OF_PACKET + room_of node.now.at_once) ≤ vec_capacity text.old }
+    ensures { text.new.items ≡ text.old.items ++ taken_text taken node.now }
 {
     put_found(text, taken.found);
-    put_served(text, taken.port, taken.served, reply);
+    put_left(text, &node.node, node.at_once);
+    put_served(text, taken.port, taken.served, node.node.reply());
 }
 
 /// Puts the line of a fault behind a text, whose words before its number are these. The condition is room for them and two bytes.
@@ -101,14 +103,15 @@ fn take_line(
     words: &[u8],
     text: &mut Vec<u8>,
 ) -> bool
-    requires told { vec_len text.old + (MOST_OF_SCRUB + MOST_OF_PACKET) ≤ vec_capacity text.old }
+    requires told { vec_len text.old + (MOST_OF_SCRUB + MOST_OF_PACKET + room_of node.old.at_once) ≤ vec_capacity text.old }
     requires fault { vec_len text.old + (length words.now + CODE) ≤ vec_capacity text.old }
     ensures { (number : ℕ) → words.now ≡ fault_words number
         → TakesAndTells line.now number result node.old node.new text.old.items text.new.items }
 {
     match node.take_line(alloc, line) {
         Ok(Some(taken)) => {
-            put_taken(text, taken, node.node.reply());
+            put_taken(text, taken, node);
+            turn_left(&mut node.node, node.at_once);
             false
         }
         Ok(None) => false,
@@ -134,7 +137,7 @@ fn answer_packet(
     ensures kept { OnErr result (node.new ≡ node.old) }
 {
     let words = fault_words(alloc, number)?;
-    let more = words.len() + MOST_OF_LINES;
+    let more = words.len() + MOST_OF_LINES + room_of(node.at_once);
     make_room(&mut node.node, more, text)?;
     Ok(take_line(alloc, node, line, words.as_slice(), text))
 }

@@ -112,7 +112,7 @@ fn live_on<'a, F: Files, T: Talk>(
         files.old files.new talk.old talk.new) }
 {
     let plain = node_from(alloc, &words.node, files)?;
-    let mut node = LiveNode::new(plain, words.scrub);
+    let mut node = LiveNode::new(plain, words.scrub, words.entries);
     hold_to_end(alloc, &mut node, talk)
 }
 

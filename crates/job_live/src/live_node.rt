@@ -18,6 +18,8 @@ pub struct LiveNode {
     pub node: JobNode,
     /// What is kept of its programs, if they are scrubbed.
     pub guard: Option<Guard>,
+    /// Whether each entry is handed out at once, before the answer to its packet.
+    pub at_once: bool,
 }
 
 /// What came of a packet that ended with a line.
@@ -43,12 +45,16 @@ fn guard_of(node: &JobNode, scrub: Option<u32>) -> Option<Guard>
 
 impl LiveNode {
     /// A node before a packet came. Before each packet of so many the program that judges it is scrubbed; before none without a
-    /// number.
-    pub fn new(node: JobNode, scrub: Option<u32>) -> LiveNode
-        ensures { IsLive scrub node result }
+    /// number. Each entry is handed out at once, or where the journal is asked for, is full, or ends.
+    pub fn new(node: JobNode, scrub: Option<u32>, at_once: bool) -> LiveNode
+        ensures { IsLive scrub at_once node result }
     {
         let guard = guard_of(&node, scrub);
-        LiveNode { node, guard }
+        LiveNode {
+            node,
+            guard,
+            at_once,
+        }
     }
 
     /// What becomes of a packet that comes in at a port, and what a scrub before it found, if one was due; the reply that is due

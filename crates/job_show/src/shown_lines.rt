@@ -7,6 +7,7 @@ ghost use Rattle.spw.specs.declared.faults.LineFault.TheVariants.{Memory};
 
 use crate::paths::{add_path, path_in_front};
 use bpf::ImageFault;
+use hex::FromHex;
 use initiator::{NoReply, Reply, Seen};
 use job_parts::bad_lines::BadLine;
 use node_parts::LoadRefusal;
@@ -438,11 +439,29 @@ fn add_cells(text: &mut String, map: &str, words: &[&str]) -> Result<bool, Alloc
     Ok(true)
 }
 
+/// The extended address of a bank that two hexadecimal digits write, if they do.
+fn bank_written(word: &str) -> Option<u8> {
+    match <[u8; 1] as FromHex>::from_hex(word) {
+        Ok(bytes) => Some(bytes[0]),
+        Err(_) => None,
+    }
+}
+
+/// Adds that an entry of a bank is not as it was made. Tells whether the word is that of a bank.
+fn add_damaged(text: &mut String, bank: &str) -> Result<bool, AllocError> {
+    let Some(bank) = bank_written(bank) else {
+        return Ok(false);
+    };
+    write!(text, "bank {bank:02X}: an entry is damaged")?;
+    Ok(true)
+}
+
 /// Adds what a line of these words is in words, but for its packet, if it is none of a packet alone: what `judge` prints of
 /// a packet without a reply, what `live` prints, or the last line of `serve`. Tells whether it is.
 fn add_told(text: &mut String, words: &[&str]) -> Result<bool, AllocError> {
     match words {
         ["journal", count, "entries"] => add_count(text, count, "entries of the journal:"),
+        ["entry", bank, "damaged"] => add_damaged(text, bank),
         ["cells", count, "maps"] => add_count(text, count, "maps of cells:"),
         ["cells", map, words @ ..] => add_cells(text, map, words),
         ["set", count] => add_count(text, count, "bytes set by the instrument:"),
@@ -512,6 +531,18 @@ fn add_entry(text: &mut String, alloc: Global, words: &[&str]) -> Result<(), Lin
     Ok(add_packet(text, alloc, &packet)?)
 }
 
+/// Adds an entry that is handed out at once, of which these are the words after the first: its bank, its numbers, and its packet.
+fn add_left(text: &mut String, alloc: Global, words: &[&str]) -> Result<(), LineFault> {
+    let [bank, entry @ ..] = words else {
+        return Err(LineFault::NoPort);
+    };
+    let Some(bank) = bank_written(bank) else {
+        return Err(LineFault::NoPort);
+    };
+    write!(text, "bank {bank:02X}: ")?;
+    add_entry(text, alloc, entry)
+}
+
 /// Adds a packet line.
 fn add_line(text: &mut String, alloc: Global, line: &str) -> Result<(), LineFault>
     ensures { IfErr result (λ fault. (fault ≡ Memory) ⊎ HasFault marker_word line.now fault) }
@@ -534,6 +565,7 @@ fn add_by_first(
 {
     match first {
         "journal" if rest.len() > 5 => add_entry(text, alloc, rest),
+        "entry" if rest.len() > 6 => add_left(text, alloc, rest),
         _ => add_line(text, alloc, line),
     }
 }
@@ -554,8 +586,8 @@ fn add_packet_line(
 }
 
 /// A line in words, with its line feed: a packet line, what `judge` prints of a packet without a reply, or what `live`
-/// prints: an entry of the journal, how many there are, the words of a map's cells, how many bytes were set, or that a line
-/// was bad; or the last line of `serve`.
+/// prints: an entry of the journal, also one that is handed out at once, how many there are, the words of a map's cells, how
+/// many bytes were set, or that a line was bad; or the last line of `serve`.
 ///
 /// A line that is none of these has the fault of a packet line, and an entry that of its packet. `Memory` where memory was
 /// refused: of a packet line that is the only one.
