@@ -1,5 +1,5 @@
 -- The entries that are handed out at once: each before the answer to its packet.
-use Rattle.std.specs.Prelude.{◌≡◌, ◌==◌, ◌*◌, ℕ, zero, suc, Bool, true, false, if◌then◌else◌, List, [], ◌∷◌, ◌++◌, length, codes, decimal, Option, slice_get}
+use Rattle.std.specs.Prelude.{◌≡◌, ◌==◌, ℕ, zero, suc, Bool, true, false, if◌then◌else◌, List, [], ◌∷◌, ◌++◌, length, codes, decimal, Option, slice_get}
 use Rattle.std.specs.List.{flat_map, range_with_len}
 use Rattle.hex.specs.Hex.{encode_upper}
 use Rattle.bank.specs.Records.{BankValue, EntryValue, is_whole}
@@ -46,7 +46,7 @@ entries_text false banks = []
 abbrev pub room_of : (at_once : Bool) → ℕ
 room_of at_once = if at_once then MOST_OF_ENTRIES else 0
 
--- the journals of so many banks, from the first on, that have one entry were handed out in turn
+-- the journals of the banks below that number that have one entry were handed out in turn
 abbrev pub TurnsLeft : (count : ℕ) → (before after : JobNodeValue) → Type 0
 TurnsLeft zero before after = after ≡ before
 TurnsLeft (suc count) before after =

@@ -27,7 +27,7 @@ pub const MOST_OF_ENTRY: usize = 2 * MAX_PACKET + BESIDE_PACKET;
 /// How many bytes the lines of the entries of all banks have at most: a node has 8 banks or fewer.
 pub const MOST_OF_ENTRIES: usize = 8 * MOST_OF_ENTRY;
 
-/// Puts a number behind a text, and a space. The condition is room for both.
+/// Puts a number after a text, and a space. The condition is room for both.
 fn put_number(text: &mut Vec<u8>, number: u64)
     requires { vec_len text.old + MOST_OF_NUMBER ≤ vec_capacity text.old }
     ensures items { text.new.items ≡ text.old.items ++ number_word number }
@@ -39,7 +39,7 @@ fn put_number(text: &mut Vec<u8>, number: u64)
     put(text, b" ");
 }
 
-/// Puts the words before the packet of an entry behind a text: `entry HH PORT NUMBER GENERATION VERDICT STATUS `. The condition
+/// Puts the words before the packet of an entry after a text: `entry HH PORT NUMBER GENERATION VERDICT STATUS `. The condition
 /// is room for the longest.
 #[tactic(auto, unfolding(crate::specs::Entries::left_words))]
 fn put_words(text: &mut Vec<u8>, bank: u8, entry: &Entry)
@@ -58,7 +58,7 @@ fn put_words(text: &mut Vec<u8>, bank: u8, entry: &Entry)
     put_number(text, u64::from(entry.status().code()));
 }
 
-/// Puts the words of a packet behind a text, and ends the line. The condition is room for the longest.
+/// Puts the words of a packet after a text, and ends the line. The condition is room for the longest.
 fn put_packet(text: &mut Vec<u8>, packet: &Packet)
     requires { vec_len text.old + (2 * MAX_PACKET + 5) ≤ vec_capacity text.old }
     ensures items { text.new.items ≡ text.old.items ++ packet_line packet.now }
@@ -72,7 +72,7 @@ fn put_packet(text: &mut Vec<u8>, packet: &Packet)
     }
 }
 
-/// Puts that an entry of this bank is not as it was made behind a text. The condition is room for it.
+/// Puts that an entry of this bank is not as it was made after a text. The condition is room for it.
 fn put_damaged(text: &mut Vec<u8>, bank: u8)
     requires { vec_len text.old + 17 ≤ vec_capacity text.old }
     ensures items { text.new.items ≡ text.old.items ++ damaged_left bank }
@@ -84,7 +84,7 @@ fn put_damaged(text: &mut Vec<u8>, bank: u8)
     put(text, b" damaged\n");
 }
 
-/// Puts the line of an entry of this bank behind a text. The condition is room for the longest.
+/// Puts the line of an entry of this bank after a text. The condition is room for the longest.
 fn put_entry(text: &mut Vec<u8>, bank: u8, entry: &Entry)
     requires { vec_len text.old + MOST_OF_ENTRY ≤ vec_capacity text.old }
     ensures items { text.new.items ≡ text.old.items ++ left_line bank entry.now }
@@ -99,7 +99,7 @@ fn put_entry(text: &mut Vec<u8>, bank: u8, entry: &Entry)
     }
 }
 
-/// Puts the line of the entry of this bank behind a text. Conditions: entries that are one, and room for the longest line.
+/// Puts the line of the entry of this bank after a text. Conditions: entries that are one, and room for the longest line.
 fn put_only(text: &mut Vec<u8>, bank: u8, entries: &[Entry])
     requires one { length entries.now ≡ 1 }
     requires room { vec_len text.old + MOST_OF_ENTRY ≤ vec_capacity text.old }
@@ -118,7 +118,7 @@ fn has_one(node: &JobNode, bank: u8) -> bool
     node.entries(bank).len() == 1
 }
 
-/// Puts the line of the entry of a bank behind a text, if it has one. Conditions: a bank of the node, and room for the longest
+/// Puts the line of the entry of a bank after a text, if it has one. Conditions: a bank of the node, and room for the longest
 /// line.
 fn put_left_of(text: &mut Vec<u8>, node: &JobNode, bank: u8)
     requires bank { bank < length node.now.banks }
@@ -132,7 +132,7 @@ fn put_left_of(text: &mut Vec<u8>, node: &JobNode, bank: u8)
     }
 }
 
-/// Puts the line of the entry of each bank that has one behind a text. The condition is room for the longest lines.
+/// Puts the line of the entry of each bank that has one after a text. The condition is room for the longest lines.
 fn put_each(text: &mut Vec<u8>, node: &JobNode)
     requires { vec_len text.old + MOST_OF_ENTRIES ≤ vec_capacity text.old }
     ensures items { text.new.items
@@ -152,7 +152,7 @@ pub fn room_of(at_once: bool) -> usize
     if at_once { MOST_OF_ENTRIES } else { 0 }
 }
 
-/// Puts the entries that are handed out at once behind a text, bank by bank: those that the last packet left, in lines `entry HH
+/// Puts the entries that are handed out at once after a text, bank by bank: those that the last packet left, in lines `entry HH
 /// PORT NUMBER GENERATION VERDICT STATUS HEX EOP` or `entry HH damaged`. The condition is room for the longest lines.
 pub fn put_left(text: &mut Vec<u8>, node: &JobNode, at_once: bool)
     requires { vec_len text.old + room_of at_once ≤ vec_capacity text.old }
