@@ -152,8 +152,10 @@ pub fn room_of(at_once: bool) -> usize
     if at_once { MOST_OF_ENTRIES } else { 0 }
 }
 
-/// Puts the entries that are handed out at once after a text, bank by bank: those that the last packet left, in lines `entry HH
-/// PORT NUMBER GENERATION VERDICT STATUS HEX EOP` or `entry HH damaged`. The condition is room for the longest lines.
+/// Puts the entries that the last packet left after a text, bank by bank, if they are handed out at once.
+///
+/// A line is `entry HH PORT NUMBER GENERATION VERDICT STATUS HEX EOP`, or `entry HH damaged`. The condition is room for the longest
+/// lines.
 pub fn put_left(text: &mut Vec<u8>, node: &JobNode, at_once: bool)
     requires { vec_len text.old + room_of at_once ≤ vec_capacity text.old }
     ensures items { text.new.items ≡ text.old.items ++ entries_text at_once node.now.banks }

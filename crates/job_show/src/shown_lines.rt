@@ -585,9 +585,10 @@ fn add_packet_line(
     add_by_first(text, alloc, line, first, rest)
 }
 
-/// A line in words, with its line feed: a packet line, what `judge` prints of a packet without a reply, or what `live`
-/// prints: an entry of the journal, also one that is handed out at once, how many there are, the words of a map's cells, how
-/// many bytes were set, or that a line was bad; or the last line of `serve`.
+/// A line in words, with its line feed.
+///
+/// It is a packet line, what `judge` prints of a packet without a reply, the last line of `serve`, or what `live` prints. That is an
+/// entry of the journal, how many there are, the words of a map's cells, how many bytes were set, or that a line was bad.
 ///
 /// A line that is none of these has the fault of a packet line, and an entry that of its packet. `Memory` where memory was
 /// refused: of a packet line that is the only one.
