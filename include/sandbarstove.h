@@ -12,6 +12,7 @@
  * Each function returns a ::sandbar_code, except ::sandbar_crc, ::sandbar_version and ::sandbar_frames_head. The code is
  * that of the first test that fails, in the order in which the function names them. sandbarstove_text.h has a text for
  * each. At any code except ::SANDBAR_OK the call did nothing. It then wrote nothing, except @c why if the function says so.
+ * ::sandbar_scrub is the one call that does its work and returns ::SANDBAR_NO_MEMORY.
  *
  * No pointer may be null, also if its length is 0. A pointer with a length must point to that many bytes or structs. Memory
  * that a call writes must not overlap anything else that is passed to it.
@@ -23,7 +24,7 @@
 #include <stdint.h>
 
 /** The number of this header and of sandbarstove_frames.h. It rises with each change of a call, a struct or a number. */
-#define SANDBAR_VERSION 5
+#define SANDBAR_VERSION 6
 
 /** For compilers that know it: the pointers of a call are not null, and its code is looked at. */
 #ifndef SANDBAR_CALL
@@ -64,7 +65,7 @@ enum sandbar_code {
   SANDBAR_NO_ENTRY = 12,  /**< the journal has no such entry */
   SANDBAR_IS_OPEN = 13,   /**< the node, or the reader of frames, is open */
   SANDBAR_NO_CELL = 14,   /**< the node has no such map or cell */
-  SANDBAR_DAMAGED = 15,   /**< a bit of memory flipped: the entry is not as it was made, or the reader as it was left */
+  SANDBAR_DAMAGED = 15,   /**< a bit of memory flipped: of the entry, of the reader of frames, or of the node's sizes */
   SANDBAR_NO_PART = 16    /**< the number is no ::sandbar_part */
 };
 
@@ -99,6 +100,21 @@ enum sandbar_part {
   SANDBAR_SIZES = 1,    /**< the numbers of ports and banks, the range of each bank, and the cells of each map */
   SANDBAR_JOURNALS = 2, /**< the entries of the journals */
   SANDBAR_ALL = 3       /**< all of these */
+};
+
+/** The difference that the part of sizes finds. */
+enum sandbar_difference {
+  SANDBAR_SIZES_DIFFER = 1, /**< the sizes are others than in the opening: do not call the node again */
+  SANDBAR_COUNT_DIFFERS = 2 /**< a number of ::sandbar_scrub_each changed: call it again; until then each packet has a scrub */
+};
+
+/** The finding of a scrub before a packet (::sandbar_scrub_each). */
+enum sandbar_found {
+  SANDBAR_UNSCRUBBED = 0, /**< no scrub was due before the packet */
+  SANDBAR_WHOLE = 1,      /**< the program that judges the packet is as it was published */
+  SANDBAR_MENDED = 2,     /**< it was damaged, and was made again of its image */
+  SANDBAR_WITHDRAWN = 3,  /**< it was damaged and not mended: its slot is withdrawn */
+  SANDBAR_NO_SLOT = 255   /**< the @c found_slot of a packet before which no scrub was due */
 };
 
 /** The place at which a command ended. */
@@ -138,7 +154,7 @@ typedef struct sandbar_why {
 } sandbar_why;
 
 /**
- * The end of a packet, and what it asked for. A command was carried out if @c kind is ::SANDBAR_JUDGED and @c status
+ * The end of a packet, what it asked for, and what a scrub before it found. A command was carried out if @c kind is ::SANDBAR_JUDGED and @c status
  * is 0, and only then. Its header says what it asked for. For a packet that is no command these are 0. 40 bytes.
  */
 typedef struct sandbar_served {
@@ -153,6 +169,8 @@ typedef struct sandbar_served {
   uint8_t command;       /**< ::sandbar_command (at 30) */
   uint8_t place;         /**< ::sandbar_place (at 31) */
   uint8_t extended;      /**< its extended address: the number of the bank, or 255 for the boot window (at 32) */
+  uint8_t found;         /**< ::sandbar_found, of a scrub before the packet (at 33) */
+  uint8_t found_slot;    /**< the slot of the program that was scrubbed, or ::SANDBAR_NO_SLOT (at 34) */
 } sandbar_served;
 
 /**
@@ -162,9 +180,9 @@ typedef struct sandbar_served {
 typedef struct sandbar_scrubbed {
   uint64_t first;    /**< the place of the first damaged entry of the first journal that has one (at 0) */
   uint8_t mended;    /**< a bit a slot: its program was damaged, and was made again of its image (at 8) */
-  uint8_t withdrawn; /**< a bit a slot: its program was damaged and not mended, or it was withdrawn before (at 9) */
+  uint8_t withdrawn; /**< a bit a slot: its program was damaged and not mended (at 9) */
   uint8_t restored;  /**< 1: the image that was lent is now the program of slot 3, which was withdrawn; else 0 (at 10) */
-  uint8_t sizes;     /**< 1: the sizes are others than in the opening: do not call the node again; else 0 (at 11) */
+  uint8_t sizes;     /**< ::sandbar_difference, or 0 (at 11) */
   uint8_t journals;  /**< a bit a bank: its journal has an entry that ::sandbar_entry_at calls damaged (at 12) */
 } sandbar_scrubbed;
 
@@ -219,8 +237,11 @@ uint32_t sandbar_close(sandbar_node *node);
 
 /**
  * Serves a whole packet, as it came in at a port. The bytes to send are then the first @c reply_length of @p reply. The
- * rest of @p reply is as before. Codes: ::SANDBAR_NO_NODE, ::SANDBAR_NO_PORT, ::SANDBAR_BAD_END,
+ * rest of @p reply is as before. Codes: ::SANDBAR_NO_NODE, ::SANDBAR_DAMAGED, ::SANDBAR_NO_PORT, ::SANDBAR_BAD_END,
  * ::SANDBAR_TOO_LONG, ::SANDBAR_NO_ROOM, ::SANDBAR_NO_MEMORY.
+ *
+ * It returns ::SANDBAR_DAMAGED if ::sandbar_scrub_each is on and the part of sizes would find ::SANDBAR_SIZES_DIFFER. It does
+ * so at each call until you close the node.
  *
  * It asks for memory once, for a copy of the packet, which the journal keeps. Loads of programs ask for more. If the copy
  * is refused, the packet was not served. If a load is refused memory, its reply says so (status 1).
@@ -286,12 +307,15 @@ uint32_t sandbar_word(sandbar_node *node, uint8_t map, uint16_t cell, uint64_t *
  *
  * The part of programs compares each slot's program, as it is run, with the sum that was kept when it was published. A
  * program that differs is made again of its image, by the next generation, if the verifier accepts it and it has that sum.
- * The call asks for memory for that. Else its slot is withdrawn: each command for it is answered by a general error (status 1, ::SANDBAR_ANSWERED) until a
- * load publishes another program. If slot 3 is withdrawn, no load is permitted: so the program of @p image is then published
- * for it, if it may judge. An image of no bytes is none.
+ * The call asks for memory for that. Else its slot is withdrawn: each command for it is answered by a general error (status 1,
+ * ::SANDBAR_ANSWERED). A later scrub may mend it, and a load publishes another program. If slot 3 is withdrawn, no load is
+ * permitted: so the program of @p image is then published for it, if it may judge. An image of no bytes is none.
+ *
+ * If a slot is withdrawn since memory was refused, the code is ::SANDBAR_NO_MEMORY. The rest was done, and @p scrubbed was
+ * written. Call it again when there is memory.
  *
  * The parts of sizes and journals report what differs, and change nothing. Journals take as long as reading all entries.
- * Codes: ::SANDBAR_NO_NODE, ::SANDBAR_NO_PART.
+ * Codes: ::SANDBAR_NO_NODE, ::SANDBAR_NO_PART, ::SANDBAR_NO_MEMORY.
  */
 SANDBAR_CALL
 uint32_t sandbar_scrub(sandbar_node *node, uint8_t part, const uint8_t *image, size_t image_length,
@@ -299,7 +323,9 @@ uint32_t sandbar_scrub(sandbar_node *node, uint8_t part, const uint8_t *image, s
 
 /**
  * From now on scrubs the program that judges a packet, before each packet of that number: 1 is each, 2 each second one. At 0,
- * with which a node is opened, it scrubs none. Codes: ::SANDBAR_NO_NODE.
+ * with which a node is opened, it scrubs none. If no program judges the packet before which a scrub is due, the scrub stays
+ * due until a packet comes that one judges. Before each packet the sizes are compared, too (::sandbar_serve). @c found and @c found_slot of ::sandbar_served say what a scrub found. Codes:
+ * ::SANDBAR_NO_NODE.
  */
 SANDBAR_CALL
 uint32_t sandbar_scrub_each(sandbar_node *node, uint32_t each);

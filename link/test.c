@@ -18,7 +18,8 @@ _Static_assert(sizeof(sandbar_served) == 40 && offsetof(sandbar_served, generati
                    offsetof(sandbar_served, length) == 20 && offsetof(sandbar_served, room) == 24 &&
                    offsetof(sandbar_served, kind) == 28 && offsetof(sandbar_served, status) == 29 &&
                    offsetof(sandbar_served, command) == 30 && offsetof(sandbar_served, place) == 31 &&
-                   offsetof(sandbar_served, extended) == 32,
+                   offsetof(sandbar_served, extended) == 32 && offsetof(sandbar_served, found) == 33 &&
+                   offsetof(sandbar_served, found_slot) == 34,
                "as the library has it");
 _Static_assert(sizeof(sandbar_entry) == 32 && offsetof(sandbar_entry, verdict) == 8 &&
                    offsetof(sandbar_entry, generation) == 16 && offsetof(sandbar_entry, packet_length) == 20 &&
@@ -31,7 +32,7 @@ static const uint8_t yes[] = IMAGE_OF(0), no[] = IMAGE_OF(10);
 static const sandbar_bank bank = {0xA0000000u, 65536, 1024};
 static const sandbar_map map = {1, 0};
 static const sandbar_served untouched_served = {
-    0x1122334455667788u, 0x99AABBCCu, 0xDDEEFF01u, 0x12345678u, 0x9ABCDEF0u, 0x13572468u, 0x23, 0x45, 0x67, 0x89, 0xAB};
+    0x1122334455667788u, 0x99AABBCCu, 0xDDEEFF01u, 0x12345678u, 0x9ABCDEF0u, 0x13572468u, 0x23, 0x45, 0x67, 0x89, 0xAB, 0xCD, 0xEF};
 
 static int checks, failures;
 static unsigned codes_seen;
@@ -56,7 +57,8 @@ static void answers(uint32_t code, uint32_t wanted, const char *what) {
 static int same_served(const sandbar_served *a, const sandbar_served *b) {
   return a->verdict == b->verdict && a->generation == b->generation && a->reply_length == b->reply_length &&
          a->address == b->address && a->length == b->length && a->room == b->room && a->kind == b->kind &&
-         a->status == b->status && a->command == b->command && a->place == b->place && a->extended == b->extended;
+         a->status == b->status && a->command == b->command && a->place == b->place && a->extended == b->extended && a->found == b->found &&
+         a->found_slot == b->found_slot;
 }
 
 /* What the command of a packet asked for, and the room that the journal of its bank has left. */
@@ -407,8 +409,22 @@ static void scrubs(void) {
   }
   for (uint32_t each = 0; each < 4; each += 1) {
     answers(sandbar_scrub_each(&node, each), SANDBAR_OK, "scrub each");
-    for (uint8_t k = 0; k < 5; k += 1)
-      holds(serve(&node, 0, packet, put_read(packet, k, 0, 0xA0000000u, 1), reply).status == 0, "served");
+    for (uint8_t k = 0; k < 5; k += 1) {
+      sandbar_served served = serve(&node, 0, packet, put_read(packet, k, 0, 0xA0000000u, 1), reply);
+      int due = each != 0 && (k + 1u) % each == 0;
+      holds(served.status == 0, "served");
+      holds(served.found == (due ? SANDBAR_WHOLE : SANDBAR_UNSCRUBBED), "what the scrub found");
+      holds(served.found_slot == (due ? 0 : SANDBAR_NO_SLOT), "at which slot");
+    }
+  }
+  answers(sandbar_scrub_each(&node, 1), SANDBAR_OK, "scrub each");
+  sandbar_served window = serve(&node, 0, packet, put_read(packet, 5, 0xFF, 0x10000, 8), reply);
+  holds(window.found == SANDBAR_WHOLE && window.found_slot == 3, "a scrub of the slot of the window");
+  answers(sandbar_scrub_each(&node, 2), SANDBAR_OK, "scrub each");
+  for (uint8_t k = 0; k < 4; k += 1) { /* each second packet is no command: the scrub waits for one that is */
+    sandbar_served served = k % 2 == 1 ? serve(&node, 0, packet, 1, reply)
+                                       : serve(&node, 0, packet, put_read(packet, 6, 0xFF, 0x10000, 8), reply);
+    holds(served.found == (k == 2 ? SANDBAR_WHOLE : SANDBAR_UNSCRUBBED), "a scrub that is due stays due");
   }
   answers(sandbar_journal_of(&node, 0, &journal), SANDBAR_OK, "journal");
   holds(journal.loaded == 0 && journal.entries == 20, "no program is published");

@@ -852,20 +852,21 @@ static uint64_t entries_now(void) {
   return count;
 }
 
-/* Flips a bit of each program's operations. */
-static void flip_each(void) {
+/* Flips a bit of each program's operations, or of each image. */
+static void flip_each(enum region region) {
   for (uint32_t k = 0; k < piece_count; k += 1)
-    if (region_of[pieces[k].at] == OPERATIONS) arena[pieces[k].at + 16] ^= 1;
+    if (region_of[pieces[k].at] == region) arena[pieces[k].at + 16] ^= 1;
 }
 
-/* All four programs change, and there is memory for packets alone: each slot is withdrawn, and nothing that comes is judged. Then the
- * image that is lent is the program of slot 3, and lets others be loaded. */
+/* All four programs change, and there is memory for packets alone: each slot is withdrawn, and nothing that comes is judged. Their
+ * images change, too: then the image that is lent is the program of slot 3. Once the images are as they were, the next scrub mends
+ * the other three, and each slot can be loaded. */
 static void withdraw(void) {
   sandbar_scrubbed told;
   uint64_t before = entries_now();
-  flip_each();
+  flip_each(OPERATIONS);
   most = 1100;
-  check(sandbar_scrub(node, SANDBAR_PROGRAMS, yes_image, 0, &told) == SANDBAR_OK, "the scrub");
+  check(sandbar_scrub(node, SANDBAR_PROGRAMS, yes_image, 0, &told) == SANDBAR_NO_MEMORY, "the scrub");
   check(told.mended == 0 && told.withdrawn == 15 && told.restored == 0, "not all slots are");
   for (uint32_t k = 0; k < AFTER; k += 1) {
     struct answer answer = serve(&packets[BEFORE + k]);
@@ -875,15 +876,19 @@ static void withdraw(void) {
   }
   check(entries_now() == before, "a journal has one more entry");
   most = SIZE_MAX;
+  flip_each(IMAGE);
   check(sandbar_scrub(node, SANDBAR_PROGRAMS, yes_image, sizeof yes_image, &told) == SANDBAR_OK, "the second scrub");
   check(told.mended == 0 && told.withdrawn == 15 && told.restored == 1, "slot 3 is not restored");
+  flip_each(IMAGE);
+  check(sandbar_scrub(node, SANDBAR_PROGRAMS, yes_image, 0, &told) == SANDBAR_OK, "the scrub with memory");
+  check(told.mended == 7 && told.withdrawn == 0 && told.restored == 0, "not all slots are mended");
   for (uint8_t slot = 0; slot < SLOTS; slot += 1) {
     struct packet two[2];
     put_load(two, slot, slot);
     struct answer staged = serve(&two[0]), loaded = serve(&two[1]);
     check(is_done(&staged) && is_done(&loaded), "a load");
   }
-  check(sandbar_scrub(node, SANDBAR_PROGRAMS, yes_image, 0, &told) == SANDBAR_OK, "the third scrub");
+  check(sandbar_scrub(node, SANDBAR_PROGRAMS, yes_image, 0, &told) == SANDBAR_OK, "the last scrub");
   check(told.mended == 0 && told.withdrawn == 0 && told.restored == 0, "a slot is withdrawn after its load");
   struct answer answer = serve(&packets[BEFORE - 1]);
   check(is_done(&answer), "the last read");

@@ -26,8 +26,10 @@ static void turn(uint8_t bank) { /* with no more room than before it asks for no
 
 static void scrub(void) { /* what no packet comes to, with the image in ROM for slot 3, and the counters */
   sandbar_scrubbed told;
-  want(sandbar_scrub(&node, SANDBAR_ALL, node_image, sizeof node_image, &told));
-  if (told.sizes != 0) flight_reset(SANDBAR_DAMAGED);
+  uint32_t code = sandbar_scrub(&node, SANDBAR_ALL, node_image, sizeof node_image, &told);
+  if (code != SANDBAR_NO_MEMORY) want(code); /* a slot that stays withdrawn is tried again by the next scrub */
+  if (told.sizes == SANDBAR_SIZES_DIFFER) flight_reset(SANDBAR_DAMAGED);
+  if (told.sizes == SANDBAR_COUNT_DIFFERS) want(sandbar_scrub_each(&node, 1));
   uint32_t programs = (uint32_t)told.restored << 16 | (uint32_t)told.withdrawn << 8 | told.mended;
   if (programs != 0) flight_tell(FLIGHT_PROGRAMS, programs, 0);
   for (uint8_t bank = 0; bank < NODE_BANKS; bank += 1)
@@ -53,6 +55,7 @@ static void serve(const sandbar_came *came) {
     return;
   }
   want(code);
+  if (served.found > SANDBAR_WHOLE) flight_tell(FLIGHT_FOUND, served.found, served.found_slot);
   if (served.reply_length != 0) {
     sandbar_frames_head(served.reply_length, head);
     flight_put(head, sizeof head);

@@ -224,6 +224,8 @@ static void take_served(module *it, uint64_t at, sandbar_served *served) {
   served->command = (uint8_t)number(it, at + 30, 1);
   served->place = (uint8_t)number(it, at + 31, 1);
   served->extended = (uint8_t)number(it, at + 32, 1);
+  served->found = (uint8_t)number(it, at + 33, 1);
+  served->found_slot = (uint8_t)number(it, at + 34, 1);
 }
 
 uint32_t sandbar_serve(sandbar_node *node, uint8_t port, const uint8_t *packet, size_t packet_length, uint8_t end,
@@ -352,7 +354,7 @@ uint32_t sandbar_scrub(sandbar_node *node, uint8_t part, const uint8_t *image, s
   size_t length = at_most(image_length, IMAGE_ROOM);
   put(it, inside->packet, image, length);
   uint32_t code = Z_sandbarZ_sandbar_scrub(it, inside->node, part, inside->packet, length, inside->small);
-  if (code != SANDBAR_OK) return code;
+  if (code != SANDBAR_OK && code != SANDBAR_NO_MEMORY) return code;
   scrubbed->first = number(it, inside->small, 8);
   scrubbed->mended = (uint8_t)number(it, inside->small + 8, 1);
   scrubbed->withdrawn = (uint8_t)number(it, inside->small + 9, 1);

@@ -5,7 +5,7 @@ import os
 from ctypes import CDLL, POINTER, Structure, c_char_p, c_size_t, c_uint8, c_uint16, c_uint32, c_uint64
 
 #: The SANDBAR_VERSION of the header for which the structs here are.
-VERSION = 5
+VERSION = 6
 #: The name of the shared object, and the variable that may name another file.
 NAME, VARIABLE = "libsandbarstove.so", "SANDBAR_LIBRARY"
 
@@ -57,7 +57,7 @@ class Why(Structure):
 class ServedRecord(Structure):
     _fields_ = [("verdict", c_uint64), ("generation", c_uint32), ("reply_length", c_uint32), ("address", c_uint32),
                 ("length", c_uint32), ("room", c_uint32), ("kind", c_uint8), ("status", c_uint8), ("command", c_uint8),
-                ("place", c_uint8), ("extended", c_uint8)]
+                ("place", c_uint8), ("extended", c_uint8), ("found", c_uint8), ("found_slot", c_uint8)]
 
 
 class ScrubbedRecord(Structure):

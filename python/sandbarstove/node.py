@@ -7,10 +7,10 @@ from pathlib import Path
 from typing import Iterable, Optional, Sequence, Union
 
 from . import library as c
-from .files import NodeFile, read_node_file
+from .files import NOT_LOADED, MapPart, NodeFile, read_node_file
 from .journals import Damaged, Entry
 from .loads import load
-from .packets import load_packets
+from .packets import load_packets, reply
 
 #: The image of the program that says yes to every command: `mov r0, 0; exit`.
 YES = bytes.fromhex("42504641010002000200000000000000B7000000000000009500000000000000")
@@ -19,8 +19,10 @@ _ENDS = {"EOP": 0, "EEP": 1}
 _KINDS = ("discarded", "answered", "judged")
 _COMMANDS = (None, "read", "write", "rmw")
 _PLACES = (None, "bank", "window")
-_BAD_IMAGE, _REFUSED, _DAMAGED = 5, 6, 15
+_FOUND = (None, "whole", "mended", "withdrawn")
+_NO_MEMORY, _BAD_IMAGE, _REFUSED, _DAMAGED = 1, 5, 6, 15
 _ALL = 3
+_SIZES_DIFFER, _COUNT_DIFFERS = 1, 2
 
 
 class NodeFault(Exception):
@@ -55,7 +57,8 @@ class Served:
 
     `kind` is "discarded", "answered" (by a check of its header) or "judged". `status` is the reply's; of a discarded
     packet it is why, 1 to 4. `room` is how many entries the journal of its bank then still takes: at 0 the bank carries
-    no further command out (status 1) until `rotate`.
+    no further command out (status 1) until `rotate`. `found` is what a scrub before it found, "whole", "mended" or "withdrawn", and
+    `found_slot` at which slot; both are None if no scrub was due (`scrub_each`).
     """
     kind: str
     status: int
@@ -68,18 +71,23 @@ class Served:
     address: int
     length: int
     room: int
+    found: Optional[str] = None
+    found_slot: Optional[int] = None
 
 
 @dataclass(frozen=True)
 class Scrubbed:
     """What a scrub found: the slots whose programs were mended, those that are withdrawn, and whether slot 3 was restored; whether the
-    node's sizes are others; the banks whose journals have a damaged entry, and the place of the first one."""
+    node's sizes are others; the banks whose journals have a damaged entry, and the place of the first one. `count` says that a number of
+    `scrub_each` is another: call it again. `short` says that a slot is withdrawn since memory was refused: scrub again."""
     mended: tuple[int, ...]
     withdrawn: tuple[int, ...]
     restored: bool
     sizes: bool
     journals: tuple[int, ...]
     first: int
+    count: bool = False
+    short: bool = False
 
 
 def _places(bits: int) -> tuple[int, ...]:
@@ -100,6 +108,17 @@ def verify(image: bytes, maps: Sequence[Map] = ()) -> None:
         raise NodeFault(code, why)
 
 
+def _why_not(image: bytes, maps: Sequence[MapPart]) -> Optional[str]:
+    """Why a program may not judge in the node of a file, or None."""
+    try:
+        verify(image, [Map(row.cells, row.peak) for row in maps])
+    except NodeFault as fault:
+        if fault.code not in (_BAD_IMAGE, _REFUSED):
+            raise
+        return f"{'image fault ' if fault.code == _BAD_IMAGE else 'refused V'}{fault.why} slot {fault.slot}"
+    return None
+
+
 class Node:
     """An RMAP target. One call at a time: who shares it between threads puts a lock round each."""
 
@@ -118,29 +137,29 @@ class Node:
     @classmethod
     def from_file(cls, path: Union[str, Path]) -> Node:
         """Opens the node that a file says, with the contents of its banks, and its loads done."""
-        return cls._of(read_node_file(path))
+        return cls._of(read_node_file(path, _why_not))
 
     @classmethod
     def _of(cls, file: NodeFile) -> Node:
         banks = [Bank(bank.base, bank.size, bank.journal) for bank in file.banks]
         maps = [Map(row.cells, row.peak) for row in file.maps]
-        try:
-            node = cls(banks, maps, YES if file.program is None else file.program, address=file.address, ports=file.ports)
-        except NodeFault as fault:
-            raise file.fault(f"program: {fault}" if fault.code in (_BAD_IMAGE, _REFUSED) else str(fault)) from None
+        node = cls(banks, maps, YES if file.program is None else file.program, address=file.address, ports=file.ports)
         for number, bank in enumerate(file.banks):
             if bank.contents:
                 node.poke(bank.base, bank.contents, number)
         for number, row in enumerate(file.loads, 1):
-            status = node._load(row.image, row.slot, file.address)
-            if status:
-                raise file.fault(f"load {number}: status {status}")
+            if why := node._load(row.image, row.slot, file.address):
+                raise file.fault(NOT_LOADED, f"load {number}: {why}")
         return node
 
-    def _load(self, image: bytes, slot: int, address: int) -> int:
-        """Does a load as packets at port 0, and gives the status of its control write."""
-        *writes, _ = load_packets(image, slot, target=address)
-        return next((status for status in (self.serve(packet).status for packet in writes) if status), 0)
+    def _load(self, image: bytes, slot: int, address: int) -> Optional[str]:
+        """Does a load as packets at port 0, and says why it was not carried out, if it was not."""
+        *writes, read = load_packets(image, slot, target=address)
+        status = next((status for status in (self.serve(packet).status for packet in writes) if status), 0)
+        if not status:
+            return None
+        told = reply(self.ask(read) or b"")
+        return f"status {status}, load fault {told.data[0] if told.data else 0}"
 
     def _done(self, code: int) -> None:
         if code:
@@ -153,7 +172,8 @@ class Node:
                                          self._reply, c.MAX_REPLY, byref(told)))
         reply = bytes(self._reply[:told.reply_length]) if told.reply_length else None
         return Served(_KINDS[told.kind], told.status, reply, told.generation, told.verdict, _COMMANDS[told.command],
-                      _PLACES[told.place], told.extended, told.address, told.length, told.room)
+                      _PLACES[told.place], told.extended, told.address, told.length, told.room, _FOUND[told.found],
+                      told.found_slot if told.found else None)
 
     def ask(self, packet: bytes, port: int = 0) -> Optional[bytes]:
         """The reply to a packet, or None where none is due."""
@@ -218,9 +238,11 @@ class Node:
         """Compares each slot's program with the sum that was kept of it. A program that differs is made again, or its slot is withdrawn.
         The program of an image that is given is published for slot 3 if that is withdrawn. Of sizes and journals it says what differs."""
         told = c.ScrubbedRecord()
-        self._done(self._c.sandbar_scrub(byref(self._node), _ALL, image, len(image), byref(told)))
-        return Scrubbed(_places(told.mended), _places(told.withdrawn), bool(told.restored), bool(told.sizes),
-                        _places(told.journals), told.first)
+        code = self._c.sandbar_scrub(byref(self._node), _ALL, image, len(image), byref(told))
+        if code != _NO_MEMORY:
+            self._done(code)
+        return Scrubbed(_places(told.mended), _places(told.withdrawn), bool(told.restored), told.sizes == _SIZES_DIFFER,
+                        _places(told.journals), told.first, told.sizes == _COUNT_DIFFERS, code == _NO_MEMORY)
 
     def scrub_each(self, packets: int) -> None:
         """From now on scrubs the program that judges a packet before each packet of so many; before none where it is 0."""

@@ -4,7 +4,6 @@ use crate::foreign::foreign_words;
 use crate::jobs::{Job, JobEnd};
 use crate::line_paths::{LinePaths, may_have_paths};
 use crate::noted::{Cause, Noted};
-use crate::shut_doors::{self, told_loaders};
 use crate::slips::{self, told_output};
 use crate::{denied_loads, hints};
 use job_codes::forms::form_line;
@@ -14,6 +13,7 @@ use job_packets::packet::PacketWords;
 use job_parts::bad_lines::BadLine;
 use job_parts::faults::Fault;
 use job_parts::status::Status;
+use job_rehearse::table_loads::{told_loaders, told_policy};
 use spw::{LineFault, lines_of};
 use std::alloc::{AllocError, Global};
 
@@ -180,16 +180,31 @@ fn add_done(
             add_load(text, alloc, words, noted.last())
         }
         (Job::Policy(words), Some(table)) if !words.is_final => {
-            text.push_str(shut_doors::advice(alloc, table)?)
+            let told = told_policy(alloc, table, &words.sizes, noted.ports())?;
+            text.push_str(told.as_str())
         }
-        (Job::Map(_), Some(table)) => text.push_str(told_loaders(alloc, table)?.as_str()),
+        (Job::Map(words), Some(table)) => {
+            let told = told_loaders(alloc, table, &words.sizes, noted.ports())?;
+            text.push_str(told.as_str())
+        }
         _ => Ok(()),
     }
 }
 
+/// Adds how many replies were lost, if some were, and why.
+fn add_lost(text: &mut String, lost: u64) -> Result<(), AllocError> {
+    if lost == 0 {
+        return Ok(());
+    }
+    write!(
+        text,
+        "    lost {lost}: memory to keep a reply was refused\n"
+    )
+}
+
 /// What is told of a job that ended so, after what it printed: the cause of its fault, as what the system says of a file, what the
-/// line of a text holds, or what a file is that is none of what it has to be; the first path that stands before a packet; and that
-/// `judge` found the journal full. It is empty where there is nothing to tell.
+/// line of a text holds, or what a file is that is none of what it has to be; the first path that stands before a packet; that
+/// `judge` found the journal full; and how many replies of `serve` were lost. It is empty where there is nothing to tell.
 ///
 /// # Errors
 ///
@@ -210,6 +225,7 @@ pub fn told_end(
         add_first_path(&mut text, alloc, job, lines)?;
     }
     add_full(&mut text, end.full)?;
+    add_lost(&mut text, end.lost)?;
     Ok(text)
 }
 

@@ -39,7 +39,7 @@ use job_weigh::weigh::{weigh_command, weigh_job};
 use std::alloc::{AllocError, Global};
 
 /// What `rmapctl --version` tells.
-const VERSION: &str = "1.0+5";
+const VERSION: &str = "1.0+6";
 
 /// The command line with the jobs on programs and on packets in order.
 fn with_first_jobs<'a>(alloc: Global, rmapctl: Command<'a>) -> Result<Command<'a>, AllocError>

@@ -12,11 +12,12 @@ use crate::desk::Desk;
 use crate::slate::Slate;
 use crate::talks::Speech;
 use commands::{
-    Asked, Fault, Job, JobEnd, LiveWords, NodeJob, Noted, OWN_SOURCE, ShowWords, Status,
-    UsageFault, Work, asked_of, configuration_in, live, node_inputs, show_talk, told_end,
+    Asked, Fault, Job, JobEnd, LiveWords, NodeJob, Noted, OWN_CONTENTS, OWN_SOURCE, ShowWords,
+    Status, UsageFault, Work, asked_of, configuration_in, live, node_inputs, show_talk, told_end,
     told_node, told_option, words_or_judge,
 };
 use folders::Folder;
+use job_config::contents_named::contents_paths;
 use std::alloc::{AllocError, Global};
 use std::io::Write;
 
@@ -70,17 +71,17 @@ fn told<'a>(
     Ok(Left { done, folder })
 }
 
-/// Does a job over the files of a folder, where a node's file may say its maps.
+/// Does a job over the files of a folder. If a node's file says its maps, that node has so many ports.
 fn do_job<'a>(
     alloc: Global,
     job: &Job,
-    is_on_node: bool,
+    ports: Option<u8>,
     folder: Folder<'a>,
 ) -> Result<Left<'a>, AllocError>
     requires { IsAlone job.now }
     ensures { IfOk result (DoesJob job.now folder.entry) }
 {
-    let mut desk = Desk::new(folder, Noted::of_job(job, is_on_node));
+    let mut desk = Desk::new(folder, Noted::of_job(job, ports));
     let mut out = Vec::new(alloc);
     let Ok(end) = perform_alone(alloc, job, &mut desk, &mut out) else {
         return Err(AllocError);
@@ -159,12 +160,12 @@ fn show_input<'a>(
     Ok(Left { done, folder })
 }
 
-/// Does a job: `show -` as a talk, `serve` not at all, and each other over the files of the folder, where a node's file may say
-/// its maps.
+/// Does a job: `show -` as a talk, `serve` not at all, and each other over the files of the folder. If a node's file says its maps,
+/// that node has so many ports.
 fn do_once<'a>(
     alloc: Global,
     job: &Job,
-    is_on_node: bool,
+    ports: Option<u8>,
     folder: Folder<'a>,
 ) -> Result<Left<'a>, AllocError>
     ensures { IfOk result (DoesOnce job.now folder.entry) }
@@ -174,7 +175,7 @@ fn do_once<'a>(
         Job::Show(words) if words.lines.as_str() == STANDARD_INPUT => {
             show_input(alloc, words, folder)
         }
-        _ => do_job(alloc, job, is_on_node, folder),
+        _ => do_job(alloc, job, ports, folder),
     }
 }
 
@@ -212,15 +213,20 @@ fn refuse_node<'a>(
     })
 }
 
-/// Refuses a job that would write over the node's file of this name.
-fn refuse_output<'a>(alloc: Global, node: &str, folder: Folder<'a>) -> Result<Left<'a>, AllocError>
-    ensures { IfOk result (RefusesOutput node.now folder.entry) }
+/// Refuses a job that would write over the file of this name, for the reason of the text.
+fn refuse_output<'a>(
+    alloc: Global,
+    name: &str,
+    text: &str,
+    folder: Folder<'a>,
+) -> Result<Left<'a>, AllocError>
+    ensures { IfOk result (RefusesOutput name.now folder.entry) }
 {
-    let fault = Fault::CannotWrite(node);
+    let fault = Fault::CannotWrite(name);
     let done = Done {
         status: Status::Failed.code(),
         out: fault_line(alloc, &fault)?,
-        told: String::from_str(alloc, OWN_SOURCE)?,
+        told: String::from_str(alloc, text)?,
     };
     Ok(Left { done, folder })
 }
@@ -233,6 +239,30 @@ fn is_output(job: &Job, name: &str) -> bool {
     }
 }
 
+/// A path without the folder in which the page has its files.
+fn path_here(path: &str) -> &str {
+    path.strip_prefix("./").unwrap_or(path)
+}
+
+/// The name of the file that a job would write, if that is one with which a bank of the node's file of that name begins. The node's file
+/// was read last of these.
+fn own_contents(
+    alloc: Global,
+    job: &Job,
+    node: &str,
+    noted: &Noted<'_>,
+) -> Result<Option<String>, AllocError> {
+    let (Some(output), Some(text)) = (job.inputs().output, noted.text()) else {
+        return Ok(None);
+    };
+    for path in &contents_paths(alloc, node, text)? {
+        if path_here(path.as_str()) == path_here(output) {
+            return Ok(Some(String::from_str(alloc, output)?));
+        }
+    }
+    Ok(None)
+}
+
 /// Does a job for the node of a file.
 fn do_on_node<'a>(alloc: Global, own: NodeJob, folder: Folder<'a>) -> Result<Left<'a>, AllocError>
     ensures { IfOk result (DoesOnNode own folder.entry) }
@@ -240,11 +270,24 @@ fn do_on_node<'a>(alloc: Global, own: NodeJob, folder: Folder<'a>) -> Result<Lef
     let NodeJob { job, node } = own;
     let name = node.as_str();
     if is_output(&job, name) {
-        return refuse_output(alloc, name, folder);
+        return refuse_output(alloc, name, OWN_SOURCE, folder);
     }
     let mut desk = Desk::new(folder, Noted::new(node_inputs(name)));
     match configuration_in(alloc, &mut desk, name) {
-        Ok(configuration) => do_once(alloc, &job.placed(&configuration), true, desk.into_folder()),
+        Ok(configuration) => match own_contents(alloc, &job, name, desk.noted())? {
+            Some(output) => {
+                refuse_output(alloc, output.as_str(), OWN_CONTENTS, desk.into_folder())
+            }
+            None => {
+                let ports = Some(configuration.ports);
+                do_once(
+                    alloc,
+                    &job.placed(&configuration),
+                    ports,
+                    desk.into_folder(),
+                )
+            }
+        },
         Err(fault) => refuse_node(alloc, &job, fault, desk),
     }
 }
@@ -265,7 +308,7 @@ fn do_work<'a>(alloc: Global, work: Work, folder: Folder<'a>) -> Result<Left<'a>
     ensures { IfOk result (DoesWork work folder.entry) }
 {
     match work {
-        Work::Once(job) => do_once(alloc, &job, false, folder),
+        Work::Once(job) => do_once(alloc, &job, None, folder),
         Work::OnNode(own) => do_on_node(alloc, own, folder),
         Work::Live(words) => do_live(alloc, &words, folder),
     }

@@ -2,11 +2,9 @@
 use Rattle.std.proofs.Common.{◌≡◌, ℕ, List, [], ◌++◌, Option, Some, sym, ap, subst, ◌∙◌}
 use Rattle.std.proofs.lemmas.List.{append-nil}
 use Rattle.spw.specs.Cargo.{Cargo}
-use Rattle.node_parts.specs.declared.served.Served.{Served}
-use Rattle.scrub.specs.declared.guard.Found.{Found}
-use Rattle.job_nodes.specs.JobNode.{JobNodeValue}
+use Rattle.scrub.specs.declared.answer.Answer.{Answer}
+use Rattle.job_nodes.specs.LiveNodes.{LiveNodeValue, ServesLive}
 use Rattle.job_live.specs.Answering.{MakesRoom}
-use Rattle.job_live.specs.LiveNodes.{LiveNodeValue, ServesLive, with_node}
 use Rattle.job_live.specs.ScrubLines.{found_text}
 use Rattle.job_frames.specs.Answering.{AnswersPacket, due_of}
 use Rattle.job_frames.specs.Told.{discard_words, served_text}
@@ -16,17 +14,16 @@ pub no_more : (begun new : List ℕ) → new ≡ begun → new ≡ begun ++ []
 no_more begun new is = is ∙ sym (append-nil begun)
 
 -- a packet that was served after that
-pub packet_answered : (packet : Cargo) (frame : ℕ) (before after : LiveNodeValue) (ready : JobNodeValue) (words old journal mid text reply : List ℕ) (found : Option Found) (served : Served)
-    → old ≡ [] → MakesRoom before.node ready (Some old) (Some journal) → words ≡ discard_words frame → ServesLive found served 0 packet (with_node before ready) after → reply ≡ due_of after.node.reply
-    → mid ≡ journal ++ found_text found → ((frame : ℕ) → words ≡ discard_words frame → text ≡ mid ++ served_text frame served)
+pub packet_answered : (packet : Cargo) (frame : ℕ) (before ready after : LiveNodeValue) (words old journal mid text reply : List ℕ) (answer : Answer)
+    → old ≡ [] → MakesRoom before ready (Some old) (Some journal) → words ≡ discard_words frame → ServesLive answer 0 packet ready after → reply ≡ due_of after.node.reply
+    → mid ≡ journal ++ found_text answer.found → ((frame : ℕ) → words ≡ discard_words frame → text ≡ mid ++ served_text frame answer.told.served)
     → AnswersPacket packet frame before after reply text
-packet_answered packet frame before after ready words old journal mid text reply found served none made is serves replied told tells = record {
+packet_answered packet frame before ready after words old journal mid text reply answer none made is serves replied told tells = record {
   ready = ready;
   journal = journal;
-  found = found;
-  served = served;
-  room = subst (λ (l : List ℕ). MakesRoom before.node ready (Some l) (Some journal)) none made;
+  answer = answer;
+  room = subst (λ (l : List ℕ). MakesRoom before ready (Some l) (Some journal)) none made;
   serves = serves;
   replied = replied;
-  told = tells frame is ∙ ap (λ (l : List ℕ). l ++ served_text frame served) told;
+  told = tells frame is ∙ ap (λ (l : List ℕ). l ++ served_text frame answer.told.served) told;
 }

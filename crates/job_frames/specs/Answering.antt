@@ -1,15 +1,13 @@
 -- A node behind a link: what it makes of what comes with a frame.
 use Rattle.std.specs.Prelude.{◌≡◌, ℕ, ◌+◌, ◌-◌, ◌^◌, min, Bool, true, false, List, [], ◌∷◌, ◌++◌, length, Option, Some}
 use Rattle.spw.specs.Cargo.{Cargo}
-use Rattle.node_parts.specs.declared.served.Served.{Served}
-use Rattle.scrub.specs.declared.guard.Found.{Found}
+use Rattle.scrub.specs.declared.answer.Answer.{Answer}
 use Rattle.frames.specs.Streams.{reply_frame_of}
 use Rattle.frames.specs.declared.came.Came.{Came}
 use Rattle.frames.specs.declared.came.Came.TheVariants.{Whole, Piece, Time, Other}
-use Rattle.job_nodes.specs.JobNode.{JobNodeValue}
+use Rattle.job_nodes.specs.LiveNodes.{LiveNodeValue, ServesLive}
 use Rattle.job_live.specs.Answering.{MakesRoom}
 use Rattle.job_live.specs.Journals.{Turns, journals_text}
-use Rattle.job_live.specs.LiveNodes.{KeepsGuard, LiveNodeValue, ServesLive, with_node}
 use Rattle.job_live.specs.ScrubLines.{found_text}
 use Rattle.job_frames.specs.Told.{fault_line, served_text}
 use Rattle.frames.specs.declared.faults.FrameFault.TheVariants.{ForBridge, CutOff}
@@ -40,14 +38,13 @@ due_of (byte ∷ reply) = reply_frame_of (byte ∷ reply)
 -- a packet, which ended with the frame of that number, met a journal with room for its command, and was served; its reply is
 -- due, and then are told the journals that were full, what a scrub found, and that the packet was discarded, if it was
 pub record AnswersPacket (packet : Cargo) (frame : ℕ) (before after : LiveNodeValue) (reply text : List ℕ) : Type 0 where
-  pub ready : JobNodeValue
+  pub ready : LiveNodeValue
   pub journal : List ℕ
-  pub found : Option Found
-  pub served : Served
-  pub room : MakesRoom before.node ready (Some []) (Some journal)
-  pub serves : ServesLive found served 0 packet (with_node before ready) after
+  pub answer : Answer
+  pub room : MakesRoom before ready (Some []) (Some journal)
+  pub serves : ServesLive answer 0 packet ready after
   pub replied : reply ≡ due_of after.node.reply
-  pub told : text ≡ journal ++ found_text found ++ served_text frame served
+  pub told : text ≡ journal ++ found_text answer.found ++ served_text frame answer.told.served
 
 -- nothing is due
 abbrev pub AreNone : (reply text : List ℕ) → Type 0
@@ -83,6 +80,5 @@ cut_text false frame = fault_line frame CutOff
 
 -- the text that is due where no more bytes come: behind that the entries of the journals, which were handed out
 pub record EndsWith (is_whole : Bool) (behind : AnsweringValue) (after : LiveNodeValue) (text : List ℕ) : Type 0 where
-  pub turned : Turns true (length behind.node.node.banks) behind.node.node after.node
-  pub guard : KeepsGuard behind.node after
+  pub turned : Turns true (length behind.node.node.banks) behind.node after
   pub told : text ≡ cut_text is_whole (next_number behind) ++ journals_text true behind.node.node.banks

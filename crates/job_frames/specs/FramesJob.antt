@@ -12,7 +12,7 @@ use Rattle.job_parts.specs.declared.stops.WriteFault.{WriteFault}
 use Rattle.job_nodes.specs.JobNode.{JobNodeValue}
 use Rattle.job_nodes.specs.Sources.{HoldsNoNode, HoldsNode}
 use Rattle.job_live.specs.LiveJob.{HoldsLive, TellsLast}
-use Rattle.job_live.specs.LiveNodes.{LiveNodeValue}
+use Rattle.job_nodes.specs.LiveNodes.{LiveNodeValue}
 use Rattle.job_live.specs.declared.words.LiveWords.{LiveWords}
 use Rattle.frames.specs.Reading.{Reading, first_reading, is_between}
 use Rattle.linking.specs.Linking.{Fails, IsCutOff, IsWholeLink, Moves}

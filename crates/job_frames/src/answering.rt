@@ -9,9 +9,9 @@ ghost use Rattle.job_parts.specs.Printed.{Prints};
 use crate::faults::print_fault;
 use frames::{Came, FrameFault, HEAD_LENGTH, reply_head};
 use job_live::answering::{CODE, hand_out, make_room};
-use job_live::live_node::LiveNode;
 use job_live::putting::{put, put_discard_code};
 use job_live::scrub_lines::{MOST_OF_SCRUB, put_found};
+use job_nodes::live_node::LiveNode;
 use linking::{Cannot, Due, Target};
 use node_parts::{Served, Stop};
 use rmap::MAX_REPLY;
@@ -83,13 +83,13 @@ fn answer_packet(alloc: Global, node: &mut LiveNode, packet: Packet, frame: u64)
     let mut reply = Vec::with_capacity(alloc, MOST_OF_REPLY)?;
     let mut text = Vec::new(alloc);
     let more = words.len() + MOST_BESIDE;
-    make_room(&mut node.node, more, &mut text)?;
+    make_room(node, more, &mut text)?;
     // A node has a port.
-    let _ports = node.node.ports();
-    let (found, served) = node.serve(alloc, PORT, packet);
-    put_due(&mut reply, node.node.reply());
-    put_found(&mut text, found);
-    tell_served(&mut text, words.as_slice(), served);
+    let _ports = node.ports();
+    let answer = node.serve(alloc, PORT, packet);
+    put_due(&mut reply, node.reply());
+    put_found(&mut text, answer.found);
+    tell_served(&mut text, words.as_slice(), answer.told.served);
     Ok(Due { reply, text })
 }
 
@@ -168,7 +168,7 @@ impl Answering {
     {
         let mut text = Vec::new(self.alloc);
         print_cut(&mut text, self.count.saturating_add(1), is_whole)?;
-        hand_out(&mut self.node.node, &mut text)?;
+        hand_out(&mut self.node, &mut text)?;
         Ok(text)
     }
 }

@@ -8,8 +8,8 @@ ghost use Rattle.job_frames.specs.FramesJob.{AreReady, HoldsFrames, HoldsLink, I
 use crate::answering::Answering;
 use frames::FrameReader;
 use job_live::live::NO_MEMORY;
-use job_live::live_node::LiveNode;
 use job_live::words::LiveWords;
+use job_nodes::live_node::LiveNode;
 use job_nodes::sources::{node_from, place_of};
 use job_parts::faults::Fault;
 use job_parts::status::Status;

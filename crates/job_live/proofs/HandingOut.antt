@@ -1,10 +1,10 @@
 -- Journals that are handed out in turn.
 use Rattle.std.proofs.Common.{◌≡◌, ◌+◌, ℕ, suc, Bool, subst, arith}
-use Rattle.job_nodes.specs.JobNode.{JobNodeValue}
+use Rattle.job_nodes.specs.LiveNodes.{LiveNodeValue}
 use Rattle.job_live.specs.Journals.{Turns, TurnsOne, is_due}
 
 -- one bank more
-pub turns_more : (each due : Bool) (count : ℕ) (a b c : JobNodeValue) → Turns each count a b → due ≡ is_due each b.banks count → TurnsOne due count b c
+pub turns_more : (each due : Bool) (count : ℕ) (a b c : LiveNodeValue) → Turns each count a b → due ≡ is_due each b.node.banks count → TurnsOne due count b c
     → Turns each (count + 1) a c
 turns_more each due count a b c all is one =
     let same : suc count ≡ count + 1 = omega arith in

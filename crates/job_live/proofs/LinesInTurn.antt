@@ -3,7 +3,7 @@ use Rattle.std.proofs.Common.{◌≡◌, ◌+◌, ℕ, suc, Bool, true, false, L
 use Rattle.std.specs.Prelude.{◌||◌}
 use Rattle.std.proofs.lemmas.List.{length-append}
 use Rattle.job_parts.specs.declared.stops.Halt.{Halt}
-use Rattle.job_live.specs.LiveNodes.{LiveNodeValue}
+use Rattle.job_nodes.specs.LiveNodes.{LiveNodeValue}
 use Rattle.job_live.specs.Talking.{Comes, Misses, Sends}
 use Rattle.job_live.specs.LiveJob.{AnswersNext, Exchanges, IsBrokenOff, IsUnanswered, Talks}
 

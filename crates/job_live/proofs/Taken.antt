@@ -6,20 +6,19 @@ use Rattle.spw.specs.Line.{words_of}
 use Rattle.job_parts.specs.Printed.{fault_line}
 use Rattle.job_parts.specs.declared.bad_lines.BadLine.{BadLine}
 use Rattle.job_parts.specs.declared.faults.Fault.TheVariants.{BadLine as AtLine}
-use Rattle.job_nodes.specs.JobNode.{JobNodeValue}
+use Rattle.job_nodes.specs.LiveNodes.{LiveNodeValue}
 use Rattle.job_live.specs.Answering.{Answers, AnswersAsked, AnswersSetting, IsLongFault, MakesRoom, SetsOrRefuses, TakesAndTells, fault_words}
 use Rattle.job_live.specs.Asks.{IsAsked}
-use Rattle.job_live.specs.LiveNodes.{LiveNodeValue, with_node}
 use Rattle.job_live.specs.declared.answering.TheConstants.{MAX_LINE}
 use Rattle.job_live.specs.declared.asks.Asks.{Asks}
 use Rattle.job_live.specs.declared.asks.Asks.TheVariants.{Packet, Set}
 
 -- a packet line that was taken after that
-pub packet_answered : (line : List ℕ) (number : ℕ) (is_bad : Bool) (before after : LiveNodeValue) (ready : JobNodeValue) (words old mid new : List ℕ)
-    → MakesRoom before.node ready (Some old) (Some mid) → words ≡ fault_words number
-    → ((number : ℕ) → words ≡ fault_words number → TakesAndTells line number is_bad (with_node before ready) after mid new)
+pub packet_answered : (line : List ℕ) (number : ℕ) (is_bad : Bool) (before ready after : LiveNodeValue) (words old mid new : List ℕ)
+    → MakesRoom before ready (Some old) (Some mid) → words ≡ fault_words number
+    → ((number : ℕ) → words ≡ fault_words number → TakesAndTells line number is_bad ready after mid new)
     → AnswersAsked false Packet line number before after (Some old) (Some new) is_bad
-packet_answered line number is_bad before after ready words old mid new made is takes =
+packet_answered line number is_bad before ready after words old mid new made is takes =
     let told = takes number is in
     record {
       fault = told.fault;
@@ -54,15 +53,15 @@ long_answered words others line number node old new asks fault same is_asked oth
     })
 
 -- the write of an instrument
-pub setting_answered : (words others : List (List ℕ)) (line : List ℕ) (number : ℕ) (before : LiveNodeValue) (set : JobNodeValue) (old new : Option (List ℕ)) (asks : Asks) (is_bad : Bool)
+pub setting_answered : (words others : List (List ℕ)) (line : List ℕ) (number : ℕ) (before after : LiveNodeValue) (old new : Option (List ℕ)) (asks : Asks) (is_bad : Bool)
     → words ≡ words_of line → IsAsked words asks → asks ≡ Set → others ≡ words_of line → nat_lt MAX_LINE (length line) ≡ false
-    → AnswersSetting others number before.node set old new is_bad → Answers line number before (with_node before set) old new is_bad
-setting_answered words others line number before set old new asks is_bad same is_asked is_set other at done =
-    answered words line number before (with_node before set) old new Set false is_bad same (subst (λ (a : Asks). IsAsked words a) is_set is_asked) at
+    → AnswersSetting others number before after old new is_bad → Answers line number before after old new is_bad
+setting_answered words others line number before after old new asks is_bad same is_asked is_set other at done =
+    answered words line number before after old new Set false is_bad same (subst (λ (a : Asks). IsAsked words a) is_set is_asked) at
     (record {
       fault = done.fault;
       between = done.between;
-      done = (subst (λ (w : List (List ℕ)). SetsOrRefuses w done.fault before.node set old done.between) other done.done, refl);
+      done = subst (λ (w : List (List ℕ)). SetsOrRefuses w done.fault before after old done.between) other done.done;
       told = done.told;
       bad = done.bad;
     })

@@ -10,30 +10,31 @@ use Rattle.job_parts.specs.Printed.{fault_line}
 use Rattle.job_parts.specs.declared.bad_lines.BadLine.{BadLine}
 use Rattle.job_parts.specs.declared.bad_lines.BadLine.TheVariants.{Line, NoPort as NoSuchPort}
 use Rattle.job_parts.specs.declared.faults.Fault.TheVariants.{BadLine as AtLine}
-use Rattle.job_nodes.specs.JobNode.{JobNodeValue, RefusesLine, SetsBytes}
-use Rattle.single_node.specs.Nodes.{covers_in}
+use Rattle.job_nodes.specs.JobNode.{RefusesLine, SetsBytes, alone}
+use Rattle.job_nodes.specs.LiveNodes.{KeepsGuard, LiveNodeValue, TakesLine}
+use Rattle.job_nodes.specs.declared.live_node.Taken.{Taken}
+use Rattle.single_node.specs.Nodes.{SingleNodeValue, covers_in}
 use Rattle.job_live.specs.Asks.{IsAsked}
 use Rattle.job_live.specs.CellLines.{cells_text}
-use Rattle.job_live.specs.LiveNodes.{KeepsGuard, LiveNodeValue, TakesLine, taken_text, with_node}
+use Rattle.job_live.specs.ScrubLines.{taken_text}
 use Rattle.job_live.specs.Settings.{IsNoSetting, WritesSetting}
 use Rattle.job_live.specs.Journals.{TellsJournals, bank_text}
 use Rattle.job_live.specs.declared.answering.TheConstants.{MAX_LINE}
 use Rattle.job_live.specs.declared.asks.Asks.{Asks}
 use Rattle.job_live.specs.declared.asks.Asks.TheVariants.{Packet, Journal, Cells, Set}
-use Rattle.job_live.specs.declared.live_node.Taken.{Taken}
 use Rattle.job_live.specs.declared.settings.Setting.{Setting}
 
 -- the journals were handed out, and their entries were printed
-abbrev pub TellsJournal : (before after : JobNodeValue) → (old new : Option (List ℕ)) → Type 0
+abbrev pub TellsJournal : (before after : LiveNodeValue) → (old new : Option (List ℕ)) → Type 0
 TellsJournal before after old new = TellsJournals true before after old new
 
 -- the word of each cell of the node's maps was printed, and the node stays
-pub record TellsCells (before after : JobNodeValue) (old new : Option (List ℕ)) : Type 0 where
+pub record TellsCells (before after : LiveNodeValue) (old new : Option (List ℕ)) : Type 0 where
   pub same : after ≡ before
-  pub printed : Appends old new (cells_text (sizes_of before.programs) before.words)
+  pub printed : Appends old new (cells_text (sizes_of before.node.programs) before.node.words)
 
 -- the journals that are full were handed out, and those that are not stay
-abbrev pub MakesRoom : (before after : JobNodeValue) → (old new : Option (List ℕ)) → Type 0
+abbrev pub MakesRoom : (before after : LiveNodeValue) → (old new : Option (List ℕ)) → Type 0
 MakesRoom before after old new = TellsJournals false before after old new
 
 -- of a line that ended no packet nothing was printed, and else what came of its packet
@@ -50,13 +51,13 @@ TakesOrRefuses line (Some fault) before after old new =
 
 -- a packet line met a journal with room for its command
 pub record MeetsRoom (line : List ℕ) (fault : Option BadLine) (before after : LiveNodeValue) (old new : Option (List ℕ)) : Type 0 where
-  pub ready : JobNodeValue
+  pub ready : LiveNodeValue
   pub between : Option (List ℕ)
-  pub room : MakesRoom before.node ready old between
-  pub taken : TakesOrRefuses line fault (with_node before ready) after between new
+  pub room : MakesRoom before ready old between
+  pub taken : TakesOrRefuses line fault ready after between new
 
 -- the bytes of a write lie in the bank of its extended address, if there is one
-unfoldable pub is_inside : JobNodeValue → Setting → Bool
+unfoldable pub is_inside : SingleNodeValue → Setting → Bool
 is_inside node setting = covers_in (slice_get node.banks setting.extended) setting.address (length setting.bytes.items)
 
 -- the line that tells of so many bytes that they were set
@@ -65,35 +66,37 @@ set_line count = codes "set " ++ decimal count ++ 10 ∷ []
 
 -- the journal of the bank was handed out, and then the bytes of the write stand in its memory; the entries were printed, and
 -- how many bytes were set
-pub record TellsSetting (setting : Setting) (before after : JobNodeValue) (old new : Option (List ℕ)) : Type 0 where
+pub record TellsSetting (setting : Setting) (before after : LiveNodeValue) (old new : Option (List ℕ)) : Type 0 where
   pub journal : JournalValue
   pub between : Option (List ℕ)
-  pub set : SetsBytes setting.extended setting.address setting.bytes.items before after journal
-  pub told : Appends old between (bank_text before.banks setting.extended)
+  pub set : SetsBytes setting.extended setting.address setting.bytes.items before.node after.node journal
+  pub guard : KeepsGuard before after
+  pub told : Appends old between (bank_text before.node.banks setting.extended)
   pub printed : Appends between new (set_line (length setting.bytes.items))
 
 -- the words write the setting, whose bytes lie in its bank
-pub record WritesInside (words : List (List ℕ)) (node : JobNodeValue) (setting : Setting) : Type 0 where
+pub record WritesInside (words : List (List ℕ)) (node : SingleNodeValue) (setting : Setting) : Type 0 where
   pub written : WritesSetting words setting
   pub inside : is_inside node setting ≡ true
 
 -- the words write a setting whose bytes do not lie in its bank
-pub record WritesOutside (words : List (List ℕ)) (node : JobNodeValue) : Type 0 where
+pub record WritesOutside (words : List (List ℕ)) (node : SingleNodeValue) : Type 0 where
   pub setting : Setting
   pub written : WritesSetting words setting
   pub outside : is_inside node setting ≡ false
 
 -- why nothing was set: the words write no such thing, or the bytes do not lie in its bank
-abbrev pub IsUnset : (words : List (List ℕ)) → JobNodeValue → BadLine → Type 0
+abbrev pub IsUnset : (words : List (List ℕ)) → SingleNodeValue → BadLine → Type 0
 IsUnset words node fault =
     IsNoSetting words fault
     ⊎ ((fault ≡ NoSuchPort) × WritesOutside words node)
 
 -- the write of an instrument, or nothing for that fault
-abbrev pub SetsOrRefuses : (words : List (List ℕ)) (fault : Option BadLine) (before after : JobNodeValue) (old new : Option (List ℕ)) → Type 0
+abbrev pub SetsOrRefuses : (words : List (List ℕ)) (fault : Option BadLine) (before after : LiveNodeValue) (old new : Option (List ℕ)) → Type 0
 SetsOrRefuses words None before after old new =
-    (setting : Setting) × WritesInside words before setting × TellsSetting setting before after old new
-SetsOrRefuses words (Some fault) before after old new = IsUnset words before fault × (after ≡ before) × (new ≡ old)
+    (setting : Setting) × WritesInside words (alone before.node) setting × TellsSetting setting before after old new
+SetsOrRefuses words (Some fault) before after old new =
+    IsUnset words (alone before.node) fault × (after ≡ before) × (new ≡ old)
 
 -- the first word is a port
 abbrev pub BeginsWithPort : List (List ℕ) → Type 0
@@ -121,12 +124,9 @@ RefusesLong words asks (Some fault) before after old new = IsLongFault words ask
 -- what a line does that is not too long, by what it asks for; only a packet line may have a program scrubbed
 abbrev pub DoesAsked : Asks → (line : List ℕ) (fault : Option BadLine) (before after : LiveNodeValue) (old new : Option (List ℕ)) → Type 0
 DoesAsked Packet line fault before after old new = MeetsRoom line fault before after old new
-DoesAsked Journal line fault before after old new =
-    (fault ≡ None) × TellsJournal before.node after.node old new × KeepsGuard before after
-DoesAsked Cells line fault before after old new =
-    (fault ≡ None) × TellsCells before.node after.node old new × KeepsGuard before after
-DoesAsked Set line fault before after old new =
-    SetsOrRefuses (words_of line) fault before.node after.node old new × KeepsGuard before after
+DoesAsked Journal line fault before after old new = (fault ≡ None) × TellsJournal before after old new
+DoesAsked Cells line fault before after old new = (fault ≡ None) × TellsCells before after old new
+DoesAsked Set line fault before after old new = SetsOrRefuses (words_of line) fault before after old new
 
 -- what a line does that may be too long, by what it asks for
 abbrev pub DoesBy : (is_long : Bool) → Asks → (line : List ℕ) (fault : Option BadLine) (before after : LiveNodeValue) (old new : Option (List ℕ)) → Type 0
@@ -152,7 +152,7 @@ pub record TakesAndTells (line : List ℕ) (number : ℕ) (is_bad : Bool) (befor
   pub bad : is_bad ≡ is_some fault
 
 -- the write of an instrument was done, and what is due for it was printed; or not, for a fault that was printed
-pub record AnswersSetting (words : List (List ℕ)) (number : ℕ) (before after : JobNodeValue) (old new : Option (List ℕ)) (is_bad : Bool) :
+pub record AnswersSetting (words : List (List ℕ)) (number : ℕ) (before after : LiveNodeValue) (old new : Option (List ℕ)) (is_bad : Bool) :
     Type 0 where
   pub fault : Option BadLine
   pub between : Option (List ℕ)

@@ -5,7 +5,8 @@ use Rattle.std.specs.Io.KnownBytes.{Appends}
 use Rattle.std.specs.List.{flat_map, range_with_len}
 use Rattle.hex.specs.Hex.{encode_upper}
 use Rattle.bank.specs.Records.{BankValue}
-use Rattle.job_nodes.specs.JobNode.{HandsOut, JobNodeValue, first_of, is_full, journal_of}
+use Rattle.job_nodes.specs.JobNode.{HandsOut, first_of, is_full, journal_of}
+use Rattle.job_nodes.specs.LiveNodes.{KeepsGuard, LiveNodeValue}
 use Rattle.job_live.specs.Telling.{journal_text}
 
 -- the line before the entries of a bank: `bank HH BASE`, its extended address and that of its first byte
@@ -41,18 +42,19 @@ abbrev pub journals_text : (each : Bool) → List BankValue → List ℕ
 journals_text each banks = flat_map (due_text each banks) (range_with_len 0 (length banks))
 
 -- the journal of the bank of that number was handed out, or not
-abbrev pub TurnsOne : (is_due : Bool) → (number : ℕ) → (before after : JobNodeValue) → Type 0
-TurnsOne true number before after = HandsOut number before after (journal_of (slice_get before.banks number))
+abbrev pub TurnsOne : (is_due : Bool) → (number : ℕ) → (before after : LiveNodeValue) → Type 0
+TurnsOne true number before after =
+    HandsOut number before.node after.node (journal_of (slice_get before.node.banks number)) × KeepsGuard before after
 TurnsOne false number before after = after ≡ before
 
 -- the journals of so many banks, from the first on, were handed out in turn: each, or those that are full
-abbrev pub Turns : (each : Bool) → (count : ℕ) → (before after : JobNodeValue) → Type 0
+abbrev pub Turns : (each : Bool) → (count : ℕ) → (before after : LiveNodeValue) → Type 0
 Turns each zero before after = after ≡ before
 Turns each (suc count) before after =
-    (between : JobNodeValue) × Turns each count before between
-    × TurnsOne (is_due each between.banks count) count between after
+    (between : LiveNodeValue) × Turns each count before between
+    × TurnsOne (is_due each between.node.banks count) count between after
 
 -- the journals of all banks were handed out, each or those that are full, and their lines were printed
-pub record TellsJournals (each : Bool) (before after : JobNodeValue) (old new : Option (List ℕ)) : Type 0 where
-  pub turned : Turns each (length before.banks) before after
-  pub printed : Appends old new (journals_text each before.banks)
+pub record TellsJournals (each : Bool) (before after : LiveNodeValue) (old new : Option (List ℕ)) : Type 0 where
+  pub turned : Turns each (length before.node.banks) before after
+  pub printed : Appends old new (journals_text each before.node.banks)

@@ -4,7 +4,6 @@ pub mod CellLines
 pub mod HostLines
 pub mod Journals
 pub mod LiveJob
-pub mod LiveNodes
 pub mod ScrubLines
 pub mod Settings
 pub mod Talking

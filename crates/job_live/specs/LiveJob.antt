@@ -13,7 +13,7 @@ use Rattle.job_parts.specs.declared.stops.WriteFault.{WriteFault}
 use Rattle.job_nodes.specs.JobNode.{JobNodeValue}
 use Rattle.job_nodes.specs.Sources.{HoldsNoNode, HoldsNode}
 use Rattle.job_live.specs.Answering.{Answers, TellsJournal}
-use Rattle.job_live.specs.LiveNodes.{IsLive, KeepsGuard, LiveNodeValue}
+use Rattle.job_nodes.specs.LiveNodes.{IsLive, LiveNodeValue}
 use Rattle.job_live.specs.Talking.{Comes, Misses, Sends}
 use Rattle.job_live.specs.declared.words.LiveWords.{LiveWords}
 
@@ -57,8 +57,7 @@ module _ {T : Type 0} (came : Comes T) (sent : Sends T) where
 -- where no more lines come the journals were handed out, and their entries were sent
 pub record SendsEnd {T : Type 0} (sent : Sends T) (before after : LiveNodeValue) (start stop : T) : Type 0 where
   pub text : List ℕ
-  pub told : TellsJournal before.node after.node (Some []) (Some text)
-  pub guard : KeepsGuard before after
+  pub told : TellsJournal before after (Some []) (Some text)
   pub left : sent start text stop
 
 -- a whole talk, behind which the entries of the journal were sent

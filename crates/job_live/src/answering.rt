@@ -6,21 +6,22 @@ ghost use Rattle.job_parts.specs.Printed.{Prints, fault_line};
 ghost use Rattle.job_parts.specs.declared.faults.Fault.TheVariants.{BadLine as AtLine};
 ghost use Rattle.job_live.specs.Answering.{Answers, AnswersAsked, AnswersSetting, IsFaultByPort, IsLongFault, IsUnset, MakesRoom, TakesAndTells, TellsJournal, TellsSetting, WritesInside, fault_words, is_inside};
 ghost use Rattle.job_live.specs.Asks.{IsAsked};
-ghost use Rattle.job_live.specs.LiveNodes.{taken_text};
+ghost use Rattle.job_live.specs.ScrubLines.{taken_text};
+ghost use Rattle.job_nodes.specs.JobNode.{alone};
 ghost use Rattle.rmap.specs.declared.reply.TheConstants.{MAX_REPLY};
 ghost use Rattle.job_live.specs.declared.asks.Asks.TheVariants.{Packet, Set};
 
 use crate::asks::{Asks, asked};
 use crate::cell_lines::print_cells;
 use crate::journals::{print_bank, print_journals, turn_journals};
-use crate::live_node::{LiveNode, Taken};
 use crate::putting::{MOST_OF_PACKET, put, put_code, put_served};
 use crate::scrub_lines::{MOST_OF_SCRUB, put_found};
 use crate::settings::{Setting, read_setting};
-use job_nodes::node::JobNode;
+use job_nodes::live_node::{LiveNode, Taken};
 use job_parts::bad_lines::BadLine;
 use job_parts::faults::Fault;
 use rmap::MAX_REPLY;
+use single_node::SingleNode;
 use spw::{LineFault, read_port, words_of};
 use std::alloc::Global;
 use std::io::{self, Write};
@@ -35,12 +36,12 @@ pub const CODE: usize = 2;
 const MOST_OF_LINES: usize = MOST_OF_SCRUB + MOST_OF_PACKET;
 
 /// Prints the entries of the journals of the node, bank by bank, and then begins empty ones.
-pub fn hand_out<W: Write>(node: &mut JobNode, out: &mut W) -> io::Result<()>
+pub fn hand_out<W: Write>(node: &mut LiveNode, out: &mut W) -> io::Result<()>
     ensures tells { OnOk result
         (TellsJournal node.old node.new (W.contents out.old) (W.contents out.new)) }
     ensures kept { OnErr result (node.new ≡ node.old) }
 {
-    print_journals(out, node, true)?;
+    print_journals(out, node.single(), true)?;
     turn_journals(node, true);
     Ok(())
 }
@@ -49,13 +50,13 @@ pub fn hand_out<W: Write>(node: &mut JobNode, out: &mut W) -> io::Result<()>
 /// for so many bytes more.
 ///
 /// If memory is refused the node is as before.
-pub fn make_room(node: &mut JobNode, more: usize, text: &mut Vec<u8>) -> io::Result<()>
+pub fn make_room(node: &mut LiveNode, more: usize, text: &mut Vec<u8>) -> io::Result<()>
     ensures made { OnOk result (MakesRoom node.old node.new
         (Some text.old.items) (Some text.new.items)) }
     ensures room { OnOk result (vec_len text.new + more ≤ vec_capacity text.new) }
     ensures kept { OnErr result (node.new ≡ node.old) }
 {
-    print_journals(text, node, false)?;
+    print_journals(text, node.single(), false)?;
     text.reserve(more)?;
     turn_journals(node, false);
     Ok(())
@@ -77,8 +78,8 @@ fn put_taken(text: &mut Vec<u8>, taken: Taken, reply: &[u8])
     requires room { vec_len text.old + (MOST_OF_SCRUB + MOST_OF_PACKET) ≤ vec_capacity text.old }
     ensures { text.new.items ≡ text.old.items ++ taken_text taken reply.now }
 {
-    put_found(text, taken.found);
-    put_served(text, taken.port, taken.served, reply);
+    put_found(text, taken.answer.found);
+    put_served(text, taken.port, taken.answer.told.served, reply);
 }
 
 /// Puts the line of a fault behind a text, whose words before its number are these. The condition is room for them and two bytes.
@@ -108,7 +109,7 @@ fn take_line(
 {
     match node.take_line(alloc, line) {
         Ok(Some(taken)) => {
-            put_taken(text, taken, node.node.reply());
+            put_taken(text, taken, node.reply());
             false
         }
         Ok(None) => false,
@@ -135,20 +136,20 @@ fn answer_packet(
 {
     let words = fault_words(alloc, number)?;
     let more = words.len() + MOST_OF_LINES;
-    make_room(&mut node.node, more, text)?;
+    make_room(node, more, text)?;
     Ok(take_line(alloc, node, line, words.as_slice(), text))
 }
 
 /// Whether the bytes of a write lie in the bank of its extended address, if there is one.
 #[tactic(auto, unfolding(crate::specs::Answering::is_inside))]
-fn is_inside(node: &JobNode, setting: &Setting) -> bool
+fn is_inside(node: &SingleNode, setting: &Setting) -> bool
     ensures { result ≡ is_inside node.now setting.now }
 {
     node.covers(setting.extended, setting.address, setting.bytes.len())
 }
 
 /// The write that these words ask for, whose bytes lie in its bank, or why there is none.
-fn setting_inside(alloc: Global, node: &JobNode, words: &[&str]) -> Result<Setting, BadLine>
+fn setting_inside(alloc: Global, node: &SingleNode, words: &[&str]) -> Result<Setting, BadLine>
     requires { IsAsked (map (λ word. word.now) words.now) Set }
     ensures ok { IfOk result
         (λ setting. WritesInside (map (λ word. word.now) words.now) node.now setting) }
@@ -165,15 +166,15 @@ fn setting_inside(alloc: Global, node: &JobNode, words: &[&str]) -> Result<Setti
 /// Puts the bytes of a write into its bank, behind which an empty journal begins. Before that it prints the entries of the one
 /// that is there, and how many bytes are set.
 #[tactic(auto, unfolding(crate::specs::Answering::is_inside))]
-fn set_bytes<W: Write>(node: &mut JobNode, setting: &Setting, out: &mut W) -> io::Result<()>
-    requires { is_inside node.old setting.now ≡ true }
+fn set_bytes<W: Write>(node: &mut LiveNode, setting: &Setting, out: &mut W) -> io::Result<()>
+    requires { is_inside (alone node.old.node) setting.now ≡ true }
     ensures tells { OnOk result (TellsSetting setting.now node.old node.new
         (W.contents out.old) (W.contents out.new)) }
     ensures kept { OnErr result (node.new ≡ node.old) }
 {
     let bytes = setting.bytes.as_slice();
     let count = bytes.len();
-    print_bank(out, node, setting.extended)?;
+    print_bank(out, node.single(), setting.extended)?;
     writeln!(out, "set {count}")?;
     node.set(setting.extended, setting.address, bytes);
     Ok(())
@@ -191,7 +192,7 @@ fn print_fault<W: Write>(out: &mut W, number: usize, fault: BadLine) -> io::Resu
 /// Does the write of an instrument, and prints what is due for it, or why it is not done: whether the line is bad.
 fn answer_setting<W: Write>(
     alloc: Global,
-    node: &mut JobNode,
+    node: &mut LiveNode,
     words: &[&str],
     number: usize,
     out: &mut W,
@@ -201,7 +202,7 @@ fn answer_setting<W: Write>(
         node.old node.new (W.contents out.old) (W.contents out.new)) }
     ensures kept { OnErr result (node.new ≡ node.old) }
 {
-    match setting_inside(alloc, node, words) {
+    match setting_inside(alloc, node.single(), words) {
         Ok(setting) => {
             set_bytes(node, &setting, out)?;
             Ok(false)
@@ -239,7 +240,7 @@ fn long_fault(words: &[&str], asks: Asks) -> BadLine
 /// Does what a line asks for, which came as the one of that number, and puts what is due for it behind a text: whether the
 /// line is bad.
 ///
-/// Of a bad line that is `line K fault C`: the faults are those of [`JobNode::take_line`] and [`read_setting`], `NoPort` for
+/// Of a bad line that is `line K fault C`: the faults are those of [`LiveNode::take_line`] and [`read_setting`], `NoPort` for
 /// bytes that do not lie in their bank, and of a line over [`MAX_LINE`] bytes `TooLong`, or `NoPort` where it begins as no
 /// packet line and no write. Before a packet line is taken the journals that are full are handed out.
 ///
@@ -264,21 +265,21 @@ pub fn answer(
     match asks {
         Asks::Packet => answer_packet(alloc, node, line, number, text),
         Asks::Journal => {
-            hand_out(&mut node.node, text)?;
+            hand_out(node, text)?;
             Ok(false)
         }
         Asks::Cells => {
-            print_cells(text, &node.node)?;
+            print_cells(text, node.single())?;
             Ok(false)
         }
-        Asks::Set => answer_setting(alloc, &mut node.node, words.as_slice(), number, text),
+        Asks::Set => answer_setting(alloc, node, words.as_slice(), number, text),
     }
 }
 
 /// The entries of the journals of the node, which are the last text of a talk: empty journals begin.
 ///
 /// If memory is refused the node is as before.
-pub fn last_text(alloc: Global, node: &mut JobNode) -> io::Result<Vec<u8>>
+pub fn last_text(alloc: Global, node: &mut LiveNode) -> io::Result<Vec<u8>>
     ensures tells { IfOk result (λ text. TellsJournal node.old node.new (Some []) (Some text.items)) }
     ensures kept { OnErr result (node.new ≡ node.old) }
 {

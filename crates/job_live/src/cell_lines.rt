@@ -7,12 +7,12 @@ ghost use Rattle.machine.specs.Sizes.{IsInside};
 ghost use Rattle.node_programs.specs.Published.{sizes_of};
 ghost use Rattle.plain_cells.specs.Words.{word_at};
 
-use job_nodes::node::JobNode;
 use machine::MapSizes;
+use single_node::SingleNode;
 use std::io::{self, Write};
 
 /// The word of a cell. The condition is a cell that is there.
-fn word_at(node: &JobNode, map: u8, key: u16) -> u64
+fn word_at(node: &SingleNode, map: u8, key: u16) -> u64
     requires { IsInside (sizes_of node.now.programs) map key }
     ensures { result ≡ word_at node.now.words map key }
 {
@@ -29,7 +29,7 @@ fn cells_of(sizes: &MapSizes, map: u8) -> u16
 
 /// Prints the words of the cells of a map, by key, each behind a space. The conditions are a map that is there, and how many
 /// cells it has.
-fn print_words<W: Write>(out: &mut W, node: &JobNode, map: u8, count: u16) -> io::Result<()>
+fn print_words<W: Write>(out: &mut W, node: &SingleNode, map: u8, count: u16) -> io::Result<()>
     requires map { map < length (sizes_of node.now.programs).cells }
     requires count { count ≡ slice_index (sizes_of node.now.programs).cells map }
     ensures { OnOk result (Prints W.contents out.old out.new
@@ -43,7 +43,7 @@ fn print_words<W: Write>(out: &mut W, node: &JobNode, map: u8, count: u16) -> io
 }
 
 /// Prints the line of a map: `cells MAP WORD WORD ..`. The conditions are those of [`print_words`].
-fn print_map<W: Write>(out: &mut W, node: &JobNode, map: u8, count: u16) -> io::Result<()>
+fn print_map<W: Write>(out: &mut W, node: &SingleNode, map: u8, count: u16) -> io::Result<()>
     requires map { map < length (sizes_of node.now.programs).cells }
     requires count { count ≡ slice_index (sizes_of node.now.programs).cells map }
     ensures { OnOk result (Prints W.contents out.old out.new (map_line node.now.words map count)) }
@@ -54,7 +54,7 @@ fn print_map<W: Write>(out: &mut W, node: &JobNode, map: u8, count: u16) -> io::
 }
 
 /// Prints the word of each cell of the node, a line a map, and how many maps there are: `cells N maps`.
-pub fn print_cells<W: Write>(out: &mut W, node: &JobNode) -> io::Result<()>
+pub fn print_cells<W: Write>(out: &mut W, node: &SingleNode) -> io::Result<()>
     ensures { OnOk result (Prints W.contents out.old out.new
         (cells_text (sizes_of node.now.programs) node.now.words)) }
 {

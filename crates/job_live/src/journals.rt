@@ -6,8 +6,10 @@ ghost use Rattle.job_parts.specs.Printed.{Prints};
 ghost use Rattle.job_live.specs.Journals.{Turns, TurnsOne, bank_line, bank_text, due_text, has_several, heading, is_due, journals_text};
 
 use crate::telling::print_journal;
-use job_nodes::node::JobNode;
+use job_nodes::journals::{entries, first, is_full};
+use job_nodes::live_node::LiveNode;
 use job_parts::replies::print_hex;
+use single_node::SingleNode;
 use std::io::{self, Write};
 
 /// Prints the line before the entries of a bank: `bank HH BASE`.
@@ -23,7 +25,7 @@ fn print_bank_line<W: Write>(out: &mut W, bank: u8, first: u32) -> io::Result<()
 
 /// Prints what stands before the entries of a bank: its line, if the node has several banks. The condition is a bank of the
 /// node.
-fn print_heading<W: Write>(out: &mut W, node: &JobNode, bank: u8) -> io::Result<()>
+fn print_heading<W: Write>(out: &mut W, node: &SingleNode, bank: u8) -> io::Result<()>
     requires { bank < length node.now.banks }
     ensures { OnOk result (Prints W.contents out.old out.new
         (heading (has_several node.now.banks) bank (first_of (slice_get node.now.banks bank)))) }
@@ -31,29 +33,29 @@ fn print_heading<W: Write>(out: &mut W, node: &JobNode, bank: u8) -> io::Result<
     if node.banks() <= 1 {
         return Ok(());
     }
-    print_bank_line(out, bank, node.first(bank))
+    print_bank_line(out, bank, first(node, bank))
 }
 
 /// Prints the entries of the journal of a bank, and before them its line, if the node has several banks. The condition is a
 /// bank of the node.
-pub fn print_bank<W: Write>(out: &mut W, node: &JobNode, bank: u8) -> io::Result<()>
+pub fn print_bank<W: Write>(out: &mut W, node: &SingleNode, bank: u8) -> io::Result<()>
     requires { bank < length node.now.banks }
     ensures { OnOk result (Prints W.contents out.old out.new (bank_text node.now.banks bank)) }
 {
     print_heading(out, node, bank)?;
-    print_journal(out, node.entries(bank))
+    print_journal(out, entries(node, bank))
 }
 
 /// Whether the journal of a bank is handed out, if each is, or if those are that are full. The condition is a bank of the node.
-fn is_due(node: &JobNode, each: bool, bank: u8) -> bool
+fn is_due(node: &SingleNode, each: bool, bank: u8) -> bool
     requires { bank < length node.now.banks }
     ensures { result ≡ is_due each node.now.banks bank }
 {
-    each || node.is_full(bank)
+    each || is_full(node, bank)
 }
 
 /// Prints the entries of the journal of a bank, if it is handed out. The condition is a bank of the node.
-fn print_due<W: Write>(out: &mut W, node: &JobNode, each: bool, bank: u8) -> io::Result<()>
+fn print_due<W: Write>(out: &mut W, node: &SingleNode, each: bool, bank: u8) -> io::Result<()>
     requires { bank < length node.now.banks }
     ensures { OnOk result (Prints W.contents out.old out.new (due_text each node.now.banks bank)) }
 {
@@ -64,7 +66,7 @@ fn print_due<W: Write>(out: &mut W, node: &JobNode, each: bool, bank: u8) -> io:
 }
 
 /// Prints the entries of the journals that are handed out, bank by bank: of each, or of those that are full.
-pub fn print_journals<W: Write>(out: &mut W, node: &JobNode, each: bool) -> io::Result<()>
+pub fn print_journals<W: Write>(out: &mut W, node: &SingleNode, each: bool) -> io::Result<()>
     ensures { OnOk result (Prints W.contents out.old out.new (journals_text each node.now.banks)) }
 {
     for bank in 0..node.banks() {
@@ -74,21 +76,21 @@ pub fn print_journals<W: Write>(out: &mut W, node: &JobNode, each: bool) -> io::
 }
 
 /// Begins an empty journal in the place of that of a bank, if it is handed out. The condition is a bank of the node.
-fn turn_due(node: &mut JobNode, each: bool, bank: u8)
-    requires { bank < length node.old.banks }
-    ensures turns { TurnsOne (is_due each node.old.banks bank) bank node.old node.new }
-    ensures banks { length node.new.banks ≡ length node.old.banks }
+fn turn_due(node: &mut LiveNode, each: bool, bank: u8)
+    requires { bank < length node.old.node.banks }
+    ensures turns { TurnsOne (is_due each node.old.node.banks bank) bank node.old node.new }
+    ensures banks { length node.new.node.banks ≡ length node.old.node.banks }
 {
-    if is_due(node, each, bank) {
+    if is_due(node.single(), each, bank) {
         node.turn(bank);
     }
 }
 
 /// Begins an empty journal in the place of each, or of those that are full.
-pub fn turn_journals(node: &mut JobNode, each: bool)
-    ensures { Turns each (length node.old.banks) node.old node.new }
+pub fn turn_journals(node: &mut LiveNode, each: bool)
+    ensures { Turns each (length node.old.node.banks) node.old node.new }
 {
-    let banks = node.banks();
+    let banks = node.single().banks();
     for bank in 0..banks {
         turn_due(node, each, bank);
     }

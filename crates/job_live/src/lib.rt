@@ -7,7 +7,6 @@ pub mod cell_lines;
 pub mod host;
 pub mod journals;
 pub mod live;
-pub mod live_node;
 pub mod putting;
 pub mod scrub_lines;
 pub mod settings;

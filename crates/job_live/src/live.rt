@@ -5,9 +5,9 @@ ghost use Rattle.job_parts.specs.declared.status.Status.TheVariants.{Done, Faile
 ghost use Rattle.job_live.specs.LiveJob.{EndsTalk, Exchanges, HoldsTalk, IsBrokenOff, IsCutOff, IsEndUnsent, IsUnanswered, IsUnsent, IsWholeTalk, Lives, SendsEnd, StopsTalk, TellsLast};
 
 use crate::answering::{answer, last_text};
-use crate::live_node::LiveNode;
 use crate::talk::Talk;
 use crate::words::LiveWords;
+use job_nodes::live_node::LiveNode;
 use job_nodes::sources::{node_from, place_of};
 use job_parts::faults::Fault;
 use job_parts::status::Status;
@@ -79,7 +79,7 @@ fn send_end<'a, T: Talk>(alloc: Global, node: &mut LiveNode, talk: &mut T) -> Re
     ensures sent { OnOk result (SendsEnd T.sent node.old node.new talk.old talk.new) }
     ensures stops { IfErr result (IsEndUnsent T.unsent node.old node.new talk.old talk.new) }
 {
-    let text = last_text(alloc, &mut node.node).map_err(|_| Halt::Ended(Fault::NoMemory))?;
+    let text = last_text(alloc, node).map_err(|_| Halt::Ended(Fault::NoMemory))?;
     let sent = talk.send(text.as_slice());
     sent.map_err(|_| Halt::Unwritten(WriteFault))
 }

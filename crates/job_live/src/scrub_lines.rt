@@ -42,6 +42,6 @@ pub fn put_found(text: &mut Vec<u8>, found: Option<Found>)
     match health {
         Health::Whole => {}
         Health::Mended => put_scrub(text, slot, b"mended"),
-        Health::Withdrawn => put_scrub(text, slot, b"withdrawn"),
+        Health::Withdrawn | Health::Unmended => put_scrub(text, slot, b"withdrawn"),
     }
 }

@@ -14,10 +14,6 @@ use Rattle.node_parts.specs.declared.served.Served.{Served}
 use Rattle.node_parts.specs.Nodes.{bank_of, first_pass, first_passes as all_first_passes, first_programs, fresh_banks}
 use Rattle.node_parts.specs.Passes.{PassValue}
 use Rattle.plain_cells.specs.Words.{zero_words}
-use Rattle.scrub.specs.Guarded.{IsGuarded, beside, scrubbing_each}
-use Rattle.scrub.specs.Lent.{ServesLent}
-use Rattle.scrub.specs.declared.guard.Found.{Found}
-use Rattle.scrub.specs.declared.guard.Guard.{Guard}
 use Rattle.single_node.specs.Nodes.{Rotates, SetsMemory, SingleNodeValue, room_in, single_node, staging_in}
 use Rattle.single_node.specs.Serving.{Serves as ServesAlone}
 use Rattle.job_nodes.specs.Feeds.{IsFed, IsNotFed}
@@ -89,18 +85,6 @@ pub record Serves (served : Served) (port : ℕ) (packet : Cargo) (before after 
 -- the node whose ports hold these bytes, and that is the same otherwise
 abbrev pub with_held : JobNodeValue → List (List ℕ) → JobNodeValue
 with_held node held = job_node node.banks node.words node.programs node.passes held node.reply
-
--- the same by what is kept of the node's programs, with what a scrub before the packet found
-pub record ServesGuarded (found : Option Found) (served : Served) (port : ℕ) (packet : Cargo) (old new : Guard)
-    (before after : JobNodeValue) : Type 0 where
-  pub lent : ServesLent found served port packet (beside old (alone before)) (beside new (alone after)) after.reply
-  pub held : after.held ≡ before.held
-
--- what is kept of the node's programs, each of which may judge, with a scrub before each packet of so many
-pub record IsGuardOf (node : JobNodeValue) (each : ℕ) (guard : Guard) : Type 0 where
-  pub fresh : Guard
-  pub guarded : IsGuarded (alone node) (beside fresh (alone node))
-  pub guard_is : guard ≡ scrubbing_each fresh each
 
 -- a port holds the line's piece, and no packet came, or the packet of a port came
 pub record FeedsLine (line : List ℕ) (came : Option (ℕ × Cargo)) (before after : JobNodeValue) : Type 0 where

@@ -5,6 +5,7 @@ pub mod JobNode
 pub mod JudgeJob
 pub mod Judged
 pub mod Lines
+pub mod LiveNodes
 pub mod Making
 pub mod Settled
 pub mod SimJob

@@ -3,7 +3,9 @@
 
 pub mod events;
 pub mod feeds;
+pub mod journals;
 pub mod judge;
+pub mod live_node;
 pub mod making;
 pub mod node;
 pub mod settling;

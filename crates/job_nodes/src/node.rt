@@ -1,20 +1,16 @@
 //! The node that the jobs run.
 
 ghost use Rattle.std.specs.Prelude.{◌≡◌, ◌≤◌, ◌<◌, ◌+◌, ◌↔◌, IfErr, IfOk, IfSome, IsSome, length, slice_get, true};
-ghost use Rattle.job_nodes.specs.JobNode.{FeedsLine, HandsOut, IsConfig, IsFreshOf, IsGuardOf, RefusesLine, Serves, ServesGuarded, SetsBytes, TakesLine, alone, first_of, is_full, journal_of, load_reason};
-ghost use Rattle.machine.specs.Sizes.{IsInside};
-ghost use Rattle.node_programs.specs.Published.{sizes_of};
-ghost use Rattle.plain_cells.specs.Words.{word_in};
+ghost use Rattle.job_nodes.specs.JobNode.{FeedsLine, IsConfig, IsFreshOf, IsJobNode, RefusesLine, Serves, SetsBytes, TakesLine, alone, first_of, is_full, journal_of, load_reason};
 ghost use Rattle.single_node.specs.Nodes.{covers_in};
 
 use crate::feeds::Feeds;
-use bank::Entry;
+use crate::journals::{first, is_full};
 use bver::{Accepted, MapSizes};
 use job_config::own_node::{NODE_ADDRESS, OWN_BANK};
 use job_parts::bad_lines::BadLine;
 use node_parts::{NodeConfig, Served};
 use rmap::{MAX_REPLY, ReplyBuf};
-use scrub::{Found, Guard};
 use single_node::SingleNode;
 use spw::Packet;
 use std::alloc::{AllocError, Global};
@@ -94,36 +90,8 @@ impl JobNode {
         node.serve(alloc, port, packet, reply)
     }
 
-    /// What is kept of the node's programs, for scrubs of them: each may judge. Before each packet of so many that
-    /// [`JobNode::serve_guarded`] serves the program that judges it is scrubbed; before none where it is 0.
-    pub fn guard(&self, each: u32) -> Guard
-        ensures { IsGuardOf self.now each result }
-    {
-        let mut guard = Guard::new(&self.node);
-        guard.scrub_each(each);
-        guard
-    }
-
-    /// The same as [`JobNode::serve`], by what is kept of the node's programs: what a scrub before the packet found, if one
-    /// was due, and what became of the packet. A command for a slot that is withdrawn comes to no program. The condition is a
-    /// port below [`JobNode::ports`].
-    pub fn serve_guarded(
-        &mut self,
-        guard: &mut Guard,
-        alloc: Global,
-        port: u8,
-        packet: Packet,
-    ) -> (Option<Found>, Served)
-        requires { port < length self.old.passes }
-        ensures { ServesGuarded result.0 result.1 port packet guard.old guard.new self.old self.new }
-    {
-        let node = &mut self.node;
-        let reply = &mut self.reply;
-        guard.serve(node, alloc, port, packet, reply)
-    }
-
     /// Takes a line, and serves nothing: the packet that it ends, and its port, or `None` where the line ends none.
-    pub fn feed_line(&mut self, alloc: Global, line: &str) -> Result<Option<(u8, Packet)>, BadLine>
+    fn feed_line(&mut self, alloc: Global, line: &str) -> Result<Option<(u8, Packet)>, BadLine>
         ensures fed { IfOk result (λ came. FeedsLine line.now came self.old self.new) }
         ensures port { IfOk result (λ came. IfSome came (λ own. own.0 < length self.new.passes)) }
         ensures refused { IfErr result (λ fault. RefusesLine line.now fault self.old self.new) }
@@ -166,52 +134,16 @@ impl JobNode {
         requires { bank < length self.now.banks }
         ensures { result ≡ first_of (slice_get self.now.banks bank) }
     {
-        self.node.bank(bank).range().0
-    }
-
-    /// The entries of the journal of a bank, oldest first. The condition is a number below [`JobNode::banks`].
-    pub fn entries(&self, bank: u8) -> &[Entry]
-        requires { bank < length self.now.banks }
-        ensures { result.now ≡ (journal_of (slice_get self.now.banks bank)).entries }
-    {
-        self.node.bank(bank).entries()
+        first(&self.node, bank)
     }
 
     /// Whether the journal of a bank has room for no more entries: a command for the bank is then answered with a
-    /// general error, and leaves none, until [`JobNode::turn`]. The condition is a number below [`JobNode::banks`].
+    /// general error, and leaves none. The condition is a number below [`JobNode::banks`].
     pub fn is_full(&self, bank: u8) -> bool
         requires { bank < length self.now.banks }
         ensures { result ≡ is_full (slice_get self.now.banks bank) }
     {
-        let bank = self.node.bank(bank);
-        bank.entries().len() >= bank.room() as usize
-    }
-
-    /// Begins an empty journal at a bank: the entries of the one before ([`JobNode::entries`]) are gone then, and what
-    /// they tell is the memory of now. Memory, counts, and what ports hold stay. It takes no memory. The condition is a
-    /// number below [`JobNode::banks`].
-    pub fn turn(&mut self, bank: u8)
-        requires { bank < length self.old.banks }
-        ensures out { HandsOut bank self.old self.new (journal_of (slice_get self.old.banks bank)) }
-        ensures banks { length self.new.banks ≡ length self.old.banks }
-    {
-        let room = self.node.room(bank);
-        self.node.turn(bank, room);
-    }
-
-    /// How many cells each map of the node has, and of which kind it is.
-    pub fn sizes(&self) -> MapSizes
-        ensures { result ≡ sizes_of self.now.programs }
-    {
-        self.node.sizes()
-    }
-
-    /// The word of a cell, if there is one ([`SingleNode::word`]).
-    pub fn word(&self, map: u8, key: u16) -> Option<u64>
-        ensures value { result ≡ word_in self.now.words map key }
-        ensures inside { IsSome result ↔ IsInside (sizes_of self.now.programs) map key }
-    {
-        self.node.word(map, key)
+        is_full(&self.node, bank)
     }
 
     /// Whether so many bytes from the address on lie in the bank of that number; not if there is no such bank.
@@ -241,16 +173,18 @@ impl JobNode {
         self.node.staging(0).load_result()[0]
     }
 
-    /// The node alone: what its ports hold, and the last reply, end.
-    pub fn into_node(self) -> SingleNode
-        ensures { result ≡ alone self }
+    /// The node alone, and what its ports hold. The last reply ends.
+    pub fn into_parts(self) -> (SingleNode, Feeds)
+        ensures node { result.0 ≡ alone self }
+        ensures held { result.1 ≡ self.held }
+        ensures valid { IsJobNode self }
     {
         let JobNode {
             node,
-            feeds: _feeds,
+            feeds,
             reply: _reply,
         } = self;
-        node
+        (node, feeds)
     }
 
     /// How many programs were loaded.

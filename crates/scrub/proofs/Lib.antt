@@ -2,3 +2,4 @@ mod Seeing
 mod Four
 mod FirstBroken
 mod Serving
+mod Mending

@@ -4,9 +4,8 @@ use Rattle.std.specs.Prelude.{slice_get}
 use Rattle.node_programs.specs.declared.publishes.Publish.{Publish}
 use Rattle.node_programs.specs.Published.{generation_at}
 use Rattle.scrub.specs.declared.kept.SlotSums.{SlotSums}
-use Rattle.node_parts.specs.declared.served.Served.{Served}
-use Rattle.scrub.specs.Guarded.{AnswersUnread, FindsAt, FindsNothing, GuardedValue, IsRemade, ScrubsFirst, ServesBy, ServesOpen}
-use Rattle.scrub.specs.Lent.{IsServed, IsServedBy, IsUnread}
+use Rattle.scrub.specs.Guarded.{AnswersBy, AnswersRead, AnswersUnread, FindsAt, FindsNothing, IsRemade, ScrubsFirst, Watched, counting_on}
+use Rattle.scrub.specs.Counting.{counted, renewed}
 use Rattle.scrub.specs.declared.guard.Found.{Found}
 use Rattle.scrub.specs.Kept.{AreFresh, FollowAt, closed_in, is_withheld}
 use Rattle.single_node.specs.declared.served.Told.{Told}
@@ -39,45 +38,36 @@ pub follow_found : (before after : List Publish) (slot : ℕ) (old : Option Slot
 follow_found before after slot old kept left found follow = subst (λ (o : Option SlotSums). FollowAt before after slot o (Some left)) (sym found) follow
 
 -- what becomes of a packet, by whether its slot is withdrawn
-pub by_withheld : (withheld : Bool) (told : Told) (size port : ℕ) (packet : Cargo) (before after : GuardedValue) (room left : List ℕ) → withheld ≡ true → AnswersUnread told size packet before after room left
-    → ServesBy withheld told size port packet before after room left
+pub by_withheld : (withheld : Bool) (told : Told) (size port : ℕ) (packet : Cargo) (before after : Watched) (room left : List ℕ) → withheld ≡ true → AnswersUnread told size packet before after room left
+    → AnswersBy withheld told size port packet before after room left
 by_withheld true told size port packet before after room left is answers = answers
 by_withheld false told size port packet before after room left is answers = absurd (cc is)
 
-pub by_open : (withheld : Bool) (told : Told) (size port : ℕ) (packet : Cargo) (before after : GuardedValue) (room left : List ℕ) → withheld ≡ false → ServesOpen told size port packet before after room left
-    → ServesBy withheld told size port packet before after room left
-by_open true told size port packet before after room left is serves = absurd (cc is)
-by_open false told size port packet before after room left is serves = serves
-
--- the same at a node that is lent
-pub lent_withheld : (withheld : Bool) (served : Served) (port : ℕ) (packet : Cargo) (before after : GuardedValue) (reply : List ℕ) → withheld ≡ true → IsUnread served packet before after reply
-    → IsServedBy withheld served port packet before after reply
-lent_withheld true served port packet before after reply is unread = unread
-lent_withheld false served port packet before after reply is unread = absurd (cc is)
-
-pub lent_open : (withheld : Bool) (served : Served) (port : ℕ) (packet : Cargo) (before after : GuardedValue) (reply : List ℕ) → withheld ≡ false → IsServed served port packet before after reply
-    → IsServedBy withheld served port packet before after reply
-lent_open true served port packet before after reply is serves = absurd (cc is)
-lent_open false served port packet before after reply is serves = serves
+pub by_read : (withheld : Bool) (told : Told) (size port : ℕ) (packet : Cargo) (before after : Watched) (room left : List ℕ) → withheld ≡ false → AnswersRead told size port packet before after room left
+    → AnswersBy withheld told size port packet before after room left
+by_read true told size port packet before after room left is serves = absurd (cc is)
+by_read false told size port packet before after room left is serves = serves
 
 -- a program that is made again changes no bank and no port
-pub remade_banks : (slot : ℕ) (kept : SlotSums) (before after : GuardedValue) → IsRemade slot kept before after → after.node.banks ≡ before.node.banks
-remade_banks slot kept before after is = ap (λ (g : GuardedValue). g.node.banks) is.after_is
+pub remade_banks : (slot : ℕ) (kept : SlotSums) (before after : Watched) → IsRemade slot kept before after → after.node.banks ≡ before.node.banks
+remade_banks slot kept before after is = ap (λ (g : Watched). g.node.banks) is.after_is
 
-pub remade_ports : (slot : ℕ) (kept : SlotSums) (before after : GuardedValue) → IsRemade slot kept before after → after.node.passes ≡ before.node.passes
-remade_ports slot kept before after is = ap (λ (g : GuardedValue). g.node.passes) is.after_is
+pub remade_ports : (slot : ℕ) (kept : SlotSums) (before after : Watched) → IsRemade slot kept before after → after.node.passes ≡ before.node.passes
+remade_ports slot kept before after is = ap (λ (g : Watched). g.node.passes) is.after_is
 
 -- which slot is scrubbed first
-pub first_not : (due : Bool) (slot : Option ℕ) (found : Option Found) (before after : GuardedValue) → due ≡ false → FindsNothing found before after → ScrubsFirst due slot found before after
+pub first_not : (due : Bool) (slot : Option ℕ) (found : Option Found) (before after : Watched) → due ≡ false → FindsNothing found (counting_on before (counted before.guard.counting)) after
+    → ScrubsFirst due slot found before after
 first_not true slot found before after is nothing = absurd (cc is)
 first_not false slot found before after is nothing = nothing
 
-pub first_none : (due : Bool) (slot : Option ℕ) (found : Option Found) (before after : GuardedValue) → due ≡ true → slot ≡ None → FindsNothing found before after → ScrubsFirst due slot found before after
+pub first_none : (due : Bool) (slot : Option ℕ) (found : Option Found) (before after : Watched) → due ≡ true → slot ≡ None → FindsNothing found before after → ScrubsFirst due slot found before after
 first_none false slot found before after is none nothing = absurd (cc is)
 first_none true None found before after is none nothing = nothing
 first_none true (Some s) found before after is none nothing = absurd (cc none)
 
-pub first_some : (due : Bool) (slot : Option ℕ) (s : ℕ) (found : Option Found) (before after : GuardedValue) → due ≡ true → slot ≡ Some s → FindsAt s found before after → ScrubsFirst due slot found before after
+pub first_some : (due : Bool) (slot : Option ℕ) (s : ℕ) (found : Option Found) (before after : Watched) → due ≡ true → slot ≡ Some s → FindsAt s found (counting_on before (renewed before.guard.counting)) after
+    → ScrubsFirst due slot found before after
 first_some false slot s found before after is some finds = absurd (cc is)
 first_some true slot s found before after is some finds =
     subst (λ (o : Option ℕ). ScrubsFirst true o found before after) (sym some) finds

@@ -1,6 +1,9 @@
 -- A node whose programs are scrubbed.
-use Rattle.std.specs.Prelude.{◌≡◌, ◌<◌, ◌⊎◌, ◌==◌, ◌-◌, ℕ, nat_le, Bool, false, true, List, [], length, Option, None, Some, slice_get, slice_set, if◌then◌else◌}
+use Rattle.std.specs.Prelude.{◌≡◌, ◌≢◌, ◌<◌, ◌≤◌, ◌^◌, ◌⊎◌, ◌==◌, ◌&&◌, not, ℕ, Bool, false, true, List, [], length, Option, None, Some, slice_get, slice_set}
 use Rattle.bver.specs.Justified.{AcceptedValue}
+use Rattle.bver.specs.Unjustified.{TellsUnjustified}
+use Rattle.bver_form.specs.declared.refusal.Refusal.TheVariants.{Memory as RefusedMemory}
+use Rattle.bver_form.specs.declared.refusal.Refused.{Refused}
 use Rattle.node_parts.specs.declared.served.Served.TheVariants.{Unread}
 use Rattle.node_programs.specs.Published.{program_at}
 use Rattle.rmap.specs.Command.{command_of}
@@ -11,23 +14,33 @@ use Rattle.single_node.specs.Serving.{ServesInto}
 use Rattle.spw.specs.Rooms.{put_front}
 use Rattle.single_node.specs.declared.served.Told.{Told}
 use Rattle.spw.specs.Cargo.{Cargo}
+use Rattle.scrub.specs.declared.answer.Answer.{Answer}
 use Rattle.scrub.specs.declared.guarded.GuardedNode.{GuardedNode}
 use Rattle.scrub.specs.declared.guard.Found.{Found}
 use Rattle.scrub.specs.declared.guard.Guard.{Guard}
 use Rattle.scrub.specs.declared.guard.Health.{Health}
-use Rattle.scrub.specs.declared.guard.Health.TheVariants.{Whole, Mended, Withdrawn}
+use Rattle.scrub.specs.declared.guard.Health.TheVariants.{Whole, Mended, Unmended, Withdrawn}
 use Rattle.scrub.specs.declared.guard.Scrubbed.{Scrubbed}
 use Rattle.scrub.specs.declared.kept.SlotSums.{SlotSums}
+use Rattle.scrub.specs.Counting.{agrees, counted, counting_of, is_due, is_on, renewed}
 use Rattle.scrub.specs.Damage.{sizes_sum}
-use Rattle.scrub.specs.Kept.{AreFresh, Follow, fresh_sums, has_sum, is_open, is_withheld, withdrawn_sums}
+use Rattle.scrub.specs.declared.counting.Counting.{Counting}
+use Rattle.scrub.specs.declared.made.MendFault.{MendFault}
+use Rattle.scrub.specs.declared.made.MendFault.TheVariants.{Memory, Image, Full}
+use Rattle.scrub.specs.Kept.{AreFresh, Follow, fresh_sums, has_sum, is_withheld, withdrawn_sums}
 use Rattle.scrub.specs.Sums.{IsSummed}
 
--- a node whose programs are scrubbed
+-- a node, with what is kept of its programs, if they are scrubbed
 abbrev pub GuardedValue : Type 0
 GuardedValue = GuardedNode
 
--- the node with what is kept of it
-abbrev pub beside : Guard → SingleNodeValue → GuardedValue
+-- a node beside what is kept of its programs
+pub record Watched : Type 0 where
+  pub node : SingleNodeValue
+  pub guard : Guard
+
+-- the two of them
+abbrev pub beside : Guard → SingleNodeValue → Watched
 beside guard node = record { node = node; guard = guard }
 
 -- what is kept, with that of a slot
@@ -35,48 +48,84 @@ abbrev pub with_sums : Guard → (slot : ℕ) → SlotSums → Guard
 with_sums guard slot s = record guard { sums = slice_set guard.sums slot s }
 
 -- the node with that kept of a slot
-abbrev pub keeping : GuardedValue → (slot : ℕ) → SlotSums → GuardedValue
+abbrev pub keeping : Watched → (slot : ℕ) → SlotSums → Watched
 keeping g slot s = beside (with_sums g.guard slot s) g.node
 
 -- the node with one publish more, of a program that has that sum
-abbrev pub with_made : GuardedValue → (slot : ℕ) → AcceptedValue → (sum : ℕ) → GuardedValue
+abbrev pub with_made : Watched → (slot : ℕ) → AcceptedValue → (sum : ℕ) → Watched
 with_made g slot program sum =
     beside (with_sums g.guard slot (fresh_sums sum)) (with_program g.node slot program)
 
 -- ---- a scrub
 
 -- the operations of the program that judges at the slot have that sum
-pub record HasSumAt (g : GuardedValue) (slot sum : ℕ) : Type 0 where
+pub record HasSumAt (g : Watched) (slot sum : ℕ) : Type 0 where
   pub program : AcceptedValue
   pub shown : program_at g.node.programs slot ≡ Some program
   pub summed : IsSummed program sum
 
--- the slot may judge, and its program's sum is none of those that are kept
-pub record IsDamaged (g : GuardedValue) (slot : ℕ) (kept : SlotSums) : Type 0 where
+-- the sum of the slot's program is none of those that are kept
+pub record IsDamaged (g : Watched) (slot : ℕ) (kept : SlotSums) : Type 0 where
   pub sum : ℕ
   pub has : HasSumAt g slot sum
-  pub open_is : is_open kept ≡ true
   pub differs : has_sum kept sum ≡ false
 
--- the program of the same image, for the same maps, and its sum is one of those that are kept
-pub record IsMadeAgain (program : AcceptedValue) (kept : SlotSums) (made : AcceptedValue) (sum : ℕ) : Type 0 where
+-- the program of the same image, for the same maps
+pub record IsVerifiedAgain (program made : AcceptedValue) : Type 0 where
   pub same : made.program ≡ program.program
   pub sizes : made.sizes ≡ program.sizes
+
+-- the same, and its sum is one of those that are kept
+pub record IsMadeAgain (program : AcceptedValue) (kept : SlotSums) (made : AcceptedValue) (sum : ℕ) : Type 0 where
+  pub verified : IsVerifiedAgain program made
   pub summed : IsSummed made sum
   pub agrees : has_sum kept sum ≡ true
 
--- the program is as it was published: nothing changed, but that both sums are now its own
-pub record StaysWhole (slot : ℕ) (before after : GuardedValue) : Type 0 where
+-- the same, and its sum is none of those that are kept
+pub record IsMadeOtherwise (program : AcceptedValue) (kept : SlotSums) : Type 0 where
+  pub made : AcceptedValue
+  pub sum : ℕ
+  pub verified : IsVerifiedAgain program made
+  pub summed : IsSummed made sum
+  pub differs : has_sum kept sum ≡ false
+
+-- the verifier refuses the program's image, and not for want of memory
+pub record IsRefusedAgain (program : AcceptedValue) : Type 0 where
+  pub refused : Refused
+  pub tells : TellsUnjustified program.program program.sizes refused
+  pub other : refused.code ≢ RefusedMemory
+
+-- why the verifier made no program of the image
+abbrev pub IsUnverified : AcceptedValue → MendFault → Type 0
+IsUnverified program Memory = Unit {0}
+IsUnverified program Image = IsRefusedAgain program
+IsUnverified program Full = ⊥
+
+-- why no program was made that has a sum that is kept
+abbrev pub IsUnmade : AcceptedValue → SlotSums → MendFault → Type 0
+IsUnmade program kept Memory = Unit {0}
+IsUnmade program kept Image = IsRefusedAgain program ⊎ IsMadeOtherwise program kept
+IsUnmade program kept Full = ⊥
+
+-- why the slot's program was not mended: memory was refused; no program with a sum that is kept can be made of its image; or
+-- no more programs can be published
+abbrev pub IsUnmended : (slot : ℕ) → SlotSums → Watched → MendFault → Type 0
+IsUnmended slot kept g Memory = Unit {0}
+IsUnmended slot kept g Image =
+    (program : AcceptedValue) × (program_at g.node.programs slot ≡ Some program) × IsUnmade program kept Image
+IsUnmended slot kept g Full = 2 ^ 32 ≤ length g.node.programs
+
+-- the program is as it was published: nothing changed, but that both sums are now its own, and that it may judge
+pub record StaysWhole (slot : ℕ) (before after : Watched) : Type 0 where
   pub kept : SlotSums
   pub at : slice_get before.guard.sums slot ≡ Some kept
-  pub open_is : is_open kept ≡ true
   pub sum : ℕ
   pub has : HasSumAt before slot sum
   pub agrees : has_sum kept sum ≡ true
   pub after_is : after ≡ keeping before slot (fresh_sums sum)
 
 -- a program that was made again of the image of the slot's program is published for the slot
-pub record IsRemade (slot : ℕ) (kept : SlotSums) (before after : GuardedValue) : Type 0 where
+pub record IsRemade (slot : ℕ) (kept : SlotSums) (before after : Watched) : Type 0 where
   pub program : AcceptedValue
   pub shown : program_at before.node.programs slot ≡ Some program
   pub made : AcceptedValue
@@ -85,30 +134,40 @@ pub record IsRemade (slot : ℕ) (kept : SlotSums) (before after : GuardedValue)
   pub after_is : after ≡ with_made before slot made sum
 
 -- the program was damaged, and was made again
-pub record IsMended (slot : ℕ) (before after : GuardedValue) : Type 0 where
+pub record IsMended (slot : ℕ) (before after : Watched) : Type 0 where
   pub kept : SlotSums
   pub at : slice_get before.guard.sums slot ≡ Some kept
   pub damaged : IsDamaged before slot kept
   pub remade : IsRemade slot kept before after
 
--- the slot was withdrawn before, or its program was damaged; it is withdrawn, and nothing else changed
-pub record IsWithdrawn (slot : ℕ) (before after : GuardedValue) : Type 0 where
+-- how a slot is found whose program was not mended
+abbrev pub health_by : MendFault → Health
+health_by Memory = Unmended
+health_by Image = Withdrawn
+health_by Full = Withdrawn
+
+-- the program was damaged, and was not mended; its slot is withdrawn, and nothing else changed
+pub record IsWithdrawn (health : Health) (slot : ℕ) (before after : Watched) : Type 0 where
   pub kept : SlotSums
   pub at : slice_get before.guard.sums slot ≡ Some kept
-  pub reason : (is_open kept ≡ false) ⊎ IsDamaged before slot kept
+  pub damaged : IsDamaged before slot kept
+  pub fault : MendFault
+  pub reason : IsUnmended slot kept before fault
+  pub health_is : health ≡ health_by fault
   pub after_is : after ≡ keeping before slot (withdrawn_sums kept)
 
--- what a scrub of a slot does
-abbrev pub ScrubsSlot : Health → (slot : ℕ) → (before after : GuardedValue) → Type 0
+-- what a scrub of a slot does, whether it was withdrawn before or not
+abbrev pub ScrubsSlot : Health → (slot : ℕ) → (before after : Watched) → Type 0
 ScrubsSlot Whole slot before after = StaysWhole slot before after
 ScrubsSlot Mended slot before after = IsMended slot before after
-ScrubsSlot Withdrawn slot before after = IsWithdrawn slot before after
+ScrubsSlot Withdrawn slot before after = IsWithdrawn Withdrawn slot before after
+ScrubsSlot Unmended slot before after = IsWithdrawn Unmended slot before after
 
 -- a scrub of the four slots, one after the other
-pub record Scrubs (told : Scrubbed) (before after : GuardedValue) : Type 0 where
-  pub one : GuardedValue
-  pub two : GuardedValue
-  pub three : GuardedValue
+pub record Scrubs (told : Scrubbed) (before after : Watched) : Type 0 where
+  pub one : Watched
+  pub two : Watched
+  pub three : Watched
   pub reads : ScrubsSlot told.reads 0 before one
   pub writes : ScrubsSlot told.writes 1 one two
   pub rmws : ScrubsSlot told.rmws 2 two three
@@ -116,17 +175,110 @@ pub record Scrubs (told : Scrubbed) (before after : GuardedValue) : Type 0 where
 
 -- ---- publishes
 
--- the node, with the sums of its programs, each of which may judge, and of its sizes
-pub record IsGuarded (node : SingleNodeValue) (g : GuardedValue) : Type 0 where
+-- what is kept of the node's programs, each of which may judge, and of its sizes, with a scrub before each packet of so many
+pub record IsGuardOf (node : SingleNodeValue) (each : ℕ) (guard : Guard) : Type 0 where
+  pub fresh : (slot : ℕ) → slot < 4 → AreFresh node.programs slot (slice_get guard.sums slot)
+  pub sizes_are : guard.sizes ≡ sizes_sum node
+  pub counting_is : guard.counting ≡ counting_of each each
+
+-- what is kept at first: with a number such a guard, and without one nothing
+abbrev pub BeginsGuard : (each : Option ℕ) → SingleNodeValue → Option Guard → Type 0
+BeginsGuard None node guard = guard ≡ None
+BeginsGuard (Some each) node guard = (own : Guard) × (guard ≡ Some own) × IsGuardOf node each own
+
+-- the node, with that
+pub record IsGuarded (each : Option ℕ) (node : SingleNodeValue) (g : GuardedValue) : Type 0 where
   pub node_is : g.node ≡ node
-  pub fresh : (slot : ℕ) → slot < 4 → AreFresh node.programs slot (slice_get g.guard.sums slot)
-  pub sizes_are : g.guard.sizes ≡ sizes_sum node
+  pub begins : BeginsGuard each node g.guard
 
 -- the program was published for the slot, which may judge, and its sum is kept
-pub record IsInstalled (slot : ℕ) (program : AcceptedValue) (before after : GuardedValue) : Type 0 where
+pub record IsInstalled (slot : ℕ) (program : AcceptedValue) (before after : Watched) : Type 0 where
   pub sum : ℕ
   pub summed : IsSummed program sum
   pub after_is : after ≡ with_made before slot program sum
+
+-- the same of a node of which maybe nothing is kept: it is published then, and nothing is kept
+abbrev pub InstallsOn : (old new : Option Guard) → (slot : ℕ) → AcceptedValue → (before after : SingleNodeValue) → Type 0
+InstallsOn None new slot program before after = (new ≡ None) × (after ≡ with_program before slot program)
+InstallsOn (Some old) new slot program before after =
+    (own : Guard) × (new ≡ Some own) × IsInstalled slot program (beside old before) (beside own after)
+
+abbrev pub Installs : (slot : ℕ) → AcceptedValue → (before after : GuardedValue) → Type 0
+Installs slot program before after = InstallsOn before.guard after.guard slot program before.node after.node
+
+-- ---- a scrub of all
+
+-- this is kept of the node's programs; of a node of which nothing was kept it is taken now
+abbrev pub HasGuard : Option Guard → SingleNodeValue → (own : Guard) → Type 0
+HasGuard None node own = IsGuardOf node 0 own
+HasGuard (Some guard) node own = own ≡ guard
+
+-- the four slots were scrubbed, by what is kept of them
+pub record ScrubsGuarded (told : Scrubbed) (before after : GuardedValue) : Type 0 where
+  pub old : Guard
+  pub new : Guard
+  pub has : HasGuard before.guard before.node old
+  pub scrubs : Scrubs told (beside old before.node) (beside new after.node)
+  pub left : after.guard ≡ Some new
+
+-- the sizes have the sum that was kept of them, if one was
+abbrev pub has_sizes : Option Guard → SingleNodeValue → Bool
+has_sizes None node = true
+has_sizes (Some guard) node = sizes_sum node == guard.sizes
+
+-- packets have scrubs before them, and the sizes are others than they were: no packet may be served
+abbrev pub is_damaged : Option Guard → SingleNodeValue → Bool
+is_damaged None node = false
+is_damaged (Some guard) node = is_on guard.counting && not (sizes_sum node == guard.sizes)
+
+-- the numbers of scrubs agree with their complements, if there are some
+abbrev pub has_counting : Option Guard → Bool
+has_counting None = true
+has_counting (Some guard) = agrees guard.counting
+
+-- ---- a scrub before each packet of a number
+
+-- what is kept, with these numbers
+abbrev pub with_counting : Guard → Counting → Guard
+with_counting guard counting = record guard { counting = counting }
+
+-- what is kept, with a scrub before each packet of so many
+abbrev pub scrubbing_each : Guard → (each : ℕ) → Guard
+scrubbing_each guard each = with_counting guard (counting_of each each)
+
+-- the same with the node
+abbrev pub counting_on : Watched → Counting → Watched
+counting_on g counting = beside (with_counting g.guard counting) g.node
+
+-- from now on there is a scrub before each packet of so many
+pub record SetsEach (each : ℕ) (before after : GuardedValue) : Type 0 where
+  pub old : Guard
+  pub has : HasGuard before.guard before.node old
+  pub node_is : after.node ≡ before.node
+  pub guard_is : after.guard ≡ Some (scrubbing_each old each)
+
+-- a program judges the packet at that slot, which was scrubbed, and that was found
+pub record FindsAt (slot : ℕ) (found : Option Found) (before after : Watched) : Type 0 where
+  pub health : Health
+  pub found_is : found ≡ Some (record { slot = slot; health = health })
+  pub scrubs : ScrubsSlot health slot before after
+
+-- nothing was scrubbed
+pub record FindsNothing (found : Option Found) (before after : Watched) : Type 0 where
+  pub found_is : found ≡ None
+  pub same : after ≡ before
+
+-- if no scrub is due the packet is counted. If one is due and a program judges the packet, the slot of that program is
+-- scrubbed; if none judges it, the scrub stays due
+abbrev pub ScrubsFirst : (due : Bool) → (slot : Option ℕ) → (found : Option Found) → (before after : Watched) → Type 0
+ScrubsFirst false slot found before after = FindsNothing found (counting_on before (counted before.guard.counting)) after
+ScrubsFirst true None found before after = FindsNothing found before after
+ScrubsFirst true (Some slot) found before after = FindsAt slot found (counting_on before (renewed before.guard.counting)) after
+
+-- a scrub before a packet at a port, if one is due
+abbrev pub ScrubsBefore : (port : ℕ) → Cargo → Option Found → (before after : Watched) → Type 0
+ScrubsBefore port packet found before after =
+    ScrubsFirst (is_due before.guard.counting) (slot_in (slice_get before.node.passes port) packet) found before after
 
 -- ---- packets
 
@@ -135,7 +287,7 @@ abbrev pub unread : Told
 unread = record { served = Unread; generation = 0; verdict = 0 }
 
 -- the command of the packet is for a slot that is withdrawn: it is answered by a general error, and nothing changed
-pub record AnswersUnread (told : Told) (size : ℕ) (packet : Cargo) (before after : GuardedValue) (room left : List ℕ) :
+pub record AnswersUnread (told : Told) (size : ℕ) (packet : Cargo) (before after : Watched) (room left : List ℕ) :
     Type 0 where
   pub told_is : told ≡ unread
   pub left_is : left ≡ put_front room (reply_of (command_of packet) GeneralError [])
@@ -147,70 +299,35 @@ abbrev pub with_all : Guard → List SlotSums → Guard
 with_all guard sums = record guard { sums = sums }
 
 -- the packet is served as the node serves it, and the sums follow what was published
-pub record ServesOpen (told : Told) (size port : ℕ) (packet : Cargo) (before after : GuardedValue) (room left : List ℕ) :
+pub record AnswersRead (told : Told) (size port : ℕ) (packet : Cargo) (before after : Watched) (room left : List ℕ) :
     Type 0 where
   pub serves : ServesInto told size port packet before.node after.node room left
   pub follow : Follow before.node.programs after.node.programs before.guard.sums after.guard.sums
   pub rest : after.guard ≡ with_all before.guard after.guard.sums
 
 -- by whether the slot of its command is withdrawn
-abbrev pub ServesBy : (withheld : Bool) → (told : Told) → (size port : ℕ) → Cargo → (before after : GuardedValue)
+abbrev pub AnswersBy : (withheld : Bool) → (told : Told) → (size port : ℕ) → Cargo → (before after : Watched)
     → (room left : List ℕ) → Type 0
-ServesBy true told size port packet before after room left = AnswersUnread told size packet before after room left
-ServesBy false told size port packet before after room left = ServesOpen told size port packet before after room left
+AnswersBy true told size port packet before after room left = AnswersUnread told size packet before after room left
+AnswersBy false told size port packet before after room left = AnswersRead told size port packet before after room left
 
--- what becomes of a packet at a port
-abbrev pub ServesGuarded : (told : Told) → (size port : ℕ) → Cargo → (before after : GuardedValue)
+-- what becomes of a packet at a port of a node whose programs are kept, after a scrub if one is due
+pub record AnswersWatched (answer : Answer) (port : ℕ) (packet : Cargo) (before after : Watched) (room left : List ℕ) :
+    Type 0 where
+  pub between : Watched
+  pub scrubs : ScrubsBefore port packet answer.found before between
+  pub answers : AnswersBy (is_withheld between.guard.sums (slot_in (slice_get between.node.passes port) packet)) answer.told
+      answer.size port packet between after room left
+
+-- what becomes of it by whether the programs are kept: without a guard the node serves it, and nothing is scrubbed
+abbrev pub AnswersOn : (old new : Option Guard) → Answer → (port : ℕ) → Cargo → (before after : SingleNodeValue)
     → (room left : List ℕ) → Type 0
-ServesGuarded told size port packet before after room left =
-    ServesBy (is_withheld before.guard.sums (slot_in (slice_get before.node.passes port) packet)) told size port packet before
-    after room left
+AnswersOn None new answer port packet before after room left =
+    (new ≡ None) × (answer.found ≡ None) × ServesInto answer.told answer.size port packet before after room left
+AnswersOn (Some old) new answer port packet before after room left =
+    (own : Guard) × (new ≡ Some own) × AnswersWatched answer port packet (beside old before) (beside own after) room left
 
--- ---- a scrub before each packet of a number
-
--- a scrub is due before this packet: it is the last of so many, if they are counted
-abbrev pub is_due : (each left : ℕ) → Bool
-is_due each left = if each == 0 then false else nat_le left 1
-
--- how many packets are left, with this one
-abbrev pub after_packet : (each left : ℕ) → ℕ
-after_packet each left = if each == 0 then left else if nat_le left 1 then each else left - 1
-
--- what is kept, after a packet was counted
-abbrev pub counted : Guard → Guard
-counted guard = record guard { left = after_packet guard.each guard.left }
-
--- what is kept, with a scrub before each packet of so many
-abbrev pub scrubbing_each : Guard → (each : ℕ) → Guard
-scrubbing_each guard each = record guard { each = each; left = each }
-
--- a program judges the packet at that slot, which was scrubbed, and that was found
-pub record FindsAt (slot : ℕ) (found : Option Found) (before after : GuardedValue) : Type 0 where
-  pub health : Health
-  pub found_is : found ≡ Some (record { slot = slot; health = health })
-  pub scrubs : ScrubsSlot health slot before after
-
--- nothing was scrubbed
-pub record FindsNothing (found : Option Found) (before after : GuardedValue) : Type 0 where
-  pub found_is : found ≡ None
-  pub same : after ≡ before
-
--- if a scrub is due and a program judges the packet, the slot of that program is scrubbed
-abbrev pub ScrubsFirst : (due : Bool) → (slot : Option ℕ) → (found : Option Found) → (before after : GuardedValue) → Type 0
-ScrubsFirst false slot found before after = FindsNothing found before after
-ScrubsFirst true None found before after = FindsNothing found before after
-ScrubsFirst true (Some slot) found before after = FindsAt slot found before after
-
--- a scrub before a packet at a port, if one is due
-abbrev pub ScrubsBefore : (port : ℕ) → Cargo → Option Found → (before after : GuardedValue) → Type 0
-ScrubsBefore port packet found before after =
-    ScrubsFirst (is_due before.guard.each before.guard.left) (slot_in (slice_get before.node.passes port) packet) found
-    (beside (counted before.guard) before.node) after
-
--- what becomes of a packet at a port, after a scrub if one is due
-pub record ServesScrubbed (told : Told) (size port : ℕ) (packet : Cargo) (before after : GuardedValue)
-    (room left : List ℕ) : Type 0 where
-  pub found : Option Found
-  pub between : GuardedValue
-  pub scrubs : ScrubsBefore port packet found before between
-  pub serves : ServesGuarded told size port packet between after room left
+-- what becomes of a packet at a port of a node whose programs may be scrubbed
+abbrev pub ServesGuarded : Answer → (port : ℕ) → Cargo → (before after : GuardedValue) → (room left : List ℕ) → Type 0
+ServesGuarded answer port packet before after room left =
+    AnswersOn before.guard after.guard answer port packet before.node after.node room left

@@ -1,5 +1,5 @@
 -- What is kept of the program of a slot.
-use Rattle.std.specs.Prelude.{◌≡◌, ◌≢◌, ◌<◌, ℕ, ◌==◌, List, Bool, false, not, ◌||◌, Option, None, Some, slice_get}
+use Rattle.std.specs.Prelude.{◌≡◌, ◌≢◌, ◌<◌, ℕ, ◌==◌, List, Bool, bit_xor, count_ones, false, nat_lt, not, ◌||◌, Option, None, Some, slice_get}
 use Rattle.bver.specs.Justified.{AcceptedValue}
 use Rattle.node_programs.specs.declared.publishes.Publish.{Publish}
 use Rattle.node_programs.specs.Published.{generation_at, program_at}
@@ -15,9 +15,14 @@ fresh_sums sum = record { first = sum; second = sum; mark = OPEN }
 abbrev pub withdrawn_sums : SlotSums → SlotSums
 withdrawn_sums s = record { first = s.first; second = s.second; mark = 0 }
 
--- the program may judge; each other mark withdraws its slot
+-- in how many bits two numbers differ
+abbrev pub distance : (a b : ℕ) → ℕ
+distance a b = count_ones (bit_xor a b)
+
+-- the program may judge: the mark is nearer to `OPEN` than to 0. If it is as near to both, or nearer to 0, its slot is
+-- withdrawn
 abbrev pub is_open : SlotSums → Bool
-is_open s = s.mark == OPEN
+is_open s = nat_lt (distance s.mark OPEN) (count_ones s.mark)
 
 -- the sum is one of those that are kept
 abbrev pub has_sum : SlotSums → (sum : ℕ) → Bool

@@ -1,6 +1,6 @@
 pub mod Numbers
 pub mod Sums
 pub mod Kept
+pub mod Counting
 pub mod Damage
 pub mod Guarded
-pub mod Lent

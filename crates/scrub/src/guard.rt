@@ -1,24 +1,23 @@
 //! What is kept of a node's programs, and scrubs of them.
 
-ghost use Rattle.std.specs.Prelude.{◌≡◌, ◌<◌, ◌≤◌, ◌==◌, ℕ, List, IfErr, IfOk, None, OnErr, OnOk, Some, false, length, slice_get, true};
+ghost use Rattle.std.specs.Prelude.{◌≡◌, ◌<◌, ◌≤◌, ◌==◌, ℕ, List, ◌&&◌, IfErr, IfOk, None, OnErr, OnOk, Some, false, length, not, slice_get, true};
 ghost use Rattle.node_programs.specs.Codes.{IsUnpublished};
 ghost use Rattle.node_programs.specs.Published.{generation_at, sizes_of};
 ghost use Rattle.node_programs.specs.declared.publishes.Publish.{Publish};
 ghost use Rattle.rmap.specs.Command.{discard_of};
 ghost use Rattle.single_node.specs.Nodes.{slot_in};
+ghost use Rattle.scrub.specs.Counting.{agrees, counted, is_due, is_on, renewed};
 ghost use Rattle.scrub.specs.Damage.{sizes_sum};
-ghost use Rattle.scrub.specs.Guarded.{IsGuarded, IsInstalled, IsRemade, ScrubsFirst, ScrubsSlot, Scrubs, beside, counted, is_due, scrubbing_each, with_all, with_sums};
+ghost use Rattle.scrub.specs.Guarded.{IsGuardOf, IsInstalled, IsRemade, IsUnmended, ScrubsFirst, ScrubsSlot, Scrubs, beside, health_by, scrubbing_each, with_all, with_counting, with_sums};
 ghost use Rattle.scrub.specs.Kept.{AreFresh, AreGenerations, Follow, FollowAt, closed_in, is_withheld};
-ghost use Rattle.scrub.specs.Lent.{ServesLent};
 
+use crate::counting::Counting;
 use crate::damage::sizes_sum;
 use crate::kept::{SlotSums, is_closed_at, set_sums, sums_at};
-use crate::made::made_again;
+use crate::made::{MendFault, made_again};
 use crate::op_sums::program_sum;
 use bver::Accepted;
-use node_parts::Served;
 use node_programs::PublishFault;
-use rmap::{Command, ReplyBuf, Status, put_reply};
 use single_node::SingleNode;
 use spw::Packet;
 use std::alloc::Global;
@@ -30,8 +29,10 @@ pub enum Health {
     Whole,
     /// They had not, and a program that was made again of its image is published for the slot.
     Mended,
-    /// They had not, and nothing could be made of its image; or the slot was withdrawn before.
+    /// They had not, and no program that has it can be made of its image, or no more programs can be published: the slot is withdrawn.
     Withdrawn,
+    /// They had not, and memory to make the program again was refused: the slot is withdrawn until the next scrub.
+    Unmended,
 }
 
 /// How the programs of the four slots were found.
@@ -57,17 +58,27 @@ pub struct Found {
 }
 
 /// What is kept of the programs of a node of one thread. Each call is lent that node: a program that is published there by
-/// itself, and not by [`Guard::install`] or a load that [`Guard::serve`] serves, is taken for a damaged one.
+/// itself, and not by [`Guard::install`] or a load that [`GuardedNode::serve`] serves, is taken for a damaged one.
+///
+/// [`GuardedNode::serve`]: crate::GuardedNode::serve
 #[derive(Clone, Copy, Debug, PartialEq, Eq)]
 pub struct Guard {
     /// What is kept of each slot's program.
     pub sums: [SlotSums; 4],
-    /// Before each packet of so many the program that judges it is scrubbed; before none where it is 0.
-    pub each: u32,
-    /// How many packets are left until then, with that one.
-    pub left: u32,
+    /// Before which packets a program is scrubbed.
+    pub counting: Counting,
     /// The sum of the node's sizes, as it was opened.
     pub sizes: u64,
+}
+
+/// How a slot is found whose program was not mended.
+fn health_by(fault: MendFault) -> Health
+    ensures { result ≡ health_by fault }
+{
+    match fault {
+        MendFault::Memory => Health::Unmended,
+        MendFault::Image | MendFault::Full => Health::Withdrawn,
+    }
 }
 
 /// What is to be kept of the program that judges at a slot. The condition is a slot below 4.
@@ -141,9 +152,10 @@ fn are_open(sums: &[SlotSums; 4]) -> bool
 }
 
 impl Guard {
-    /// What is kept of a node's programs, each of which may judge. Before no packet is one scrubbed.
-    pub fn new(node: &SingleNode) -> Guard
-        ensures { IsGuarded node.now (beside result node.now) }
+    /// What is kept of a node's programs, each of which may judge. Before each packet of so many the program that judges it is
+    /// scrubbed; before none if the number is 0.
+    pub fn new(node: &SingleNode, each: u32) -> Guard
+        ensures { IsGuardOf node.now each result }
     {
         Guard {
             sums: [
@@ -152,8 +164,7 @@ impl Guard {
                 fresh_at(node, 2),
                 fresh_at(node, 3),
             ],
-            each: 0,
-            left: 0,
+            counting: Counting::of(each, each),
             sizes: sizes_sum(node),
         }
     }
@@ -193,22 +204,32 @@ impl Guard {
         Ok(generation)
     }
 
-    /// Publishes the program of a slot that was made again of its image, if its sum is one of those that are kept: whether it did.
-    fn mend(&mut self, node: &mut SingleNode, alloc: Global, slot: u8, kept: &SlotSums) -> bool
+    /// Publishes the program of a slot that was made again of its image, if its sum is one of those that are kept.
+    #[tactic(auto, using(crate::proofs::Mending::no_more))]
+    fn mend(
+        &mut self,
+        node: &mut SingleNode,
+        alloc: Global,
+        slot: u8,
+        kept: &SlotSums,
+    ) -> Result<(), MendFault>
         requires { slot < 4 }
-        ensures mended { result ≡ true
-            → IsRemade slot kept.now (beside self.old node.old) (beside self.new node.new) }
-        ensures same { result ≡ false → beside self.new node.new ≡ beside self.old node.old }
+        ensures mended { OnOk result
+            (IsRemade slot kept.now (beside self.old node.old) (beside self.new node.new)) }
+        ensures same { OnErr result (beside self.new node.new ≡ beside self.old node.old) }
+        ensures fault { IfErr result (IsUnmended slot kept.now (beside self.old node.old)) }
     {
-        let Some((program, sum)) = made_again(alloc, node.program(slot), kept) else {
-            return false;
+        let (program, sum) = match made_again(alloc, node.program(slot), kept) {
+            Ok(made) => made,
+            Err(fault) => return Err(fault),
         };
         match node.publish(alloc, slot, program) {
             Ok(_generation) => {
                 self.keep(slot, SlotSums::of(sum));
-                true
+                Ok(())
             }
-            Err(_fault) => false,
+            Err(PublishFault::GenerationsFull) => Err(MendFault::Full),
+            Err(PublishFault::Memory | PublishFault::Slot) => Err(MendFault::Memory),
         }
     }
 
@@ -216,30 +237,14 @@ impl Guard {
     pub fn scrub_each(&mut self, each: u32)
         ensures { self.new ≡ scrubbing_each self.old each }
     {
-        self.each = each;
-        self.left = each;
+        self.counting = Counting::of(each, each);
     }
 
-    /// Counts one packet more: whether a scrub is due before it.
-    fn count(&mut self) -> bool
-        ensures due { result ≡ is_due self.old.each self.old.left }
-        ensures counted { self.new ≡ counted self.old }
-    {
-        if self.each == 0 {
-            return false;
-        }
-        if self.left <= 1 {
-            self.left = self.each;
-            return true;
-        }
-        self.left -= 1;
-        false
-    }
-
-    /// Scrubs the program of a slot. If its operations have a sum that is kept, nothing changes, but that both sums are then that
-    /// one. Else the program that the verifier accepts of its image is published for the slot, if it has a sum that is kept; it
-    /// takes memory for that. Else the slot is withdrawn, as it stays if it was withdrawn before. The condition is a slot below 4.
-    #[tactic(auto, using(crate::proofs::Serving::remade_banks, crate::proofs::Serving::remade_ports))]
+    /// Scrubs the program of a slot, whether it was withdrawn before or not. If its operations have a sum that is kept, it may judge,
+    /// and nothing else changes, but that both sums are then that one. Else the program that the verifier accepts of its image is
+    /// published for the slot, if it has a sum that is kept; it takes memory for that. Else the slot is withdrawn. The condition is a
+    /// slot below 4.
+    #[tactic(auto, using(crate::proofs::Serving::remade_banks, crate::proofs::Serving::remade_ports, crate::proofs::Mending::scrubs_by))]
     fn scrub_slot(&mut self, node: &mut SingleNode, alloc: Global, slot: u8) -> Health
         requires { slot < 4 }
         ensures scrubs { ScrubsSlot result slot (beside self.old node.old) (beside self.new node.new) }
@@ -247,20 +252,18 @@ impl Guard {
         ensures ports { node.new.passes ≡ node.old.passes }
     {
         let kept = sums_at(&self.sums, slot);
-        if !kept.is_open() {
-            self.keep(slot, kept.withdrawn());
-            return Health::Withdrawn;
-        }
         let sum = program_sum(node.program(slot));
         if kept.has(sum) {
             self.keep(slot, SlotSums::of(sum));
             return Health::Whole;
         }
-        if self.mend(node, alloc, slot, &kept) {
-            return Health::Mended;
+        match self.mend(node, alloc, slot, &kept) {
+            Ok(()) => Health::Mended,
+            Err(fault) => {
+                self.keep(slot, kept.withdrawn());
+                health_by(fault)
+            }
         }
-        self.keep(slot, kept.withdrawn());
-        Health::Withdrawn
     }
 
     /// Scrubs the programs of the four slots.
@@ -279,12 +282,26 @@ impl Guard {
         }
     }
 
+    /// Whether the numbers of scrubs before packets agree with their complements.
+    pub fn has_counting(&self) -> bool
+        ensures { result ≡ agrees self.now.counting }
+    {
+        self.counting.agrees()
+    }
+
     /// Whether the node's sizes have the sum that was kept of them: how many ports and banks it has, where the banks lie, and how many
     /// cells its maps have.
     pub fn has_sizes(&self, node: &SingleNode) -> bool
         ensures { result ≡ (sizes_sum node.now == self.now.sizes) }
     {
         sizes_sum(node) == self.sizes
+    }
+
+    /// Whether packets have scrubs before them, and the node's sizes are others than they were.
+    pub fn is_damaged(&self, node: &SingleNode) -> bool
+        ensures { result ≡ (is_on self.now.counting && not (sizes_sum node.now == self.now.sizes)) }
+    {
+        self.counting.is_on() && !self.has_sizes(node)
     }
 
     /// Whether the command of a packet that came in at a port is for a slot that is withdrawn. The condition is a port of the node.
@@ -303,7 +320,8 @@ impl Guard {
         }
     }
 
-    /// Scrubs the program that judges a packet, if a scrub is due before it: what it found. The condition is a port of the node.
+    /// Scrubs the program that judges a packet, if a scrub is due before it: what it found. If no program judges it, the scrub stays
+    /// due. The condition is a port of the node.
     #[tactic(auto, using(crate::proofs::Serving::first_not, crate::proofs::Serving::first_none, crate::proofs::Serving::first_some))]
     pub(crate) fn scrub_first(
         &mut self,
@@ -313,20 +331,31 @@ impl Guard {
         packet: &Packet,
     ) -> Option<Found>
         requires { port < length node.old.passes }
-        ensures scrubs { ScrubsFirst (is_due self.old.each self.old.left)
+        ensures scrubs { ScrubsFirst (is_due self.old.counting)
             (slot_in (slice_get node.old.passes port) packet.now) result
-            (beside (counted self.old) node.old) (beside self.new node.new) }
+            (beside self.old node.old) (beside self.new node.new) }
         ensures banks { node.new.banks ≡ node.old.banks }
         ensures ports { node.new.passes ≡ node.old.passes }
     {
-        if !self.count() {
+        if !self.counting.is_due() {
+            let counted = self.counting.counted();
+            self.count(counted);
             return None;
         }
         let Some(slot) = node.slot_for(port, packet) else {
             return None;
         };
+        let renewed = self.counting.renewed();
+        self.count(renewed);
         let health = self.scrub_slot(node, alloc, slot);
         Some(Found { slot, health })
+    }
+
+    /// Keeps these numbers of scrubs before packets.
+    fn count(&mut self, counting: Counting)
+        ensures { self.new ≡ with_counting self.old counting }
+    {
+        self.counting = counting;
     }
 
     /// Keeps the sums of the programs that were published since the four slots had those generations.
@@ -336,33 +365,5 @@ impl Guard {
             → Follow programs node.now.programs self.old.sums self.new.sums }
     {
         self.sums = followed(node, before, &self.sums);
-    }
-
-    /// Serves one packet as [`SingleNode::serve`] does, and keeps the sum of a program that it loads. If a scrub is due before it
-    /// ([`Guard::scrub_each`]), the program that judges it is scrubbed first: what that found comes with what became of the packet.
-    /// A command for a slot that is withdrawn comes to no program: it is answered by a general error, and nothing changes. The
-    /// condition is a port of the node.
-    #[tactic(auto, using(crate::proofs::Serving::lent_withheld, crate::proofs::Serving::lent_open))]
-    pub fn serve(
-        &mut self,
-        node: &mut SingleNode,
-        alloc: Global,
-        port: u8,
-        packet: Packet,
-        reply: &mut ReplyBuf,
-    ) -> (Option<Found>, Served)
-        requires { port < length node.old.passes }
-        ensures { ServesLent result.0 result.1 port packet (beside self.old node.old)
-            (beside self.new node.new) reply.new }
-    {
-        let found = self.scrub_first(node, alloc, port, &packet);
-        if self.withholds(node, port, &packet) {
-            put_reply(reply, &Command::again(&packet), Status::GeneralError, &[]);
-            return (found, Served::Unread);
-        }
-        let before = generations(node);
-        let served = node.serve(alloc, port, packet, reply);
-        self.follow(node, &before);
-        (found, served)
     }
 }

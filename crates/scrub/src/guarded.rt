@@ -1,24 +1,33 @@
-//! A node whose programs are scrubbed.
+//! A node whose programs may be scrubbed.
 
-ghost use Rattle.std.specs.Prelude.{◌≡◌, ◌<◌, ◌≤◌, length};
+ghost use Rattle.std.specs.Prelude.{◌≡◌, ◌<◌, ◌≤◌, IfErr, IfOk, None, OnErr, OnOk, length, slice_get};
+ghost use Rattle.node_programs.specs.Codes.{IsUnpublished};
+ghost use Rattle.node_programs.specs.Published.{sizes_of};
 ghost use Rattle.rmap.specs.declared.reply.TheConstants.{MAX_REPLY};
-ghost use Rattle.scrub.specs.Guarded.{IsGuarded, ServesGuarded, ServesScrubbed, unread};
+ghost use Rattle.scrub.specs.Guarded.{AnswersBy, AnswersWatched, BeginsGuard, HasGuard, Installs, IsGuarded, ScrubsGuarded, ServesGuarded, SetsEach, beside, has_counting, has_sizes, is_damaged, unread};
 ghost use Rattle.scrub.specs.Damage.{broken_of};
+ghost use Rattle.scrub.specs.Kept.{is_withheld};
+ghost use Rattle.single_node.specs.Nodes.{slot_in};
+ghost use Rattle.single_node.specs.Serving.{ServesInto};
 
+use crate::answer::Answer;
 use crate::damage::{Broken, broken_of};
-use crate::guard::{Guard, generations};
+use crate::guard::{Guard, Scrubbed, generations};
+use bver::Accepted;
 use node_parts::Served;
+use node_programs::PublishFault;
 use single_node::{SingleNode, Told};
 use spw::Packet;
 use std::alloc::Global;
 
-/// A node of one thread, with what is kept of the programs of its slots.
+/// A node of one thread, and what is kept of the programs of its slots. Without a guard nothing of it is scrubbed.
 #[derive(Drop)]
 pub struct GuardedNode {
-    /// The node. A program that is published here by itself, and not by [`Guard::install`] or a load, is taken for a damaged one.
+    /// The node. If there is a guard, a program that is published here by itself, and not by [`GuardedNode::install`] or a load,
+    /// is taken for a damaged one.
     pub node: SingleNode,
     /// What is kept of its programs.
-    pub guard: Guard,
+    pub guard: Option<Guard>,
 }
 
 /// What is told of a command that no program judges.
@@ -32,12 +41,106 @@ fn unread() -> Told
     }
 }
 
+/// A guard of a node's programs that scrubs one before each packet of so many; `None` without a number.
+fn guard_of(node: &SingleNode, each: Option<u32>) -> Option<Guard>
+    ensures { BeginsGuard each node.now result }
+{
+    match each {
+        Some(each) => Some(Guard::new(node, each)),
+        None => None,
+    }
+}
+
+/// What is kept of a node's programs: what was kept, or, if nothing was, what is taken now.
+fn guard_or_new(guard: Option<Guard>, node: &SingleNode) -> Guard
+    ensures { HasGuard guard node.now result }
+{
+    match guard {
+        Some(guard) => guard,
+        None => Guard::new(node, 0),
+    }
+}
+
+/// Serves one packet as [`SingleNode::serve_into`] does, and keeps the sum of a program that it loads. But a command for a slot that
+/// is withdrawn comes to no program: it is answered by a general error, and nothing changes. Conditions: a port of the node, and
+/// room for any reply.
+#[tactic(auto, using(crate::proofs::Serving::by_withheld, crate::proofs::Serving::by_read))]
+fn answer_by(
+    guard: &mut Guard,
+    node: &mut SingleNode,
+    alloc: Global,
+    port: u8,
+    packet: Packet,
+    room: &mut [u8],
+) -> (Told, usize)
+    requires port { port < length node.old.passes }
+    requires room { MAX_REPLY ≤ length room.old }
+    ensures answers { AnswersBy
+        (is_withheld guard.old.sums (slot_in (slice_get node.old.passes port) packet))
+        result.0 result.1 port packet (beside guard.old node.old) (beside guard.new node.new)
+        room.old room.new }
+    ensures few { result.1 ≤ MAX_REPLY }
+{
+    if guard.withholds(node, port, &packet) {
+        let size = node.unread_into(&packet, room);
+        return (unread(), size);
+    }
+    let before = generations(node);
+    let served = node.serve_into(alloc, port, packet, room);
+    guard.follow(node, &before);
+    served
+}
+
+/// Serves one packet at a node whose programs are kept: if a scrub is due before it, the program that judges it is scrubbed first.
+/// Conditions: a port of the node, and room for any reply.
+fn answer_watched(
+    guard: &mut Guard,
+    node: &mut SingleNode,
+    alloc: Global,
+    port: u8,
+    packet: Packet,
+    room: &mut [u8],
+) -> Answer
+    requires port { port < length node.old.passes }
+    requires room { MAX_REPLY ≤ length room.old }
+    ensures answers { AnswersWatched result port packet (beside guard.old node.old)
+        (beside guard.new node.new) room.old room.new }
+    ensures few { result.size ≤ MAX_REPLY }
+{
+    let found = guard.scrub_first(node, alloc, port, &packet);
+    let (told, size) = answer_by(guard, node, alloc, port, packet, room);
+    Answer { told, found, size }
+}
+
+/// Serves one packet at a node of whose programs nothing is kept. Conditions: a port of the node, and room for any reply.
+fn answer_plain(
+    node: &mut SingleNode,
+    alloc: Global,
+    port: u8,
+    packet: Packet,
+    room: &mut [u8],
+) -> Answer
+    requires port { port < length node.old.passes }
+    requires room { MAX_REPLY ≤ length room.old }
+    ensures serves { ServesInto result.told result.size port packet node.old node.new room.old room.new }
+    ensures found { result.found ≡ None }
+    ensures few { result.size ≤ MAX_REPLY }
+{
+    let (told, size) = node.serve_into(alloc, port, packet, room);
+    Answer {
+        told,
+        found: None,
+        size,
+    }
+}
+
 impl GuardedNode {
-    /// A node, with the sums of its programs. Each of them may judge.
-    pub fn new(node: SingleNode) -> GuardedNode
-        ensures { IsGuarded node result }
+    /// A node, with what is kept of its programs, each of which may judge: before each packet of so many the program that judges
+    /// it is scrubbed, before none if the number is 0. Without a number nothing is kept.
+    pub fn new(node: SingleNode, each: Option<u32>) -> GuardedNode
+        ensures { IsGuarded each node result }
     {
-        let guard = Guard::new(&node);
+        let guard = guard_of(&node, each);
         GuardedNode { node, guard }
     }
 
@@ -48,47 +151,99 @@ impl GuardedNode {
         broken_of(&self.node)
     }
 
-    /// Serves one packet as [`GuardedNode::serve_into`] does. If a scrub is due before it ([`Guard::scrub_each`]), the program
-    /// that judges it is scrubbed first. Conditions: a port of the node, and room for any reply.
-    pub fn serve(
-        &mut self,
-        alloc: Global,
-        port: u8,
-        packet: Packet,
-        room: &mut [u8],
-    ) -> (Told, usize)
-        requires port { port < length self.old.node.passes }
-        requires room { MAX_REPLY ≤ length room.old }
-        ensures serves { ServesScrubbed result.0 result.1 port packet self.old self.new room.old room.new }
-        ensures few { result.1 ≤ MAX_REPLY }
+    /// Whether the node's sizes have the sum that was kept of them, if one was: how many ports and banks it has, where the banks
+    /// lie, and how many cells its maps have.
+    pub fn has_sizes(&self) -> bool
+        ensures { result ≡ has_sizes self.now.guard self.now.node }
     {
-        self.guard.scrub_first(&mut self.node, alloc, port, &packet);
-        self.serve_into(alloc, port, packet, room)
+        match &self.guard {
+            Some(guard) => guard.has_sizes(&self.node),
+            None => true,
+        }
     }
 
-    /// Serves one packet as [`SingleNode::serve_into`] does, and keeps the sum of a program that it loads. But a command for a slot
-    /// that is withdrawn comes to no program: it is answered by a general error, and nothing changes. Conditions: a port of the
-    /// node, and room for any reply.
-    #[tactic(auto, using(crate::proofs::Serving::by_withheld, crate::proofs::Serving::by_open))]
-    pub fn serve_into(
+    /// Whether the numbers of scrubs before packets agree with their complements, if there are some.
+    pub fn has_counting(&self) -> bool
+        ensures { result ≡ has_counting self.now.guard }
+    {
+        match &self.guard {
+            Some(guard) => guard.has_counting(),
+            None => true,
+        }
+    }
+
+    /// Whether packets have scrubs before them, and the node's sizes are others than they were: then no packet may be served.
+    pub fn is_damaged(&self) -> bool
+        ensures { result ≡ is_damaged self.now.guard self.now.node }
+    {
+        match &self.guard {
+            Some(guard) => guard.is_damaged(&self.node),
+            None => false,
+        }
+    }
+
+    /// Scrubs the programs of the four slots. Of a node without a guard the sums are taken now, so each program is whole.
+    pub fn scrub(&mut self, alloc: Global) -> Scrubbed
+        ensures { ScrubsGuarded result self.old self.new }
+    {
+        let mut guard = guard_or_new(self.guard, &self.node);
+        let told = guard.scrub(&mut self.node, alloc);
+        self.guard = Some(guard);
+        told
+    }
+
+    /// From now on scrubs the program that judges a packet before each packet of so many; before none if the number is 0. Of a
+    /// node without a guard the sums are taken now.
+    pub fn scrub_each(&mut self, each: u32)
+        ensures { SetsEach each self.old self.new }
+    {
+        let mut guard = guard_or_new(self.guard, &self.node);
+        guard.scrub_each(each);
+        self.guard = Some(guard);
+    }
+
+    /// Publishes a program for a slot, which may judge then, and keeps its sum, if there is a guard: its generation. The conditions
+    /// are a slot below 4, and a program that was accepted for the maps of the node.
+    ///
+    /// # Errors
+    ///
+    /// Those of [`SingleNode::publish`]. The node is then as before.
+    pub fn install(
         &mut self,
         alloc: Global,
-        port: u8,
-        packet: Packet,
-        room: &mut [u8],
-    ) -> (Told, usize)
+        slot: u8,
+        program: Accepted,
+    ) -> Result<u32, PublishFault>
+        requires slot { slot ≤ 3 }
+        requires sizes { program.sizes ≡ sizes_of self.old.node.programs }
+        ensures installed { OnOk result (Installs slot program self.old self.new) }
+        ensures generation { IfOk result (λ n. n ≡ length self.old.node.programs) }
+        ensures same { OnErr result (self.new ≡ self.old) }
+        ensures refused { IfErr result (IsUnpublished (length self.old.node.programs)) }
+    {
+        let node = &mut self.node;
+        match &mut self.guard {
+            Some(guard) => guard.install(node, alloc, slot, program),
+            None => node.publish(alloc, slot, program),
+        }
+    }
+
+    /// Serves one packet that came in at a port, as [`SingleNode::serve_into`] does: its reply is then at the front of the room. If a
+    /// scrub is due before it ([`GuardedNode::scrub_each`]), the program that judges it is scrubbed first; if no program judges it,
+    /// the scrub stays due. A command for a slot that is withdrawn comes to no program: it is answered by a general error, and
+    /// nothing changes. Conditions: a port of the node, and room for any reply ([`MAX_REPLY`]).
+    ///
+    /// [`MAX_REPLY`]: rmap::MAX_REPLY
+    pub fn serve(&mut self, alloc: Global, port: u8, packet: Packet, room: &mut [u8]) -> Answer
         requires port { port < length self.old.node.passes }
         requires room { MAX_REPLY ≤ length room.old }
-        ensures serves { ServesGuarded result.0 result.1 port packet self.old self.new room.old room.new }
-        ensures few { result.1 ≤ MAX_REPLY }
+        ensures serves { ServesGuarded result port packet self.old self.new room.old room.new }
+        ensures few { result.size ≤ MAX_REPLY }
     {
-        if self.guard.withholds(&self.node, port, &packet) {
-            let size = self.node.unread_into(&packet, room);
-            return (unread(), size);
+        let node = &mut self.node;
+        match &mut self.guard {
+            Some(guard) => answer_watched(guard, node, alloc, port, packet, room),
+            None => answer_plain(node, alloc, port, packet, room),
         }
-        let before = generations(&self.node);
-        let served = self.node.serve_into(alloc, port, packet, room);
-        self.guard.follow(&self.node, &before);
-        served
     }
 }

@@ -3,7 +3,8 @@
 ghost use Rattle.std.specs.Prelude.{◌≡◌, ◌<◌, Some, slice_get, slice_set};
 ghost use Rattle.scrub.specs.Kept.{closed_in, fresh_sums, has_sum, is_open, withdrawn_sums};
 
-/// What is in `mark` of a slot whose program may judge. Each other number withdraws the slot; so no single bit that flips opens one.
+/// What is in `mark` of a slot whose program may judge; 0 is in that of a slot that is withdrawn. The two differ in 16 bits, and a
+/// mark means the nearer of them: so up to seven bits that flip change nothing, and eight withdraw the slot.
 pub const OPEN: u32 = 0x5A3C_96E1;
 
 /// What is kept of the program of a slot: the sum of its operations, twice, and whether the slot is withdrawn.
@@ -13,7 +14,7 @@ pub struct SlotSums {
     pub first: u64,
     /// The sum again: a program is whole that has one of the two, so that a sum that changes withdraws no program.
     pub second: u64,
-    /// [`OPEN`], or the slot is withdrawn.
+    /// [`OPEN`], or 0 if the slot is withdrawn.
     pub mark: u32,
 }
 
@@ -40,11 +41,11 @@ impl SlotSums {
         }
     }
 
-    /// Whether the slot's program may judge.
+    /// Whether the slot's program may judge: its mark is nearer to [`OPEN`] than to 0.
     pub(crate) fn is_open(&self) -> bool
         ensures { result ≡ is_open self.now }
     {
-        self.mark == OPEN
+        (self.mark ^ OPEN).count_ones() < self.mark.count_ones()
     }
 
     /// Whether a sum is one of those that are kept.

@@ -1,12 +1,14 @@
 //! Scrubbing of a node's programs: whether each program in memory is as it was published.
 //!
 //! A proof speaks of memory that keeps what was written to it. [`Guard`] is for memory that does not: it keeps sums of the operations
-//! by which each slot's program is run, of a node of one thread that it is lent; [`GuardedNode`] holds both. A scrub compares them. A program that differs is made
+//! by which each slot's program is run, of a node of one thread that it is lent; [`GuardedNode`] holds both, or the node alone. A scrub compares them. A program that differs is made
 //! again from its image, or its slot is withdrawn, and then denies each command by a general error until another program is published
 //! for it. No invariant says that the sums agree: so each clause holds for any sums and any operations. It also finds entries of
 //! journals that are not whole, and sizes that are others than they were; these it only tells.
 #![tactic(auto)]
 
+mod answer;
+mod counting;
 mod damage;
 mod guard;
 mod guarded;
@@ -14,6 +16,8 @@ mod kept;
 mod made;
 mod op_sums;
 
+pub use answer::Answer;
+pub use counting::Counting;
 pub use damage::Broken;
 pub use guard::{Found, Guard, Health, Scrubbed};
 pub use guarded::GuardedNode;

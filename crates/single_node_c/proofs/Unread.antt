@@ -9,10 +9,13 @@ use Rattle.node_parts.specs.Served.{IsAnswered, PartsValue}
 use Rattle.rmap.specs.Command.{CommandValue, command_of, discard_of}
 use Rattle.rmap.specs.Windows.{WindowsValue}
 use Rattle.rmap.specs.declared.discard.Discard.{Discard}
-use Rattle.scrub.specs.Guarded.{GuardedValue, ServesBy, ServesScrubbed}
+use Rattle.scrub.specs.Guarded.{AnswersBy, AnswersOn, GuardedValue, ServesGuarded, Watched, beside}
+use Rattle.scrub.specs.declared.answer.Answer.{Answer}
+use Rattle.scrub.specs.declared.guard.Guard.{Guard}
 use Rattle.scrub.specs.declared.kept.SlotSums.{SlotSums}
 use Rattle.scrub.specs.Kept.{is_withheld}
-use Rattle.single_node.specs.Nodes.{slot_in, slot_unless}
+use Rattle.single_node.specs.Nodes.{SingleNodeValue, slot_in, slot_unless}
+use Rattle.single_node.specs.Serving.{ServesInto}
 use Rattle.single_node.specs.declared.served.Told.{Told}
 use Rattle.single_node_c.specs.Parts.{discard_in}
 use Rattle.spw.specs.Cargo.{Cargo}
@@ -38,15 +41,26 @@ withheld_asked : (sums : List SlotSums) (asked : Option ℕ) (o : Option PassVal
 withheld_asked sums None o p is withheld = absurd (cc withheld)
 withheld_asked sums (Some slot) o p is withheld = asked_in o p slot is
 
-of_served : (withheld : Bool) (told : Told) (size port : ℕ) (p : Cargo) (before after : GuardedValue) (room left : List ℕ) (o : Option PassValue)
-    → is_withheld before.guard.sums (slot_in o p) ≡ withheld → ServesBy withheld told size port p before after room left → discard_of p.bytes ≡ discard_in told.served
-of_served true told size port p before after room left o is serves =
-    withheld_asked before.guard.sums (slot_in o p) o p refl is ∙ ap (λ (t : Told). discard_in t.served) (sym serves.told_is)
-of_served false told size port p before after room left o is serves =
-    let it = serves.serves.serves.serves in
-    of_answered told.served p _ _ it.holder it.left serves.serves.reply it.answered
-
-pub discards : (told : Told) (size port : ℕ) (p : Cargo) (before after : GuardedValue) (room left : List ℕ) → ServesScrubbed told size port p before after room left
+-- what became of a packet at a node of one thread
+of_into : (told : Told) (size port : ℕ) (p : Cargo) (before after : SingleNodeValue) (room left : List ℕ) → ServesInto told size port p before after room left
     → discard_of p.bytes ≡ discard_in told.served
-discards told size port p before after room left s =
-    of_served (is_withheld s.between.guard.sums (slot_in (slice_get s.between.node.passes port) p)) told size port p s.between after room left (slice_get s.between.node.passes port) refl s.serves
+of_into told size port p before after room left is =
+    let it = is.serves.serves in
+    of_answered told.served p _ _ it.holder it.left is.reply it.answered
+
+of_answer : (withheld : Bool) (told : Told) (size port : ℕ) (p : Cargo) (before after : Watched) (room left : List ℕ) (o : Option PassValue)
+    → is_withheld before.guard.sums (slot_in o p) ≡ withheld → AnswersBy withheld told size port p before after room left → discard_of p.bytes ≡ discard_in told.served
+of_answer true told size port p before after room left o is answers =
+    withheld_asked before.guard.sums (slot_in o p) o p refl is ∙ ap (λ (t : Told). discard_in t.served) (sym answers.told_is)
+of_answer false told size port p before after room left o is answers = of_into told size port p before.node after.node room left answers.serves
+
+by_guard : (old new : Option Guard) (answer : Answer) (port : ℕ) (p : Cargo) (before after : SingleNodeValue) (room left : List ℕ) → AnswersOn old new answer port p before after room left
+    → discard_of p.bytes ≡ discard_in answer.told.served
+by_guard None new answer port p before after room left s = of_into answer.told answer.size port p before after room left s.2
+by_guard (Some old) new answer port p before after room left s =
+    let it = s.2 in
+    of_answer (is_withheld it.between.guard.sums (slot_in (slice_get it.between.node.passes port) p)) answer.told answer.size port p it.between (beside s.0 after) room left (slice_get it.between.node.passes port) refl it.answers
+
+pub discards : (answer : Answer) (port : ℕ) (p : Cargo) (before after : GuardedValue) (room left : List ℕ) → ServesGuarded answer port p before after room left
+    → discard_of p.bytes ≡ discard_in answer.told.served
+discards answer port p before after room left s = by_guard before.guard after.guard answer port p before.node after.node room left s

@@ -17,7 +17,12 @@ abbrev pub IsCode : (test : Option ℕ) → (code : ℕ) → Type 0
 IsCode (Some fault) code = code ≡ fault
 IsCode None code = (code ≡ OK) ⊎ (code ≡ NO_MEMORY)
 
--- the first test that fails of a call on the node of a handle: that there is one, then those of the node
+-- the first test that fails of a call on the node of a handle and what is kept of it: that there is one, then those of it
+abbrev pub guarded_test : Option GuardedValue → (GuardedValue → Option ℕ) → Option ℕ
+guarded_test None test = Some NO_NODE
+guarded_test (Some guarded) test = test guarded
+
+-- the same, if the tests are those of the node alone
 abbrev pub test_on : Option GuardedValue → (SingleNodeValue → Option ℕ) → Option ℕ
 test_on None test = Some NO_NODE
 test_on (Some guarded) test = test guarded.node

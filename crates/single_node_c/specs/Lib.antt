@@ -1,4 +1,5 @@
 pub mod Held
+pub mod Finding
 pub mod Numbers
 pub mod Parts
 pub mod Scrubbing

@@ -5,7 +5,8 @@ use Rattle.machine.specs.Sizes.{Maps, listed_maps}
 use Rattle.machine.specs.declared.kinds.MapKind.{MapKind}
 use Rattle.machine.specs.declared.kinds.MapKind.TheVariants.{Counter, Peak}
 use Rattle.rmap.specs.Codes.{discard_code, status_code}
-use Rattle.single_node.specs.declared.served.Told.{Told}
+use Rattle.scrub.specs.declared.answer.Answer.{Answer}
+use Rattle.single_node_c.specs.Finding.{found_number, found_slot}
 use Rattle.single_node_c.specs.declared.numbers.BankNumbers.{BankNumbers}
 use Rattle.single_node_c.specs.declared.numbers.EntryNumbers.{EntryNumbers}
 use Rattle.single_node_c.specs.declared.numbers.MapNumbers.{MapNumbers}
@@ -52,21 +53,23 @@ place_of Unread = NOWHERE
 place_of (Done applied) = AT_BANK
 place_of (Window status) = AT_WINDOW
 
--- the numbers of what is told of a packet that asks for these parts, with so much room left in its bank's journal and a
+-- the numbers of what became of a packet that asks for these parts, with so much room left in its bank's journal and a
 -- reply of so many bytes
-abbrev pub served_numbers : Told → ServedParts → (room reply_length : ℕ) → ServedNumbers
-served_numbers told parts room reply_length = record {
-  verdict = told.verdict;
-  generation = told.generation;
+abbrev pub served_numbers : Answer → ServedParts → (room reply_length : ℕ) → ServedNumbers
+served_numbers answer parts room reply_length = record {
+  verdict = answer.told.verdict;
+  generation = answer.told.generation;
   reply_length = reply_length;
   address = parts.address;
   length = parts.length;
   room = room;
-  kind = kind_of told.served;
-  status = status_of told.served;
+  kind = kind_of answer.told.served;
+  status = status_of answer.told.served;
   command = parts.command;
-  place = place_of told.served;
+  place = place_of answer.told.served;
   extended = parts.extended;
+  found = found_number answer.found;
+  found_slot = found_slot answer.found;
 }
 
 -- the number of an end

@@ -1,30 +1,35 @@
 -- What a scrub of a node tells and does.
-use Rattle.std.specs.Prelude.{◌≡◌, ◌+◌, ◌==◌, ◌||◌, ◌&&◌, ℕ, zero, suc, not, nat_le, Bool, true, false, if◌then◌else◌, List, Option, None, Some}
+use Rattle.std.specs.Prelude.{◌≡◌, ◌+◌, ◌==◌, ◌||◌, ℕ, nat_lt, Bool, true, false, if◌then◌else◌, List, Option, None, Some}
 use Rattle.bver.specs.Justified.{AcceptedValue}
 use Rattle.node_programs.specs.Published.{sizes_of}
 use Rattle.scrub.specs.declared.guard.Health.{Health}
-use Rattle.scrub.specs.declared.guard.Health.TheVariants.{Whole, Mended, Withdrawn}
+use Rattle.scrub.specs.declared.guard.Health.TheVariants.{Whole, Mended, Unmended, Withdrawn}
 use Rattle.scrub.specs.declared.guard.Scrubbed.{Scrubbed}
-use Rattle.scrub.specs.Damage.{broken_of, no_broken, sizes_sum}
-use Rattle.scrub.specs.Guarded.{GuardedValue, IsInstalled, Scrubs}
+use Rattle.scrub.specs.Damage.{broken_of, no_broken}
+use Rattle.scrub.specs.Guarded.{GuardedValue, Installs, ScrubsGuarded, has_counting, has_sizes}
 use Rattle.scrub.specs.declared.damage.Broken.{Broken}
 use Rattle.single_node_c.specs.Opening.{IsAccepted}
-use Rattle.single_node_c.specs.declared.codes.TheConstants.{NO_PART, OK}
+use Rattle.single_node_c.specs.Held.{code_on}
+use Rattle.single_node_c.specs.declared.codes.TheConstants.{NO_MEMORY, NO_PART, OK}
 use Rattle.single_node_c.specs.declared.numbers.ScrubbedNumbers.{ScrubbedNumbers}
 use Rattle.single_node_c.specs.declared.scrubbing.Programs.{Programs}
-use Rattle.single_node_c.specs.declared.scrubbing.TheConstants.{ALL, JOURNALS, PROGRAMS, SIZES}
+use Rattle.single_node_c.specs.declared.scrubbing.Restored.{Restored}
+use Rattle.single_node_c.specs.declared.scrubbing.Restored.TheVariants.{Done, Nothing, Short}
+use Rattle.single_node_c.specs.declared.scrubbing.TheConstants.{ALL, COUNT_DIFFERS, JOURNALS, PROGRAMS, SIZES, SIZES_DIFFER}
 
 -- the bit of a slot whose program was mended, else 0
 abbrev pub mended_bit : Health → (bit : ℕ) → ℕ
 mended_bit Whole bit = 0
 mended_bit Mended bit = bit
 mended_bit Withdrawn bit = 0
+mended_bit Unmended bit = 0
 
 -- the bit of a slot that is withdrawn, else 0
 abbrev pub withdrawn_bit : Health → (bit : ℕ) → ℕ
 withdrawn_bit Whole bit = 0
 withdrawn_bit Mended bit = 0
 withdrawn_bit Withdrawn bit = bit
+withdrawn_bit Unmended bit = bit
 
 -- the bits of the slots whose programs were mended
 abbrev pub mended_bits : Scrubbed → ℕ
@@ -39,28 +44,56 @@ withdrawn_bits told =
 pub record IsRestored (image : List ℕ) (before after : GuardedValue) : Type 0 where
   pub program : AcceptedValue
   pub accepted : IsAccepted (sizes_of before.node.programs) image program
-  pub installed : IsInstalled 3 program before after
+  pub installed : Installs 3 program before after
 
--- by whether it was: 0 or 1
-abbrev pub Restores : List ℕ → (restored : ℕ) → (before after : GuardedValue) → Type 0
-Restores image zero before after = after ≡ before
-Restores image (suc zero) before after = IsRestored image before after
-Restores image (suc (suc n)) before after = ⊥
+-- by what became of the image
+abbrev pub Restores : List ℕ → Restored → (before after : GuardedValue) → Type 0
+Restores image Done before after = IsRestored image before after
+Restores image Nothing before after = after ≡ before
+Restores image Short before after = after ≡ before
 
 -- it may be if the scrub left the slot withdrawn, and is not otherwise
-abbrev pub RestoresIf : Health → List ℕ → (restored : ℕ) → (before after : GuardedValue) → Type 0
-RestoresIf Whole image restored before after = (restored ≡ 0) × (after ≡ before)
-RestoresIf Mended image restored before after = (restored ≡ 0) × (after ≡ before)
+abbrev pub RestoresIf : Health → List ℕ → Restored → (before after : GuardedValue) → Type 0
+RestoresIf Whole image restored before after = (restored ≡ Nothing) × (after ≡ before)
+RestoresIf Mended image restored before after = (restored ≡ Nothing) × (after ≡ before)
 RestoresIf Withdrawn image restored before after = Restores image restored before after
+RestoresIf Unmended image restored before after = Restores image restored before after
+
+-- 1 if the image that was lent is published, else 0
+abbrev pub restored_number : Restored → ℕ
+restored_number Done = 1
+restored_number Nothing = 0
+restored_number Short = 0
+
+-- the slot is withdrawn since memory to mend its program was refused
+abbrev pub is_unmended : Health → Bool
+is_unmended Whole = false
+is_unmended Mended = false
+is_unmended Unmended = true
+is_unmended Withdrawn = false
+
+-- the same of the slot of the boot window, by what became of the image that was lent for it
+abbrev pub is_window_short : Health → Restored → Bool
+is_window_short window Done = false
+is_window_short window Nothing = is_unmended window
+is_window_short window Short = true
+
+-- a slot is withdrawn since memory was refused
+abbrev pub is_short : Scrubbed → Restored → Bool
+is_short told restored =
+    is_unmended told.reads || is_unmended told.writes || is_unmended told.rmws || is_window_short told.window restored
 
 -- the slots were scrubbed, and what was found is told; then the slot of the boot window was restored, if it could be
 pub record ScrubsAll (image : List ℕ) (numbers : Programs) (before after : GuardedValue) : Type 0 where
   pub told : Scrubbed
   pub between : GuardedValue
-  pub scrubs : Scrubs told before between
-  pub restores : RestoresIf told.window image numbers.restored between after
+  pub restored : Restored
+  pub scrubs : ScrubsGuarded told before between
+  pub restores : RestoresIf told.window image restored between after
   pub mended_is : numbers.mended ≡ mended_bits told
   pub withdrawn_is : numbers.withdrawn ≡ withdrawn_bits told
+  pub restored_is : numbers.restored ≡ restored_number restored
+  pub short_is : numbers.is_short ≡ is_short told restored
 
 -- ---- parts
 
@@ -68,22 +101,32 @@ pub record ScrubsAll (image : List ℕ) (numbers : Programs) (before after : Gua
 abbrev pub asks : (what part : ℕ) → Bool
 asks what part = (what == part) || (what == ALL)
 
--- the code of a scrub of that part
-abbrev pub part_code : (what : ℕ) → ℕ
-part_code what = if nat_le what ALL then OK else NO_PART
+-- the code of a scrub of that part of the node of a handle, unless memory is refused
+abbrev pub scrub_test : Option GuardedValue → (what : ℕ) → ℕ
+scrub_test kept what = code_on kept (λ _. if nat_lt ALL what then NO_PART else OK)
+
+-- the code of a scrub that was done, by whether a slot is withdrawn since memory was refused
+abbrev pub short_code : (is_short : Bool) → ℕ
+short_code is_short = if is_short then NO_MEMORY else OK
 
 -- of programs that nobody asks for nothing is told
 abbrev pub no_programs : Programs
-no_programs = record { mended = 0; withdrawn = 0; restored = 0 }
+no_programs = record { mended = 0; withdrawn = 0; restored = 0; is_short = false }
 
 -- the programs are scrubbed if they are asked for
 abbrev pub ScrubsIf : (asked : Bool) → List ℕ → Programs → (before after : GuardedValue) → Type 0
 ScrubsIf true image told before after = ScrubsAll image told before after
 ScrubsIf false image told before after = (told ≡ no_programs) × (after ≡ before)
 
--- 1 if the sizes are asked for, and have not the sum that was kept of them
+-- by whether the sizes have the sum that was kept of them, and the numbers of scrubs before packets agree with their complements
+abbrev pub sizes_number : (has_sizes has_counting : Bool) → ℕ
+sizes_number false has_counting = SIZES_DIFFER
+sizes_number true false = COUNT_DIFFERS
+sizes_number true true = 0
+
+-- the same if they are asked for, else 0
 abbrev pub sizes_if : (asked : Bool) → GuardedValue → ℕ
-sizes_if asked g = if asked && not (sizes_sum g.node == g.guard.sizes) then 1 else 0
+sizes_if asked g = if asked then sizes_number (has_sizes g.guard g.node) (has_counting g.guard) else 0
 
 -- the entries that are not whole, if they are asked for
 abbrev pub broken_if : (asked : Bool) → GuardedValue → Broken
@@ -106,9 +149,11 @@ scrubbed_numbers programs sizes broken = record {
 }
 
 -- the part of the node was scrubbed: its programs, of which some may be mended or withdrawn; of its sizes and journals it is
--- told what is not as it was
-pub record ScrubsPart (what : ℕ) (image : List ℕ) (numbers : ScrubbedNumbers) (before after : GuardedValue) : Type 0 where
+-- told what is not as it was. The code is want of memory exactly if a slot is withdrawn for that
+pub record ScrubsPart (what : ℕ) (image : List ℕ) (numbers : ScrubbedNumbers) (code : ℕ) (before after : GuardedValue) :
+    Type 0 where
   pub programs : Programs
   pub scrubs : ScrubsIf (asks what PROGRAMS) image programs before after
   pub numbers_are : numbers
       ≡ scrubbed_numbers programs (sizes_if (asks what SIZES) after) (broken_if (asks what JOURNALS) after)
+  pub code_is : code ≡ short_code programs.is_short

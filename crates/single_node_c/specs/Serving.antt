@@ -2,22 +2,24 @@
 use Rattle.std.specs.Prelude.{◌≡◌, ℕ, List, length, nat_le, nat_lt, Option, Some, None, if◌then◌else◌, is_none, slice_get}
 use Rattle.bank.specs.Records.{BankValue, room_left}
 use Rattle.rmap.specs.declared.reply.TheConstants.{MAX_REPLY}
-use Rattle.scrub.specs.Guarded.{GuardedValue, ServesScrubbed}
+use Rattle.scrub.specs.Guarded.{GuardedValue, ServesGuarded, is_damaged}
+use Rattle.scrub.specs.declared.answer.Answer.{Answer}
 use Rattle.single_node.specs.Nodes.{SingleNodeValue}
-use Rattle.single_node.specs.declared.served.Told.{Told}
 use Rattle.single_node_c.specs.Numbers.{end_of, served_numbers}
 use Rattle.single_node_c.specs.Parts.{served_parts}
-use Rattle.single_node_c.specs.declared.codes.TheConstants.{NO_PORT, BAD_END, TOO_LONG, NO_ROOM}
+use Rattle.single_node_c.specs.declared.codes.TheConstants.{NO_PORT, BAD_END, DAMAGED, TOO_LONG, NO_ROOM}
 use Rattle.single_node_c.specs.declared.numbers.ServedNumbers.{ServedNumbers}
 use Rattle.spw.specs.Cargo.{Cargo}
 use Rattle.spw.specs.declared.packets.TheConstants.{MAX_PACKET}
 use Rattle.node_parts.specs.declared.served.Served.{Served}
 use Rattle.node_parts.specs.declared.served.Served.TheVariants.{Stopped, Unread, Done, Window}
 
--- the first test that fails of a packet of so many bytes with that end, and of the room for its reply
-abbrev pub serve_test : (port size end room : ℕ) → SingleNodeValue → Option ℕ
-serve_test port size end room node =
-    if nat_le (length node.passes) port then Some NO_PORT
+-- the first test that fails of a packet of so many bytes with that end, and of the room for its reply: first that of the
+-- node's sizes, if packets have scrubs before them
+abbrev pub serve_test : (port size end room : ℕ) → GuardedValue → Option ℕ
+serve_test port size end room g =
+    if is_damaged g.guard g.node then Some DAMAGED
+    else if nat_le (length g.node.passes) port then Some NO_PORT
     else if is_none (end_of end) then Some BAD_END
     else if nat_lt MAX_PACKET size then Some TOO_LONG
     else if nat_lt room MAX_REPLY then Some NO_ROOM
@@ -35,16 +37,16 @@ room_behind Unread number node = 0
 room_behind (Done applied) number node = room_of (slice_get node.banks number)
 room_behind (Window status) number node = 0
 
--- the packet was served at that port as a node whose programs are scrubbed serves it (`ServesScrubbed`), which also says
--- what stands in the room. The numbers are those of what became of the packet, of what its command asked for, and of the
--- room that the journal of its bank then has
+-- the packet was served at that port as a node whose programs may be scrubbed serves it (`ServesGuarded`), which also says
+-- what is in the room. The numbers are those of what became of the packet, of what its command asked for, of what a scrub
+-- before it found, and of the room that the journal of its bank then has
 pub record ServesPacket (port : ℕ) (packet : Cargo) (before after : GuardedValue) (room left : List ℕ)
     (numbers : ServedNumbers) : Type 0 where
-  pub told : Told
-  pub size : ℕ
-  pub serves : ServesScrubbed told size port packet before after room left
+  pub answer : Answer
+  pub serves : ServesGuarded answer port packet before after room left
   pub numbers_are : numbers
-      ≡ served_numbers told (served_parts packet) (room_behind told.served (served_parts packet).extended after.node) size
+      ≡ served_numbers answer (served_parts packet)
+      (room_behind answer.told.served (served_parts packet).extended after.node) answer.size
 
 -- a packet of those bytes, with the end of that number, was served at that port (`ServesPacket`)
 pub record ServesBytes (port : ℕ) (bytes : List ℕ) (end : ℕ) (room left : List ℕ) (numbers : ServedNumbers)

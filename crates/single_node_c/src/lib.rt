@@ -5,6 +5,7 @@
 #![tactic(auto)]
 
 mod codes;
+mod found;
 mod framed;
 mod handle;
 mod held;

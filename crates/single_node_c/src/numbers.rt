@@ -3,10 +3,11 @@
 ghost use Rattle.std.specs.Prelude.{◌≡◌};
 ghost use Rattle.single_node_c.specs.Numbers.{entry_numbers, end_number, end_of, kind_of, place_of, served_numbers, status_of};
 
+use crate::found::{found_number, found_slot};
 use crate::parts::ServedParts;
 use bank::Entry;
 use node_parts::{Served, Stop};
-use single_node::Told;
+use scrub::Answer;
 use spw::End;
 
 /// One bank.
@@ -34,7 +35,7 @@ pub struct Why {
     pub slot: u16,
 }
 
-/// What became of a packet, and what it asked for.
+/// What became of a packet, what it asked for, and what a scrub before it found.
 #[repr(C)]
 #[derive(Clone, Copy)]
 pub struct ServedNumbers {
@@ -49,6 +50,8 @@ pub struct ServedNumbers {
     pub command: u8,
     pub place: u8,
     pub extended: u8,
+    pub found: u8,
+    pub found_slot: u8,
 }
 
 /// An entry of a journal, but for its packet.
@@ -139,23 +142,25 @@ fn place_of(served: Served) -> u8
 }
 
 impl ServedNumbers {
-    /// The numbers of what is told of a packet that asks for these parts, with so much room left in its bank's journal and
+    /// The numbers of what became of a packet that asks for these parts, with so much room left in its bank's journal and
     /// a reply of so many bytes.
-    pub fn of(told: Told, parts: ServedParts, room: u32, reply_length: u32) -> ServedNumbers
-        ensures { result ≡ served_numbers told parts room reply_length }
+    pub fn of(answer: Answer, parts: ServedParts, room: u32, reply_length: u32) -> ServedNumbers
+        ensures { result ≡ served_numbers answer parts room reply_length }
     {
         ServedNumbers {
-            verdict: told.verdict,
-            generation: told.generation,
+            verdict: answer.told.verdict,
+            generation: answer.told.generation,
             reply_length,
             address: parts.address,
             length: parts.length,
             room,
-            kind: kind_of(told.served),
-            status: status_of(told.served),
+            kind: kind_of(answer.told.served),
+            status: status_of(answer.told.served),
             command: parts.command,
-            place: place_of(told.served),
+            place: place_of(answer.told.served),
             extended: parts.extended,
+            found: found_number(answer.found),
+            found_slot: found_slot(answer.found),
         }
     }
 }

@@ -1,7 +1,7 @@
 //! Whether an image may judge, and the opening of a node.
 
 ghost use Rattle.std.specs.Prelude.{◌≡◌, ◌≢◌, ◌↔◌, IfErr, IfOk, IfSome, IsSome, MatchResult};
-ghost use Rattle.std.specs.declared.option.Option.TheVariants.{None};
+ghost use Rattle.std.specs.declared.option.Option.TheVariants.{None, Some};
 ghost use Rattle.bpf.specs.Program.{image_bytes};
 ghost use Rattle.machine.specs.Sizes.{Maps};
 ghost use Rattle.scrub.specs.Guarded.{IsGuarded};
@@ -133,7 +133,7 @@ fn fresh(
     factory: Accepted,
 ) -> Result<Box<GuardedNode>, Unfit>
     ensures node { IfOk result (λ node. IsOpened address ports banks.now factory node.value.node) }
-    ensures sums { IfOk result (λ node. IsGuarded node.value.node node.value) }
+    ensures sums { IfOk result (λ node. IsGuarded (Some 0) node.value.node node.value) }
     ensures fault { IfErr result (IsConfigFault (is_config ports banks.now)) }
 {
     if banks.len() > MAX_BANKS {
@@ -146,7 +146,7 @@ fn fresh(
         Err(NodeFault::Memory) => return Err(Unfit::Memory),
         Err(NodeFault::Ports | NodeFault::Banks) => return Err(Unfit::Config),
     };
-    let Ok(node) = Box::new(alloc, GuardedNode::new(node)) else {
+    let Ok(node) = Box::new(alloc, GuardedNode::new(node, Some(0))) else {
         return Err(Unfit::Memory);
     };
     Ok(node)
@@ -163,7 +163,7 @@ fn made(
 ) -> Result<Box<GuardedNode>, Unfit>
     ensures made { IfOk result
         (λ node. IsMade address ports banks.now maps.now image.now node.value.node) }
-    ensures sums { IfOk result (λ node. IsGuarded node.value.node node.value) }
+    ensures sums { IfOk result (λ node. IsGuarded (Some 0) node.value.node node.value) }
     ensures fault { IfErr result (IsUnopened ports banks.now maps.now image.now) }
 {
     let factory = accepted(alloc, maps, image)?;

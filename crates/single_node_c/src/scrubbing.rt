@@ -1,16 +1,18 @@
 //! Scrubbing of a node.
 
 ghost use Rattle.std.specs.Prelude.{◌≡◌, ◌≢◌, ◌≤◌};
-ghost use Rattle.scrub.specs.Guarded.{beside, scrubbing_each};
+ghost use Rattle.scrub.specs.Guarded.{SetsEach};
 ghost use Rattle.single_node_c.specs.Held.{BecomesGuarded, code_on};
-ghost use Rattle.single_node_c.specs.Scrubbing.{Restores, RestoresIf, ScrubsAll, ScrubsIf, ScrubsPart, asks, broken_if, mended_bit, mended_bits, part_code, place_number, sizes_if, withdrawn_bit, withdrawn_bits};
+ghost use Rattle.single_node_c.specs.Scrubbing.{Restores, RestoresIf, ScrubsAll, ScrubsIf, ScrubsPart, asks, broken_if, is_short, is_unmended, is_window_short, mended_bit, mended_bits, place_number, restored_number, scrub_test, short_code, sizes_if, withdrawn_bit, withdrawn_bits};
 ghost use Rattle.single_node_c.specs.declared.codes.TheConstants.{OK};
 
-use crate::codes::{NO_NODE, NO_PART, OK};
+use crate::codes::{NO_MEMORY, NO_NODE, NO_PART, OK};
 use crate::handle::Handle;
 use crate::held::{put, take};
 use crate::numbers::ScrubbedNumbers;
 use crate::opening::program_of;
+use crate::unfit::Unfit;
+use node_programs::PublishFault;
 use scrub::{Broken, GuardedNode, Health, Scrubbed};
 use std::alloc::Global;
 
@@ -29,13 +31,6 @@ pub const JOURNALS: u8 = 2;
 /// All of these.
 pub const ALL: u8 = 3;
 
-/// The code of a scrub of that part.
-fn part_code(what: u8) -> u32
-    ensures { result ≡ part_code what }
-{
-    if what <= ALL { OK } else { NO_PART }
-}
-
 /// The bit of a slot whose program was mended, else 0.
 fn mended_bit(health: Health, bit: u8) -> u8
     ensures value { result ≡ mended_bit health bit }
@@ -43,7 +38,7 @@ fn mended_bit(health: Health, bit: u8) -> u8
 {
     match health {
         Health::Mended => bit,
-        Health::Whole | Health::Withdrawn => 0,
+        Health::Whole | Health::Withdrawn | Health::Unmended => 0,
     }
 }
 
@@ -53,8 +48,18 @@ fn withdrawn_bit(health: Health, bit: u8) -> u8
     ensures few { result ≤ bit }
 {
     match health {
-        Health::Withdrawn => bit,
+        Health::Withdrawn | Health::Unmended => bit,
         Health::Whole | Health::Mended => 0,
+    }
+}
+
+/// Whether a slot is withdrawn since memory to mend its program was refused.
+fn is_unmended(health: Health) -> bool
+    ensures { result ≡ is_unmended health }
+{
+    match health {
+        Health::Unmended => true,
+        Health::Whole | Health::Mended | Health::Withdrawn => false,
     }
 }
 
@@ -76,51 +81,96 @@ fn withdrawn_bits(told: Scrubbed) -> u8
     banks + withdrawn_bit(told.window, 8)
 }
 
-/// Publishes the program of an image for the slot of the boot window: 1 if it did, else 0.
-fn restore(alloc: Global, guarded: &mut GuardedNode, image: &[u8]) -> u8
+/// What became of the image that is lent for the slot of the boot window.
+#[derive(Clone, Copy, Debug, PartialEq, Eq)]
+pub enum Restored {
+    /// Its program is published for that slot.
+    Done,
+    /// The slot was not withdrawn, or its program may not judge, or no more programs can be published: nothing changed.
+    Nothing,
+    /// Memory was refused: nothing changed.
+    Short,
+}
+
+/// Publishes the program of an image for the slot of the boot window.
+fn restore(alloc: Global, guarded: &mut GuardedNode, image: &[u8]) -> Restored
     ensures { Restores image.now result guarded.old guarded.new }
 {
     let sizes = guarded.node.sizes();
-    let Ok(program) = program_of(alloc, image, &sizes) else {
-        return 0;
+    let program = match program_of(alloc, image, &sizes) {
+        Ok(program) => program,
+        Err(Unfit::Memory) => return Restored::Short,
+        Err(_unfit) => return Restored::Nothing,
     };
-    match guarded
-        .guard
-        .install(&mut guarded.node, alloc, WINDOW, program)
-    {
-        Ok(_generation) => 1,
-        Err(_fault) => 0,
+    match guarded.install(alloc, WINDOW, program) {
+        Ok(_generation) => Restored::Done,
+        Err(PublishFault::Memory) => Restored::Short,
+        Err(PublishFault::Slot | PublishFault::GenerationsFull) => Restored::Nothing,
     }
 }
 
-/// The same where a scrub left that slot withdrawn.
-fn restore_if(alloc: Global, guarded: &mut GuardedNode, health: Health, image: &[u8]) -> u8
+/// The same if a scrub left that slot withdrawn.
+fn restore_if(alloc: Global, guarded: &mut GuardedNode, health: Health, image: &[u8]) -> Restored
     ensures { RestoresIf health image.now result guarded.old guarded.new }
 {
     match health {
-        Health::Withdrawn => restore(alloc, guarded, image),
-        Health::Whole | Health::Mended => 0,
+        Health::Withdrawn | Health::Unmended => restore(alloc, guarded, image),
+        Health::Whole | Health::Mended => Restored::Nothing,
     }
 }
 
-/// Of the programs of a node what a scrub found, a bit a slot, and whether the slot of the boot window was given the program that was lent.
+/// 1 if the image that was lent is published, else 0.
+fn restored_number(restored: Restored) -> u8
+    ensures { result ≡ restored_number restored }
+{
+    match restored {
+        Restored::Done => 1,
+        Restored::Nothing | Restored::Short => 0,
+    }
+}
+
+/// Whether the slot of the boot window is withdrawn since memory was refused.
+fn is_window_short(window: Health, restored: Restored) -> bool
+    ensures { result ≡ is_window_short window restored }
+{
+    match restored {
+        Restored::Done => false,
+        Restored::Nothing => is_unmended(window),
+        Restored::Short => true,
+    }
+}
+
+/// Whether a slot is withdrawn since memory was refused.
+fn is_short(told: Scrubbed, restored: Restored) -> bool
+    ensures { result ≡ is_short told restored }
+{
+    is_unmended(told.reads)
+        || is_unmended(told.writes)
+        || is_unmended(told.rmws)
+        || is_window_short(told.window, restored)
+}
+
+/// Of the programs of a node what a scrub found, a bit a slot, whether the slot of the boot window was given the program that was
+/// lent, and whether a slot is withdrawn since memory was refused.
 #[derive(Clone, Copy)]
 pub struct Programs {
     mended: u8,
     withdrawn: u8,
     restored: u8,
+    is_short: bool,
 }
 
 /// Scrubs the programs of a node, and publishes the program of an image for the slot of the boot window if that is withdrawn.
 fn scrub_programs(alloc: Global, guarded: &mut GuardedNode, image: &[u8]) -> Programs
     ensures { ScrubsAll image.now result guarded.old guarded.new }
 {
-    let told = guarded.guard.scrub(&mut guarded.node, alloc);
+    let told = guarded.scrub(alloc);
     let restored = restore_if(alloc, guarded, told.window, image);
     Programs {
         mended: mended_bits(told),
         withdrawn: withdrawn_bits(told),
-        restored,
+        restored: restored_number(restored),
+        is_short: is_short(told, restored),
     }
 }
 
@@ -135,15 +185,28 @@ fn scrub_if(alloc: Global, guarded: &mut GuardedNode, asked: bool, image: &[u8])
         mended: 0,
         withdrawn: 0,
         restored: 0,
+        is_short: false,
     }
 }
 
-/// 1 if sizes are asked for and are others than they were, else 0.
+/// Where the sizes of a node are others than they were.
+pub const SIZES_DIFFER: u8 = 1;
+
+/// Where they are as they were, and a number of scrubs before packets is not.
+pub const COUNT_DIFFERS: u8 = 2;
+
+/// 1 if sizes are asked for and are others than they were, 2 if the numbers of scrubs before packets are, else 0.
 fn sizes_if(guarded: &GuardedNode, asked: bool) -> u8
     ensures { result ≡ sizes_if asked guarded.now }
 {
-    if asked && !guarded.guard.has_sizes(&guarded.node) {
-        return 1;
+    if !asked {
+        return 0;
+    }
+    if !guarded.has_sizes() {
+        return SIZES_DIFFER;
+    }
+    if !guarded.has_counting() {
+        return COUNT_DIFFERS;
     }
     0
 }
@@ -178,28 +241,43 @@ fn asks(what: u8, part: u8) -> bool
     what == part || what == ALL
 }
 
-/// Scrubs a part of a node.
-fn scrub(alloc: Global, guarded: &mut GuardedNode, what: u8, image: &[u8]) -> ScrubbedNumbers
-    ensures { ScrubsPart what image.now result guarded.old guarded.new }
+/// The code of a scrub, by whether a slot is withdrawn since memory was refused.
+fn short_code(is_short: bool) -> u32
+    ensures { result ≡ short_code is_short }
+{
+    if is_short { NO_MEMORY } else { OK }
+}
+
+/// Scrubs a part of a node, and tells what was found: a code.
+fn scrub(
+    alloc: Global,
+    guarded: &mut GuardedNode,
+    what: u8,
+    image: &[u8],
+    scrubbed: &mut ScrubbedNumbers,
+) -> u32
+    ensures { ScrubsPart what image.now scrubbed.new result guarded.old guarded.new }
 {
     let programs = scrub_if(alloc, guarded, asks(what, PROGRAMS), image);
     let sizes = sizes_if(guarded, asks(what, SIZES));
     let broken = broken_if(guarded, asks(what, JOURNALS));
-    ScrubbedNumbers {
+    *scrubbed = ScrubbedNumbers {
         first: place_number(broken.first),
         mended: programs.mended,
         withdrawn: programs.withdrawn,
         restored: programs.restored,
         sizes,
         journals: broken.banks,
-    }
+    };
+    short_code(programs.is_short)
 }
 
 /// Compares a part of a node with what was kept of it, or all of these.
 ///
 /// Of programs, the operations of that of each slot with the sums that were kept of them. A program that differs is made again of its
 /// image, or its slot is withdrawn. If the slot of the boot window is withdrawn, the program of the image that is lent is published
-/// for it, if it may judge. It asks for memory only for a program that it makes. Of sizes and of journals it tells what differs.
+/// for it, if it may judge. It asks for memory only for a program that it makes. If a slot is withdrawn since memory was refused, the
+/// code is that, and the rest was done. Of sizes and of journals it tells what differs.
 #[unsafe(no_mangle)]
 pub extern "C" fn sandbar_scrub(
     alloc: Global,
@@ -208,19 +286,20 @@ pub extern "C" fn sandbar_scrub(
     image: &[u8],
     scrubbed: &mut ScrubbedNumbers,
 ) -> u32
-    ensures code { result ≡ code_on handle.old.kept (λ _. part_code what) }
-    ensures scrubbed { result ≡ OK
-        → BecomesGuarded (ScrubsPart what image.now scrubbed.new) handle.old.kept handle.new.kept }
-    ensures node { result ≢ OK → handle.new.kept ≡ handle.old.kept }
-    ensures numbers { result ≢ OK → scrubbed.new ≡ scrubbed.old }
+    ensures scrubbed { scrub_test handle.old.kept what ≡ OK
+        → BecomesGuarded (ScrubsPart what image.now scrubbed.new result) handle.old.kept handle.new.kept }
+    ensures code { scrub_test handle.old.kept what ≢ OK → result ≡ scrub_test handle.old.kept what }
+    ensures node { scrub_test handle.old.kept what ≢ OK → handle.new.kept ≡ handle.old.kept }
+    ensures numbers { scrub_test handle.old.kept what ≢ OK → scrubbed.new ≡ scrubbed.old }
 {
     let Some(mut guarded) = take(alloc, handle) else {
         return NO_NODE;
     };
-    let code = part_code(what);
-    if code == OK {
-        *scrubbed = scrub(alloc, &mut guarded, what, image);
+    if what > ALL {
+        put(alloc, handle, guarded);
+        return NO_PART;
     }
+    let code = scrub(alloc, &mut guarded, what, image, scrubbed);
     put(alloc, handle, guarded);
     code
 }
@@ -230,14 +309,14 @@ pub extern "C" fn sandbar_scrub(
 #[unsafe(no_mangle)]
 pub extern "C" fn sandbar_scrub_each(alloc: Global, handle: &mut Handle, each: u32) -> u32
     ensures code { result ≡ code_on handle.old.kept (λ _. OK) }
-    ensures set { result ≡ OK → BecomesGuarded (λ before after. after ≡ beside (scrubbing_each before.guard each) before.node)
-        handle.old.kept handle.new.kept }
+    ensures set { result ≡ OK
+        → BecomesGuarded (SetsEach each) handle.old.kept handle.new.kept }
     ensures node { result ≢ OK → handle.new.kept ≡ handle.old.kept }
 {
     let Some(mut guarded) = take(alloc, handle) else {
         return NO_NODE;
     };
-    guarded.guard.scrub_each(each);
+    guarded.scrub_each(each);
     put(alloc, handle, guarded);
     OK
 }

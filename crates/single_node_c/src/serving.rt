@@ -2,13 +2,13 @@
 
 ghost use Rattle.std.specs.Prelude.{◌≡◌, ◌≢◌, ◌<◌, ◌≤◌, IfOk, Some, length, slice_get};
 ghost use Rattle.rmap.specs.declared.reply.TheConstants.{MAX_REPLY};
-ghost use Rattle.single_node_c.specs.Held.{BecomesGuarded, IsCode, test_on};
+ghost use Rattle.single_node_c.specs.Held.{BecomesGuarded, IsCode, guarded_test};
 ghost use Rattle.single_node_c.specs.Numbers.{end_of};
 ghost use Rattle.single_node_c.specs.Serving.{ServesBytes, ServesPacket, room_behind, room_of, serve_test};
 ghost use Rattle.single_node_c.specs.declared.codes.TheConstants.{OK};
 ghost use Rattle.spw.specs.declared.packets.TheConstants.{MAX_PACKET};
 
-use crate::codes::{BAD_END, NO_MEMORY, NO_NODE, NO_PORT, NO_ROOM, OK, TOO_LONG};
+use crate::codes::{BAD_END, DAMAGED, NO_MEMORY, NO_NODE, NO_PORT, NO_ROOM, OK, TOO_LONG};
 use crate::handle::Handle;
 use crate::held::{put, take};
 use crate::numbers::{ServedNumbers, end_of};
@@ -69,10 +69,11 @@ fn serve_packet(
     ensures { ServesPacket port packet guarded.old guarded.new room.old room.new result }
 {
     let end = packet.end();
-    let (told, size) = guarded.serve(alloc, port, packet, room);
-    let parts = ServedParts::of(told.served, bytes, end);
-    let left = room_behind(&guarded.node, told.served, parts.extended);
-    ServedNumbers::of(told, parts, left, size as u32)
+    let answer = guarded.serve(alloc, port, packet, room);
+    let served = answer.told.served;
+    let parts = ServedParts::of(served, bytes, end);
+    let left = room_behind(&guarded.node, served, parts.extended);
+    ServedNumbers::of(answer, parts, left, answer.size as u32)
 }
 
 /// Serves the bytes of a packet, where the node may: a code.
@@ -86,13 +87,16 @@ fn serve(
     served: &mut ServedNumbers,
 ) -> u32
     ensures code { IsCode
-        (serve_test port (length bytes.now) end (length room.old) guarded.old.node) result }
+        (serve_test port (length bytes.now) end (length room.old) guarded.old) result }
     ensures served { result ≡ OK
         → ServesBytes port bytes.now end room.old room.new served.new guarded.old guarded.new }
     ensures node { result ≢ OK → guarded.new ≡ guarded.old }
     ensures room { result ≢ OK → room.new ≡ room.old }
     ensures numbers { result ≢ OK → served.new ≡ served.old }
 {
+    if guarded.is_damaged() {
+        return DAMAGED;
+    }
     if port >= guarded.node.ports() {
         return NO_PORT;
     }
@@ -123,7 +127,7 @@ pub extern "C" fn sandbar_serve(
     reply: &mut [u8],
     served: &mut ServedNumbers,
 ) -> u32
-    ensures code { IsCode (test_on handle.old.kept
+    ensures code { IsCode (guarded_test handle.old.kept
         (serve_test port (length packet.now) end (length reply.old))) result }
     ensures served { result ≡ OK
         → BecomesGuarded (ServesBytes port packet.now end reply.old reply.new served.new)

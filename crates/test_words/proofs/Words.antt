@@ -1,7 +1,7 @@
 -- The words of the toolchain's library that the definitions use: what each is, and a value of it that the checker computes.
 
 use Rattle.std.specs.Prelude.{◌≡◌, ℕ, suc, ◌+◌, ◌-◌, ◌*◌, ◌/◌, ◌%◌, ◌^◌, min, true, false, cond, not, ◌&&◌}
-use Rattle.std.specs.Prelude.{nat_eq, nat_lt, bit_xor, List, [], ◌∷◌, ◌++◌, length, map, filter, fold, count_by, take, drop, replicate, codes}
+use Rattle.std.specs.Prelude.{nat_eq, nat_lt, bit_xor, count_ones, List, [], ◌∷◌, ◌++◌, length, map, filter, fold, count_by, take, drop, replicate, codes}
 use Rattle.std.specs.Prelude.{slice_index, slice_index_or, slice_get, slice_set, Option, None, Some, is_some, option_map, unwrap_or}
 use Rattle.std.specs.Prelude.{Err, pos, negsuc, ◌-ℤ◌, neg_ℤ, int_lt, int_div}
 use Rattle.std.specs.List.{concat, flat_map, range_with_len, slice_split, list_all, after_first, onto_first, starts_with}
@@ -59,6 +59,11 @@ value_7 = refl
 -- `bit_and`, `bit_or`, `bit_xor`: bit by bit
 value_8 : bit_xor 12 10 ≡ 6
 value_8 = refl
+
+-- `count_ones n`: how many bits of n are 1
+value_ones : count_ones 13 ≡ 3
+unfolding lib.Count.ones
+value_ones = refl
 
 -- `bit_at n i`: bit i of n, counted from the lowest, 0 or 1
 value_9 : bit_at 8 3 ≡ 1

@@ -1,6 +1,6 @@
 use Rattle.std.proofs.Common.{◌≡◌, ℕ, List, rules, sym, ap, ◌∙◌}
 use Rattle.single_node.specs.Nodes.{SingleNodeValue}
-use Rattle.single_node.specs.declared.served.Told.{Told}
+use Rattle.scrub.specs.declared.answer.Answer.{Answer}
 use Rattle.spw.specs.Cargo.{Cargo}
 use Rattle.spw.specs.declared.packets.End.{End}
 use Rattle.single_node_c.specs.Numbers.{served_numbers}
@@ -11,13 +11,13 @@ use Rattle.single_node_c.specs.declared.parts.ServedParts.{ServedParts}
 use Rattle.single_node_c.proofs.serving.serve_packet.Goals as goal
 
 -- the numbers of what was told, by the parts and the room that were found
-numbers_told : (told : Told) (size : ℕ) (packet : Cargo) (node : SingleNodeValue) (parts : ServedParts) (left : ℕ) (numbers : ServedNumbers) → numbers ≡ served_numbers told parts left size
-    → left ≡ room_behind told.served parts.extended node → parts ≡ served_parts packet
-    → numbers ≡ served_numbers told (served_parts packet) (room_behind told.served (served_parts packet).extended node) size
-numbers_told told size packet node parts left numbers are room asked =
+numbers_told : (answer : Answer) (packet : Cargo) (node : SingleNodeValue) (parts : ServedParts) (left : ℕ) (numbers : ServedNumbers) → numbers ≡ served_numbers answer parts left answer.size
+    → left ≡ room_behind answer.told.served parts.extended node → parts ≡ served_parts packet
+    → numbers ≡ served_numbers answer (served_parts packet) (room_behind answer.told.served (served_parts packet).extended node) answer.size
+numbers_told answer packet node parts left numbers are room asked =
     are
-    ∙ ap (λ (n : ℕ). served_numbers told parts n size) room
-    ∙ ap (λ (p : ServedParts). served_numbers told p (room_behind told.served p.extended node) size) asked
+    ∙ ap (λ (n : ℕ). served_numbers answer parts n answer.size) room
+    ∙ ap (λ (p : ServedParts). served_numbers answer p (room_behind answer.told.served p.extended node) answer.size) asked
 
 pub returns : goal.returns
 returns c =
@@ -26,8 +26,7 @@ returns c =
     ∙ ap (λ (bytes : List ℕ). served_parts (record { bytes = bytes; end = c.end-end.result })) (sym c.requires.bytes)
     ∙ ap (λ (end : End). served_parts (record { bytes = c.args.packet.bytes; end = end })) c.end-end.ensures in
     record {
-      told = c.serve-size.result.0;
-      size = c.serve-size.result.1;
-      serves = c.serve-size.ensures.serves;
-      numbers_are = numbers_told c.serve-size.result.0 c.serve-size.result.1 c.args.packet c.serve-size.new.self.node c.of-parts.result _ c.of.result c.of.ensures (search rules) asked;
+      answer = c.serve-answer.result;
+      serves = c.serve-answer.ensures.serves;
+      numbers_are = numbers_told c.serve-answer.result c.args.packet c.serve-answer.new.self.node c.of-parts.result _ c.of.result c.of.ensures (search rules) asked;
     }

@@ -1,0 +1,36 @@
+-- Before which packets a program is scrubbed: by numbers beside their complements, which may disagree.
+use Rattle.std.specs.Prelude.{ℕ, ◌-◌, ◌^◌, ◌==◌, ◌&&◌, nat_le, not, Bool, false, true, if◌then◌else◌}
+use Rattle.scrub.specs.declared.counting.Counting.{Counting}
+
+-- the complement of a number of 32 bits: each of its bits is the other one
+abbrev pub complement : ℕ → ℕ
+complement number = 2 ^ 32 - 1 - number
+
+-- these numbers, each beside its complement
+abbrev pub counting_of : (each left : ℕ) → Counting
+counting_of each left =
+    record { each = each; left = left; each_kept = complement each; left_kept = complement left }
+
+-- each number agrees with its complement
+abbrev pub agrees : Counting → Bool
+agrees c = (c.each_kept == complement c.each) && (c.left_kept == complement c.left)
+
+-- by numbers that agree a scrub is due before the last packet of so many, if they are counted
+abbrev pub is_last : (each left : ℕ) → Bool
+is_last each left = if each == 0 then false else nat_le left 1
+
+-- a scrub is due before this packet: it is the last of so many, or a number and its complement disagree
+abbrev pub is_due : Counting → Bool
+is_due c = if agrees c then is_last c.each c.left else true
+
+-- packets are counted, or it is not known that they are not
+abbrev pub is_on : Counting → Bool
+is_on c = not (agrees c && (c.each == 0))
+
+-- how many packets are left after one before which no scrub is due
+abbrev pub counted : Counting → Counting
+counted c = counting_of c.each (if c.each == 0 then c.left else c.left - 1)
+
+-- the numbers once the scrub that was due was done; those that disagree stay
+abbrev pub renewed : Counting → Counting
+renewed c = if agrees c then counting_of c.each c.each else c
