@@ -62,6 +62,7 @@ value_8 = refl
 
 -- `count_ones n`: how many bits of n are 1
 value_ones : count_ones 13 ≡ 3
+unfolding lib.Count.ones
 value_ones = refl
 
 -- `bit_at n i`: bit i of n, counted from the lowest, 0 or 1
