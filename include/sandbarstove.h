@@ -13,6 +13,9 @@
  * that of the first test that fails, in the order in which the function names them. sandbarstove_text.h has a text for
  * each. At any code except ::SANDBAR_OK the call did nothing. It then wrote nothing, except @c why if the function says so.
  *
+ * A struct that a call writes has no bytes beside its fields: those that would lie between or behind them are fields that are 0. So its
+ * bytes are what the call wrote, and nothing else, if they are copied to a link.
+ *
  * No pointer may be null, also if its length is 0. A pointer with a length must point to that many bytes or structs. Memory
  * that a call writes must not overlap anything else that is passed to it.
  */
@@ -153,6 +156,9 @@ typedef struct sandbar_served {
   uint8_t command;       /**< ::sandbar_command (at 30) */
   uint8_t place;         /**< ::sandbar_place (at 31) */
   uint8_t extended;      /**< its extended address: the number of the bank, or 255 for the boot window (at 32) */
+  uint8_t unused;        /**< 0, as the two after it (at 33) */
+  uint16_t unused_half;  /**< (at 34) */
+  uint32_t unused_word;  /**< (at 36) */
 } sandbar_served;
 
 /**
@@ -166,6 +172,8 @@ typedef struct sandbar_scrubbed {
   uint8_t restored;  /**< 1: the image that was lent is now the program of slot 3, which was withdrawn; else 0 (at 10) */
   uint8_t sizes;     /**< 1: the sizes are others than in the opening: do not call the node again; else 0 (at 11) */
   uint8_t journals;  /**< a bit a bank: its journal has an entry that ::sandbar_entry_at calls damaged (at 12) */
+  uint8_t unused;    /**< 0, as the one after it (at 13) */
+  uint16_t unused_half; /**< (at 14) */
 } sandbar_scrubbed;
 
 /** An entry of a bank's journal, without its packet. 32 bytes. */
@@ -177,12 +185,15 @@ typedef struct sandbar_entry {
   uint8_t port;           /**< (at 24) */
   uint8_t status;         /**< (at 25) */
   uint8_t end;            /**< ::sandbar_end (at 26) */
+  uint8_t unused;         /**< 0, as the one after it (at 27) */
+  uint32_t unused_word;   /**< (at 28) */
 } sandbar_entry;
 
 /** The state of a bank's journal. 16 bytes. */
 typedef struct sandbar_journal {
   uint64_t entries; /**< how many it has (at 0) */
   uint32_t loaded;  /**< how many programs were loaded into the node (at 8) */
+  uint32_t unused;  /**< 0 (at 12) */
 } sandbar_journal;
 
 /**

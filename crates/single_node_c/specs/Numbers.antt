@@ -67,6 +67,9 @@ served_numbers told parts room reply_length = record {
   command = parts.command;
   place = place_of told.served;
   extended = parts.extended;
+  unused = 0;
+  unused_half = 0;
+  unused_word = 0;
 }
 
 -- the number of an end
@@ -88,6 +91,8 @@ entry_numbers entry = record {
   port = entry.port;
   status = status_code entry.status;
   end = end_number entry.packet.end;
+  unused = 0;
+  unused_word = 0;
 }
 
 -- the bank of these numbers

@@ -1,4 +1,5 @@
-//! The structs of numbers that cross. The header has the same fields in the same order.
+//! The structs of numbers that cross. The header has the same fields in the same order. What would lie between fields and behind them is
+//! a field of its own, and 0.
 
 ghost use Rattle.std.specs.Prelude.{◌≡◌};
 ghost use Rattle.single_node_c.specs.Numbers.{entry_numbers, end_number, end_of, kind_of, place_of, served_numbers, status_of};
@@ -49,6 +50,9 @@ pub struct ServedNumbers {
     pub command: u8,
     pub place: u8,
     pub extended: u8,
+    pub unused: u8,
+    pub unused_half: u16,
+    pub unused_word: u32,
 }
 
 /// An entry of a journal, but for its packet.
@@ -62,6 +66,8 @@ pub struct EntryNumbers {
     pub port: u8,
     pub status: u8,
     pub end: u8,
+    pub unused: u8,
+    pub unused_word: u32,
 }
 
 /// How a journal stands.
@@ -70,6 +76,7 @@ pub struct EntryNumbers {
 pub struct JournalNumbers {
     pub entries: u64,
     pub loaded: u32,
+    pub unused: u32,
 }
 
 /// What a scrub found: of programs a bit a slot, and whether the slot of the boot window was given the program that was lent; whether
@@ -83,6 +90,8 @@ pub struct ScrubbedNumbers {
     pub restored: u8,
     pub sizes: u8,
     pub journals: u8,
+    pub unused: u8,
+    pub unused_half: u16,
 }
 
 /// The kind of a packet that is no command.
@@ -156,6 +165,9 @@ impl ServedNumbers {
             command: parts.command,
             place: place_of(told.served),
             extended: parts.extended,
+            unused: 0,
+            unused_half: 0,
+            unused_word: 0,
         }
     }
 }
@@ -194,6 +206,8 @@ impl EntryNumbers {
             port: entry.port(),
             status: entry.status().code(),
             end: end_number(entry.packet().end()),
+            unused: 0,
+            unused_word: 0,
         }
     }
 }

@@ -192,6 +192,8 @@ fn scrub(alloc: Global, guarded: &mut GuardedNode, what: u8, image: &[u8]) -> Sc
         restored: programs.restored,
         sizes,
         journals: broken.banks,
+        unused: 0,
+        unused_half: 0,
     }
 }
 
