@@ -2,10 +2,11 @@
 """Packet lines that try the node of which no file says anything, and their index, for `tools/send --index`: rows are named by the lines
 of docs/PROTOCOL.md, *The order of checks*, and by effects.
 
-Usage: tests/suite_lines.py LINES INDEX [--seed N] [--key HH]
+Usage: tests/suite_lines.py LINES INDEX [--within HH:LOW-HIGH].. [--loads] [--rows PREFIX] [--without ROW].. [--seed N] [--key HH]
 
-Rows that draw tickets or load come last, and the last load the factory program again. Each command has a transaction identifier of its
-own."""
+A packet that a target might take for a write or a read-modify-write, whatever is wrong with it, is there only if all its bytes lie in a
+place of --within, or in the boot window if there is --loads. --rows takes the rows whose names begin so, and --without leaves a row out.
+Rows that load come last, and the last load the factory program again. Each command has a transaction identifier of its own."""
 from __future__ import annotations
 
 import argparse
@@ -13,6 +14,7 @@ import sys
 from dataclasses import dataclass, replace
 from pathlib import Path
 from random import Random
+from typing import NamedTuple
 
 sys.dont_write_bytecode = True
 sys.path.insert(0, str(Path(__file__).resolve().parent))
@@ -43,6 +45,13 @@ class Shape:
     keep: int = 4200
     extra: int = 0
     is_whole: bool = True
+
+    def may_change(self) -> range | None:
+        """The addresses that a target might change by it, if it has a whole header."""
+        if self.keep < 16 + 4 * self.words or self.code < 8 and self.code != RMW:
+            return None
+        count = max(self.length, 1) if self.code & 1 else 1
+        return range(self.address, self.address + count)
 
     def words_of(self) -> str:
         name = NAMES.get(self.code, "write" if self.code >= 8 else "unused code")
@@ -227,18 +236,46 @@ def window(suite: Suite) -> None:
         control("load", slot, 0, 0, len(image))
 
 
+class Place(NamedTuple):
+    """Bytes of memory that may change."""
+    extended: int
+    low: int
+    high: int
+
+
+def place_of(text: str) -> Place:
+    extended, _, rest = text.partition(":")
+    low, _, high = rest.partition("-")
+    return Place(int(extended, 16), int(low, 16), int(high, 16))
+
+
+def is_taken(row: str, shape: Shape, given: argparse.Namespace) -> bool:
+    """Whether the words of the command line let a packet be there."""
+    if not row.startswith(given.rows) or row in given.without:
+        return False
+    reach = shape.may_change()
+    if reach is None or shape.extended == WINDOW and given.loads:
+        return True
+    return any(place.extended == shape.extended and place.low <= reach[0] and reach[-1] <= place.high for place in given.within)
+
+
 def main() -> int:
     parser = argparse.ArgumentParser(description=__doc__, formatter_class=argparse.RawDescriptionHelpFormatter)
     parser.add_argument("lines", type=Path)
     parser.add_argument("index", type=Path)
     parser.add_argument("--seed", type=int, default=0)
     parser.add_argument("--key", type=lambda text: int(text, 16), default=0)
+    parser.add_argument("--within", type=place_of, action="append", default=[])
+    parser.add_argument("--loads", action="store_true")
+    parser.add_argument("--rows", default="")
+    parser.add_argument("--without", action="append", default=[])
     given = parser.parse_args()
     suite = Suite(given.seed, given.key)
     for rows in (headers, places, pairs, bodies, effects, window):
         rows(suite)
-    lines = [f"0 {packet.hex().upper()}{' ' if packet else ''}{'EOP' if shape.is_whole else 'EEP'}" for _, shape, packet in suite.packets]
-    index = [f"{number} {row} {shape.words_of()}" for number, (row, shape, _) in enumerate(suite.packets, 1)]
+    packets = [item for item in suite.packets if is_taken(item[0], item[1], given)]
+    lines = [f"0 {packet.hex().upper()}{' ' if packet else ''}{'EOP' if shape.is_whole else 'EEP'}" for _, shape, packet in packets]
+    index = [f"{number} {row} {shape.words_of()}" for number, (row, shape, _) in enumerate(packets, 1)]
     given.lines.write_text("".join(f"{line}\n" for line in lines), encoding="ascii")
     given.index.write_text("".join(f"{line}\n" for line in index), encoding="ascii")
     return 0

@@ -24,7 +24,7 @@ over() {
     local name=$1 compiler=$2 qemu=$3 sysroot=$4 requests=$5 program came
     shift 5
     rm -f "$work"/run-*
-    for program in test session fuzz order frames; do
+    for program in test session fuzz order frames suite; do
         "$compiler" "${warnings[@]}" "${options[@]}" -static "$here/$program.c" "$@" -o "$work/run-$program" || { fails "$name" "$program.c"; return; }
     done
     "$compiler" "${warnings[@]}" "${options[@]}" -D_GNU_SOURCE "-DA_PACKET=$requests" "$wrap" "$here/memory.c" "$@" -o "$work/run-memory" ||
@@ -35,10 +35,11 @@ over() {
         $qemu "$work/run-session" | cmp -s - "$here/session.out" || { fails "$name" session; return; }
         $qemu ${sysroot:+-L $sysroot} "$work/run-memory" > "$work/memory" || { cat "$work/memory"; fails "$name" memory; return; }
         $qemu "$work/run-order" > "$work/order" || { fails "$name" order; return; }
+        $qemu "$work/run-suite" "$here/suite.txt" > "$work/rows" || { cat "$work/rows"; fails "$name" suite; return; }
         $qemu "$work/run-frames" > "$work/frames" || { cat "$work/frames"; fails "$name" frames; return; }
         came=$($qemu "$work/run-fuzz" "$rounds" 1 "$data/packets.txt" "$data/calls.txt" "$data/loops.txt") || came=
     }
-    sums "$name" "$came" "$(head -n 1 "$work/said"), $(tail -n 1 "$work/said"), memory"
+    sums "$name" "$came" "$(head -n 1 "$work/said"), $(tail -n 1 "$work/rows"), $(tail -n 1 "$work/said"), memory"
     for program in bench stack; do
         "$compiler" "${warnings[@]}" "${options[@]}" -D_GNU_SOURCE -pthread -static "$here/$program.c" "$@" -o "$work/run-$program" ||
             { fails "$name" "$program.c"; return; }
@@ -177,14 +178,15 @@ bare() {
         beside=("$work/bare.a")
     fi
     library=("${beside[@]}" "$work/bare-pool.o")
-    for program in test session fuzz order frames; do
+    for program in test session fuzz order frames suite; do
         case $program in
+        suite) words='"suite"' ;;
         test) words='"packets", "replies"' ;;
         session | frames) words='0' ;;
         order) words='"2000"' ;;
         fuzz) words="\"$rounds\", \"1\", \"packets\", \"calls\", \"loops\"" ;;
         esac
-        "$compiler" "${flags[@]}" -nostdlib -static -no-pie "-DWORDS=$words" "-DDATA=\"$data\"" \
+        "$compiler" "${flags[@]}" -nostdlib -static -no-pie "-DWORDS=$words" "-DDATA=\"$data\"" "-DSUITE=\"$here/suite.txt\"" \
             -Wl,--gc-sections,--build-id=none,--no-warn-rwx-segments,-z,noexecstack -T "$parts/bare/$link" "${start[@]}" \
             "$parts/bare/bare.c" "$here/board/string.c" "$here/$program.c" "${library[@]}" -lgcc -o "$work/bare-$program" || { fails "$name" "$program.c"; return 0; }
         timeout 600 "${board[@]}" -kernel "$work/bare-$program" < /dev/null > "$work/bare-$program.out" 2>&1 || true
@@ -196,7 +198,7 @@ bare() {
     came=$(grep nodes "$work/bare-fuzz.out")
     grep : "$work/bare-order.out" > "$work/order"
     grep : "$work/bare-frames.out" > "$work/frames"
-    sums "$name" "$came" "$(head -n 1 "$work/bare-test.out"), $(grep checks "$work/bare-test.out"), pool"
+    sums "$name" "$came" "$(head -n 1 "$work/bare-test.out"), $(grep '^suite' "$work/bare-suite.out"), $(grep checks "$work/bare-test.out"), pool"
     echo "    $(bytes "${compiler%gcc}size" "${library[@]}") bytes of code and constants, $(
         memory "${compiler%gcc}size" "${beside[@]}") of memory beside the pool"
     case $archive_for in

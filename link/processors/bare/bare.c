@@ -61,17 +61,19 @@ FILE_OF(packets, DATA "/packets.txt")
 FILE_OF(replies, DATA "/replies.txt")
 FILE_OF(calls, DATA "/calls.txt")
 FILE_OF(loops, DATA "/loops.txt")
+FILE_OF(suite, SUITE)
 
 struct file {
   const char *name, *at, *end;
 };
 
 FILE *fopen(const char *path, const char *mode) {
-  static struct file files[4];
-  const struct file all[4] = {{"packets", packets, packets_end}, {"replies", replies, replies_end},
-                              {"calls", calls, calls_end}, {"loops", loops, loops_end}};
+  static struct file files[5];
+  const struct file all[5] = {{"packets", packets, packets_end}, {"replies", replies, replies_end},
+                              {"calls", calls, calls_end}, {"loops", loops, loops_end},
+                              {"suite", suite, suite_end}};
   (void)mode;
-  for (int k = 0; k < 4; k += 1)
+  for (int k = 0; k < 5; k += 1)
     if (strcmp(path, all[k].name) == 0) {
       files[k] = all[k];
       return &files[k];
