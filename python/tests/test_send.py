@@ -54,7 +54,7 @@ class AtAScript(unittest.TestCase):
                 (f"journal 0 0 0 0 0 {READ.hex()} EOP\n0 {REPLY.hex().upper()} EOP\njournal 1 entries\n", 0)]
         for text, status in rows:
             with kit.Scripted(frame(REPLY)) as target, self.subTest(text=text):
-                done = self.compared(target.port, text)
+                done = self.compared(target.port, text, "--quiet", "1500")
                 self.assertEqual((done.returncode, done.stdout), (status, f"0 {REPLY.hex().upper()} EOP\n"))
                 self.assertEqual("is due" in done.stderr, status == 1)
         with kit.Scripted(b"", b"") as target:
@@ -94,7 +94,7 @@ class Reported(unittest.TestCase):
                 with open(names[name], "w", encoding="ascii") as file:
                     file.write(text)
             report = os.path.join(folder, "report.md")
-            done = sent(port, "--compare", names["due"], "--index", names["index"], "--report", report, "--wait", "100",
+            done = sent(port, "--compare", names["due"], "--index", names["index"], "--report", report, "--wait", "1500", "--quiet", "500",
                         *(["--profile", names["profile"]] if profile else []))
             if not os.path.exists(report):
                 return done.returncode, done.stderr

@@ -9,6 +9,10 @@ from sending.lines import text_of
 from sending.telling import Stop
 
 
+# The status by which a choice ends a command.
+STATUS = {"logical-address": 12, "rmw-lengths": 11, "verify-buffer": 9, "largest-length": 10, "key": 3, "word-width": 10}
+
+
 @dataclass
 class Profile:
     """The choices of a target. Those of this project's target are the defaults."""
@@ -20,22 +24,16 @@ class Profile:
     addresses: Optional[frozenset[int]] = None
     asked_length: bool = False
 
-    def choice(self, command: Command) -> Optional[str]:
-        """The choice by which another than this project's target may end the command otherwise, if there is one."""
-        length, verified = command.length, command.code >= 12
-        if self.addresses is not None and command.target in self.addresses:
-            return "logical-address"
-        if command.is_rmw and (length in self.rmw) != (length in Profile.rmw):
-            return "rmw-lengths"
-        if verified and min(self.verify, 1024) < length <= max(self.verify, 1024):
-            return "verify-buffer"
-        if not command.is_rmw and min(self.largest, 4096) < length <= max(self.largest, 4096):
-            return "largest-length"
-        if self.key is not None and command.key != self.key:
-            return "key"
-        if command.address % self.width or length % self.width:
-            return "word-width"
-        return None
+    def choices(self, command: Command) -> list[str]:
+        """The choices by which another than this project's target may end the command otherwise."""
+        length = command.length
+        found = {"logical-address": self.addresses is not None and command.target in self.addresses,
+                 "rmw-lengths": command.is_rmw and (length in self.rmw) != (length in Profile.rmw),
+                 "verify-buffer": command.code >= 12 and min(self.verify, 1024) < length <= max(self.verify, 1024),
+                 "largest-length": not command.is_rmw and min(self.largest, 4096) < length <= max(self.largest, 4096),
+                 "key": self.key is not None and command.key != self.key,
+                 "word-width": bool(command.address % self.width or length % self.width)}
+        return [name for name, is_there in found.items() if is_there]
 
 
 def profile_of(name: str) -> Profile:
@@ -86,15 +84,14 @@ class Opened:
         command = command_of(packet)
         if command is None:
             return None
-        own, right, found = self.profile.choice(command), reply_of(due, command), reply_of(came, command)
-        self.note(command, own, right, found)
-        if due == (came or "-"):
+        names, right, found = self.profile.choices(command), reply_of(due, command), reply_of(came, command)
+        self.note(command, names[0] if names else None, right, found)
+        if due == (came or "-") or right is None or found is None:
             return None
-        if own is not None and (right is None or found is None or right.status != found.status or right.status == 0):
-            return own
-        if right and found and right.status == found.status:
+        if right.status == found.status:
             return self.same_status(command, right, found)
-        return self.window if command.extended == 0xFF else None
+        ended = [name for name in names if STATUS[name] in (right.status, found.status)]
+        return ended[0] if ended else self.window if command.extended == 0xFF else None
 
     def same_status(self, command: Command, right: Reply, found: Reply) -> Optional[str]:
         if right.status != 0 and self.profile.asked_length and found.is_read and found.length == command.length:
