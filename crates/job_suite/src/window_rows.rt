@@ -121,7 +121,7 @@ pub fn window_rows(alloc: Global, maker: &mut Maker, judges: &Judges) -> Result<
 /// The loads of the node's own programs.
 pub fn load_rows(alloc: Global, maker: &mut Maker, judges: &Judges) -> Result<(), AllocError> {
     for slot in [3_u8, 2, 1, 0] {
-        let image = judges.judgeslot.image().write()?;
+        let image = judges.judge(slot).image().write()?;
         load(alloc, maker, slot, image.as_slice())?;
     }
     Ok(())
