@@ -10,7 +10,7 @@ use Rattle.job_config.specs.Reads.{ReadsConfiguration, ReadsNoConfiguration}
 use Rattle.job_config.specs.declared.configuration.Configuration.{Configuration}
 use Rattle.job_parts.specs.declared.faults.Fault.{Fault}
 use Rattle.doing.specs.Desks.{DeskReads}
-use Rattle.doing.specs.Doings.{DoesOnNode, DoesOnce, TellsFault}
+use Rattle.doing.specs.Doings.{DoesOnNode, DoesOnce, RefusesOutput, TellsFault}
 use Rattle.doing.specs.declared.desk.Desk.{Desk}
 use Rattle.doing.specs.declared.doing.Left.{Left}
 
@@ -28,6 +28,22 @@ does_placed (Ok left) own before folder start stop configuration job name begun 
   done = subst (λ (f : FolderValue). DoesOnce (placed own.job (numbers_in configuration)) f left) left_is (subst (λ (j : Job). DoesOnce j folder left) is done);
 })
 does_placed (Err fault) own before folder start stop configuration job name begun dump named read is left_is done = done
+
+-- it says a configuration, and a bank begins with what would be written
+pub refuses_contents : {E : Type 0} (result : Result Left E) (own : NodeJob) (before folder : FolderValue) (start stop : Desk) (configuration : Configuration) (output name : List ℕ)
+    → start.folder ≡ before → reads_dump start.noted ≡ false → name ≡ string_bytes own.node → ReadsConfiguration DeskReads name start configuration stop
+    → folder ≡ stop.folder → IfOk result (RefusesOutput output folder) → IfOk result (DoesOnNode own before)
+refuses_contents (Ok left) own before folder start stop configuration output name begun dump named read left_is told = inr (inr (inr (record {
+  start = start;
+  stop = stop;
+  configuration = configuration;
+  output = output;
+  begun = begun;
+  dump = dump;
+  read = subst (λ (n : List ℕ). ReadsConfiguration DeskReads n start configuration stop) named read;
+  refused = subst (λ (f : FolderValue). RefusesOutput output f left) left_is told;
+})))
+refuses_contents (Err none) own before folder start stop configuration output name begun dump named read left_is told = told
 
 -- it says none
 pub tells_node : {E : Type 0} (result : Result Left E) (own : NodeJob) (before : FolderValue) (start stop : Desk) (fault : Fault) (name : List ℕ)

@@ -132,10 +132,23 @@ pub record TellsNode (own : NodeJob) (before : FolderValue) (left : Left) : Type
 abbrev pub RefusesOutput : (node : List ℕ) → (before : FolderValue) → Left → Type 0
 RefusesOutput node before left = (file : Bor (List ℕ)) × (file.now ≡ node) × TellsFault (CannotWrite file) before left
 
+-- the node's file of a job says a configuration, and a bank begins with the file to which the job would write, which was told, and
+-- nothing was done
+pub record RefusesContents (own : NodeJob) (before : FolderValue) (left : Left) : Type 0 where
+  pub start : Desk
+  pub stop : Desk
+  pub configuration : Configuration
+  pub output : List ℕ
+  pub begun : start.folder ≡ before
+  pub dump : reads_dump start.noted ≡ false
+  pub read : ReadsConfiguration DeskReads (string_bytes own.node) start configuration stop
+  pub refused : RefusesOutput output stop.folder left
+
 -- what a job for the node of a file comes to
 abbrev pub DoesOnNode : NodeJob → (before : FolderValue) → Left → Type 0
 DoesOnNode own before left =
     DoesPlaced own before left ⊎ TellsNode own before left ⊎ RefusesOutput (string_bytes own.node) before left
+    ⊎ RefusesContents own before left
 
 -- what a talk comes to: one in frames is left out, and one in lines is held
 abbrev pub DoesLive : LiveWords → (before : FolderValue) → Left → Type 0

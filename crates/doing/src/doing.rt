@@ -12,11 +12,12 @@ use crate::desk::Desk;
 use crate::slate::Slate;
 use crate::talks::Speech;
 use commands::{
-    Asked, Fault, Job, JobEnd, LiveWords, NodeJob, Noted, OWN_SOURCE, ShowWords, Status,
-    UsageFault, Work, asked_of, configuration_in, live, node_inputs, show_talk, told_end,
+    Asked, Fault, Job, JobEnd, LiveWords, NodeJob, Noted, OWN_CONTENTS, OWN_SOURCE, ShowWords,
+    Status, UsageFault, Work, asked_of, configuration_in, live, node_inputs, show_talk, told_end,
     told_node, told_option, words_or_judge,
 };
 use folders::Folder;
+use job_config::contents_named::contents_paths;
 use std::alloc::{AllocError, Global};
 use std::io::Write;
 
@@ -212,15 +213,20 @@ fn refuse_node<'a>(
     })
 }
 
-/// Refuses a job that would write over the node's file of this name.
-fn refuse_output<'a>(alloc: Global, node: &str, folder: Folder<'a>) -> Result<Left<'a>, AllocError>
-    ensures { IfOk result (RefusesOutput node.now folder.entry) }
+/// Refuses a job that would write over the file of this name, for the reason of the text.
+fn refuse_output<'a>(
+    alloc: Global,
+    name: &str,
+    text: &str,
+    folder: Folder<'a>,
+) -> Result<Left<'a>, AllocError>
+    ensures { IfOk result (RefusesOutput name.now folder.entry) }
 {
-    let fault = Fault::CannotWrite(node);
+    let fault = Fault::CannotWrite(name);
     let done = Done {
         status: Status::Failed.code(),
         out: fault_line(alloc, &fault)?,
-        told: String::from_str(alloc, OWN_SOURCE)?,
+        told: String::from_str(alloc, text)?,
     };
     Ok(Left { done, folder })
 }
@@ -233,6 +239,30 @@ fn is_output(job: &Job, name: &str) -> bool {
     }
 }
 
+/// A path without the folder in which the page has its files.
+fn path_here(path: &str) -> &str {
+    path.strip_prefix("./").unwrap_or(path)
+}
+
+/// The name of the file that a job would write, if that is one with which a bank of the node's file of that name begins. The node's file
+/// was read last of these.
+fn own_contents(
+    alloc: Global,
+    job: &Job,
+    node: &str,
+    noted: &Noted<'_>,
+) -> Result<Option<String>, AllocError> {
+    let (Some(output), Some(text)) = (job.inputs().output, noted.text()) else {
+        return Ok(None);
+    };
+    for path in &contents_paths(alloc, node, text)? {
+        if path_here(path.as_str()) == path_here(output) {
+            return Ok(Some(String::from_str(alloc, output)?));
+        }
+    }
+    Ok(None)
+}
+
 /// Does a job for the node of a file.
 fn do_on_node<'a>(alloc: Global, own: NodeJob, folder: Folder<'a>) -> Result<Left<'a>, AllocError>
     ensures { IfOk result (DoesOnNode own folder.entry) }
@@ -240,11 +270,16 @@ fn do_on_node<'a>(alloc: Global, own: NodeJob, folder: Folder<'a>) -> Result<Lef
     let NodeJob { job, node } = own;
     let name = node.as_str();
     if is_output(&job, name) {
-        return refuse_output(alloc, name, folder);
+        return refuse_output(alloc, name, OWN_SOURCE, folder);
     }
     let mut desk = Desk::new(folder, Noted::new(node_inputs(name)));
     match configuration_in(alloc, &mut desk, name) {
-        Ok(configuration) => do_once(alloc, &job.placed(&configuration), true, desk.into_folder()),
+        Ok(configuration) => match own_contents(alloc, &job, name, desk.noted())? {
+            Some(output) => {
+                refuse_output(alloc, output.as_str(), OWN_CONTENTS, desk.into_folder())
+            }
+            None => do_once(alloc, &job.placed(&configuration), true, desk.into_folder()),
+        },
         Err(fault) => refuse_node(alloc, &job, fault, desk),
     }
 }

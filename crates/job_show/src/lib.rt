@@ -4,3 +4,4 @@
 pub mod paths;
 pub mod show;
 pub mod shown_lines;
+mod told_lines;
