@@ -1,5 +1,5 @@
 -- The files that banks begin with, by their names in a node's file.
-use Rattle.std.specs.Prelude.{◌≡◌, ℕ, List, [], ◌∷◌, Option, None, Some, Result, Ok, Err}
+use Rattle.std.specs.Prelude.{◌≡◌, ℕ, List, [], ◌∷◌, ◌++◌, Option, None, Some, Result, Ok, Err}
 use Rattle.toml.specs.Data.{Data, Items, no_items, item, Members, as_str, as_table, get_member}
 use Rattle.toml.specs.Parse.{parse_document}
 use Rattle.job_config.specs.Configured.{list_at}
@@ -24,6 +24,11 @@ abbrev pub contents_name : Data → Option (List ℕ)
 contents_name bank = name_in (as_table bank)
 
 module _ (file : List ℕ) where
+  -- the path of the file of that name was added, if there is one
+  abbrev pub IsAdded : (name : Option (List ℕ)) → (old new : List (List ℕ)) → Type 0
+  IsAdded None old new = new ≡ old
+  IsAdded (Some name) old new = (path : List ℕ) × IsBeside file name path × (new ≡ old ++ path ∷ [])
+
   -- the path of the file of that name, if there is one, and then those that are left
   abbrev pub ArePathsWith : (name : Option (List ℕ)) → (AreLeft : List (List ℕ) → Type 0) → List (List ℕ) → Type 0
   ArePathsWith None AreLeft paths = AreLeft paths

@@ -1,7 +1,7 @@
 //! The files that banks begin with, by their names in a node's file.
 
-ghost use Rattle.std.specs.Prelude.{◌≡◌, IfOk, map, option_map, string_bytes};
-ghost use Rattle.job_config.specs.ContentsNamed.{ArePathsIn, AreContentsPaths, contents_name};
+ghost use Rattle.std.specs.Prelude.{◌≡◌, IfOk, OnOk, map, option_map, string_bytes};
+ghost use Rattle.job_config.specs.ContentsNamed.{AreContentsPaths, ArePathsIn, IsAdded, contents_name};
 ghost use Rattle.toml.specs.View.{items_view, view};
 
 use crate::names::beside;
@@ -18,15 +18,30 @@ fn named_in(bank: &Value) -> Option<&str>
     held(table, NameKey::Contents.word())?.as_str()
 }
 
+/// Adds the path of the file that a bank begins with, if it names one; the node's file has that name.
+fn add_path(
+    alloc: Global,
+    file: &str,
+    bank: &Value,
+    paths: &mut Vec<String>,
+) -> Result<(), AllocError>
+    ensures { OnOk result (IsAdded file.now (contents_name (view bank.now))
+        (map string_bytes paths.old.items) (map string_bytes paths.new.items)) }
+{
+    if let Some(name) = named_in(bank) {
+        let path = beside(alloc, file, name)?;
+        paths.push(path)?;
+    }
+    Ok(())
+}
+
 /// The paths of the files that the banks of a list begin with, in its order; the node's file has that name.
 fn paths_in(alloc: Global, file: &str, list: &[Value]) -> Result<Vec<String>, AllocError>
     ensures { IfOk result (λ paths. ArePathsIn file.now (items_view list.now) (map string_bytes paths.items)) }
 {
     let mut paths = Vec::new(alloc);
-    for bank in list {
-        if let Some(name) = named_in(bank) {
-            paths.push(beside(alloc, file, name)?)?;
-        }
+    for index in 0..list.len() {
+        add_path(alloc, file, &list[index], &mut paths)?;
     }
     Ok(paths)
 }
