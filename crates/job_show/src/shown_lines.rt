@@ -527,9 +527,11 @@ fn add_end(text: &mut String, alloc: Global, words: &[&str]) -> Result<bool, Lin
     let [first, status, reply] = words else {
         return Ok(false);
     };
-    if *first != "done" && *first != "answered" {
-        return Ok(false);
-    }
+    let first = match *first {
+        "done" => "done",
+        "answered" => "answered",
+        _ => return Ok(false),
+    };
     let mut ended = String::new(alloc);
     if !add_ended(&mut ended, alloc, status, reply)? {
         return Ok(false);

@@ -60,7 +60,7 @@ pub fn is_time(word: &str) -> bool {
 /// Whether a word has so many hexadecimal digits, and nothing else.
 fn has_digits(word: &str, count: usize) -> bool {
     for letter in word.as_bytes() {
-        if !matches!(letter, b'0'..=b'9' | b'A'..=b'F' | b'a'..=b'f') {
+        if !matches!(*letter, b'0'..=b'9' | b'A'..=b'F' | b'a'..=b'f') {
             return false;
         }
     }
@@ -114,9 +114,19 @@ fn add_frame(text: &mut String, number: &str, what: &str, code: &str) -> Result<
     let Some(number) = decimal(number) else {
         return Ok(false);
     };
-    match (what, fault_written(code), reason_written(code)) {
-        ("fault", Some(fault), _) => write!(text, "frame {number} fault {code} {fault}")?,
-        ("discard", _, Some(why)) => write!(text, "frame {number} discard {code} {why}")?,
+    match what {
+        "fault" => {
+            let Some(fault) = fault_written(code) else {
+                return Ok(false);
+            };
+            write!(text, "frame {number} fault {code} {fault}")?;
+        }
+        "discard" => {
+            let Some(why) = reason_written(code) else {
+                return Ok(false);
+            };
+            write!(text, "frame {number} discard {code} {why}")?;
+        }
         _ => return Ok(false),
     }
     Ok(true)
