@@ -158,9 +158,9 @@ def contents(room: Room) -> Iterator[str | None]:
         os.unlink(room.folder / "link")
         os.unlink(room.folder / "hard")
         for _ in range(2):
-            yield same("an image that it names", job(room, "policy", "table", "table.img", "--node", node), (0, "slots 21\n"))
+            yield same("an image that it names", job(room, "policy", "table", "table.img", "--node", node), (0, "slots 24\n"))
     room.put("science.bin", OLD)
-    yield same("from standard input", job(room, "policy", "table", "science.bin", "--maps", "1"), (0, "slots 21\n"))
+    yield same("from standard input", job(room, "policy", "table", "science.bin", "--maps", "1"), (0, "slots 24\n"))
 
 
 def check(random: Random, room: Room, seen: Counter[str]) -> None:
