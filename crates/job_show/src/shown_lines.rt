@@ -5,8 +5,8 @@ ghost use Rattle.job_show.specs.ShownLines.{EndsLine, IsLineFault};
 ghost use Rattle.spw.specs.Line.{HasFault, marker_word, words_of as words_in};
 ghost use Rattle.spw.specs.declared.faults.LineFault.TheVariants.{Memory};
 
+use crate::other_lines::{add_begin, add_count, add_other, decimal, is_time, reason_written};
 use crate::paths::{add_path, path_in_front};
-use crate::told_lines::{add_begin, add_count, add_other, decimal, is_time, reason_written};
 use bpf::ImageFault;
 use initiator::{NoReply, Reply, Seen};
 use job_parts::bad_lines::BadLine;
@@ -493,7 +493,7 @@ fn add_entry(text: &mut String, alloc: Global, words: &[&str]) -> Result<(), Lin
     Ok(add_packet(text, alloc, &packet)?)
 }
 
-/// Adds how an event of `sim` ended: its status, and its reply, of which these are the digits, or `-`. Tells whether the words are such.
+/// Adds how an event of `sim` ended: its status, and its reply, of which these are the digits, or `-`. Reports whether the words are such.
 fn add_ended(text: &mut String, alloc: Global, status: &str, reply: &str) -> Result<bool, LineFault>
     ensures { IfErr result (λ fault. fault ≡ Memory) }
 {
@@ -520,7 +520,7 @@ fn add_ended(text: &mut String, alloc: Global, status: &str, reply: &str) -> Res
     }
 }
 
-/// Adds how an event of `sim` ended that has a reply. Tells whether the words are such.
+/// Adds how an event of `sim` ended that has a reply. Reports whether the words are such.
 fn add_end(text: &mut String, alloc: Global, words: &[&str]) -> Result<bool, LineFault>
     ensures { IfErr result (λ fault. fault ≡ Memory) }
 {
@@ -541,7 +541,7 @@ fn add_end(text: &mut String, alloc: Global, words: &[&str]) -> Result<bool, Lin
     Ok(true)
 }
 
-/// Adds an entry of a journal, if the words are those of one. Tells whether they are.
+/// Adds an entry of a journal, if the words are those of one. Reports whether they are.
 fn add_whole_entry(text: &mut String, alloc: Global, words: &[&str]) -> Result<bool, LineFault>
     ensures { IfErr result (λ fault. fault ≡ Memory) }
 {
@@ -555,7 +555,7 @@ fn add_whole_entry(text: &mut String, alloc: Global, words: &[&str]) -> Result<b
     }
 }
 
-/// Adds a line of a journal's file: a time, and then what `live` printed, or that a node began. Tells whether the words are such.
+/// Adds a line of a journal's file: a time, and then what `live` printed, or that a node began. Reports whether the words are such.
 fn add_filed(text: &mut String, alloc: Global, words: &[&str]) -> Result<bool, LineFault>
     ensures { IfErr result (λ fault. fault ≡ Memory) }
 {
@@ -617,7 +617,7 @@ fn add_packet_line(
     add_by_first(text, alloc, line, first, rest)
 }
 
-/// Adds a line that has a packet, and is no packet line and no entry: of a journal's file, or of an event. Tells whether the words are such.
+/// Adds a line that has a packet, and is no packet line and no entry: of a journal's file, or of an event. Reports whether the words are such.
 fn add_beside(text: &mut String, alloc: Global, words: &[&str]) -> Result<bool, LineFault>
     ensures { IfErr result (λ fault. fault ≡ Memory) }
 {

@@ -23,7 +23,7 @@ pub fn reason_written(word: &str) -> Option<Discard> {
     }
 }
 
-/// Adds how many bytes an instrument set, or how many entries of a journal were handed out. Tells whether the word is a
+/// Adds how many bytes an instrument set, or how many entries of a journal were handed out. Reports whether the word is a
 /// number.
 pub fn add_count(text: &mut String, count: &str, what: &str) -> Result<bool, AllocError> {
     let Some(count) = decimal(count) else {
@@ -67,7 +67,7 @@ fn has_digits(word: &str, count: usize) -> bool {
     word.len() == count
 }
 
-/// Adds that the lines after this one are of that bank. Tells whether the words are of a bank.
+/// Adds that the lines after this one are of that bank. Reports whether the words are of a bank.
 fn add_bank(text: &mut String, number: &str, base: &str) -> Result<bool, AllocError> {
     if !has_digits(number, 2) || !has_digits(base, 8) {
         return Ok(false);
@@ -76,7 +76,7 @@ fn add_bank(text: &mut String, number: &str, base: &str) -> Result<bool, AllocEr
     Ok(true)
 }
 
-/// Adds what a scrub found in a slot. Tells whether the words are of a scrub.
+/// Adds what a scrub found in a slot. Reports whether the words are of a scrub.
 fn add_scrub(text: &mut String, slot: &str, state: &str) -> Result<bool, AllocError> {
     let Some(slot) = decimal(slot) else {
         return Ok(false);
@@ -92,7 +92,7 @@ fn add_scrub(text: &mut String, slot: &str, state: &str) -> Result<bool, AllocEr
     Ok(true)
 }
 
-/// Adds why a packet was discarded. Tells whether the word is the number of a reason.
+/// Adds why a packet was discarded. Reports whether the word is the number of a reason.
 fn add_reason(text: &mut String, code: &str) -> Result<bool, AllocError> {
     let Some(why) = reason_written(code) else {
         return Ok(false);
@@ -109,7 +109,7 @@ fn fault_written(word: &str) -> Option<FrameFault> {
     }
 }
 
-/// Adds what became of a frame: its fault, or why its packet was discarded. Tells whether the words are such.
+/// Adds what became of a frame: its fault, or why its packet was discarded. Reports whether the words are such.
 fn add_frame(text: &mut String, number: &str, what: &str, code: &str) -> Result<bool, AllocError> {
     let Some(number) = decimal(number) else {
         return Ok(false);
@@ -138,7 +138,7 @@ fn add_words(text: &mut String, words: &str) -> Result<bool, AllocError> {
     Ok(true)
 }
 
-/// Adds what an event of `sim` came to, but for one that has a reply. Tells whether the words are such.
+/// Adds what an event of `sim` came to, but for one that has a reply. Reports whether the words are such.
 fn add_step(text: &mut String, words: &[&str]) -> Result<bool, AllocError> {
     match words {
         ["refused"] => add_words(text, "refused: no step of this moment"),
@@ -156,7 +156,7 @@ fn add_step(text: &mut String, words: &[&str]) -> Result<bool, AllocError> {
 }
 
 /// Adds what a line of these words is that has no packet: of a journal's beginning, a scrub, a damaged entry, a frame, or an event.
-/// Tells whether it is.
+/// Reports whether it is.
 pub fn add_other(text: &mut String, words: &[&str]) -> Result<bool, AllocError> {
     match words {
         ["bank", number, base] => add_bank(text, number, base),
@@ -167,7 +167,7 @@ pub fn add_other(text: &mut String, words: &[&str]) -> Result<bool, AllocError> 
     }
 }
 
-/// Adds that a node began, as a line of a journal's file has it: its version, and the sum of its words and files. Tells whether the words
+/// Adds that a node began, as a line of a journal's file has it: its version, and the sum of its words and files. Reports whether the words
 /// are such.
 pub fn add_begin(text: &mut String, words: &[&str]) -> Result<bool, AllocError> {
     match words {
