@@ -132,7 +132,7 @@ pub record TellsNode (own : NodeJob) (before : FolderValue) (left : Left) : Type
 abbrev pub RefusesOutput : (node : List ℕ) → (before : FolderValue) → Left → Type 0
 RefusesOutput node before left = (file : Bor (List ℕ)) × (file.now ≡ node) × TellsFault (CannotWrite file) before left
 
--- the node's file of a job says a configuration, and a bank begins with the file to which the job would write, which was told, and
+-- the node's file of a job says a configuration, and a bank begins with the file to which the job would write, which was printed, and
 -- nothing was done
 pub record RefusesContents (own : NodeJob) (before : FolderValue) (left : Left) : Type 0 where
   pub start : Desk
