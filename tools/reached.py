@@ -188,7 +188,7 @@ class Variables:
 
     def is_constructor(self, word):
         first = word.split(".")[0]
-        if word in CONSTRUCTORS or word in self.file.of_data or first in self.file.modules:
+        if word in CONSTRUCTORS or word in self.file.of_data or (first != word and first in self.file.modules):
             return True
         if word in self.file.scope:
             module, name = self.file.scope[word]
@@ -333,7 +333,7 @@ class Source:
             for found in re.finditer(COMMENT + r"^[ \t]*(?:pub )?const (\w+): [^=]+ = ([^;]+);", text, re.MULTILINE):
                 value = found[3] if len(found[3]) <= 40 and "\n" not in found[3] else ".."
                 self.constants[path.stem, found[2]] = Constant(crate, path, found[2], value, self.first_sentence(found[1]))
-            for found in re.finditer(COMMENT + r"^pub (?:struct|enum|trait) (\w+)", text, re.MULTILINE):
+            for found in re.finditer(COMMENT + r"^(?:pub(?:\([a-z]+\))? )?(?:struct|enum|trait) (\w+)", text, re.MULTILINE):
                 self.types[found[2]] = Type(crate, path, found[2], self.first_sentence(found[1]))
 
     @staticmethod
@@ -363,7 +363,7 @@ class Source:
     def head(self, path):
         """The file of a call, and its text there: its comment, and its signature with its clauses."""
         for file, text in self.texts.items():
-            for found in re.finditer(rf"{COMMENT}^([ \t]*)(?:pub )?(?:extern .C. )?fn {path[-1]}\b", text, re.MULTILINE):
+            for found in re.finditer(rf"{COMMENT}^([ \t]*)(?:pub(?:\([a-z]+\))? )?(?:const |unsafe |extern .C. )*fn {path[-1]}\b", text, re.MULTILINE):
                 owner = re.findall(r"^(?:impl|pub trait)\b.*", text[: found.start()], re.MULTILINE)[-1:] if found[2] else []
                 if (len(path) == 2) != bool(owner) or (owner and path[0] not in re.findall(r"\w+", owner[0])):
                     continue
@@ -382,11 +382,11 @@ class Source:
     def declaration(self, node):
         """A type as the code declares it, with its comments; of one that has a model, what it is seen as."""
         text = self.texts[node.path]
-        found = re.search(rf"{COMMENT}^pub (?:struct|enum|trait) {node.name}\b[^;{{(]*([;{{(])", text, re.MULTILINE)
+        found = re.search(rf"{COMMENT}^(?:pub(?:\([a-z]+\))? )?(?:struct|enum|trait) {node.name}\b[^;{{(]*([;{{(])", text, re.MULTILINE)
         lines = comments_of(found[1])
         model = re.search(rf"^impl\b.*\bModel for {node.name}\b.*?ghost Value = (\{{)", text, re.MULTILINE | re.DOTALL)
         if model and f"\n}}\n" not in model[0]:
-            kind = re.match(r"pub (\w+)", text[found.end(1):])[1]
+            kind = re.match(r"(?:pub(?:\([a-z]+\))? )?(\w+)", text[found.end(1):])[1]
             return "\n".join([*lines, f"{kind} {node.name}, seen as {self.in_braces(text, model.end() - 1).strip()}"])
         end = found.end()
         if found[2] == "{":
@@ -424,7 +424,7 @@ class Source:
                 if word in scope:
                     yield from filter(None, [self.named(tree, scope[word], node.path, word)])
             return
-        body = re.search(rf"^pub (?:struct|enum) {node.name}\b[^;{{(]*([;{{(])", text, re.MULTILINE)
+        body = re.search(rf"^(?:pub(?:\([a-z]+\))? )?(?:struct|enum) {node.name}\b[^;{{(]*([;{{(])", text, re.MULTILINE)
         if body and body[1] == "{":
             inner = re.sub(r"//.*|#\[.*", "", self.in_braces(text, body.start(1)))
             for word in dict.fromkeys(re.findall(r"\b[A-Z]\w*", inner)):
