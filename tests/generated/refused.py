@@ -226,12 +226,20 @@ def difference(room: Room, came: Refused) -> str | None:
     return None
 
 
+def said_lost(came: Refused) -> str | None:
+    """What differs in what standard error says of replies that were lost, or None."""
+    found = re.search(r" lost (\d+)\n$", came.printed)
+    lost = int(found[1]) if found else 0
+    said = [int(number) for number in re.findall(rb"^    lost (\d+): memory to keep a reply was refused$", came.done.err, re.M)]
+    return None if said == [lost] * (lost > 0) else f"{came}\nand standard error: {came.done.err!r}"
+
+
 def each_request(room: Room) -> Iterator[str | None]:
     """Refuses each request of each job in turn, until one is done with none refused."""
     for job in JOBS:
         for number in count():
             came = refused(room, job, REFUSE=number)
-            text = difference(room, came)
+            text = difference(room, came) or said_lost(came)
             is_whole = (came.printed, came.done.status) == ("".join(part[0] for part in job.parts), job.status)
             if text is None and number in (0, came.requests + 1) and not is_whole:
                 text = f"with nothing refused: {came}"

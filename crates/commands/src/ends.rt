@@ -187,9 +187,20 @@ fn add_done(
     }
 }
 
+/// Adds how many replies were lost, if some were, and why.
+fn add_lost(text: &mut String, lost: u64) -> Result<(), AllocError> {
+    if lost == 0 {
+        return Ok(());
+    }
+    write!(
+        text,
+        "    lost {lost}: memory to keep a reply was refused\n"
+    )
+}
+
 /// What is told of a job that ended so, after what it printed: the cause of its fault, as what the system says of a file, what the
-/// line of a text holds, or what a file is that is none of what it has to be; the first path that stands before a packet; and that
-/// `judge` found the journal full. It is empty where there is nothing to tell.
+/// line of a text holds, or what a file is that is none of what it has to be; the first path that stands before a packet; that
+/// `judge` found the journal full; and how many replies of `serve` were lost. It is empty where there is nothing to tell.
 ///
 /// # Errors
 ///
@@ -210,6 +221,7 @@ pub fn told_end(
         add_first_path(&mut text, alloc, job, lines)?;
     }
     add_full(&mut text, end.full)?;
+    add_lost(&mut text, end.lost)?;
     Ok(text)
 }
 

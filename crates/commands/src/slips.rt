@@ -47,6 +47,9 @@ const TIMES: &str =
 /// What is told of an OUT that is the file that is read.
 pub const OWN_SOURCE: &str = "    this is the file that is read\n";
 
+/// What is printed of an OUT that a bank begins with.
+pub const OWN_CONTENTS: &str = "    a bank of the node's file begins with this file\n";
+
 /// The words of the jobs that may be left to a node's file.
 const LEFT: [&str; 8] = [
     "verify", "why", "weigh", "policy", "packet", "decide", "compare", "map",

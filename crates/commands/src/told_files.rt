@@ -1,6 +1,6 @@
 //! The files of this machine, with why one could not be read or written.
 
-ghost use Rattle.std.specs.Prelude.{◌≡◌, IfSome, Some, false, ⊤};
+ghost use Rattle.std.specs.Prelude.{◌≡◌, IfOk, IfSome, Some, false, ⊤};
 ghost use Rattle.job_parts.specs.Arguments.{name_in};
 ghost use Rattle.commands.specs.Notes.{is_dump, reads_dump};
 
@@ -8,6 +8,7 @@ use crate::ends::told_end;
 use crate::jobs::{Job, JobEnd};
 use crate::noted::{Cause, MAX_TEXT, Noted, most_of};
 use crate::whole_file::write_whole;
+use job_config::contents_named::contents_paths;
 use job_parts::inputs::{Content, InputFile, Inputs};
 use job_parts::status::Status;
 use job_parts::storage::{Cannot, Files};
@@ -76,6 +77,32 @@ pub fn own_source<'a, R: rt::Files>(rt: &R, inputs: &Inputs<'a>) -> Option<&'a s
     } else {
         None
     }
+}
+
+/// The name of the file that a job would write, if that is one with which a bank of the node's file of that name begins, by whatever
+/// names. The node's file was read last of these.
+///
+/// # Errors
+///
+/// If memory was refused.
+pub fn own_contents<'a, R: rt::Files>(
+    rt: &R,
+    alloc: Global,
+    inputs: &Inputs<'a>,
+    node: &str,
+    noted: &Noted<'_>,
+) -> Result<Option<&'a str>, AllocError>
+    ensures { IfOk result (λ found. IfSome found (λ name. name_in inputs.now.output ≡ Some name.now)) }
+{
+    let (Some(output), Some(text)) = (inputs.output, noted.text()) else {
+        return Ok(None);
+    };
+    for path in &contents_paths(alloc, node, text)? {
+        if are_one_file(rt, path.as_str(), output) {
+            return Ok(Some(output));
+        }
+    }
+    Ok(None)
 }
 
 impl<'a, R: rt::Files + Input> ToldFiles<'a, R> {

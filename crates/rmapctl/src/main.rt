@@ -2,7 +2,7 @@
 //! standard streams of this machine. docs/COMMANDS.md says what it does.
 #![tactic(auto)]
 
-ghost use Rattle.std.specs.Prelude.{◌≡◌, IfErr, IfOk, true};
+ghost use Rattle.std.specs.Prelude.{◌≡◌, IfErr, IfOk, IfSome, true};
 ghost use Rattle.commands.specs.Losses.{end_if_written, end_of};
 ghost use Rattle.commands.specs.Refusals.{AreUnknown};
 ghost use Rattle.job_parts.specs.Statuses.{status_code, usage_status};
@@ -12,10 +12,10 @@ ghost use Rattle.node_parts.specs.Nodes.{are_within};
 
 use commands::{
     Asked, Configuration, Course, DumpTalk, Fault, HostLink, HostTalk, Job, JobEnd, LiveWords,
-    NodeJob, OWN_SOURCE, Refusal, ShowWords, Status, Stream, ToldFiles, ToldTalk, Untold,
-    UsageFault, Waits, Work, WriteFault, argument_fault, asked_of, configuration_in, live,
-    live_frames, node_inputs, own_source, perform_told, show_talk, stream_of, told_end, told_fault,
-    told_loss, told_node, told_wait, usage_end, words_or_judge,
+    NodeJob, OWN_CONTENTS, OWN_SOURCE, Refusal, ShowWords, Status, Stream, ToldFiles, ToldTalk,
+    Untold, UsageFault, Waits, Work, WriteFault, argument_fault, asked_of, configuration_in, live,
+    live_frames, node_inputs, own_contents, own_source, perform_told, show_talk, stream_of,
+    told_end, told_fault, told_loss, told_node, told_wait, usage_end, words_or_judge,
 };
 use std::alloc::{AllocError, Global};
 use std::io::{BufReader, BufWriter, IsTerminal, Stderr, Write};
@@ -69,12 +69,12 @@ fn fail<R: Print + Eprint>(rt: &R, fault: &Fault<'_>) -> Status
     end_output(rt, rt.println(fault), Status::Failed)
 }
 
-/// Refuses a job that would write over what it reads, and gives how it ends.
-fn refuse_output<R: Print + Eprint>(rt: &R, name: &str) -> Status
+/// Refuses a job that would write over what it reads, or over what its node begins with, which the text says. Gives how it ends.
+fn refuse_output<R: Print + Eprint>(rt: &R, name: &str, text: &str) -> Status
     ensures { result ≡ Failed }
 {
     let status = fail(rt, &Fault::CannotWrite(name));
-    let _ = rt.eprint(&OWN_SOURCE);
+    let _ = rt.eprint(&text);
     status
 }
 
@@ -86,7 +86,7 @@ fn do_job<R: rt::Files + Input + Print + Eprint + Threads + Wait + Sync>(
     is_on_node: bool,
 ) -> Status {
     if let Some(name) = own_source(rt, &job.inputs()) {
-        return refuse_output(rt, name);
+        return refuse_output(rt, name, OWN_SOURCE);
     }
     let mut out = match BufWriter::new(alloc, io::writer(rt)) {
         Ok(out) => out,
@@ -104,24 +104,44 @@ fn do_job<R: rt::Files + Input + Print + Eprint + Threads + Wait + Sync>(
     }
 }
 
-/// The configuration of the node's file of this name, of which the job is told, or how it ends if that has a fault. Its banks
-/// are some that a node may have.
+/// How a job ends that would write over what a bank of its node's file begins with, or for which memory was refused; `None` of any other.
+fn own_end<R: rt::Files + Print + Eprint>(
+    rt: &R,
+    found: Result<Option<&str>, AllocError>,
+) -> Option<Status>
+    ensures { IfSome result (λ status. status ≡ Failed) }
+{
+    match found {
+        Ok(Some(name)) => Some(refuse_output(rt, name, OWN_CONTENTS)),
+        Ok(None) => None,
+        Err(_) => Some(fail(rt, &Fault::NoMemory)),
+    }
+}
+
+/// The configuration that the node's file of a job says, or how it ends if that has a fault, or if the job would write over what a bank
+/// begins with. Its banks are some that a node may have.
 fn read_node<R: rt::Files + Input + Print + Eprint>(
     rt: &R,
     alloc: Global,
-    job: &Job,
-    node: &str,
+    own: &NodeJob,
 ) -> Result<Configuration, Status>
     ensures banks { IfOk result (λ own. are_within own.banks.items ≡ true) }
     ensures failed { IfErr result (λ status. status ≡ Failed) }
 {
+    let node = own.node.as_str();
     let mut files = ToldFiles::new(rt, alloc, node_inputs(node));
     match configuration_in(alloc, &mut files, node) {
-        Ok(configuration) => Ok(configuration),
+        Ok(configuration) => {
+            let found = own_contents(rt, alloc, &own.inputs(), node, files.noted());
+            match own_end(rt, found) {
+                Some(status) => Err(status),
+                None => Ok(configuration),
+            }
+        }
         Err(fault) => {
             let status = fail(rt, &fault);
             let end = JobEnd::refused(fault);
-            tell(rt, told_end(alloc, job, &end, files.noted()));
+            tell(rt, told_end(alloc, &own.job, &end, files.noted()));
             Err(status)
         }
     }
@@ -134,13 +154,14 @@ fn do_on_node<R: rt::Files + Input + Print + Eprint + Threads + Wait + Sync>(
     own: NodeJob,
 ) -> Status {
     if let Some(name) = own_source(rt, &own.inputs()) {
-        return refuse_output(rt, name);
+        return refuse_output(rt, name, OWN_SOURCE);
     }
-    let NodeJob { job, node } = own;
-    match read_node(rt, alloc, &job, node.as_str()) {
-        Ok(configuration) => do_job(rt, alloc, &job.placed(&configuration), true),
-        Err(status) => status,
-    }
+    let configuration = match read_node(rt, alloc, &own) {
+        Ok(configuration) => configuration,
+        Err(status) => return status,
+    };
+    let NodeJob { job, .. } = own;
+    do_job(rt, alloc, &job.placed(&configuration), true)
 }
 
 /// Holds a talk in lines over standard input and standard output, and gives how it ends. It does not begin if memory is refused.
