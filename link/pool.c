@@ -26,6 +26,7 @@ static bool is_laid;
 void pool_clear(void); /* after a node was damaged, before the next is opened: all of the pool is free, whatever was in it */
 
 void pool_clear(void) { is_laid = false; }
+
 /* How many units a small block has at most: that of a packet of 4,200 bytes. */
 enum { SMALL = 264 };
 
