@@ -9,7 +9,7 @@ use Rattle.job_parts.specs.Files.{Reads}
 use Rattle.job_parts.specs.declared.faults.Fault.{Fault}
 use Rattle.job_parts.specs.declared.faults.Fault.TheVariants.{NoMemory}
 use Rattle.job_node_file.specs.Pools.{IsPool}
-use Rattle.job_node_file.specs.Quotas.{HoldsAsked, HoldsNoneAsked, header_end, lines_asked}
+use Rattle.job_node_file.specs.Quotas.{AreAsked, AreNotAsked, ReadsAsked, ReadsNotAsked, header_end, lines_asked}
 use Rattle.job_node_file.specs.declared.node_file.NodeFileWords.{NodeFileWords}
 
 -- the text of a node ends so: a header in the bytes of its pool and the quotas of its table, lines in these quotas
@@ -23,28 +23,32 @@ abbrev pub table_of : NodeFileWords → Option (List ℕ)
 table_of words = option_map string_bytes words.table
 
 module _ {S : Type 0} (reads : Reads S) where
-  -- the node's file is that of a node and of a program, the table that is named is one that it flies, and a text was printed that ends
-  -- in what is reckoned of them
+  -- the table that is named was read, the node's file is that of a node and of a program, the table is one that it flies, and a text was
+  -- printed that ends in what is reckoned of them
   pub record PrintsNodeFile (words : NodeFileWords) (before after : S) (old new : Option (List ℕ)) : Type 0 where
     pub own : OwnNodeValue
     pub program : AcceptedValue
     pub between : S
-    pub read : ReadsNode reads (string_bytes words.node) before own program between
+    pub table : Option (List ℕ)
+    pub asked : ReadsAsked reads (table_of words) before table between
+    pub read : ReadsNode reads (string_bytes words.node) between own program after
     pub quotas : Option (List Quota)
-    pub held : HoldsAsked reads (table_of words) own program between quotas after
+    pub held : AreAsked own program table quotas
     pub text : List ℕ
     pub end : HasEnd words.header own program quotas text
     pub printed : Appends old new text
 
   -- there is a node of the node's file, and there are no quotas; or there are, and memory was refused to the text
-  abbrev pub IsNotEnded : NodeFileWords → OwnNodeValue → AcceptedValue → (between after : S) → Fault → Type 0
-  IsNotEnded words own program between after fault =
-      HoldsNoneAsked reads (table_of words) own program between fault after
-      ⊎ ((quotas : Option (List Quota)) × HoldsAsked reads (table_of words) own program between quotas after × (fault ≡ NoMemory))
+  abbrev pub IsNotEnded : OwnNodeValue → AcceptedValue → (table : Option (List ℕ)) → Fault → Type 0
+  IsNotEnded own program table fault =
+      AreNotAsked own program table fault
+      ⊎ ((quotas : Option (List Quota)) × AreAsked own program table quotas × (fault ≡ NoMemory))
 
-  -- there is no node of the node's file; or no text of it
+  -- the table that is named gives no text; or there is no node of the node's file; or no text of it
   abbrev pub IsNotTold : NodeFileWords → (before after : S) → Fault → Type 0
   IsNotTold words before after fault =
-      ReadsNoNode reads (string_bytes words.node) before fault after
-      ⊎ ((own : OwnNodeValue) × (program : AcceptedValue) × (between : S)
-      × ReadsNode reads (string_bytes words.node) before own program between × IsNotEnded words own program between after fault)
+      ReadsNotAsked reads (table_of words) before fault after
+      ⊎ ((between : S) × (table : Option (List ℕ)) × ReadsAsked reads (table_of words) before table between
+      × (ReadsNoNode reads (string_bytes words.node) between fault after
+      ⊎ ((own : OwnNodeValue) × (program : AcceptedValue)
+      × ReadsNode reads (string_bytes words.node) between own program after × IsNotEnded own program table fault)))

@@ -43,59 +43,60 @@ IsTableFault sizes lines fault =
 
 -- ---- where they come from
 
+-- the text is that of a table that compiles to this program for the maps of the node
+pub record HasTable (own : OwnNodeValue) (text : List ℕ) (policy : PolicyValue) (p : Program) : Type 0 where
+  pub is_table : WritesPolicy (lines_of text) policy
+  pub compiled : IsPortCompiled own.sizes policy p
+
+-- the quotas are those of a table of which the node's file names the image
+pub record AreQuotas (own : OwnNodeValue) (program : AcceptedValue) (text : List ℕ) (quotas : List Quota) : Type 0 where
+  pub policy : PolicyValue
+  pub compiled : Program
+  pub table : HasTable own text policy compiled
+  pub flown : is_flown (image_bytes compiled) (image_bytes program.program) own.loads ≡ true
+  pub are : quotas ≡ quotas_in policy.rules
+
+-- the text is that of such a table, of which the node's file does not name the image
+pub record IsOtherTable (own : OwnNodeValue) (program : AcceptedValue) (text : List ℕ) : Type 0 where
+  pub policy : PolicyValue
+  pub compiled : Program
+  pub table : HasTable own text policy compiled
+  pub other : is_flown (image_bytes compiled) (image_bytes program.program) own.loads ≡ false
+
+-- why a text has no quotas: its table has a fault, the node's file does not name its image, or memory was refused after the table
+abbrev pub IsNoQuotas : OwnNodeValue → AcceptedValue → (text : List ℕ) → Fault → Type 0
+IsNoQuotas own program text fault =
+    ((found : TextFault) × (fault ≡ BadTable (text_fault_of found)) × IsTableFault own.sizes (lines_of text) found)
+    ⊎ (Ends (Some NoImage) fault × IsOtherTable own program text)
+    ⊎ ((fault ≡ NoMemory) × (policy : PolicyValue) × (p : Program) × HasTable own text policy p)
+
+-- the quotas of the text of a table, if there is one
+abbrev pub AreAsked : OwnNodeValue → AcceptedValue → (text : Option (List ℕ)) → Option (List Quota) → Type 0
+AreAsked own program None quotas = quotas ≡ None
+AreAsked own program (Some text) None = ⊥
+AreAsked own program (Some text) (Some quotas) = AreQuotas own program text quotas
+
+-- the same, why there are none
+abbrev pub AreNotAsked : OwnNodeValue → AcceptedValue → (text : Option (List ℕ)) → Fault → Type 0
+AreNotAsked own program None fault = ⊥
+AreNotAsked own program (Some text) fault = IsNoQuotas own program text fault
+
 module _ {S : Type 0} (reads : Reads S) where
-  -- the file was read, and gave the UTF-8 of a table that compiles to this program for the maps of the node
-  pub record HoldsTable (name : List ℕ) (own : OwnNodeValue) (before : S) (policy : PolicyValue) (p : Program) (after : S) :
-      Type 0 where
-    pub text : List ℕ
+  -- the file of the table was read, and gave UTF-8
+  pub record ReadsTable (name : List ℕ) (before : S) (text : List ℕ) (after : S) : Type 0 where
     pub read : reads before name (Some text) after
     pub utf8 : IsUtf8 text
-    pub is_table : WritesPolicy (lines_of text) policy
-    pub compiled : IsPortCompiled own.sizes policy p
 
-  -- the quotas are those of a table of which the node's file names the image
-  pub record HoldsQuotas (name : List ℕ) (own : OwnNodeValue) (program : AcceptedValue) (before : S) (quotas : List Quota)
-      (after : S) : Type 0 where
-    pub policy : PolicyValue
-    pub compiled : Program
-    pub table : HoldsTable name own before policy compiled after
-    pub flown : is_flown (image_bytes compiled) (image_bytes program.program) own.loads ≡ true
-    pub are : quotas ≡ quotas_in policy.rules
+  -- so was that which is named, if one is
+  abbrev pub ReadsAsked : (name : Option (List ℕ)) → (before : S) → (text : Option (List ℕ)) → (after : S) → Type 0
+  ReadsAsked None before text after = (text ≡ None) × (after ≡ before)
+  ReadsAsked (Some name) before None after = ⊥
+  ReadsAsked (Some name) before (Some text) after = ReadsTable name before text after
 
-  -- the file was read, and gave UTF-8 that is no table, or a table with this fault for the maps of the node
-  pub record HoldsBadTable (name : List ℕ) (own : OwnNodeValue) (before : S) (fault : TextFault) (after : S) : Type 0 where
-    pub text : List ℕ
-    pub read : reads before name (Some text) after
-    pub utf8 : IsUtf8 text
-    pub is_fault : IsTableFault own.sizes (lines_of text) fault
-
-  -- the file was read, and gave such a table, of which the node's file does not name the image
-  pub record HoldsOtherTable (name : List ℕ) (own : OwnNodeValue) (program : AcceptedValue) (before after : S) : Type 0 where
-    pub policy : PolicyValue
-    pub compiled : Program
-    pub table : HoldsTable name own before policy compiled after
-    pub other : is_flown (image_bytes compiled) (image_bytes program.program) own.loads ≡ false
-
-  -- why there are no quotas: the file gives no text, its table has a fault, the node's file does not name its image, or memory was
-  -- refused after the table
-  abbrev pub IsNoQuotas : (name : List ℕ) → OwnNodeValue → AcceptedValue → (before : S) → Fault → (after : S) → Type 0
-  IsNoQuotas name own program before fault after =
-      TextUnread reads before name after fault
-      ⊎ ((found : TextFault) × (fault ≡ BadTable (text_fault_of found)) × HoldsBadTable name own before found after)
-      ⊎ (Ends (Some NoImage) fault × HoldsOtherTable name own program before after)
-      ⊎ ((fault ≡ NoMemory) × (policy : PolicyValue) × (p : Program) × HoldsTable name own before policy p after)
-
-  -- the quotas of the table of the file that is named, or none if no file is
-  abbrev pub HoldsAsked : Option (List ℕ) → OwnNodeValue → AcceptedValue → (before : S) → Option (List Quota) → (after : S)
-      → Type 0
-  HoldsAsked None own program before quotas after = (quotas ≡ None) × (after ≡ before)
-  HoldsAsked (Some name) own program before None after = ⊥
-  HoldsAsked (Some name) own program before (Some quotas) after = HoldsQuotas name own program before quotas after
-
-  -- the same, why there are none
-  abbrev pub HoldsNoneAsked : Option (List ℕ) → OwnNodeValue → AcceptedValue → (before : S) → Fault → (after : S) → Type 0
-  HoldsNoneAsked None own program before fault after = ⊥
-  HoldsNoneAsked (Some name) own program before fault after = IsNoQuotas name own program before fault after
+  -- the file that is named gives no text
+  abbrev pub ReadsNotAsked : (name : Option (List ℕ)) → (before : S) → Fault → (after : S) → Type 0
+  ReadsNotAsked None before fault after = ⊥
+  ReadsNotAsked (Some name) before fault after = TextUnread reads before name after fault
 
 -- ---- what is printed of them
 

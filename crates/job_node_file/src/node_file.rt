@@ -3,18 +3,17 @@
 ghost use Rattle.std.specs.Prelude.{◌≡◌, ◌++◌, ℕ, List, IfErr, IfOk, codes, false, option_map, string_bytes, None, Some};
 ghost use Rattle.clap.specs.Walk.{first_of};
 ghost use Rattle.job_parts.specs.Matched.{app_of, fields_of, found_of, rows_of};
-ghost use Rattle.job_node_file.specs.NodeFileJob.{NamesNodeFile, node_file_app, table_input};
+ghost use Rattle.job_node_file.specs.NodeFileJob.{NamesNodeFile, first_input, node_file_app, second_input};
 ghost use Rattle.job_node_file.specs.Pools.{IsPool};
 ghost use Rattle.job_node_file.specs.Printed.{HasEnd, IsNotTold, PrintsNodeFile};
 ghost use Rattle.job_node_file.specs.Quotas.{header_end, lines_asked};
 ghost use Rattle.job_parts.specs.Arguments.{Lacks};
 ghost use Rattle.job_parts.specs.Statuses.{IsDoneWith};
 ghost use Rattle.job_parts.specs.Stops.{StopsBy};
-ghost use Rattle.job_parts.specs.Inputs.{AreInputs, input, input_value};
-ghost use Rattle.job_parts.specs.declared.inputs.Content.TheVariants.{Node};
+ghost use Rattle.job_parts.specs.Inputs.{AreInputs};
 
 use crate::pool::pool_of;
-use crate::quotas::{add_header_end, add_quota_lines, asked_quotas};
+use crate::quotas::{add_header_end, add_quota_lines, asked_quotas, asked_text};
 use bpf::Image;
 use bver::Accepted;
 use clap::{ArgMatches, Command};
@@ -288,22 +287,17 @@ pub struct NodeFileWords {
 }
 
 impl NodeFileWords {
-    /// What the job reads: the node's file, and then the table; files beside the node's are named there.
+    /// What the job reads: the table, if one is named, and then the node's file; files beside the node's are named there.
     pub fn inputs(&self) -> Inputs<'_>
-        ensures { AreInputs (Some (input (string_bytes self.now.node) Node)) (table_input self.now)
-            None result }
+        ensures { AreInputs (first_input self.now) (second_input self.now) None result }
     {
         let node = InputFile::new(self.node.as_str(), Content::Node);
-        Inputs::of(Some(node), self.table_input())
-    }
-
-    /// The table, if one is named.
-    fn table_input(&self) -> Option<InputFile<'_>>
-        ensures { option_map input_value result ≡ table_input self.now }
-    {
         match &self.table {
-            Some(name) => Some(InputFile::new(name.as_str(), Content::Table)),
-            None => None,
+            Some(name) => Inputs::of(
+                Some(InputFile::new(name.as_str(), Content::Table)),
+                Some(node),
+            ),
+            None => Inputs::of(Some(node), None),
         }
     }
 }
@@ -356,7 +350,7 @@ pub fn node_file_job(alloc: Global, found: &ArgMatches) -> Result<NodeFileWords,
 /// Prints the node of a node's file: its lines, or a header of C; with the limits of the quotas of the table that is named. Nothing is
 /// printed of a file with a fault.
 ///
-/// Faults are those of [`node_in`], and then those of [`asked_quotas`].
+/// Faults are those of [`asked_text`], then those of [`node_in`], and then those of [`asked_quotas`].
 pub fn print_node_file<'a, F: Files, W: Write>(
     alloc: Global,
     words: &'a NodeFileWords,
@@ -369,8 +363,9 @@ pub fn print_node_file<'a, F: Files, W: Write>(
         IsNotTold F.reads words.now files.old files.new fault)) }
     ensures quiet { IfErr result (StopsBy (λ _. W.contents out.new ≡ W.contents out.old)) }
 {
+    let table = asked_text(alloc, files, words.table.as_deref())?;
     let ReadNode { node, program } = node_in(alloc, files, words.node.as_str())?;
-    let quotas = asked_quotas(alloc, files, words.table.as_deref(), &node, &program)?;
+    let quotas = asked_quotas(alloc, table.as_deref(), &node, &program)?;
     let text = text_of(alloc, words, &node, &program, &quotas)?;
     print_text(out, text.as_str())?;
     Ok(Status::Done)

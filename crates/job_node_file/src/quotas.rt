@@ -2,10 +2,8 @@
 
 ghost use Rattle.std.specs.Prelude.{◌≡◌, ◌++◌, IfErr, IfOk, OnOk, Some, length, option_map, string_bytes};
 ghost use Rattle.std.specs.List.{flat_map};
-ghost use Rattle.bpf.specs.Program.{image_bytes};
 ghost use Rattle.job_config.specs.Reads.{Ends};
-ghost use Rattle.job_node_file.specs.Quotas.{HoldsAsked, HoldsNoneAsked, HoldsQuotas, IsNoQuotas, IsTableFault, c_asked, c_quotas, header_end, is_flown, lines_asked, quota_line, quota_list, quota_row, quota_rows, quotas_in};
-ghost use Rattle.job_parts.specs.declared.faults.Fault.TheVariants.{BadTable};
+ghost use Rattle.job_node_file.specs.Quotas.{AreAsked, AreNotAsked, AreQuotas, IsNoQuotas, IsTableFault, ReadsAsked, ReadsNotAsked, c_asked, c_quotas, header_end, is_flown, lines_asked, quota_line, quota_list, quota_row, quota_rows, quotas_in};
 ghost use Rattle.job_parts.specs.declared.node_codes.NodeCode.TheVariants.{Program as NoImage};
 ghost use Rattle.policy.specs.Compiled.{IsPortCompiled};
 ghost use Rattle.policy_table.specs.Policies.{WritesPolicy};
@@ -55,11 +53,10 @@ fn compiled(alloc: Global, text: &str, sizes: &MapSizes) -> Result<(Policy, Imag
 }
 
 /// That a node's file names no image of a table.
-fn no_image<'a>(alloc: Global, name: &str) -> Fault<'a>
+fn no_image<'a>(alloc: Global) -> Fault<'a>
     ensures { Ends (Some NoImage) result }
 {
-    let name = name.escape_debug();
-    match format!(in alloc; "{name} compiles to no image of the node's file") {
+    match String::from_str(alloc, "the table compiles to no image of the node's file") {
         Ok(place) => Fault::BadNode {
             code: NodeCode::Program,
             place,
@@ -68,50 +65,63 @@ fn no_image<'a>(alloc: Global, name: &str) -> Fault<'a>
     }
 }
 
-/// The quotas of the table in the file of this name, which a node flies: its own program or a load is the image to which the table
-/// compiles on the node's maps.
-///
-/// Faults: the file (`CannotRead`, also where it is not UTF-8), the table (`BadTable`, also where memory is refused to it or to its
-/// image), and `BadNode` of the program where the node's file names no such image.
-fn quotas_of<'a, F: Files>(
+/// The quotas of the table that a text writes and a node flies.
+fn quotas_of<'a>(
     alloc: Global,
-    files: &mut F,
-    name: &'a str,
+    text: &str,
     node: &OwnNode,
     program: &Accepted,
 ) -> Result<Vec<Quota>, Fault<'a>>
-    ensures quotas { IfOk result (λ quotas. HoldsQuotas F.reads name.now node.now program.now
-        files.old quotas.items files.new) }
-    ensures none { IfErr result (λ fault. IsNoQuotas F.reads name.now node.now program.now
-        files.old fault files.new) }
+    ensures quotas { IfOk result (λ quotas. AreQuotas node.now program.now text.now quotas.items) }
+    ensures none { IfErr result (IsNoQuotas node.now program.now text.now) }
 {
-    let text = text_in(alloc, files, name)?;
-    let (table, image) = match compiled(alloc, text.as_str(), &node.sizes()) {
+    let (table, image) = match compiled(alloc, text, &node.sizes()) {
         Ok(made) => made,
         Err(fault) => return Err(Fault::BadTable(fault.fault())),
     };
     let (bytes, first) = (image.write()?, program.image().write()?);
     if !is_flown(bytes.as_slice(), first.as_slice(), node.loads()) {
-        return Err(no_image(alloc, name));
+        return Err(no_image(alloc));
     }
     Ok(quotas_in(alloc, table.rules())?)
 }
 
-/// The same of the file that is named, if one is.
-pub fn asked_quotas<'a, F: Files>(
+/// The text of the file of the table that is named, if one is.
+///
+/// The fault is `CannotRead`, also where the file is not UTF-8.
+pub fn asked_text<'a, F: Files>(
     alloc: Global,
     files: &mut F,
     name: Option<&'a str>,
+) -> Result<Option<String>, Fault<'a>>
+    ensures text { IfOk result (λ text. ReadsAsked F.reads (option_map (λ n. n.now) name.entry)
+        files.old (option_map string_bytes text) files.new) }
+    ensures none { IfErr result (λ fault. ReadsNotAsked F.reads
+        (option_map (λ n. n.now) name.entry) files.old fault files.new) }
+{
+    match name {
+        Some(name) => Ok(Some(text_in(alloc, files, name)?)),
+        None => Ok(None),
+    }
+}
+
+/// The quotas of the table that a text writes, if there is one, and a node flies: its own program or a load is the image to which the
+/// table compiles on the node's maps.
+///
+/// Faults: the table (`BadTable`, also where memory is refused to it or to its image), and `BadNode` of the program where the node's
+/// file names no such image.
+pub fn asked_quotas<'a>(
+    alloc: Global,
+    text: Option<&str>,
     node: &OwnNode,
     program: &Accepted,
 ) -> Result<Option<Vec<Quota>>, Fault<'a>>
-    ensures quotas { IfOk result (λ quotas. HoldsAsked F.reads (option_map (λ n. n.now) name.entry)
-        node.now program.now files.old (option_map (λ q. q.items) quotas) files.new) }
-    ensures none { IfErr result (λ fault. HoldsNoneAsked F.reads (option_map (λ n. n.now) name.entry)
-        node.now program.now files.old fault files.new) }
+    ensures quotas { IfOk result (λ quotas. AreAsked node.now program.now
+        (option_map (λ t. t.now) text) (option_map (λ q. q.items) quotas)) }
+    ensures none { IfErr result (AreNotAsked node.now program.now (option_map (λ t. t.now) text)) }
 {
-    match name {
-        Some(name) => Ok(Some(quotas_of(alloc, files, name, node, program)?)),
+    match text {
+        Some(text) => Ok(Some(quotas_of(alloc, text, node, program)?)),
         None => Ok(None),
     }
 }

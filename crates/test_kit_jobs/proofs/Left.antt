@@ -225,8 +225,7 @@ done_leaves (Explain words) before after old new status done = done.0
 done_leaves (Why args) before after old new status done = done.read.0
 done_leaves (Weigh words) before after old new status done = done.1.image.read.0
 done_leaves (Node words) before after old new status done =
-    asked _ done.1.own done.1.program done.1.between done.1.quotas after done.1.held
-    ∙ some_read before done.1.between done.1.read.only_reads
+    some_read done.1.between after done.1.read.only_reads ∙ asked _ before done.1.table done.1.between done.1.asked
 done_leaves (Packet words) before after old new status done = made_file words before after old new status done
 done_leaves (Show words) before after old new status done = done.1.read.0
 done_leaves (Decide words) before after old new status done = decides_file words before after old new status done
