@@ -1,6 +1,6 @@
 -- How many bytes a pool has over which a node serves without want of memory: the sum of its blocks, in units of 16 bytes. The
 -- parts are those of the C library (docs/EMBEDDING.md, *No memory*); `link/least` measures them.
-use Rattle.std.specs.Prelude.{◌≡◌, ◌+◌, ◌*◌, ◌/◌, ◌%◌, ℕ, min, List, [], ◌∷◌, length}
+use Rattle.std.specs.Prelude.{◌≡◌, ◌+◌, ◌*◌, ◌/◌, ◌%◌, ℕ, min, List, [], ◌∷◌, length, Option, None, Some, slice_get}
 use Rattle.bver.specs.Justified.{AcceptedValue}
 use Rattle.machine.specs.Sizes.{Maps}
 use Rattle.node_parts.specs.declared.config.BankConfig.{BankConfig}
@@ -34,10 +34,16 @@ banks_units ports (bank ∷ banks) = bank_units ports bank + banks_units ports b
 abbrev pub ports_units : (ports banks : ℕ) → ℕ
 ports_units ports banks = block (688 * ports) + block (24 * ports) + 1031 * ports + 2 * ports * banks
 
--- the cells of each map, and their complements
+-- the cells of a map, if there is one, and their complements
+abbrev pub map_units : Option ℕ → ℕ
+map_units None = 0
+map_units (Some cells) = 2 * block (8 * cells)
+
+-- those of all maps, of which there are at most eight
 abbrev pub cells_units : List ℕ → ℕ
-cells_units [] = 0
-cells_units (cells ∷ maps) = 2 * block (8 * cells) + cells_units maps
+cells_units maps =
+    map_units (slice_get maps 0) + map_units (slice_get maps 1) + map_units (slice_get maps 2) + map_units (slice_get maps 3)
+    + map_units (slice_get maps 4) + map_units (slice_get maps 5) + map_units (slice_get maps 6) + map_units (slice_get maps 7)
 
 -- the maps: their two lists, and their cells
 abbrev pub maps_units : Maps → ℕ

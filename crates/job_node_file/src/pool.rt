@@ -1,9 +1,7 @@
 //! The least pool of a node: how many bytes of memory it needs in a C program, so that no packet and no load is refused it.
 
-ghost use Rattle.std.specs.Prelude.{◌≡◌, ◌≤◌, ◌<◌, ◌^◌, ◌*◌, IfOk, OnOk, ◌++◌, length, string_bytes};
-ghost use Rattle.job_node_file.specs.Pools.{IsPool, bank_units, banks_units, block, cells_units, gaps_units, journal_units, kept_units, maps_units, memory_units, node_units, ports_units, programs_units};
-ghost use Rattle.machine.specs.Sizes.{AreSizes};
-ghost use Rattle.node_parts.specs.Nodes.{are_within};
+ghost use Rattle.std.specs.Prelude.{◌≡◌, ◌≤◌, ◌<◌, ◌^◌, ◌*◌, IfOk, length};
+ghost use Rattle.job_node_file.specs.Pools.{IsPool, bank_units, banks_units, block, cells_units, gaps_units, journal_units, kept_units, map_units, maps_units, memory_units, node_units, ports_units, programs_units};
 
 use crate::images::{ImageSize, largest};
 use bver::Accepted;
@@ -75,23 +73,36 @@ fn ports_units(ports: u8, banks: usize) -> u64
     block(688 * ports) + block(24 * ports) + 1031 * ports + 2 * ports * banks as u64
 }
 
-/// The units of the cells of all maps, and of their complements.
+/// The units of the cells of a map, if there is one, and of their complements.
+fn map_units(cells: Option<u16>) -> u64
+    ensures units { result ≡ map_units cells }
+    ensures few { result < 2 ^ 17 }
+{
+    match cells {
+        Some(cells) => 2 * block(8 * u64::from(cells)),
+        None => 0,
+    }
+}
+
+/// The units of the cells of all maps, of which there are at most eight.
 fn cells_units(sizes: &MapSizes) -> u64
     ensures units { result ≡ cells_units sizes.now.cells }
-    ensures few { result ≤ 2 ^ 25 }
+    ensures few { result < 2 ^ 20 }
 {
-    let mut units: u64 = 0;
-    for map in 0..sizes.maps() {
-        let cells = sizes.cells(map).unwrap_or(0);
-        units += 2 * block(8 * u64::from(cells));
-    }
-    units
+    map_units(sizes.cells(0))
+        + map_units(sizes.cells(1))
+        + map_units(sizes.cells(2))
+        + map_units(sizes.cells(3))
+        + map_units(sizes.cells(4))
+        + map_units(sizes.cells(5))
+        + map_units(sizes.cells(6))
+        + map_units(sizes.cells(7))
 }
 
 /// The units of maps.
 fn maps_units(sizes: &MapSizes) -> u64
     ensures units { result ≡ maps_units sizes.now }
-    ensures few { result ≤ 2 ^ 26 }
+    ensures few { result < 2 ^ 21 }
 {
     let maps = u64::from(sizes.maps());
     2 * block(24 * maps) + cells_units(sizes)
