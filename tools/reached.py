@@ -363,7 +363,7 @@ class Source:
     def head(self, path):
         """The file of a call, and its text there: its comment, and its signature with its clauses."""
         for file, text in self.texts.items():
-            for found in re.finditer(rf"{COMMENT}^([ \t]*)(?:pub )?(?:extern .C. )?fn {path[-1]}\b", text, re.MULTILINE):
+            for found in re.finditer(rf"{COMMENT}^([ \t]*)(?:pub(?:\([a-z]+\))? )?(?:const |unsafe |extern .C. )*fn {path[-1]}\b", text, re.MULTILINE):
                 owner = re.findall(r"^(?:impl|pub trait)\b.*", text[: found.start()], re.MULTILINE)[-1:] if found[2] else []
                 if (len(path) == 2) != bool(owner) or (owner and path[0] not in re.findall(r"\w+", owner[0])):
                     continue
