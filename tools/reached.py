@@ -333,7 +333,7 @@ class Source:
             for found in re.finditer(COMMENT + r"^[ \t]*(?:pub )?const (\w+): [^=]+ = ([^;]+);", text, re.MULTILINE):
                 value = found[3] if len(found[3]) <= 40 and "\n" not in found[3] else ".."
                 self.constants[path.stem, found[2]] = Constant(crate, path, found[2], value, self.first_sentence(found[1]))
-            for found in re.finditer(COMMENT + r"^pub (?:struct|enum|trait) (\w+)", text, re.MULTILINE):
+            for found in re.finditer(COMMENT + r"^(?:pub(?:\([a-z]+\))? )?(?:struct|enum|trait) (\w+)", text, re.MULTILINE):
                 self.types[found[2]] = Type(crate, path, found[2], self.first_sentence(found[1]))
 
     @staticmethod
@@ -382,11 +382,11 @@ class Source:
     def declaration(self, node):
         """A type as the code declares it, with its comments; of one that has a model, what it is seen as."""
         text = self.texts[node.path]
-        found = re.search(rf"{COMMENT}^pub (?:struct|enum|trait) {node.name}\b[^;{{(]*([;{{(])", text, re.MULTILINE)
+        found = re.search(rf"{COMMENT}^(?:pub(?:\([a-z]+\))? )?(?:struct|enum|trait) {node.name}\b[^;{{(]*([;{{(])", text, re.MULTILINE)
         lines = comments_of(found[1])
         model = re.search(rf"^impl\b.*\bModel for {node.name}\b.*?ghost Value = (\{{)", text, re.MULTILINE | re.DOTALL)
         if model and f"\n}}\n" not in model[0]:
-            kind = re.match(r"pub (\w+)", text[found.end(1):])[1]
+            kind = re.match(r"(?:pub(?:\([a-z]+\))? )?(\w+)", text[found.end(1):])[1]
             return "\n".join([*lines, f"{kind} {node.name}, seen as {self.in_braces(text, model.end() - 1).strip()}"])
         end = found.end()
         if found[2] == "{":
@@ -424,7 +424,7 @@ class Source:
                 if word in scope:
                     yield from filter(None, [self.named(tree, scope[word], node.path, word)])
             return
-        body = re.search(rf"^pub (?:struct|enum) {node.name}\b[^;{{(]*([;{{(])", text, re.MULTILINE)
+        body = re.search(rf"^(?:pub(?:\([a-z]+\))? )?(?:struct|enum) {node.name}\b[^;{{(]*([;{{(])", text, re.MULTILINE)
         if body and body[1] == "{":
             inner = re.sub(r"//.*|#\[.*", "", self.in_braces(text, body.start(1)))
             for word in dict.fromkeys(re.findall(r"\b[A-Z]\w*", inner)):
