@@ -35,7 +35,7 @@ def program_of(content: bytes, name: str, section: str, asker: Asker | None = No
     try:
         whole = Object(content)
         function = function_of(whole, section)
-        source = Source(whole.lines(section), function.start, whole.source())
+        source = Source(whole.lines(function.section), function.start, whole.source())
         maps = Maps(whole)
         decoder = Decoder(whole, function, maps)
         insns = list(decoder.insns())
