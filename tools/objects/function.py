@@ -5,7 +5,7 @@ import struct
 from typing import Iterator, NamedTuple
 
 from objects.elf import CODE, EXECUTABLE, SECTION, WRITABLE, Object, Reference
-from objects.insns import CALL, WIDE, Insn, text_of
+from objects.insns import CALL, TURN, WIDE, Insn, text_of
 from objects.refusal import Refusal
 from objects.tables import Tables, address_of
 
@@ -16,6 +16,8 @@ MAX_MAPS = 8
 KEEP, FRAME = 0x7B, 10
 MAX_CELLS = 256
 
+# What gcc 12 calls to turn the bytes of a number round, and how many bits it has.
+TURNS = {"__bswapsi2": 32, "__bswapdi2": 64}
 SIGNED_DIVISIONS = ("__divdi3", "__moddi3", "__divsi3", "__modsi3")
 
 ATOMIC = ("an atomic operation", "draw a ticket of a cell")
@@ -110,7 +112,7 @@ class Decoder:
             if op == WIDE:
                 insn = self.wide(insn._replace(high=struct.unpack_from("<i", code, 8 * slot + 12)[0]))
             elif op == CALL:
-                self.check_call(insn)
+                insn = self.call(insn)
             if text_of(insn) is None or max(insn.dst, insn.src if insn.map is None else 0) > 10:
                 what = f"an instruction of opcode {op:02X}, for which there is none here"
                 raise Refusal(*UNKNOWN.get(op, (what, "write it in other words")), slot)
@@ -151,14 +153,16 @@ class Decoder:
             return reference.symbol.value + reference.addend
         return insn.imm if self.whole.is_of_gcc() else reference.symbol.value + insn.imm
 
-    def check_call(self, insn: Insn) -> None:
-        """Refuses a call that is none of a helper."""
+    def call(self, insn: Insn) -> Insn:
+        """A call of a helper, or what turns the bytes of r1 round into r0; every other call is refused."""
         reference = self.reference(insn)
         if reference is None and insn.src == 0:
             if insn.imm not in HELPERS:
                 raise Refusal(f"a call of helper {insn.imm}, which is none", "call count, ticket or peak", insn.slot)
-            return
+            return insn
         name = self.callee(insn, reference)
+        if name in TURNS and self.whole.section_of(reference.symbol) is None:
+            return Insn(insn.slot, TURN, 0, 1, 0, TURNS[name])
         if name in SIGNED_DIVISIONS:
             raise Refusal(f"signed division, by a call of {name}", "divide unsigned numbers, or take clang's -mcpu=v4",
                           insn.slot)

@@ -6,7 +6,7 @@ from dataclasses import dataclass, field
 from objects.flow import Block, Blocks, last_slot
 from objects.insns import ALU, ALU32, EXIT, MOV, Insn
 from objects.refusal import Refusal
-from objects.upward import Upward, number_into, round_of, upward_of
+from objects.upward import Upward, upward_of
 
 MAX_LOOPS = 8
 MAX_BOUND = 4096
@@ -14,6 +14,9 @@ MAX_BOUND = 4096
 # The opcodes of `add r, -1`, `jne r, 0` and `jeq r, 0`, and the same of 32 bits.
 COUNT_DOWN, JNE, JEQ = 0x07, 0x55, 0x15
 COUNT_DOWN_NARROW, JNE_NARROW, JEQ_NARROW = 0x04, 0x56, 0x16
+
+# The code of `jne`.
+NOT_EQUAL = 5
 
 # The verdict of a run whose counter would be 0 where it cannot be, and the opcode of `mov r0, 10`.
 DENIAL, PUT_NUMBER = 10, 0xB7
@@ -32,6 +35,11 @@ class Loop:
     start: int = 0
     slot: int = 0
     first: list[Insn] = field(default_factory=list)
+
+    @property
+    def asked(self) -> int:
+        """The register whose range says how many rounds there are."""
+        return self.register if self.upward is None else self.upward.asked
 
 
 class Loops:
@@ -146,7 +154,8 @@ class Loops:
         for it in [it for it in self.loops if loop.body <= it.body]:
             it.body.add(down)
         loop.latch, loop.register = down, upward.counter
-        rounds = 0 if upward.other is not None else upward.rounds(upward.number, upward.number, MAX_BOUND)
+        is_asked = upward.start is None or upward.other is not None
+        rounds = 0 if is_asked else upward.rounds(upward.number, upward.number, MAX_BOUND)
         if rounds is None:
             raise self.refusal("a loop whose number of rounds is not known", loop.latch)
         self.set_bound(loop, rounds)
@@ -173,19 +182,22 @@ class Loops:
             if at not in self.before[way]:
                 self.before[way].append(at)
 
-    def put_guard(self, loop: Loop) -> None:
+    def put_guard(self, loop: Loop) -> bool:
         """Ends a run with a denial whose counter would be 0 at first, of which the verifier knows no more: a loop that counts down from 0
-        would go on for 2^64 rounds, so no program means it."""
+        would go on for 2^64 rounds, so no program means it. False if the loop would end after a round."""
+        if loop.upward is not None and loop.upward.code != NOT_EQUAL:
+            return False
         slot = self.first_slot(loop.head)
         start = self.block_at_start(loop)
         self.test(start, Insn(slot, JEQ, loop.register, 0, 0, 0), [loop.head, self.denial(slot)])
+        return True
 
     def set_bound(self, loop: Loop, rounds: int) -> None:
         """Gives a loop its bound; 0 where it is to be asked for."""
         loop.bound = rounds
         if loop.upward is not None:
-            self.blocks[loop.start].body = [number_into(loop.slot, loop.upward.counter, rounds)]
-            self.blocks[loop.head].body = round_of(loop.upward, loop.slot, rounds) + loop.first
+            self.blocks[loop.start].body = loop.upward.before(loop.slot, rounds)
+            self.blocks[loop.head].body = loop.upward.each(loop.slot, rounds) + loop.first
 
     def inside(self, loop: Loop) -> list[Loop]:
         return [it for it in self.loops if it.body < loop.body]

@@ -6,6 +6,7 @@ import struct
 from typing import Callable
 
 from objects.asked import Answer, Asker
+from objects.copies import compare_what_goes_on
 from objects.elf import Object
 from objects.flow import blocks_of, shorten, thread, walked
 from objects.function import Decoder, Function, Maps, function_of
@@ -78,6 +79,7 @@ class Laid:
             shorten(all_blocks)
         self.blocks, back = walked(all_blocks)
         check_slots(sum(it.slots for block in self.blocks.values() for it in block.body))
+        compare_what_goes_on(self.blocks)
         self.version = version_of(self.blocks)
         put_pointers_first(self.blocks)
         self.finder = Loops(self.blocks, OTHER_LOOP_OF_GCC if is_of_gcc else OTHER_LOOP)
@@ -113,7 +115,7 @@ def bounded(laid: Laid, text: Callable[[Layout], str], maps: str, asker: Asker |
         if not loop.bound:
             if said is not None and said.code not in (None, LOOP_ENTRY):
                 return layout, said
-            known = said.known.get(loop.register if loop.upward is None else loop.upward.other) if said else None
+            known = said.known.get(loop.asked) if said else None
             what = f", only that its counter or end is {known[0]:,} to {known[1]:,}" if known else ""
             raise laid.finder.refusal(f"a loop whose number of rounds is not known{what}", loop.latch, UNKNOWN_ROUNDS if asker else NO_RMAPCTL)
     return layout, said
@@ -121,11 +123,10 @@ def bounded(laid: Laid, text: Callable[[Layout], str], maps: str, asker: Asker |
 
 def take_bound(laid: Laid, loop: Loop, said: Answer) -> bool:
     """Takes the bound of a loop from what is known at its head; False where it is what it was."""
-    wanted = loop.register if loop.upward is None else loop.upward.other
-    if wanted is None or wanted not in said.known:
+    if loop.asked not in said.known:
         return False
-    least, most = said.known[wanted]
-    if loop.upward is not None:
+    least, most = said.known[loop.asked]
+    if loop.upward is not None and loop.upward.start is not None:
         rounds = loop.upward.rounds(least, most, MAX_BOUND)
         if rounds is None or rounds == loop.bound:
             return False
@@ -133,8 +134,8 @@ def take_bound(laid: Laid, loop: Loop, said: Answer) -> bool:
         return True
     if most > MAX_BOUND or not most or most == loop.bound and least:
         return False
-    if not least:
-        laid.finder.put_guard(loop)
+    if not least and not laid.finder.put_guard(loop):
+        return False
     laid.finder.set_bound(loop, most)
     return True
 

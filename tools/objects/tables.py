@@ -4,12 +4,11 @@ from __future__ import annotations
 from typing import Iterator
 
 from objects.elf import Object, Section, Symbol
-from objects.insns import ADD, ALU, LDX, MOV, ST, STX, SUB, Insn
+from objects.insns import ADD, ALU, BY_REGISTER, LDX, MOV, ST, STX, SUB, Insn
 from objects.refusal import Refusal
 
 STACK_BYTES = 512
 ALIGN = 8
-BY_REGISTER = 8
 TO_STACK, ADD_NUMBER = MOV << 4 | BY_REGISTER | ALU, ADD << 4 | ALU
 # The opcodes of stores of a number, of 8 bytes and of 4.
 STORE_EIGHT, STORE_FOUR = 0x7A, 0x62

@@ -8,10 +8,8 @@ from __future__ import annotations
 from dataclasses import dataclass
 from typing import NamedTuple
 
-from objects.insns import ADD, ALU, ALU32, JMP32, MOV, MUL, OPPOSITE, SUB, Insn
+from objects.insns import ADD, ALU, ALU32, ARSH, BY_REGISTER, JMP32, LSH, MOV, MUL, OPPOSITE, RSH, SUB, Insn
 from objects.pointers import WRITABLE, wanted_after, wanted_in
-
-BY_REGISTER = 8
 
 COMPARE = {
     1: lambda a, b: a == b, 5: lambda a, b: a != b, 2: lambda a, b: a > b, 3: lambda a, b: a >= b, 10: lambda a, b: a < b,
@@ -24,12 +22,17 @@ def signed(number: int) -> int:
     return number - (1 << 64) if number >> 63 else number
 
 
+# How much more than the number that is compared the register is where the loop ends first, by the sign of its step and the code.
+ENDS = {(-1, 5): 0, (-1, 2): 0, (-1, 3): -1, (1, 5): 0, (1, 10): 0, (1, 11): 1}
+
+
 @dataclass
 class Upward:
     """The register that counts, the number with which it begins, its step, and the comparison that ends the loop: what is compared
-    with `other`, or with `number`, is so much more than the register at the beginning of the round. `small` if 32 bits count."""
+    with `other`, or with `number`, is so much more than the register at the beginning of the round. `small` if 32 bits count. The
+    start is None where it is no number: then the counter is how far the register is from the end."""
     register: int
-    start: int
+    start: int | None
     step: int
     offset: int
     code: int
@@ -38,6 +41,28 @@ class Upward:
     number: int
     small: bool
     counter: int
+
+    @property
+    def asked(self) -> int:
+        """The register whose range says how many rounds there are."""
+        return self.counter if self.start is None or self.other is None else self.other
+
+    @property
+    def end(self) -> int:
+        """What the register is at the beginning of its last round, less the other register where there is one."""
+        return ENDS[self.step, self.code] - self.offset + (self.number if self.other is None else 0)
+
+    def before(self, slot: int, rounds: int) -> list[Insn]:
+        """What sets the counter before the loop."""
+        if self.start is not None:
+            return [number_into(slot, self.counter, rounds)]
+        return distance(slot, self.counter, self.register, self)
+
+    def each(self, slot: int, rounds: int) -> list[Insn]:
+        """What sets the register that counts at the beginning of each round."""
+        if self.start is not None:
+            return round_of(self, slot, rounds)
+        return distance(slot, self.register, self.counter, self)
 
     def rounds(self, least: int, most: int, greatest: int) -> int | None:
         """How many rounds there are at most where the other number is from `least` to `most`; None where it is more than `greatest`,
@@ -74,33 +99,44 @@ class Upward:
 
 
 class Value(NamedTuple):
-    """What a register is in a round: what another was at its beginning, and so much more; `small` if that went through 32 bits."""
+    """What a register is in a round: what another was at its beginning, and so much more; `small` if that went through 32 bits, and
+    `lifted` where it is shifted up by 32 bits, as before its sign is carried down."""
     register: int
     more: int
     small: bool
+    lifted: bool = False
 
 
 Values = dict[int, Value]
 
 
 def upward_of(loops, loop) -> Upward | None:
-    """What counts in a loop, if a register does and what ends the loop is known of its comparison."""
+    """What counts in a loop, if a register does and what ends the loop is known of its comparison: one that begins with a number, or
+    else one that goes by one to where the loop ends."""
     known = values_in(loops, loop)
     stays = known.get(loop.latch, {})
+    far: Upward | None = None
     for register, end in sorted(stays.items()):
-        if end.register != register or not end.more:
+        if end.register != register or not end.more or end.lifted:
             continue
-        start = loops.start(loop, register)
-        test = test_of(loops, loop, register, known) if start is not None else None
+        start, test = loops.start(loop, register), test_of(loops, loop, register, known)
         if test is None:
             continue
         counter = free_register(loops.blocks, loop)
         if counter is None:
             raise loops.refusal("a loop that leaves no register for a counter of its rounds", loop.latch,
                                 "use fewer values in it, compile with -O2, or end it by AGAIN")
-        offset, code, narrow, other, number, small = test
-        return Upward(register, start, end.more, offset, code, narrow, other, number, small or end.small, counter)
-    return None
+        found = Upward(register, start, end.more, test.offset, test.code, test.narrow, test.other, test.number, test.small or end.small, counter)
+        if start is not None:
+            return found
+        if far is None and goes_to_end(found):
+            far = found
+    return far
+
+
+def goes_to_end(upward: Upward) -> bool:
+    """Whether each round takes the register one nearer to where its loop ends, as numbers without a sign go."""
+    return (upward.step, upward.code) in ENDS and (upward.other is not None or upward.number >= 0 and abs(upward.end) < (1 << 31) - 1)
 
 
 def values_in(loops, loop) -> dict[int, Values]:
@@ -128,54 +164,84 @@ def joined(ways: list[Values]) -> Values:
 def value_after(values: Values, insn: Insn) -> Values:
     """What is known after an instruction."""
     found = None
-    if insn.code == MOV and insn.by_register and not insn.off and insn.family in (ALU, ALU32):
-        found = values.get(insn.src)
-    elif insn.code == ADD and not insn.by_register and insn.family in (ALU, ALU32):
-        found = values.get(insn.dst)
-        found = found and found._replace(more=found.more + insn.imm)
+    if insn.family in (ALU, ALU32):
+        if insn.code == MOV and insn.by_register and (not insn.off or insn.off == 32 and insn.family == ALU):
+            found = values.get(insn.src)
+        elif insn.code == ADD and not insn.by_register:
+            found = values.get(insn.dst)
+            found = found and found._replace(more=found.more + insn.imm)
+        elif insn.family == ALU and insn.code in (LSH, RSH, ARSH) and not insn.by_register and insn.imm == 32:
+            found = values.get(insn.dst)
+            found = found and shifted(found, insn.code)
+        if found is not None and found.lifted and insn.code == ADD:
+            found = None
     after = {register: value for register, value in values.items() if register not in insn.writes()}
     if found is not None:
         after[insn.dst] = found._replace(small=found.small or insn.family == ALU32)
     return after
 
 
-def each_round(loops, loop, at: int) -> bool:
-    """Whether each round goes through a block, whatever way it takes."""
-    if at in (loop.head, loop.latch):
-        return not any(at in it.body for it in loops.inside(loop))
-    seen, left = {at}, [loop.head]
+def shifted(value: Value, code: int) -> Value | None:
+    """What is known after a shift by 32 bits: up, and down again with the sign or without it. A number that has 31 bits is then what it
+    was."""
+    if code == LSH:
+        return None if value.lifted else value._replace(lifted=True)
+    return value._replace(lifted=False, small=code == RSH) if value.lifted else None
+
+
+def each_round(loops, loop, places: set[int]) -> bool:
+    """Whether each round goes through one of these blocks, whatever way it takes."""
+    seen, left = set(places), [loop.head]
     while left:
         block = left.pop()
+        if block in seen:
+            continue
         if block == loop.latch:
             return False
-        if block not in seen:
-            seen.add(block)
-            left += [way for way in loops.blocks[block].next if way in loop.body and way != loop.head]
-    return not any(at in it.body for it in loops.inside(loop))
+        seen.add(block)
+        left += [way for way in loops.blocks[block].next if way in loop.body and way != loop.head]
+    return True
 
 
-def test_of(loops, loop, register: int, known: dict[int, Values]) -> tuple[int, int, bool, int | None, int, bool] | None:
-    """The comparison of a register that ends a loop: how much more than the register it compares, its code that goes on, whether it
-    compares 32 bits, the other register or the number, and whether 32 bits count."""
-    stays = known[loop.latch]
+class Test(NamedTuple):
+    """The comparison that ends a loop: how much more than the register it compares, its code that goes on, whether it compares 32 bits,
+    the other register or the number, and whether 32 bits count."""
+    offset: int
+    code: int
+    narrow: bool
+    other: int | None
+    number: int
+    small: bool
+
+
+def test_of(loops, loop, register: int, known: dict[int, Values]) -> Test | None:
+    """The comparison of a register that ends a loop, through which each round goes; it may be there once on each of several ways."""
+    places: dict[Test, set[int]] = {}
     for at in sorted(loop.body, reverse=True):
-        last = loops.blocks[at].last
-        if last is None or not last.compares or last.code not in COMPARE or not each_round(loops, loop, at):
-            continue
-        out = [way not in loop.body for way in loops.blocks[at].next]
-        one, other = known[at].get(last.dst), known[at].get(last.src) if last.by_register else None
-        code = last.code
-        if last.by_register and (one is None or one.register != register):
-            one, other, code = other, one, MIRRORED[code]
-        if sum(out) != 1 or one is None or one.register != register:
-            continue
-        if last.by_register and (other is None or other.more or stays.get(other.register) != Value(other.register, 0, False)):
-            continue
-        # The first of both ways is for where the comparison does not hold.
-        code = code if out[0] else OPPOSITE[code]
-        small = one.small or other is not None and other.small
-        return one.more, code, last.family == JMP32, other.register if other is not None else None, last.imm, small
-    return None
+        test = test_at(loops, loop, register, known, at)
+        if test is not None and not any(at in it.body for it in loops.inside(loop)):
+            places.setdefault(test, set()).add(at)
+    return next((test for test, found in places.items() if each_round(loops, loop, found)), None)
+
+
+def test_at(loops, loop, register: int, known: dict[int, Values], at: int) -> Test | None:
+    """The comparison of a register with which a block ends, if it may end the loop."""
+    last = loops.blocks[at].last
+    if last is None or not last.compares or last.code not in COMPARE:
+        return None
+    out = [way not in loop.body for way in loops.blocks[at].next]
+    one, other = known[at].get(last.dst), known[at].get(last.src) if last.by_register else None
+    code = last.code
+    if last.by_register and (one is None or one.register != register):
+        one, other, code = other, one, MIRRORED[code]
+    if sum(out) != 1 or one is None or one.register != register or one.lifted:
+        return None
+    if last.by_register and (other is None or other.more or known[loop.latch].get(other.register) != Value(other.register, 0, False)):
+        return None
+    # The first of both ways is for where the comparison does not hold.
+    code = code if out[0] else OPPOSITE[code]
+    small = one.small or other is not None and other.small
+    return Test(one.more, code, last.family == JMP32, other.register if other is not None else None, last.imm, small)
 
 
 def free_register(blocks, loop) -> int | None:
@@ -188,6 +254,23 @@ def free_register(blocks, loop) -> int | None:
 
 def number_into(slot: int, register: int, number: int) -> Insn:
     return Insn(slot, MOV << 4 | ALU, register, 0, 0, number)
+
+
+def distance(slot: int, to: int, of: int, upward: Upward) -> list[Insn]:
+    """What puts into a counter how far the register that counts is from the end of its loop, and one more; or into that register what
+    it is by the counter: both are one sum."""
+    more = upward.end - 1 if to == upward.register and upward.step < 0 else 1 - upward.end if upward.step < 0 else upward.end + 1
+    add = [Insn(slot, ADD << 4 | ALU, to, 0, 0, more)] if more else []
+    if upward.other is None and upward.step > 0:
+        return [number_into(slot, to, more), Insn(slot, SUB << 4 | BY_REGISTER | ALU, to, of, 0, 0)]
+    first = upward.other if upward.step > 0 else of
+    moved = [Insn(slot, MOV << 4 | BY_REGISTER | ALU, to, first, 0, 0)]
+    if upward.other is None:
+        return [*moved, *add]
+    if upward.step > 0:
+        return [*moved, *add, Insn(slot, SUB << 4 | BY_REGISTER | ALU, to, of, 0, 0)]
+    code = ADD if to == upward.register else SUB
+    return [*moved, *add, Insn(slot, code << 4 | BY_REGISTER | ALU, to, upward.other, 0, 0)]
 
 
 def round_of(upward: Upward, slot: int, rounds: int) -> list[Insn]:
