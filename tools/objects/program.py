@@ -12,9 +12,10 @@ from objects.flow import blocks_of, shorten, thread, walked
 from objects.function import Decoder, Function, Maps, function_of
 from objects.insns import Insn
 from objects.layout import Layout, Source, printed
-from objects.loops import MAX_BOUND, Loop, Loops
+from objects.loops import Loop, Loops
 from objects.pointers import put_pointers_first, version_of
 from objects.refusal import Refusal
+from objects.upward import MAX_BOUND
 
 MAX_SLOTS = 512
 MAX_BUDGET = 65536
@@ -22,11 +23,15 @@ MAX_BUDGET = 65536
 # The code of the verifier for a loop that may begin with a counter outside its bound.
 LOOP_ENTRY = 4
 
+# In what ways a function is tried: whether what only says where its loops go on is led past, and whether what goes on beside a counter is
+# set by it.
+WAYS = ((False, False), (True, False), (False, True), (True, True))
+
 # What to write instead of a loop that has not the form.
 OTHER_LOOP = "count from a number by one number, end it by AGAIN, or write `#pragma unroll` before a `for` that ends at a number"
 UNKNOWN_ROUNDS = "begin its counter with a number, or bound it before by an `if` of its own: `if (i > 12) return ..`"
 NO_RMAPCTL = "begin its counter with a number, or let `rmapctl` be asked: name it by --rmapctl"
-OTHER_LOOP_OF_GCC = "write a `for` with `#pragma GCC unroll N` before it"
+OTHER_LOOP_OF_GCC = "compile with -fno-ivopts -fno-unroll-loops -fno-unroll-all-loops, or write a `for` with `#pragma GCC unroll N` before it"
 
 
 def program_of(content: bytes, name: str, section: str, asker: Asker | None = None,
@@ -40,8 +45,9 @@ def program_of(content: bytes, name: str, section: str, asker: Asker | None = No
         maps = Maps(whole)
         decoder = Decoder(whole, function, maps)
         insns = list(decoder.insns())
-        laid = laid_out(insns, decoder.tables.put(insns), whole.is_of_gcc())
-        layout, said = bounded(laid, lambda it: text_of(it, laid.version, maps, source), maps.listed(), asker, tell is not None)
+        stores = decoder.tables.put(insns)
+        laid, layout, said = chosen(lambda threaded, walking: Laid(insns, stores, whole.is_of_gcc(), threaded, walking),
+                                    lambda laid, layout: text_of(layout, laid.version, maps, source), maps.listed(), asker, tell is not None)
         if tell and said and said.slot is not None:
             slot = layout.slot_lines()[said.slot]
             tell(f"{place(name, function, source, slot)}: rmapctl refuses this with V{said.code} at {said.lines[1]}; "
@@ -57,21 +63,30 @@ def text_of(layout: Layout, version: int, maps: Maps, source: Source) -> str:
     return "".join(f"{line}\n" for line in printed(layout, version, maps.listed(), source))
 
 
-def laid_out(insns: list[Insn], stores: list[Insn], is_of_gcc: bool) -> Laid:
-    """A function in its order; where its loops have no form, those that it has without the registers that only say where to go on."""
-    try:
-        return Laid(insns, stores, is_of_gcc, False)
-    except Refusal as first:
+def chosen(laid_out: Callable[[bool, bool], Laid], text: Callable[[Laid, Layout], str], maps: str, asker: Asker | None,
+           always: bool) -> tuple[Laid, Layout, Answer | None]:
+    """The function as it stands, if that may judge. If not, without the registers that only say where its loops go on, and with those
+    set that go on beside a counter, if it may judge then; else the first of these that is a text."""
+    first, refusal = None, None
+    for threaded, walking in WAYS:
         try:
-            return Laid(insns, stores, is_of_gcc, True)
-        except Refusal:
-            raise first from None
+            laid = laid_out(threaded, walking)
+            found = laid, *bounded(laid, lambda it: text(laid, it), maps, asker, always)
+        except Refusal as it:
+            refusal = refusal or it
+            continue
+        if found[2] is None or found[2].code is None:
+            return found
+        first = first or found
+    if first is None:
+        raise refusal
+    return first
 
 
 class Laid:
     """A function in its blocks and loops, and its version."""
 
-    def __init__(self, insns: list[Insn], stores: list[Insn], is_of_gcc: bool, threaded: bool):
+    def __init__(self, insns: list[Insn], stores: list[Insn], is_of_gcc: bool, threaded: bool, walking: bool):
         all_blocks = blocks_of(insns)
         shorten(all_blocks)
         if threaded:
@@ -82,7 +97,7 @@ class Laid:
         compare_what_goes_on(self.blocks)
         self.version = version_of(self.blocks)
         put_pointers_first(self.blocks)
-        self.finder = Loops(self.blocks, OTHER_LOOP_OF_GCC if is_of_gcc else OTHER_LOOP)
+        self.finder = Loops(self.blocks, OTHER_LOOP_OF_GCC if is_of_gcc else OTHER_LOOP, walking)
         self.loops = self.finder.found(back)
         if stores and any(0 in it.body for it in self.loops):
             raise Refusal("constant data, and a loop at the very beginning", "do something before the loop", stores[0].slot)

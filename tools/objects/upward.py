@@ -9,7 +9,10 @@ from dataclasses import dataclass
 from typing import NamedTuple
 
 from objects.insns import ADD, ALU, ALU32, ARSH, BY_REGISTER, JMP32, LSH, MOV, MUL, OPPOSITE, RSH, SUB, Insn
-from objects.pointers import WRITABLE, wanted_after, wanted_in
+from objects.pointers import WRITABLE, kinds_at, wanted_after, wanted_in
+
+# The greatest number of rounds of a loop.
+MAX_BOUND = 4096
 
 COMPARE = {
     1: lambda a, b: a == b, 5: lambda a, b: a != b, 2: lambda a, b: a > b, 3: lambda a, b: a >= b, 10: lambda a, b: a < b,
@@ -30,7 +33,8 @@ ENDS = {(-1, 5): 0, (-1, 2): 0, (-1, 3): -1, (1, 5): 0, (1, 10): 0, (1, 11): 1}
 class Upward:
     """The register that counts, the number with which it begins, its step, and the comparison that ends the loop: what is compared
     with `other`, or with `number`, is so much more than the register at the beginning of the round. `small` if 32 bits count. The
-    start is None where it is no number: then the counter is how far the register is from the end."""
+    start is None where it is no number: then the counter is how far the register is from the end. A pointer counts from where it
+    begins, and something else sets it."""
     register: int
     start: int | None
     step: int
@@ -41,6 +45,7 @@ class Upward:
     number: int
     small: bool
     counter: int
+    is_pointer: bool = False
 
     @property
     def asked(self) -> int:
@@ -60,8 +65,10 @@ class Upward:
 
     def each(self, slot: int, rounds: int) -> list[Insn]:
         """What sets the register that counts at the beginning of each round."""
+        if self.is_pointer:
+            return []
         if self.start is not None:
-            return round_of(self, slot, rounds)
+            return round_of(self.register, self.start, self.step, self.counter, slot, rounds)
         return distance(slot, self.register, self.counter, self)
 
     def rounds(self, least: int, most: int, greatest: int) -> int | None:
@@ -85,7 +92,7 @@ class Upward:
                 return None
         return max(found) if max(found) <= greatest else None
 
-    def rounds_to(self, number: int, limit: int = 4097) -> int | None:
+    def rounds_to(self, number: int, limit: int = MAX_BOUND + 1) -> int | None:
         mask = 0xFFFFFFFF if self.narrow else (1 << 64) - 1
         at = self.start + self.offset
         for done in range(1, limit):
@@ -122,16 +129,22 @@ def upward_of(loops, loop) -> Upward | None:
         start, test = loops.start(loop, register), test_of(loops, loop, register, known)
         if test is None:
             continue
-        counter = free_register(loops.blocks, loop)
-        if counter is None:
-            raise loops.refusal("a loop that leaves no register for a counter of its rounds", loop.latch,
-                                "use fewer values in it, compile with -O2, or end it by AGAIN")
+        counter = counter_of(loops, loop)
         found = Upward(register, start, end.more, test.offset, test.code, test.narrow, test.other, test.number, test.small or end.small, counter)
         if start is not None:
             return found
-        if far is None and goes_to_end(found):
+        if far is None and goes_to_end(found) and not kinds_at(loops.blocks)[loop.head][register]:
             far = found
     return far
+
+
+def counter_of(loops, loop) -> int:
+    """A register for a counter of a loop's rounds."""
+    free = free_registers(loops.blocks, loop)
+    if not free:
+        raise loops.refusal("a loop that leaves no register for a counter of its rounds", loop.latch,
+                            "use fewer values in it, compile with -O2, or end it by AGAIN")
+    return free[0]
 
 
 def goes_to_end(upward: Upward) -> bool:
@@ -244,12 +257,12 @@ def test_at(loops, loop, register: int, known: dict[int, Values], at: int) -> Te
     return Test(one.more, code, last.family == JMP32, other.register if other is not None else None, last.imm, small)
 
 
-def free_register(blocks, loop) -> int | None:
-    """A register that no instruction of the loop names, and whose value nobody wants after it."""
+def free_registers(blocks, loop) -> list[int]:
+    """The registers that no instruction of the loop names, and whose values nobody wants after it."""
     insns = [it for at in loop.body for it in (*blocks[at].body, *filter(None, [blocks[at].last]))]
     after = wanted_after(blocks)
     taken = set().union(*(it.reads() | it.writes() for it in insns), *(wanted_in(blocks[at], after[at])[0] for at in loop.body))
-    return next((it for it in reversed(WRITABLE) if it not in taken), None)
+    return [it for it in reversed(WRITABLE) if it not in taken]
 
 
 def number_into(slot: int, register: int, number: int) -> Insn:
@@ -273,14 +286,12 @@ def distance(slot: int, to: int, of: int, upward: Upward) -> list[Insn]:
     return [*moved, *add, Insn(slot, code << 4 | BY_REGISTER | ALU, to, upward.other, 0, 0)]
 
 
-def round_of(upward: Upward, slot: int, rounds: int) -> list[Insn]:
-    """What sets the register that counts at the beginning of each round: each number on the way is within what the verifier knows."""
-    i, c, step = upward.register, upward.counter, abs(upward.step)
-    if upward.step > 0:
-        more = [] if step == 1 else [Insn(slot, MUL << 4 | ALU, i, 0, 0, step)]
-        first = rounds + (upward.start if step == 1 else 0)
-        end = [] if step == 1 or not upward.start else [Insn(slot, ADD << 4 | ALU, i, 0, 0, upward.start)]
-        return [number_into(slot, i, first), Insn(slot, SUB << 4 | BY_REGISTER | ALU, i, c, 0, 0), *more, *end]
-    more = [] if step == 1 else [Insn(slot, MUL << 4 | ALU, i, 0, 0, step)]
-    end = upward.start - step * rounds
-    return [Insn(slot, MOV << 4 | BY_REGISTER | ALU, i, c, 0, 0), *more, *([Insn(slot, ADD << 4 | ALU, i, 0, 0, end)] if end else [])]
+def round_of(register: int, start: int, step: int, counter: int, slot: int, rounds: int) -> list[Insn]:
+    """What sets a register that counts at the beginning of each round: each number on the way is within what the verifier knows."""
+    times = [] if abs(step) == 1 else [Insn(slot, MUL << 4 | ALU, register, 0, 0, abs(step))]
+    if step > 0:
+        first, end = (rounds + start, 0) if step == 1 else (rounds, start)
+        begun = [number_into(slot, register, first), Insn(slot, SUB << 4 | BY_REGISTER | ALU, register, counter, 0, 0)]
+    else:
+        begun, end = [Insn(slot, MOV << 4 | BY_REGISTER | ALU, register, counter, 0, 0)], start + step * rounds
+    return [*begun, *times, *([Insn(slot, ADD << 4 | ALU, register, 0, 0, end)] if end else [])]
