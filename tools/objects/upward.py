@@ -121,7 +121,7 @@ def upward_of(loops, loop) -> Upward | None:
     """What counts in a loop, if a register does and what ends the loop is known of its comparison: one that begins with a number, or
     else one that goes by one to where the loop ends."""
     known = values_in(loops, loop)
-    stays = known.get(loop.latch, {})
+    stays = after_round(loops, loop, known)
     far: Upward | None = None
     for register, end in sorted(stays.items()):
         if end.register != register or not end.more or end.lifted:
@@ -166,6 +166,20 @@ def values_in(loops, loop) -> dict[int, Values]:
             known[at] = values
             left += [way for way in loops.blocks[at].next if way in loop.body and way != loop.head]
     return known
+
+
+def after_round(loops, loop, known: dict[int, Values]) -> Values:
+    """What each register is after a round, by what it was at its beginning. A compiler may have two registers for one number that counts, of
+    which one is set by the other: then it goes on as that does, if it begins as far from it."""
+    stays = dict(known.get(loop.latch, {}))
+    for register, end in known.get(loop.latch, {}).items():
+        other = known[loop.latch].get(end.register)
+        if end.register == register or other is None or other.register != end.register or not other.more or end.lifted or other.lifted:
+            continue
+        start, begun = loops.start(loop, register), loops.start(loop, end.register)
+        if start is not None and begun is not None and start - begun == end.more - other.more:
+            stays[register] = Value(register, other.more, end.small or other.small)
+    return stays
 
 
 def joined(ways: list[Values]) -> Values:

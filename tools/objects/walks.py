@@ -11,7 +11,7 @@ from dataclasses import dataclass
 
 from objects.insns import ADD, ALU, BY_REGISTER, MOV, SUB, Insn
 from objects.pointers import FRONT, STACK, TAIL, WRITABLE, kinds_at, wanted_after, wanted_in
-from objects.upward import MAX_BOUND, Upward, counter_of, free_registers, round_of, test_at, test_of, values_in
+from objects.upward import MAX_BOUND, Upward, after_round, counter_of, free_registers, round_of, test_at, test_of, values_in
 
 # The farthest that a pointer goes in a round: it takes as many instructions to set it.
 FARTHEST = 8
@@ -57,7 +57,7 @@ def walks_of(loops, loop, rounds: int) -> list[Walk]:
     free = [it for it in free_registers(loops.blocks, loop) if it != loop.register]
     counts = {loop.register, *([loop.upward.register] if loop.upward else []), *(it.register for it in loop.walks)}
     found = []
-    for register, end in sorted(known.get(loop.latch, {}).items()):
+    for register, end in sorted(after_round(loops, loop, known).items()):
         if end.register != register or not end.more or end.lifted or register in counts or register not in wanted:
             continue
         if kinds[register]:
