@@ -5,15 +5,15 @@ import struct
 from typing import Iterator, NamedTuple
 
 from objects.elf import CODE, EXECUTABLE, SECTION, WRITABLE, Object, Reference
-from objects.insns import CALL, TURN, WIDE, Insn, text_of
+from objects.insns import CALL, FRAME, TURN, WIDE, Insn, text_of
 from objects.refusal import Refusal
 from objects.tables import Tables, address_of
 
 HELPERS = {1: "count", 2: "ticket", 3: "peak"}
 MAX_MAPS = 8
 
-# The opcode of `stxdw`, and the register of the stack's end.
-KEEP, FRAME = 0x7B, 10
+# The opcode of `stxdw`.
+KEEP = 0x7B
 MAX_CELLS = 256
 
 # What gcc 12 calls to turn the bytes of a number round, and how many bits it has.

@@ -7,6 +7,9 @@ from typing import NamedTuple
 LD, LDX, ST, STX, ALU32, JMP, JMP32, ALU = range(8)
 WIDE, CALL, EXIT, GOTO, FAR_GOTO = 0x18, 0x85, 0x95, 0x05, 0x06
 
+# The register of the stack's end.
+FRAME = 10
+
 # The opcode of `be32`; with a source, it turns the bytes of that round, as no instruction does.
 TURN = 0xDC
 

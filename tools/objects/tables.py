@@ -4,7 +4,7 @@ from __future__ import annotations
 from typing import Iterator
 
 from objects.elf import Object, Section, Symbol
-from objects.insns import ADD, ALU, BY_REGISTER, LDX, MOV, ST, STX, SUB, Insn
+from objects.insns import ADD, ALU, BY_REGISTER, FRAME, LDX, MOV, ST, STX, SUB, Insn
 from objects.refusal import Refusal
 
 STACK_BYTES = 512
@@ -12,7 +12,6 @@ ALIGN = 8
 TO_STACK, ADD_NUMBER = MOV << 4 | BY_REGISTER | ALU, ADD << 4 | ALU
 # The opcodes of stores of a number, of 8 bytes and of 4.
 STORE_EIGHT, STORE_FOUR = 0x7A, 0x62
-FRAME = 10
 
 # What is to be done of a table: by the beginnings of the names that compilers give to those that they make of a `switch`.
 OF_SWITCH = {"CSWTCH": "compile with -fno-tree-switch-conversion", "switch.table": "compile with -fno-jump-tables"}

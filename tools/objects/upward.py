@@ -8,7 +8,7 @@ from __future__ import annotations
 from dataclasses import dataclass
 from typing import NamedTuple
 
-from objects.insns import ADD, ALU, ALU32, ARSH, BY_REGISTER, JMP32, LSH, MOV, MUL, OPPOSITE, RSH, SUB, Insn
+from objects.insns import ADD, ALU, ALU32, ARSH, BY_REGISTER, FRAME, JMP32, LDX, LSH, MOV, MUL, OPPOSITE, RSH, ST, STX, SUB, Insn
 from objects.pointers import WRITABLE, kinds_at, wanted_after, wanted_in
 
 # The greatest number of rounds of a loop.
@@ -114,6 +114,7 @@ class Value(NamedTuple):
     lifted: bool = False
 
 
+# What is known of registers, and of words of the stack by their offsets, which are negative.
 Values = dict[int, Value]
 
 
@@ -174,7 +175,7 @@ def after_round(loops, loop, known: dict[int, Values]) -> Values:
     stays = dict(known.get(loop.latch, {}))
     for register, end in known.get(loop.latch, {}).items():
         other = known[loop.latch].get(end.register)
-        if end.register == register or other is None or other.register != end.register or not other.more or end.lifted or other.lifted:
+        if register < 0 or end.register == register or other is None or other.register != end.register or not other.more or end.lifted or other.lifted:
             continue
         start, begun = loops.start(loop, register), loops.start(loop, end.register)
         if start is not None and begun is not None and start - begun == end.more - other.more:
@@ -202,9 +203,22 @@ def value_after(values: Values, insn: Insn) -> Values:
             found = found and shifted(found, insn.code)
         if found is not None and found.lifted and insn.code == ADD:
             found = None
+    elif insn.is_double(LDX) and insn.src == FRAME:
+        found = values.get(insn.off)
+    elif insn.family in (ST, STX):
+        return value_stored(values, insn)
     after = {register: value for register, value in values.items() if register not in insn.writes()}
     if found is not None:
         after[insn.dst] = found._replace(small=found.small or insn.family == ALU32)
+    return after
+
+
+def value_stored(values: Values, insn: Insn) -> Values:
+    """What is known after a store: of the stack nothing if it goes through another pointer."""
+    near = insn.dst == FRAME
+    after = {at: value for at, value in values.items() if at >= 0 or near and not -8 < at - insn.off < 8}
+    if near and insn.is_double(STX) and insn.src in values:
+        after[insn.off] = values[insn.src]
     return after
 
 
