@@ -134,5 +134,12 @@ def walked(blocks: Blocks) -> tuple[Blocks, list[tuple[int, int]]]:
     return {at: block for at, block in blocks.items() if at in seen}, back
 
 
+def new_block(blocks: Blocks, block: Block) -> int:
+    """Puts a block beside the others."""
+    at = max(last_slot(blocks), max(blocks)) + 1
+    blocks[at] = block
+    return at
+
+
 def last_slot(blocks: Blocks) -> int:
     return max(it.slot for block in blocks.values() for it in (*block.body, *filter(None, [block.last])))

@@ -3,7 +3,7 @@ from __future__ import annotations
 
 from dataclasses import dataclass, field
 
-from objects.flow import Block, Blocks, last_slot
+from objects.flow import Block, Blocks, new_block
 from objects.insns import ALU, ALU32, EXIT, MOV, Insn
 from objects.refusal import Refusal
 from objects.upward import MAX_BOUND, Upward, upward_of
@@ -92,8 +92,7 @@ class Loops:
         return new
 
     def new_block(self, block: Block) -> int:
-        at = max(last_slot(self.blocks), max(self.blocks)) + 1
-        self.blocks[at] = block
+        at = new_block(self.blocks, block)
         self.before[at] = []
         return at
 

@@ -6,7 +6,7 @@ import struct
 from typing import Callable
 
 from objects.asked import Answer, Asker
-from objects.copies import compare_what_goes_on
+from objects.copies import compare_what_goes_on, say_ranges
 from objects.elf import Object
 from objects.flow import blocks_of, shorten, thread, walked
 from objects.function import Decoder, Function, Maps, function_of
@@ -23,8 +23,8 @@ MAX_BUDGET = 65536
 # The code of the verifier for a loop that may begin with a counter outside its bound.
 LOOP_ENTRY = 4
 
-# In what ways a function is tried: whether what only says where its loops go on is led past, and whether what goes on beside a counter is
-# set by it.
+# In what ways a function is tried: whether what only says where its loops go on is led past, and whether the verifier is helped: what goes
+# on beside a counter is set by it, and ranges are said.
 WAYS = ((False, False), (True, False), (False, True), (True, True))
 
 # What to write instead of a loop that has not the form.
@@ -46,7 +46,7 @@ def program_of(content: bytes, name: str, section: str, asker: Asker | None = No
         decoder = Decoder(whole, function, maps)
         insns = list(decoder.insns())
         stores = decoder.tables.put(insns)
-        laid, layout, said = chosen(lambda threaded, walking: Laid(insns, stores, whole.is_of_gcc(), threaded, walking),
+        laid, layout, said = chosen(lambda threaded, helped: Laid(insns, stores, whole.is_of_gcc(), threaded, helped),
                                     lambda laid, layout: text_of(layout, laid.version, maps, source), maps.listed(), asker, tell is not None)
         if tell and said and said.slot is not None:
             slot = layout.slot_lines()[said.slot]
@@ -65,12 +65,12 @@ def text_of(layout: Layout, version: int, maps: Maps, source: Source) -> str:
 
 def chosen(laid_out: Callable[[bool, bool], Laid], text: Callable[[Laid, Layout], str], maps: str, asker: Asker | None,
            always: bool) -> tuple[Laid, Layout, Answer | None]:
-    """The function as it stands, if that may judge. If not, without the registers that only say where its loops go on, and with those
-    set that go on beside a counter, if it may judge then; else the first of these that is a text."""
+    """The function as it stands, if that may judge. If not, without the registers that only say where its loops go on, and with what helps
+    the verifier, if it may judge then; else the first of these that is a text."""
     first, refusal = None, None
-    for threaded, walking in WAYS:
+    for threaded, helped in WAYS:
         try:
-            laid = laid_out(threaded, walking)
+            laid = laid_out(threaded, helped)
             found = laid, *bounded(laid, lambda it: text(laid, it), maps, asker, always)
         except Refusal as it:
             refusal = refusal or it
@@ -86,7 +86,7 @@ def chosen(laid_out: Callable[[bool, bool], Laid], text: Callable[[Laid, Layout]
 class Laid:
     """A function in its blocks and loops, and its version."""
 
-    def __init__(self, insns: list[Insn], stores: list[Insn], is_of_gcc: bool, threaded: bool, walking: bool):
+    def __init__(self, insns: list[Insn], stores: list[Insn], is_of_gcc: bool, threaded: bool, helped: bool):
         all_blocks = blocks_of(insns)
         shorten(all_blocks)
         if threaded:
@@ -95,9 +95,11 @@ class Laid:
         self.blocks, back = walked(all_blocks)
         check_slots(sum(it.slots for block in self.blocks.values() for it in block.body))
         compare_what_goes_on(self.blocks)
+        if helped:
+            say_ranges(self.blocks)
         self.version = version_of(self.blocks)
         put_pointers_first(self.blocks)
-        self.finder = Loops(self.blocks, OTHER_LOOP_OF_GCC if is_of_gcc else OTHER_LOOP, walking)
+        self.finder = Loops(self.blocks, OTHER_LOOP_OF_GCC if is_of_gcc else OTHER_LOOP, helped)
         self.loops = self.finder.found(back)
         if stores and any(0 in it.body for it in self.loops):
             raise Refusal("constant data, and a loop at the very beginning", "do something before the loop", stores[0].slot)
