@@ -71,7 +71,10 @@ class Reader:
     def table(self) -> list[dict[int, int | str]]:
         """A table of folders or of files."""
         columns = [(self.leb(), self.leb()) for _ in range(self.number("B"))]
-        return [{kind: self.value(form) for kind, form in columns} for _ in range(self.leb())]
+        count = self.leb()
+        if not columns or count > len(self.data):
+            raise ValueError("a table that is none")
+        return [{kind: self.value(form) for kind, form in columns} for _ in range(count)]
 
 
 def files_of(reader: Reader) -> list[str]:
@@ -101,6 +104,8 @@ def unit_rows(reader: Reader) -> Iterator[Row]:
     after = reader.number("I") + reader.at
     least, _, _, line_base, line_range, opcode_base = struct.unpack_from("<BBBbBB", reader.data, reader.at)
     reader.at += 6
+    if not line_range:
+        raise ValueError("a range of no lines")
     operands = [reader.number("B") for _ in range(opcode_base - 1)]
     files = files_of(reader)
     reader.at = after

@@ -157,7 +157,9 @@ class Object:
         for row in rows_of(self.sections[place].data, self.data_of(".debug_str"), self.data_of(".debug_line_str")):
             reference = wanted.get(row.place)
             if reference is not None and reference.symbol.section == section and row.number > 0:
-                there = words.setdefault(row.file, words_of(row.file))
+                if row.file not in words:
+                    words[row.file] = words_of(row.file)
+                there = words[row.file]
                 text = there[row.number - 1].strip() if row.number <= len(there) else ""
                 at = row.at if reference.addend is None else row.at + reference.symbol.value + reference.addend
                 found[at] = Line(at, row.file, row.number, text)
