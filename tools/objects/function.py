@@ -68,9 +68,10 @@ class Function(NamedTuple):
     code: bytes
 
     def is_plain(self) -> bool:
-        """Whether it was compiled without -O1, -O2 or -Os: it begins by keeping r1, r2 and r3 on the stack."""
+        """Whether it may have been compiled without -O1, -O2 or -Os: it begins by keeping r1, r2 and r3 on the stack."""
         first = [struct.unpack_from("<BBhi", self.code, at) for at in range(0, min(len(self.code) - 7, 24), 8)]
-        return [(op, registers) for op, registers, _, _ in first] == [(KEEP, number << 4 | FRAME) for number in (1, 2, 3)]
+        kept = [(op, registers) for op, registers, _, _ in first] == [(KEEP, number << 4 | FRAME) for number in (1, 2, 3)]
+        return kept and [off - first[0][2] for _, _, off, _ in first] == [0, -8, -16]
 
     def calls_another(self) -> bool:
         return any(self.code[at] == CALL and self.code[at + 1] >> 4 == 1 for at in range(0, len(self.code) - 7, 8))
@@ -90,10 +91,7 @@ def function_of(whole: Object, section_name: str) -> Function:
     if len(found) > 1 and not callers:
         raise Refusal(f"{section_name} has {len(found)} functions, {', '.join(it.name for it in found)}",
                       "put SANDBAR_ALWAYS_INLINE before all but one, or put each into a section of its own and name one by --section")
-    chosen = (callers or found)[0]
-    if chosen.is_plain():
-        raise Refusal(f"{chosen.name} was compiled without optimisation", "compile with -O2")
-    return chosen
+    return (callers or found)[0]
 
 
 class Decoder:

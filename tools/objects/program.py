@@ -11,6 +11,7 @@ from objects.elf import Object
 from objects.flow import blocks_of, shorten, thread, walked
 from objects.function import Decoder, Function, Maps, function_of
 from objects.insns import Insn
+from objects.kept import HEADER_BYTES, keep_none
 from objects.layout import Layout, Source, printed
 from objects.loops import Loop, Loops
 from objects.pointers import put_pointers_first, version_of
@@ -45,15 +46,20 @@ def program_of(content: bytes, name: str, section: str, asker: Asker | None = No
         maps = Maps(whole)
         decoder = Decoder(whole, function, maps)
         insns = list(decoder.insns())
+        room = decoder.tables.room(insns, HEADER_BYTES)
         stores = decoder.tables.put(insns)
-        laid, layout, said = chosen(lambda threaded, helped: Laid(insns, stores, whole.is_of_gcc(), threaded, helped),
+        laid, layout, said = chosen(lambda threaded, helped: Laid(insns, stores, room, whole.is_of_gcc(), threaded, helped),
                                     lambda laid, layout: text_of(layout, laid.version, maps, source), maps.listed(), asker, tell is not None)
+        if said and said.code is not None and function.is_plain():
+            raise Refusal("the verifier refuses it", "compile with -O2")
         if tell and said and said.slot is not None:
             slot = layout.slot_lines()[said.slot]
             tell(f"{place(name, function, source, slot)}: rmapctl refuses this with V{said.code} at {said.lines[1]}; "
                  f"tools/bpf --why {name} says what is known there")
         return text_of(layout, laid.version, maps, source)
     except Refusal as it:
+        if function is not None and function.is_plain():
+            raise Refusal(f"{name}: {function.name} was compiled without optimisation", "compile with -O2") from None
         raise Refusal(f"{place(name, function, source, it.slot)}: {it.what}", it.instead) from None
     except (struct.error, IndexError, ValueError, OverflowError):
         raise Refusal(f"{name}: the object is cut off, or none", "compile it again") from None
@@ -86,7 +92,7 @@ def chosen(laid_out: Callable[[bool, bool], Laid], text: Callable[[Laid, Layout]
 class Laid:
     """A function in its blocks and loops, and its version."""
 
-    def __init__(self, insns: list[Insn], stores: list[Insn], is_of_gcc: bool, threaded: bool, helped: bool):
+    def __init__(self, insns: list[Insn], stores: list[Insn], room: int | None, is_of_gcc: bool, threaded: bool, helped: bool):
         all_blocks = blocks_of(insns)
         shorten(all_blocks)
         if threaded:
@@ -97,12 +103,18 @@ class Laid:
         compare_what_goes_on(self.blocks)
         if helped:
             say_ranges(self.blocks)
-        self.version = version_of(self.blocks)
+        try:
+            self.version = version_of(self.blocks)
+        except Refusal:
+            if not helped or room is None:
+                raise
+            stores = keep_none(self.blocks, room) + stores
+            self.version = version_of(self.blocks)
         put_pointers_first(self.blocks)
         self.finder = Loops(self.blocks, OTHER_LOOP_OF_GCC if is_of_gcc else OTHER_LOOP, helped)
         self.loops = self.finder.found(back)
         if stores and any(0 in it.body for it in self.loops):
-            raise Refusal("constant data, and a loop at the very beginning", "do something before the loop", stores[0].slot)
+            raise Refusal("constant data, or a pointer that is kept, and a loop at the very beginning", "do something before the loop", stores[0].slot)
         self.blocks[0].body = stores + self.blocks[0].body
 
     def layout(self) -> Layout:

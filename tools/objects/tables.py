@@ -50,6 +50,10 @@ class Tables:
         what = f"{' and '.join(self.names)}, constant data of {len(self.bytes)} bytes{beside}, and the stack has {STACK_BYTES}"
         return Refusal(what, instead, slot)
 
+    def room(self, insns: list[Insn], size: int) -> int | None:
+        """The offset after all tables at which there is room for more bytes, or None if there is not."""
+        return len(self.bytes) - STACK_BYTES if depth_of(insns) + len(self.bytes) + size <= STACK_BYTES else None
+
     def put(self, insns: list[Insn]) -> list[Insn]:
         """The stores that write all tables; the instructions that name one get its place on the stack."""
         if not self.bytes:

@@ -10,6 +10,7 @@ from __future__ import annotations
 from dataclasses import dataclass
 
 from objects.insns import ADD, ALU, BY_REGISTER, MOV, SUB, Insn
+from objects.kept import Places, places_at
 from objects.pointers import FRONT, STACK, TAIL, WRITABLE, kinds_at, wanted_after, wanted_in
 from objects.upward import MAX_BOUND, Upward, after_round, counter_of, free_registers, round_of, test_at, test_of, values_in
 
@@ -21,9 +22,6 @@ NOT_EQUAL = 5
 
 # The opcodes of `jne r, 1` and `jeq r, 1`.
 JNE, JEQ = 0x55, 0x15
-
-# What each register points to where the function begins.
-POINTERS = {1: (1, 0), 2: (2, 0), 10: (10, 0)}
 
 
 @dataclass
@@ -96,33 +94,8 @@ def meeting_of(loops, loop) -> tuple[Upward, Walk] | None:
     return None
 
 
-def places_before(loops, loop) -> dict[int, tuple[int, int]]:
-    """Where pointers point to before a loop: which of the first registers each comes of, and how far from there it is."""
-    blocks = loops.blocks
-    begins: dict[int, dict[int, tuple[int, int]]] = {0: POINTERS}
-    ends: dict[int, dict[int, tuple[int, int]]] = {}
-    left = [0]
-    while left:
-        at = left.pop()
-        places = begins[at]
-        for it in blocks[at].body:
-            places = place_after(places, it)
-        ends[at] = places
-        for way in blocks[at].next:
-            met = places if way not in begins else {it: place for it, place in begins[way].items() if places.get(it) == place}
-            if begins.get(way) != met:
-                begins[way] = met
-                left.append(way)
+def places_before(loops, loop) -> Places:
+    """Where pointers point to before a loop."""
+    _, ends = places_at(loops.blocks)
     first, *others = [ends[at] for at in loops.before[loop.head] if at != loop.latch and at in ends]
     return {it: place for it, place in first.items() if all(way.get(it) == place for way in others)}
-
-
-def place_after(places: dict[int, tuple[int, int]], insn: Insn) -> dict[int, tuple[int, int]]:
-    """Where pointers point to after an instruction."""
-    found = None
-    if insn.moves(ALU):
-        found = places.get(insn.src)
-    elif insn.family == ALU and insn.code == ADD and not insn.by_register and insn.dst in places:
-        found = (places[insn.dst][0], places[insn.dst][1] + insn.imm)
-    after = {it: place for it, place in places.items() if it not in insn.writes()}
-    return {**after, insn.dst: found} if found is not None else after
