@@ -27,7 +27,6 @@ typedef __INT8_TYPE__ int8_t;
 typedef __INT16_TYPE__ int16_t;
 typedef __INT32_TYPE__ int32_t;
 typedef __INT64_TYPE__ int64_t;
-typedef __UINTPTR_TYPE__ uintptr_t;
 #else
 #include <stdint.h>
 #endif
