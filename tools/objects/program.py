@@ -49,7 +49,7 @@ def program_of(content: bytes, name: str, section: str, asker: Asker | None = No
         room = decoder.tables.room(insns, HEADER_BYTES)
         stores = decoder.tables.put(insns)
         laid, layout, said = chosen(lambda threaded, helped: Laid(insns, stores, room, whole.is_of_gcc(), threaded, helped),
-                                    lambda laid, layout: text_of(layout, laid.version, maps, source), maps.listed(), asker, tell is not None)
+                                    lambda laid, layout: text_of(layout, laid.version, maps, source), maps.listed(), asker)
         if said and said.code is not None and function.is_plain():
             raise Refusal("the verifier refuses it", "compile with -O2")
         if tell and said and said.slot is not None:
@@ -69,15 +69,15 @@ def text_of(layout: Layout, version: int, maps: Maps, source: Source) -> str:
     return "".join(f"{line}\n" for line in printed(layout, version, maps.listed(), source))
 
 
-def chosen(laid_out: Callable[[bool, bool], Laid], text: Callable[[Laid, Layout], str], maps: str, asker: Asker | None,
-           always: bool) -> tuple[Laid, Layout, Answer | None]:
+def chosen(laid_out: Callable[[bool, bool], Laid], text: Callable[[Laid, Layout], str], maps: str,
+           asker: Asker | None) -> tuple[Laid, Layout, Answer | None]:
     """The function as it stands, if that may judge. If not, without the registers that only say where its loops go on, and with what helps
     the verifier, if it may judge then; else the first of these that is a text."""
     first, refusal = None, None
     for threaded, helped in WAYS:
         try:
             laid = laid_out(threaded, helped)
-            found = laid, *bounded(laid, lambda it: text(laid, it), maps, asker, always)
+            found = laid, *bounded(laid, lambda it: text(laid, it), maps, asker)
         except Refusal as it:
             refusal = refusal or it
             continue
@@ -127,11 +127,9 @@ class Laid:
         return layout
 
 
-def bounded(laid: Laid, text: Callable[[Layout], str], maps: str, asker: Asker | None, always: bool) -> tuple[Layout, Answer | None]:
+def bounded(laid: Laid, text: Callable[[Layout], str], maps: str, asker: Asker | None) -> tuple[Layout, Answer | None]:
     """The layout with the bounds of its loops. Where a bound is not in the instructions, or is too small, it is what the verifier
     knows of the counter at the head. And what it says of that at last, where it is asked."""
-    if not laid.loops and not always:
-        return laid.layout(), None
     for _ in range(2 * len(laid.loops) + 1):
         layout = laid.layout()
         said = asker.why(text(layout), maps) if asker else None
