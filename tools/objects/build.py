@@ -14,23 +14,27 @@ from objects.program import program_of
 from objects.refusal import Refusal
 
 HEADERS = Path(__file__).resolve().parent.parent.parent / "include"
-COMPILERS = ("clang-19", "clang-16", "clang-14", "clang")
+COMPILERS = ("clang-19", "clang-16", "clang-14", "clang", "bpf-gcc")
 FLAGS = ("-target", "bpf", "-mcpu=v3", "-O2", "-ffreestanding", "-fno-jump-tables", "-g", "-Wall")
+# Those of gcc: it unrolls every loop, and makes pointers that walk of indices, unless it is asked not to.
+GCC_FLAGS = ("-fno-ivopts", "-fno-unroll-loops", "-fno-unroll-all-loops")
+FLAGS_OF_GCC = ("-O2", "-ffreestanding", *GCC_FLAGS, "-g", "-Wall")
 BYTES_IN_LINE = 16
 
 
 def compiled(source: str, compiler: str | None) -> bytes:
-    """The object that a clang makes of a file of C. What is wrong with the file clang says itself."""
+    """The object that a compiler makes of a file of C. What is wrong with the file it says itself."""
     command = compiler or next((it for it in COMPILERS if shutil.which(it)), None)
     if command is None:
-        raise Refusal("there is no clang here", "install one, as clang-19, or name it by --compiler")
+        raise Refusal("there is no compiler for BPF here", "install one, as clang-19 or gcc-bpf, or name it by --compiler")
+    flags = FLAGS_OF_GCC if "gcc" in os.path.basename(command) else FLAGS
     headers = [f"-I{HEADERS}"] if HEADERS.is_dir() else []
     with tempfile.TemporaryDirectory() as folder:
         made = Path(folder) / "program.o"
         try:
-            done = subprocess.run([command, *FLAGS, *headers, "-c", source, "-o", str(made)], check=False)
+            done = subprocess.run([command, *flags, *headers, "-c", source, "-o", str(made)], check=False)
         except OSError as error:
-            raise Refusal(f"{command}: {error.strerror}", "name a clang by --compiler") from None
+            raise Refusal(f"{command}: {error.strerror}", "name a compiler for BPF by --compiler") from None
         if done.returncode:
             raise Refusal(f"{source}: {command} makes no object of it", "correct what it names")
         return made.read_bytes()

@@ -1,10 +1,11 @@
-"""Objects as compilers write them: ELF of 64 bits, with the lines of C that clang's -g keeps in .BTF.ext."""
+"""Objects as compilers write them: ELF of 64 bits, with the lines of C that -g keeps: clang's in .BTF.ext, gcc's in .debug_line."""
 from __future__ import annotations
 
 import os
 import struct
 from typing import Iterator, NamedTuple
 
+from objects.debug_lines import rows_of, words_of
 from objects.refusal import Refusal
 
 # Numbers of ELF: the machine, kinds and flags of sections, kinds of symbols.
@@ -129,12 +130,40 @@ class Object:
     def is_of_gcc(self) -> bool:
         return b"GCC:" in self.data_of(".comment")
 
-    def lines(self, section: str) -> list[Line]:
+    def lines(self, section: int) -> list[Line]:
         """The lines of a section, in the order of its bytes; none where the object does not say them."""
-        try:
-            return sorted(read_lines(self.data_of(".BTF"), self.data_of(".BTF.ext"), section))
-        except (ValueError, OverflowError, struct.error):
+        for read in (self.btf_lines, self.debug_lines):
+            try:
+                found = read(section)
+            except (ValueError, OverflowError, IndexError, KeyError, struct.error):
+                continue
+            if found:
+                return found
+        return []
+
+    def btf_lines(self, section: int) -> list[Line]:
+        """The lines that .BTF.ext has of a section."""
+        return sorted(read_lines(self.data_of(".BTF"), self.data_of(".BTF.ext"), self.sections[section].name))
+
+    def debug_lines(self, section: int) -> list[Line]:
+        """The lines that .debug_line has of a section. Of several rows at one byte the last is the instruction's. What stands in a line
+        is in the file of C, if that is there."""
+        place = next((at for at, it in enumerate(self.sections) if it.name == ".debug_line"), None)
+        if place is None:
             return []
+        wanted = self.references(place)
+        found: dict[int, Line] = {}
+        words: dict[str, list[str]] = {}
+        for row in rows_of(self.sections[place].data, self.data_of(".debug_str"), self.data_of(".debug_line_str")):
+            reference = wanted.get(row.place)
+            if reference is not None and reference.symbol.section == section and row.number > 0:
+                if row.file not in words:
+                    words[row.file] = words_of(row.file)
+                there = words[row.file]
+                text = there[row.number - 1].strip() if row.number <= len(there) else ""
+                at = row.at if reference.addend is None else row.at + reference.symbol.value + reference.addend
+                found[at] = Line(at, row.file, row.number, text)
+        return [found[at] for at in sorted(found)]
 
 
 def read_lines(types: bytes, more: bytes, section: str) -> Iterator[Line]:

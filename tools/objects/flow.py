@@ -3,7 +3,7 @@ from __future__ import annotations
 
 from dataclasses import dataclass
 
-from objects.insns import ALU, ALU32, EXIT, JMP32, MOV, Insn
+from objects.insns import ALU, ALU32, BY_REGISTER, EXIT, JMP32, MOV, TURN, Insn
 from objects.refusal import Refusal
 
 
@@ -43,12 +43,20 @@ def blocks_of(insns: list[Insn]) -> Blocks:
 
 
 def block_of(body: list[Insn], after: int) -> Block:
+    body = [part for it in body for part in parts_of(it)]
     last = body[-1]
     if last.op == EXIT:
         return Block(body[:-1], last, [])
     if last.compares:
         return Block(body[:-1], last, [after, last.target])
     return Block(body, None, [after]) if last.target is None else Block(body[:-1], None, [last.target])
+
+
+def parts_of(insn: Insn) -> list[Insn]:
+    """The instructions that an instruction stands for."""
+    if insn.op != TURN or not insn.src:
+        return [insn]
+    return [Insn(insn.slot, MOV << 4 | BY_REGISTER | ALU, insn.dst, insn.src, 0, 0), insn._replace(src=0)]
 
 
 def shorten(blocks: Blocks) -> None:
@@ -124,6 +132,13 @@ def walked(blocks: Blocks) -> tuple[Blocks, list[tuple[int, int]]]:
         elif way not in left:
             back.append((open_blocks[-1], way))
     return {at: block for at, block in blocks.items() if at in seen}, back
+
+
+def new_block(blocks: Blocks, block: Block) -> int:
+    """Puts a block beside the others."""
+    at = max(last_slot(blocks), max(blocks)) + 1
+    blocks[at] = block
+    return at
 
 
 def last_slot(blocks: Blocks) -> int:

@@ -5,17 +5,19 @@ import struct
 from typing import Iterator, NamedTuple
 
 from objects.elf import CODE, EXECUTABLE, SECTION, WRITABLE, Object, Reference
-from objects.insns import CALL, WIDE, Insn, text_of
+from objects.insns import CALL, FRAME, TURN, WIDE, Insn, text_of
 from objects.refusal import Refusal
 from objects.tables import Tables, address_of
 
 HELPERS = {1: "count", 2: "ticket", 3: "peak"}
 MAX_MAPS = 8
 
-# The opcode of `stxdw`, and the register of the stack's end.
-KEEP, FRAME = 0x7B, 10
+# The opcode of `stxdw`.
+KEEP = 0x7B
 MAX_CELLS = 256
 
+# What gcc 12 calls to turn the bytes of a number round, and how many bits it has.
+TURNS = {"__bswapsi2": 32, "__bswapdi2": 64}
 SIGNED_DIVISIONS = ("__divdi3", "__moddi3", "__divsi3", "__modsi3")
 
 ATOMIC = ("an atomic operation", "draw a ticket of a cell")
@@ -66,9 +68,10 @@ class Function(NamedTuple):
     code: bytes
 
     def is_plain(self) -> bool:
-        """Whether it was compiled without -O1, -O2 or -Os: it begins by keeping r1, r2 and r3 on the stack."""
+        """Whether it may have been compiled without -O1, -O2 or -Os: it begins by keeping r1, r2 and r3 on the stack."""
         first = [struct.unpack_from("<BBhi", self.code, at) for at in range(0, min(len(self.code) - 7, 24), 8)]
-        return [(op, registers) for op, registers, _, _ in first] == [(KEEP, number << 4 | FRAME) for number in (1, 2, 3)]
+        kept = [(op, registers) for op, registers, _, _ in first] == [(KEEP, number << 4 | FRAME) for number in (1, 2, 3)]
+        return kept and [off - first[0][2] for _, _, off, _ in first] == [0, -8, -16]
 
     def calls_another(self) -> bool:
         return any(self.code[at] == CALL and self.code[at + 1] >> 4 == 1 for at in range(0, len(self.code) - 7, 8))
@@ -88,10 +91,7 @@ def function_of(whole: Object, section_name: str) -> Function:
     if len(found) > 1 and not callers:
         raise Refusal(f"{section_name} has {len(found)} functions, {', '.join(it.name for it in found)}",
                       "put SANDBAR_ALWAYS_INLINE before all but one, or put each into a section of its own and name one by --section")
-    chosen = (callers or found)[0]
-    if chosen.is_plain():
-        raise Refusal(f"{chosen.name} was compiled without optimisation", "compile with -O2")
-    return chosen
+    return (callers or found)[0]
 
 
 class Decoder:
@@ -110,7 +110,7 @@ class Decoder:
             if op == WIDE:
                 insn = self.wide(insn._replace(high=struct.unpack_from("<i", code, 8 * slot + 12)[0]))
             elif op == CALL:
-                self.check_call(insn)
+                insn = self.call(insn)
             if text_of(insn) is None or max(insn.dst, insn.src if insn.map is None else 0) > 10:
                 what = f"an instruction of opcode {op:02X}, for which there is none here"
                 raise Refusal(*UNKNOWN.get(op, (what, "write it in other words")), slot)
@@ -151,14 +151,16 @@ class Decoder:
             return reference.symbol.value + reference.addend
         return insn.imm if self.whole.is_of_gcc() else reference.symbol.value + insn.imm
 
-    def check_call(self, insn: Insn) -> None:
-        """Refuses a call that is none of a helper."""
+    def call(self, insn: Insn) -> Insn:
+        """A call of a helper, or what turns the bytes of r1 round into r0; every other call is refused."""
         reference = self.reference(insn)
         if reference is None and insn.src == 0:
             if insn.imm not in HELPERS:
                 raise Refusal(f"a call of helper {insn.imm}, which is none", "call count, ticket or peak", insn.slot)
-            return
+            return insn
         name = self.callee(insn, reference)
+        if name in TURNS and self.whole.section_of(reference.symbol) is None:
+            return Insn(insn.slot, TURN, 0, 1, 0, TURNS[name])
         if name in SIGNED_DIVISIONS:
             raise Refusal(f"signed division, by a call of {name}", "divide unsigned numbers, or take clang's -mcpu=v4",
                           insn.slot)

@@ -7,14 +7,23 @@ from typing import NamedTuple
 LD, LDX, ST, STX, ALU32, JMP, JMP32, ALU = range(8)
 WIDE, CALL, EXIT, GOTO, FAR_GOTO = 0x18, 0x85, 0x95, 0x05, 0x06
 
+# The register of the stack's end.
+FRAME = 10
+
+# The opcode of `be32`; with a source, it turns the bytes of that round, as no instruction does.
+TURN = 0xDC
+
 # Codes of arithmetic and of comparisons.
-ADD, SUB, MUL, DIV, NEG, MOD, MOV, END = 0, 1, 2, 3, 8, 9, 11, 13
+ADD, SUB, MUL, DIV, LSH, RSH, NEG, MOD, MOV, ARSH, END = 0, 1, 2, 3, 6, 7, 8, 9, 11, 12, 13
 OPERATIONS = {0: "add", 1: "sub", 2: "mul", 3: "div", 4: "or", 5: "and", 6: "lsh", 7: "rsh", 9: "mod", 10: "xor", 11: "mov",
               12: "arsh"}
 COMPARISONS = {1: "jeq", 2: "jgt", 3: "jge", 4: "jset", 5: "jne", 6: "jsgt", 7: "jsge", 10: "jlt", 11: "jle", 12: "jslt",
                13: "jsle"}
 # The comparison that holds where this one does not; of `jset` there is none.
 OPPOSITE = {1: 5, 5: 1, 2: 11, 11: 2, 3: 10, 10: 3, 6: 13, 13: 6, 7: 12, 12: 7}
+
+# The bit of an opcode that takes a register in place of a number.
+BY_REGISTER = 8
 
 # Sizes and modes of loads and stores.
 SIZES = {0x00: "w", 0x08: "h", 0x10: "b", 0x18: "dw"}
@@ -45,7 +54,7 @@ class Insn(NamedTuple):
 
     @property
     def by_register(self) -> bool:
-        return bool(self.op & 8)
+        return bool(self.op & BY_REGISTER)
 
     @property
     def slots(self) -> int:

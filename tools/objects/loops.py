@@ -3,17 +3,20 @@ from __future__ import annotations
 
 from dataclasses import dataclass, field
 
-from objects.flow import Block, Blocks, last_slot
+from objects.flow import Block, Blocks, new_block
 from objects.insns import ALU, ALU32, EXIT, MOV, Insn
 from objects.refusal import Refusal
-from objects.upward import Upward, number_into, round_of, upward_of
+from objects.upward import MAX_BOUND, Upward, upward_of
+from objects.walks import Walk, meeting_of, walks_of
 
 MAX_LOOPS = 8
-MAX_BOUND = 4096
 
 # The opcodes of `add r, -1`, `jne r, 0` and `jeq r, 0`, and the same of 32 bits.
 COUNT_DOWN, JNE, JEQ = 0x07, 0x55, 0x15
 COUNT_DOWN_NARROW, JNE_NARROW, JEQ_NARROW = 0x04, 0x56, 0x16
+
+# The code of `jne`.
+NOT_EQUAL = 5
 
 # The verdict of a run whose counter would be 0 where it cannot be, and the opcode of `mov r0, 10`.
 DENIAL, PUT_NUMBER = 10, 0xB7
@@ -32,13 +35,20 @@ class Loop:
     start: int = 0
     slot: int = 0
     first: list[Insn] = field(default_factory=list)
+    walks: list[Walk] = field(default_factory=list)
+
+    @property
+    def asked(self) -> int:
+        """The register whose range says how many rounds there are."""
+        return self.register if self.upward is None else self.upward.asked
 
 
 class Loops:
-    """Finds the loops of a function, and gives each the form that the verifier wants of it."""
+    """Finds the loops of a function, and gives each the form that the verifier wants of it. If they are `walking`, what goes on beside
+    a counter is set by it."""
 
-    def __init__(self, blocks: Blocks, instead: str):
-        self.blocks, self.instead = blocks, instead
+    def __init__(self, blocks: Blocks, instead: str, walking: bool):
+        self.blocks, self.instead, self.walking = blocks, instead, walking
         self.before: dict[int, list[int]] = {at: [] for at in blocks}
         for at, block in blocks.items():
             for way in block.next:
@@ -82,8 +92,7 @@ class Loops:
         return new
 
     def new_block(self, block: Block) -> int:
-        at = max(last_slot(self.blocks), max(self.blocks)) + 1
-        self.blocks[at] = block
+        at = new_block(self.blocks, block)
         self.before[at] = []
         return at
 
@@ -106,9 +115,14 @@ class Loops:
         why = self.counts_down(loop)
         if why is not None:
             loop.upward = upward_of(self, loop)
+            met = meeting_of(self, loop) if loop.upward is None and self.walking else None
+            if met is not None:
+                loop.upward, loop.walks = met[0], [met[1]]
             if loop.upward is None:
                 raise why
             self.put_counter(loop)
+        if self.walking:
+            self.put_walks(loop)
 
     def counts_down(self, loop: Loop) -> Refusal | None:
         """Finds the counter of a loop that counts down to 0, or says why there is none."""
@@ -146,7 +160,8 @@ class Loops:
         for it in [it for it in self.loops if loop.body <= it.body]:
             it.body.add(down)
         loop.latch, loop.register = down, upward.counter
-        rounds = 0 if upward.other is not None else upward.rounds(upward.number, upward.number, MAX_BOUND)
+        is_asked = upward.start is None or upward.other is not None
+        rounds = 0 if is_asked else upward.rounds(upward.number, upward.number, MAX_BOUND)
         if rounds is None:
             raise self.refusal("a loop whose number of rounds is not known", loop.latch)
         self.set_bound(loop, rounds)
@@ -173,19 +188,41 @@ class Loops:
             if at not in self.before[way]:
                 self.before[way].append(at)
 
-    def put_guard(self, loop: Loop) -> None:
+    def put_guard(self, loop: Loop) -> bool:
         """Ends a run with a denial whose counter would be 0 at first, of which the verifier knows no more: a loop that counts down from 0
-        would go on for 2^64 rounds, so no program means it."""
+        would go on for 2^64 rounds, so no program means it. False if the loop would end after a round."""
+        if loop.upward is not None and loop.upward.code != NOT_EQUAL:
+            return False
         slot = self.first_slot(loop.head)
         start = self.block_at_start(loop)
         self.test(start, Insn(slot, JEQ, loop.register, 0, 0, 0), [loop.head, self.denial(slot)])
+        return True
+
+    def put_walks(self, loop: Loop) -> None:
+        """Sets what goes on beside a counter that begins with the number of rounds at the beginning of each."""
+        if loop.upward is None and self.start(loop, loop.register) != loop.bound or loop.upward is not None and loop.upward.start is None:
+            return
+        found = walks_of(self, loop, loop.bound or MAX_BOUND)
+        if not found:
+            return
+        loop.walks += found
+        if loop.upward is None:
+            loop.slot, loop.first = self.first_slot(loop.head), list(self.blocks[loop.head].body)
+            loop.start = self.block_at_start(loop)
+        self.set_bound(loop, loop.bound)
 
     def set_bound(self, loop: Loop, rounds: int) -> None:
         """Gives a loop its bound; 0 where it is to be asked for."""
         loop.bound = rounds
-        if loop.upward is not None:
-            self.blocks[loop.start].body = [number_into(loop.slot, loop.upward.counter, rounds)]
-            self.blocks[loop.head].body = round_of(loop.upward, loop.slot, rounds) + loop.first
+        if loop.upward is None and not loop.walks:
+            return
+        before = loop.upward.before(loop.slot, rounds) if loop.upward else []
+        each = loop.upward.each(loop.slot, rounds) if loop.upward else []
+        for it in loop.walks:
+            before = before + it.before(loop.slot, rounds)
+            each = each + it.each(loop.slot, loop.register, rounds)
+        self.blocks[loop.start].body = before
+        self.blocks[loop.head].body = each + loop.first
 
     def inside(self, loop: Loop) -> list[Loop]:
         return [it for it in self.loops if it.body < loop.body]

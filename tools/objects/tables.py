@@ -4,16 +4,14 @@ from __future__ import annotations
 from typing import Iterator
 
 from objects.elf import Object, Section, Symbol
-from objects.insns import ADD, ALU, LDX, MOV, ST, STX, SUB, Insn
+from objects.insns import ADD, ALU, BY_REGISTER, FRAME, LDX, MOV, ST, STX, SUB, Insn
 from objects.refusal import Refusal
 
 STACK_BYTES = 512
 ALIGN = 8
-BY_REGISTER = 8
 TO_STACK, ADD_NUMBER = MOV << 4 | BY_REGISTER | ALU, ADD << 4 | ALU
 # The opcodes of stores of a number, of 8 bytes and of 4.
 STORE_EIGHT, STORE_FOUR = 0x7A, 0x62
-FRAME = 10
 
 # What is to be done of a table: by the beginnings of the names that compilers give to those that they make of a `switch`.
 OF_SWITCH = {"CSWTCH": "compile with -fno-tree-switch-conversion", "switch.table": "compile with -fno-jump-tables"}
@@ -51,6 +49,10 @@ class Tables:
         instead = next((it for begun, it in OF_SWITCH.items() if self.names[-1].startswith(begun)), UNROLL)
         what = f"{' and '.join(self.names)}, constant data of {len(self.bytes)} bytes{beside}, and the stack has {STACK_BYTES}"
         return Refusal(what, instead, slot)
+
+    def room(self, insns: list[Insn], size: int) -> int | None:
+        """The offset after all tables at which there is room for more bytes, or None if there is not."""
+        return len(self.bytes) - STACK_BYTES if depth_of(insns) + len(self.bytes) + size <= STACK_BYTES else None
 
     def put(self, insns: list[Insn]) -> list[Insn]:
         """The stores that write all tables; the instructions that name one get its place on the stack."""
