@@ -116,12 +116,16 @@ abbrev pub quota_rows : List Quota → List ℕ
 quota_rows [] = codes "  {0, 0, 0}," ++ 10 ∷ []
 quota_rows (quota ∷ quotas) = flat_map quota_row (quota ∷ quotas)
 
+-- the line before the rows
+unfoldable pub quotas_head : List ℕ
+quotas_head =
+    codes "static const struct { uint8_t map; uint16_t cell; uint64_t limit; } node_quotas[] = {" ++ 10 ∷ []
+
 -- how many there are, and the array of them
 abbrev pub c_quotas : List Quota → List ℕ
 c_quotas quotas =
-    codes "#define NODE_QUOTAS " ++ decimal (length quotas) ++ 10 ∷ 10 ∷ []
-    ++ codes "static const struct { uint8_t map; uint16_t cell; uint64_t limit; } node_quotas[] = {" ++ 10 ∷ []
-    ++ quota_rows quotas ++ codes "};" ++ 10 ∷ []
+    codes "#define NODE_QUOTAS " ++ decimal (length quotas) ++ 10 ∷ 10 ∷ [] ++ quotas_head ++ quota_rows quotas
+    ++ codes "};\n"
 
 -- those of a table, if one was named
 abbrev pub c_asked : Option (List Quota) → List ℕ
@@ -135,4 +139,4 @@ lines_asked (Some quotas) = flat_map quota_line quotas
 -- the end of a header: the bytes of the pool, and the quotas
 abbrev pub header_end : (pool : ℕ) → Option (List Quota) → List ℕ
 header_end pool quotas =
-    10 ∷ codes "#define NODE_POOL_BYTES " ++ decimal pool ++ 10 ∷ [] ++ c_asked quotas ++ 10 ∷ codes "#endif" ++ 10 ∷ []
+    10 ∷ codes "#define NODE_POOL_BYTES " ++ decimal pool ++ 10 ∷ [] ++ c_asked quotas ++ codes "\n#endif\n"
