@@ -1,6 +1,6 @@
 -- The quotas of a table that is flown, and the end of the header that has them.
 use Rattle.std.specs.Prelude.{◌≡◌, ◌⊎◌, ℕ, Bool, ◌||◌, true, false, List, [], ◌∷◌, ◌++◌, length, Option, Some, None, codes, decimal}
-use Rattle.std.specs.List.{flat_map, list_any}
+use Rattle.std.specs.List.{flat_map}
 use Rattle.std.specs.Str.{IsUtf8, bytes_eq}
 use Rattle.bpf.specs.Program.{Program, image_bytes}
 use Rattle.bver.specs.Justified.{AcceptedValue}
@@ -32,9 +32,14 @@ abbrev pub quotas_in : List PortRule → List Quota
 quotas_in [] = []
 quotas_in (own ∷ rules) = quota_list own.rule.quota ++ quotas_in rules
 
+-- whether an image is that of a load
+abbrev pub is_loaded : (image : List ℕ) → List LoadValue → Bool
+is_loaded image [] = false
+is_loaded image (load ∷ loads) = bytes_eq image load.image || is_loaded image loads
+
 -- whether an image is that of the program that judges at first, or of a load
 abbrev pub is_flown : (image first : List ℕ) → List LoadValue → Bool
-is_flown image first loads = bytes_eq image first || list_any (λ load. bytes_eq image load.image) loads
+is_flown image first loads = bytes_eq image first || is_loaded image loads
 
 -- why lines are no table that compiles for these maps: they are no table, or it has this fault, or memory was refused
 abbrev pub IsTableFault : Maps → (lines : List (List ℕ)) → TextFault → Type 0
