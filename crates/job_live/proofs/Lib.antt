@@ -1,4 +1,5 @@
 mod CellRows
+mod EntriesLeft
 mod EntryLines
 mod HandingOut
 mod HostReading

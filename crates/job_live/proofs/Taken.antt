@@ -14,11 +14,11 @@ use Rattle.job_live.specs.declared.asks.Asks.{Asks}
 use Rattle.job_live.specs.declared.asks.Asks.TheVariants.{Packet, Set}
 
 -- a packet line that was taken after that
-pub packet_answered : (line : List ℕ) (number : ℕ) (is_bad : Bool) (before ready after : LiveNodeValue) (words old mid new : List ℕ)
+pub packet_answered : (at_once : Bool) (line : List ℕ) (number : ℕ) (is_bad : Bool) (before ready after : LiveNodeValue) (words old mid new : List ℕ)
     → MakesRoom before ready (Some old) (Some mid) → words ≡ fault_words number
-    → ((number : ℕ) → words ≡ fault_words number → TakesAndTells line number is_bad ready after mid new)
-    → AnswersAsked false Packet line number before after (Some old) (Some new) is_bad
-packet_answered line number is_bad before ready after words old mid new made is takes =
+    → ((number : ℕ) → words ≡ fault_words number → TakesAndTells at_once line number is_bad ready after mid new)
+    → AnswersAsked at_once false Packet line number before after (Some old) (Some new) is_bad
+packet_answered at_once line number is_bad before ready after words old mid new made is takes =
     let told = takes number is in
     record {
       fault = told.fault;
@@ -29,21 +29,21 @@ packet_answered line number is_bad before ready after words old mid new made is 
     }
 
 -- what a line of these words asks for was answered
-answered : (words : List (List ℕ)) (line : List ℕ) (number : ℕ) (before after : LiveNodeValue) (old new : Option (List ℕ)) (asks : Asks) (is_long is_bad : Bool)
-    → words ≡ words_of line → IsAsked words asks → nat_lt MAX_LINE (length line) ≡ is_long → AnswersAsked is_long asks line number before after old new is_bad
-    → Answers line number before after old new is_bad
-answered words line number before after old new asks is_long is_bad same is_asked at answers = record {
+answered : (at_once : Bool) (words : List (List ℕ)) (line : List ℕ) (number : ℕ) (before after : LiveNodeValue) (old new : Option (List ℕ)) (asks : Asks) (is_long is_bad : Bool)
+    → words ≡ words_of line → IsAsked words asks → nat_lt MAX_LINE (length line) ≡ is_long → AnswersAsked at_once is_long asks line number before after old new is_bad
+    → Answers at_once line number before after old new is_bad
+answered at_once words line number before after old new asks is_long is_bad same is_asked at answers = record {
   asks = asks;
   asked = subst (λ (w : List (List ℕ)). IsAsked w asks) same is_asked;
-  answered = subst (λ (l : Bool). AnswersAsked l asks line number before after old new is_bad) (sym at) answers;
+  answered = subst (λ (l : Bool). AnswersAsked at_once l asks line number before after old new is_bad) (sym at) answers;
 }
 
 -- a line that is too long
-pub long_answered : (words others : List (List ℕ)) (line : List ℕ) (number : ℕ) (node : LiveNodeValue) (old new : Option (List ℕ)) (asks : Asks) (fault : BadLine)
+pub long_answered : (at_once : Bool) (words others : List (List ℕ)) (line : List ℕ) (number : ℕ) (node : LiveNodeValue) (old new : Option (List ℕ)) (asks : Asks) (fault : BadLine)
     → words ≡ words_of line → IsAsked words asks → others ≡ words_of line → nat_lt MAX_LINE (length line) ≡ true → IsLongFault others asks fault
-    → Appends old new (fault_line (AtLine number fault)) → Answers line number node node old new true
-long_answered words others line number node old new asks fault same is_asked other at is_fault told =
-    answered words line number node node old new asks true true same is_asked at
+    → Appends old new (fault_line (AtLine number fault)) → Answers at_once line number node node old new true
+long_answered at_once words others line number node old new asks fault same is_asked other at is_fault told =
+    answered at_once words line number node node old new asks true true same is_asked at
     (record {
       fault = Some fault;
       between = old;
@@ -53,11 +53,11 @@ long_answered words others line number node old new asks fault same is_asked oth
     })
 
 -- the write of an instrument
-pub setting_answered : (words others : List (List ℕ)) (line : List ℕ) (number : ℕ) (before after : LiveNodeValue) (old new : Option (List ℕ)) (asks : Asks) (is_bad : Bool)
+pub setting_answered : (at_once : Bool) (words others : List (List ℕ)) (line : List ℕ) (number : ℕ) (before after : LiveNodeValue) (old new : Option (List ℕ)) (asks : Asks) (is_bad : Bool)
     → words ≡ words_of line → IsAsked words asks → asks ≡ Set → others ≡ words_of line → nat_lt MAX_LINE (length line) ≡ false
-    → AnswersSetting others number before after old new is_bad → Answers line number before after old new is_bad
-setting_answered words others line number before after old new asks is_bad same is_asked is_set other at done =
-    answered words line number before after old new Set false is_bad same (subst (λ (a : Asks). IsAsked words a) is_set is_asked) at
+    → AnswersSetting others number before after old new is_bad → Answers at_once line number before after old new is_bad
+setting_answered at_once words others line number before after old new asks is_bad same is_asked is_set other at done =
+    answered at_once words line number before after old new Set false is_bad same (subst (λ (a : Asks). IsAsked words a) is_set is_asked) at
     (record {
       fault = done.fault;
       between = done.between;
