@@ -56,7 +56,8 @@ fn add_place_in(text: &mut String, alloc: Global, noted: &Noted<'_>) -> Result<(
     }
 }
 
-/// Adds what bytes are that are no image: why a text is none, where one may be in its place, or else what a text is.
+/// Adds what bytes are that are no image: why a text is none, where one may be in its place, or else what a text
+/// is.
 fn add_no_image(text: &mut String, alloc: Global, noted: &Noted<'_>) -> Result<(), AllocError> {
     match noted.source() {
         Some(_) => add_place_in(text, alloc, noted),

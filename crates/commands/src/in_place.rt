@@ -80,8 +80,8 @@ fn is_memory(fault: &TextFault) -> bool {
     }
 }
 
-/// The image that a text stands for: that of the program that it writes, or of the table, for a node with maps of these sizes.
-/// None if it is neither.
+/// The image that a text stands for: that of the program that it writes, or of the table, for a node with maps
+/// of these sizes. None if it is neither.
 ///
 /// # Errors
 ///
@@ -169,7 +169,8 @@ fn directive_line<'a>(text: &'a str, directive: &str) -> Option<(usize, &'a str)
     None
 }
 
-/// Adds the line of a program's text for which it is refused, with its comment: that of the slot, or of the budget.
+/// Adds the line of a program's text for which it is refused, with its comment: that of the slot, or of the
+/// budget.
 fn add_line(text: &mut String, source: &str, refused: Refused) -> Result<(), AllocError> {
     let slot = refused.slot;
     let (found, is_budget) = match refused.code {
@@ -206,8 +207,8 @@ fn add_faults(
     text.push_str(told_text(alloc, source)?.as_str())
 }
 
-/// Adds what is told of a text in the place of an image, that was refused: the line at which the slot of the refusal is, or why the
-/// text is none.
+/// Adds what is told of a text in the place of an image, that was refused: the line at which the slot of the
+/// refusal is, or why the text is none.
 ///
 /// # Errors
 ///

@@ -157,8 +157,8 @@ impl<'a> Noted<'a> {
         noted
     }
 
-    /// Nothing yet, of the files that a talk on this node reads. Of the text of a program or a table in the place of its image the
-    /// image is given.
+    /// Nothing yet, of the files that a talk on this node reads. Of the text of a program or a table in the
+    /// place of its image the image is given.
     pub fn of_node(node: &'a NodeSource) -> Noted<'a>
         ensures dump { reads_dump result ≡ false }
         ensures maps { maps_for result ≡ Some (maps_of_node node.now) }
@@ -262,7 +262,8 @@ impl<'a> Noted<'a> {
         }
     }
 
-    /// The bytes that a job gets of those of a file: of the text of a program or a table in the place of an image those of the image.
+    /// The bytes that a job gets of those of a file: of the text of a program or a table in the place of an
+    /// image those of the image.
     ///
     /// `Cannot` if memory was refused; then the cause is noted.
     fn placed(&mut self, alloc: Global, content: Content, bytes: Vec<u8>) -> Result<Vec<u8>, Cannot>

@@ -129,7 +129,8 @@ impl<'a, R: rt::Files + Input> ToldFiles<'a, R> {
         }
     }
 
-    /// The files that a talk on this node reads. Of the text of a program or a table in the place of its image the image is given.
+    /// The files that a talk on this node reads. Of the text of a program or a table in the place of its image
+    /// the image is given.
     pub fn of_node(rt: &'a R, alloc: Global, node: &'a NodeSource) -> ToldFiles<'a, R>
         ensures { reads_dump result.noted ≡ false }
     {

@@ -121,7 +121,8 @@ fn fault_due(alloc: Global, frame: u64) -> io::Result<Due>
     Ok(due)
 }
 
-/// A node behind a link, whether its entries are handed out at once, how many frames came, and whether a packet goes on with the next.
+/// A node behind a link, whether its entries are handed out at once, how many frames came, and whether a packet
+/// goes on with the next.
 #[derive(Drop)]
 pub struct Answering {
     alloc: Global,
@@ -194,7 +195,8 @@ impl Target for Answering {
         match came {
             Came::Whole(packet) => {
                 let at_once = self.at_once;
-                let Ok(due) = answer_packet(self.alloc, &mut self.node, at_once, packet, frame) else {
+                let Ok(due) = answer_packet(self.alloc, &mut self.node, at_once, packet, frame)
+                else {
                     return Err(Cannot);
                 };
                 self.count = frame;

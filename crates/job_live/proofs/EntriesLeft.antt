@@ -16,6 +16,11 @@ only_line bank [] d one = absurd (omega (arith, one))
 only_line bank (entry ∷ []) d one = sym (append-nil (left_line bank entry))
 only_line bank (entry ∷ other ∷ entries) d one = absurd (omega (arith, one))
 
+-- the same after a text
+pub only_put : (bank : ℕ) (entries : List EntryValue) (d : EntryValue) (old new : List ℕ) → length entries ≡ 1
+    → new ≡ old ++ left_line bank (get_or entries 0 d) → new ≡ old ++ flat_map (left_line bank) entries
+only_put bank entries d old new one put = put ∙ ap (λ (l : List ℕ). old ++ l) (only_line bank entries d one)
+
 -- the line of one bank more
 pub left_more : (banks : List BankValue) (n : ℕ) (old mid new : List ℕ) → mid ≡ old ++ flat_map (left_text banks) (range_with_len 0 n)
     → new ≡ mid ++ left_text banks n → new ≡ old ++ flat_map (left_text banks) (range_with_len 0 (n + 1))

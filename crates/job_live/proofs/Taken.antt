@@ -1,17 +1,50 @@
 -- A packet line that is answered in the room that was taken before.
-use Rattle.std.proofs.Common.{◌≡◌, ℕ, Bool, true, false, List, length, Option, Some, refl, sym, subst}
+use Rattle.std.proofs.Common.{◌≡◌, ℕ, Bool, true, false, List, ◌++◌, length, Option, None, Some, refl, sym, ap, subst, ◌∙◌}
 use Rattle.std.specs.Prelude.{nat_lt}
 use Rattle.std.specs.Io.KnownBytes.{Appends}
+use Rattle.std.proofs.lemmas.List.{append_assoc}
 use Rattle.spw.specs.Line.{words_of}
 use Rattle.job_parts.specs.Printed.{fault_line}
 use Rattle.job_parts.specs.declared.bad_lines.BadLine.{BadLine}
 use Rattle.job_parts.specs.declared.faults.Fault.TheVariants.{BadLine as AtLine}
-use Rattle.job_nodes.specs.LiveNodes.{LiveNodeValue}
+use Rattle.job_nodes.specs.LiveNodes.{LiveNodeValue, TakesLine}
+use Rattle.job_nodes.specs.declared.live_node.Taken.{Taken}
 use Rattle.job_live.specs.Answering.{Answers, AnswersAsked, AnswersSetting, IsLongFault, MakesRoom, SetsOrRefuses, TakesAndTells, fault_words}
 use Rattle.job_live.specs.Asks.{IsAsked}
+use Rattle.job_live.specs.Entries.{HandsOutLeft, taken_text}
 use Rattle.job_live.specs.declared.answering.TheConstants.{MAX_LINE}
 use Rattle.job_live.specs.declared.asks.Asks.{Asks}
 use Rattle.job_live.specs.declared.asks.Asks.TheVariants.{Packet, Set}
+
+-- what is put of a packet, in three parts
+pub text_taken : (old mid all new found entries served : List ℕ) → mid ≡ old ++ found → all ≡ mid ++ entries → new ≡ all ++ served
+    → new ≡ old ++ (found ++ entries ++ served)
+text_taken old mid all new found entries served first second third =
+    third ∙ ap (λ (l : List ℕ). l ++ served) (second ∙ ap (λ (l : List ℕ). l ++ entries) first ∙ append_assoc old found entries)
+    ∙ append_assoc old (found ++ entries) served
+
+-- a line that ended a packet
+pub packet_taken : (at_once : Bool) (line : List ℕ) (number : ℕ) (before served after : LiveNodeValue) (taken : Taken) (old new : List ℕ)
+    → TakesLine line (Some taken) before served → new ≡ old ++ taken_text at_once taken served.node → HandsOutLeft at_once served after
+    → TakesAndTells at_once line number false before after old new
+packet_taken at_once line number before served after taken old new takes told left = record {
+  fault = None;
+  between = new;
+  taken = (Some taken, served, takes, told, left);
+  told = refl;
+  bad = refl;
+}
+
+-- a line that ended none
+pub none_taken : (at_once : Bool) (line : List ℕ) (number : ℕ) (before after : LiveNodeValue) (text : List ℕ)
+    → TakesLine line None before after → TakesAndTells at_once line number false before after text text
+none_taken at_once line number before after text takes = record {
+  fault = None;
+  between = text;
+  taken = (None, after, takes, refl, refl);
+  told = refl;
+  bad = refl;
+}
 
 -- a packet line that was taken after that
 pub packet_answered : (at_once : Bool) (line : List ℕ) (number : ℕ) (is_bad : Bool) (before ready after : LiveNodeValue) (words old mid new : List ℕ)

@@ -72,8 +72,10 @@ fn fault_words(alloc: Global, number: usize) -> io::Result<Vec<u8>>
     Ok(words)
 }
 
-/// Puts what came of a packet behind a text, with the reply that was due: the line of a scrub that did not find a program whole,
-/// those of the entries that are handed out at once, and then the packet's. The condition is room for the longest lines.
+/// Puts what came of a packet behind a text, with the reply that was due: the line of a scrub that did not find
+/// a program whole, those of the entries that are handed out at once, and then the packet's. The condition is
+/// room for the longest lines.
+#[tactic(auto, using(crate::proofs::Taken::text_taken))]
 fn put_taken(text: &mut Vec<u8>, taken: Taken, node: &LiveNode, at_once: bool)
     requires { vec_len text.old + (MOST_OF_SCRUB + MOST_OF_PACKET + room_of at_once) ≤ vec_capacity text.old }
     ensures { text.new.items ≡ text.old.items ++ taken_text at_once taken node.now.node }
@@ -96,6 +98,7 @@ fn put_fault(text: &mut Vec<u8>, words: &[u8], fault: BadLine)
 
 /// Takes a packet line on the node, and puts what came of it behind a text, or its fault, whose words before its number are
 /// these. Whether the line is bad. The condition is room for the longest lines, and for those words and two bytes.
+#[tactic(auto, using(crate::proofs::Taken::packet_taken, crate::proofs::Taken::none_taken))]
 fn take_line(
     alloc: Global,
     node: &mut LiveNode,
@@ -104,7 +107,8 @@ fn take_line(
     words: &[u8],
     text: &mut Vec<u8>,
 ) -> bool
-    requires told { vec_len text.old + (MOST_OF_SCRUB + MOST_OF_PACKET + room_of at_once) ≤ vec_capacity text.old }
+    requires told { vec_len text.old + (MOST_OF_SCRUB + MOST_OF_PACKET + room_of at_once)
+        ≤ vec_capacity text.old }
     requires fault { vec_len text.old + (length words.now + CODE) ≤ vec_capacity text.old }
     ensures { (number : ℕ) → words.now ≡ fault_words number
         → TakesAndTells at_once line.now number result node.old node.new text.old.items text.new.items }
@@ -141,14 +145,7 @@ fn answer_packet(
     let words = fault_words(alloc, number)?;
     let more = words.len() + MOST_OF_LINES + room_of(at_once);
     make_room(node, more, text)?;
-    Ok(take_line(
-        alloc,
-        node,
-        at_once,
-        line,
-        words.as_slice(),
-        text,
-    ))
+    Ok(take_line(alloc, node, at_once, line, words.as_slice(), text))
 }
 
 /// Whether the bytes of a write lie in the bank of its extended address, if there is one.
@@ -251,10 +248,11 @@ fn long_fault(words: &[&str], asks: Asks) -> BadLine
 /// Does what a line asks for, which came as the one of that number, and puts what is due for it behind a text: whether the
 /// line is bad.
 ///
-/// Of a bad line that is `line K fault C`: the faults are those of [`LiveNode::take_line`] and [`read_setting`], `NoPort` for
-/// bytes that do not lie in their bank, and of a line over [`MAX_LINE`] bytes `TooLong`, or `NoPort` where it begins as no
-/// packet line and no write. Before a packet line is taken the journals that are full are handed out. If entries are handed out at once,
-/// the entry that a packet leaves is before its answer, and its journal begins anew.
+/// Of a bad line that is `line K fault C`: the faults are those of [`LiveNode::take_line`] and [`read_setting`],
+/// `NoPort` for bytes that do not lie in their bank, and of a line over [`MAX_LINE`] bytes `TooLong`, or
+/// `NoPort` where it begins as no packet line and no write. Before a packet line is taken the journals that are
+/// full are handed out. If entries are handed out at once, the entry that a packet leaves is before its answer,
+/// and its journal begins anew.
 ///
 /// Where memory is refused the node is as before the line.
 pub fn answer(

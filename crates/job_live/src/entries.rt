@@ -19,8 +19,8 @@ use spw::{End, MAX_PACKET, Packet};
 /// How many bytes a number and a space have at most.
 const MOST_OF_NUMBER: usize = 21;
 
-/// How many bytes the line of an entry has besides the bytes of its packet: its first words, five numbers, the marker and the
-/// line feed.
+/// How many bytes the line of an entry has besides the bytes of its packet: its first words, five numbers, the
+/// marker and the line feed.
 const BESIDE_PACKET: usize = 9 + 5 * MOST_OF_NUMBER + 5;
 
 /// How many bytes the longest line of an entry has: two digits a byte of its packet, and those beside it.
@@ -41,8 +41,8 @@ fn put_number(text: &mut Vec<u8>, number: u64)
     put(text, b" ");
 }
 
-/// Puts the words before the packet of an entry after a text: `entry HH PORT NUMBER GENERATION VERDICT STATUS `. The condition
-/// is room for the longest.
+/// Puts the words before the packet of an entry after a text: `entry HH PORT NUMBER GENERATION VERDICT STATUS `.
+/// The condition is room for the longest.
 #[tactic(auto, unfolding(crate::specs::Entries::left_words))]
 fn put_words(text: &mut Vec<u8>, bank: u8, entry: &Entry)
     requires { vec_len text.old + (9 + 5 * MOST_OF_NUMBER) ≤ vec_capacity text.old }
@@ -101,7 +101,9 @@ fn put_entry(text: &mut Vec<u8>, bank: u8, entry: &Entry)
     }
 }
 
-/// Puts the line of the entry of this bank after a text. Conditions: entries that are one, and room for the longest line.
+/// Puts the line of the entry of this bank after a text. Conditions: entries that are one, and room for the
+/// longest line.
+#[tactic(auto, using(crate::proofs::EntriesLeft::only_put))]
 fn put_only(text: &mut Vec<u8>, bank: u8, entries: &[Entry])
     requires one { length entries.now ≡ 1 }
     requires room { vec_len text.old + MOST_OF_ENTRY ≤ vec_capacity text.old }
@@ -120,8 +122,9 @@ fn has_one(node: &SingleNode, bank: u8) -> bool
     entries(node, bank).len() == 1
 }
 
-/// Puts the line of the entry of a bank after a text, if it has one. Conditions: a bank of the node, and room for the longest
-/// line.
+/// Puts the line of the entry of a bank after a text, if it has one. Conditions: a bank of the node, and room
+/// for the longest line.
+#[tactic(auto, using(crate::proofs::PutText::none_more))]
 fn put_left_of(text: &mut Vec<u8>, node: &SingleNode, bank: u8)
     requires bank { bank < length node.now.banks }
     requires room { vec_len text.old + MOST_OF_ENTRY ≤ vec_capacity text.old }
@@ -134,7 +137,8 @@ fn put_left_of(text: &mut Vec<u8>, node: &SingleNode, bank: u8)
     }
 }
 
-/// Puts the line of the entry of each bank that has one after a text. The condition is room for the longest lines.
+/// Puts the line of the entry of each bank that has one after a text. The condition is room for the longest
+/// lines.
 fn put_each(text: &mut Vec<u8>, node: &SingleNode)
     requires { vec_len text.old + MOST_OF_ENTRIES ≤ vec_capacity text.old }
     ensures items { text.new.items
@@ -149,15 +153,17 @@ fn put_each(text: &mut Vec<u8>, node: &SingleNode)
 
 /// How many bytes the lines of the entries have at most, that are handed out at once.
 pub fn room_of(at_once: bool) -> usize
-    ensures { result ≡ room_of at_once }
+    ensures value { result ≡ room_of at_once }
+    ensures few { result ≤ MOST_OF_ENTRIES }
 {
     if at_once { MOST_OF_ENTRIES } else { 0 }
 }
 
 /// Puts the entries that the last packet left after a text, bank by bank, if they are handed out at once.
 ///
-/// A line is `entry HH PORT NUMBER GENERATION VERDICT STATUS HEX EOP`, or `entry HH damaged`. The condition is room for the longest
-/// lines.
+/// A line is `entry HH PORT NUMBER GENERATION VERDICT STATUS HEX EOP`, or `entry HH damaged`. The condition is
+/// room for the longest lines.
+#[tactic(auto, using(crate::proofs::PutText::none_more))]
 pub fn put_left(text: &mut Vec<u8>, node: &SingleNode, at_once: bool)
     requires { vec_len text.old + room_of at_once ≤ vec_capacity text.old }
     ensures items { text.new.items ≡ text.old.items ++ entries_text at_once node.now.banks }
@@ -169,7 +175,8 @@ pub fn put_left(text: &mut Vec<u8>, node: &SingleNode, at_once: bool)
     }
 }
 
-/// Begins an empty journal in the place of that of a bank, if it has one entry. The condition is a bank of the node.
+/// Begins an empty journal in the place of that of a bank, if it has one entry. The condition is a bank of the
+/// node.
 fn turn_one(node: &mut LiveNode, bank: u8)
     requires { bank < length node.old.node.banks }
     ensures turns { TurnsOne (has_one (slice_get node.old.node.banks bank)) bank node.old node.new }

@@ -25,8 +25,8 @@ pub struct LiveWords {
     pub frames: bool,
 }
 
-/// `live [--image FILE] [--maps LIST] [--ports N] [--scrub N] [--entries] [--frames]` or `live --node FILE [--scrub N] [--entries]
-/// [--frames]`.
+/// `live [--image FILE] [--maps LIST] [--ports N] [--scrub N] [--entries] [--frames]` or
+/// `live --node FILE [--scrub N] [--entries] [--frames]`.
 pub fn live_command<'a>(alloc: Global) -> Result<Command<'a>, AllocError>
     ensures shape { IfOk result (λ c. app_of c ≡ live_app) }
     ensures local { IfOk result (λ c. (fields_of c).has_globals ≡ false) }

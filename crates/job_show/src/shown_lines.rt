@@ -512,7 +512,8 @@ fn add_entry(text: &mut String, alloc: Global, words: &[&str]) -> Result<(), Lin
     Ok(add_packet(text, alloc, &packet)?)
 }
 
-/// Adds an entry that is handed out at once, of which these are the words after the first: its bank, its numbers, and its packet.
+/// Adds an entry that is handed out at once, of which these are the words after the first: its bank, its
+/// numbers, and its packet.
 fn add_left(text: &mut String, alloc: Global, words: &[&str]) -> Result<(), LineFault> {
     let [bank, entry @ ..] = words else {
         return Err(LineFault::NoPort);
@@ -667,9 +668,10 @@ fn add_beside(text: &mut String, alloc: Global, words: &[&str]) -> Result<bool, 
 
 /// A line in words, with its line feed.
 ///
-/// It is a packet line, what `judge` prints of a packet without a reply, the last line of `serve`, or what an event of `sim` came to. Or
-/// it is what `live` prints: an entry of the journal, how many there are, the words of a map's cells, how many bytes were set, or that
-/// a line was bad. Or it is a line of a journal's file, with its time.
+/// It is a packet line, what `judge` prints of a packet without a reply, the last line of `serve`, or what an
+/// event of `sim` came to. Or it is what `live` prints: an entry of the journal, how many there are, the words
+/// of a map's cells, how many bytes were set, or that a line was bad. Or it is a line of a journal's file, with
+/// its time.
 ///
 /// A line that is none of these has the fault of a packet line, and an entry that of its packet. `Memory` where memory was
 /// refused: of a packet line that is the only one.
