@@ -4,6 +4,7 @@ mod EntryLines
 mod HandingOut
 mod HostReading
 mod LinesInTurn
+mod OneEntry
 mod PutText
 mod SameNode
 mod SetLines

@@ -16,7 +16,7 @@ use Rattle.job_nodes.specs.declared.live_node.Taken.{Taken}
 use Rattle.single_node.specs.Nodes.{SingleNodeValue, covers_in}
 use Rattle.job_live.specs.Asks.{IsAsked}
 use Rattle.job_live.specs.CellLines.{cells_text}
-use Rattle.job_live.specs.Entries.{HandsOutLeft, taken_text}
+use Rattle.job_live.specs.Entries.{AreEmpty, HandsOutLeft, taken_text}
 use Rattle.job_live.specs.Settings.{IsNoSetting, WritesSetting}
 use Rattle.job_live.specs.Journals.{TellsJournals, bank_text}
 use Rattle.job_live.specs.declared.answering.TheConstants.{MAX_LINE}
@@ -179,3 +179,9 @@ pub record Answers (at_once : Bool) (line : List ℕ) (number : ℕ) (before aft
   pub asks : Asks
   pub asked : IsAsked (words_of line) asks
   pub answered : AnswersAsked at_once (nat_lt MAX_LINE (length line)) asks line number before after old new is_bad
+
+-- if entries are handed out at once, and no journal has an entry before a line, none has one after it
+abbrev pub LeavesNone : Type 0
+LeavesNone =
+    (line : List ℕ) (number : ℕ) (before after : LiveNodeValue) (old new : Option (List ℕ)) (is_bad : Bool)
+    → Answers true line number before after old new is_bad → AreEmpty before.node.banks → AreEmpty after.node.banks

@@ -68,3 +68,8 @@ TurnsLeft (suc count) before after =
 abbrev pub HandsOutLeft : (at_once : Bool) → (before after : LiveNodeValue) → Type 0
 HandsOutLeft true before after = TurnsLeft (length before.node.banks) before after
 HandsOutLeft false before after = after ≡ before
+
+-- no journal of these banks has an entry
+abbrev pub AreEmpty : List BankValue → Type 0
+AreEmpty [] = Unit {0}
+AreEmpty (bank ∷ banks) = (length bank.journal.entries ≡ 0) × AreEmpty banks

@@ -4,7 +4,7 @@ ghost use Rattle.std.specs.Prelude.{◌≡◌, ◌≤◌, ◌+◌, ◌++◌, [],
 ghost use Rattle.std.specs.Vec.{vec_capacity, vec_len};
 ghost use Rattle.job_parts.specs.Printed.{Prints, fault_line};
 ghost use Rattle.job_parts.specs.declared.faults.Fault.TheVariants.{BadLine as AtLine};
-ghost use Rattle.job_live.specs.Answering.{Answers, AnswersAsked, AnswersSetting, IsFaultByPort, IsLongFault, IsUnset, MakesRoom, TakesAndTells, TellsJournal, TellsSetting, WritesInside, fault_words, is_inside};
+ghost use Rattle.job_live.specs.Answering.{Answers, AnswersAsked, AnswersSetting, IsFaultByPort, IsLongFault, IsUnset, LeavesNone, MakesRoom, TakesAndTells, TellsJournal, TellsSetting, WritesInside, fault_words, is_inside};
 ghost use Rattle.job_live.specs.Asks.{IsAsked};
 ghost use Rattle.job_live.specs.Entries.{room_of, taken_text};
 ghost use Rattle.job_nodes.specs.JobNode.{alone};
@@ -298,3 +298,10 @@ pub fn last_text(alloc: Global, node: &mut LiveNode) -> io::Result<Vec<u8>>
     hand_out(node, &mut text)?;
     Ok(text)
 }
+
+/// A law and no work: if entries are handed out at once, and no journal has an entry before a line, none has one after
+/// it. So the entry that a packet leaves is always in the lines before its answer.
+#[tactic(auto, using(crate::proofs::OneEntry::answers_empty))]
+pub fn no_entry_stays()
+    ensures { LeavesNone }
+{}
