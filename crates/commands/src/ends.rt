@@ -1,6 +1,7 @@
 //! What is told on standard error of a job that ended, after what it printed.
 
 use crate::foreign::Foreign;
+use crate::in_place::add_source;
 use crate::jobs::{Job, JobEnd};
 use crate::line_paths::{LinePaths, may_have_paths};
 use crate::noted::{Cause, Noted};
@@ -45,6 +46,23 @@ fn add_form(text: &mut String, alloc: Global, bytes: Option<&[u8]>) -> Result<()
         return Ok(());
     }
     write!(text, "    {line}")
+}
+
+/// Adds the place in a text in the place of an image for which it was refused, or why it is none.
+fn add_place_in(text: &mut String, alloc: Global, noted: &Noted<'_>) -> Result<(), AllocError> {
+    match noted.source() {
+        Some((source, maps)) => add_source(text, alloc, source, maps, noted.is_on_node()),
+        None => Ok(()),
+    }
+}
+
+/// Adds what bytes are that are no image: why a text is none, where one may be in its place, or else what a text
+/// is.
+fn add_no_image(text: &mut String, alloc: Global, noted: &Noted<'_>) -> Result<(), AllocError> {
+    match noted.source() {
+        Some(_) => add_place_in(text, alloc, noted),
+        None => add_form(text, alloc, noted.last()),
+    }
 }
 
 /// Adds what the line of that number has of another system, if it was kept.
@@ -101,15 +119,17 @@ fn add_failed(
             add_foreign(text, noted.lines(), *number)
         }
         Some(Fault::BadNode { place, .. }) => add_place(text, place.as_str()),
-        Some(Fault::BadImage(_)) => add_form(text, alloc, noted.last()),
+        Some(Fault::BadImage(_)) => add_no_image(text, alloc, noted),
         Some(Fault::BadText(_) | Fault::BadTable(_)) | None => match noted.text() {
             Some(read) => {
                 let more = hints::advice(alloc, job, read, noted.is_on_node())?;
-                text.push_str(more.as_str())
+                text.push_str(more.as_str())?;
+                add_place_in(text, alloc, noted)
             }
             None => Ok(()),
         },
-        Some(Fault::Refused(_) | Fault::NoMemory) => Ok(()),
+        Some(Fault::Refused(_)) => add_place_in(text, alloc, noted),
+        Some(Fault::NoMemory) => Ok(()),
     }
 }
 
@@ -234,7 +254,7 @@ fn add_unread(
 ) -> Result<(), AllocError> {
     match (node.input(), noted.cause()) {
         (Some(file), Some(cause)) => add_cause(text, file.name, Some(cause)),
-        _ => add_form(text, alloc, noted.last()),
+        _ => add_no_image(text, alloc, noted),
     }
 }
 

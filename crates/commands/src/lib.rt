@@ -7,6 +7,7 @@ mod dumps;
 mod ends;
 mod foreign;
 mod hints;
+mod in_place;
 mod jobs;
 mod line_paths;
 mod losses;

@@ -9,6 +9,7 @@ use crate::jobs::{Job, JobEnd};
 use crate::noted::{Cause, MAX_TEXT, Noted, most_of};
 use crate::whole_file::write_whole;
 use job_config::contents_named::contents_paths;
+use job_config::sources::NodeSource;
 use job_parts::inputs::{Content, InputFile, Inputs};
 use job_parts::status::Status;
 use job_parts::storage::{Cannot, Files};
@@ -125,6 +126,18 @@ impl<'a, R: rt::Files + Input> ToldFiles<'a, R> {
             rt,
             alloc,
             noted: Noted::of_job(job, is_on_node),
+        }
+    }
+
+    /// The files that a talk on this node reads. Of the text of a program or a table in the place of its image
+    /// the image is given.
+    pub fn of_node(rt: &'a R, alloc: Global, node: &'a NodeSource) -> ToldFiles<'a, R>
+        ensures { reads_dump result.noted ≡ false }
+    {
+        ToldFiles {
+            rt,
+            alloc,
+            noted: Noted::of_node(node),
         }
     }
 

@@ -116,7 +116,7 @@ fn talk_lines<'a>(
     let input = input_of(alloc, &folder)?;
     let slate = Slate::new(alloc);
     let mut speech = Speech::new(alloc, &slate, input.as_slice(), false);
-    let mut desk = Desk::new(folder, Noted::new(words.node.inputs()));
+    let mut desk = Desk::new(folder, Noted::of_node(&words.node));
     let mut place = None;
     let Ok(status) = live(alloc, words, &mut desk, &mut speech, &mut place) else {
         return Err(AllocError);

@@ -8,6 +8,7 @@ ghost use Rattle.spw.specs.declared.faults.LineFault.TheVariants.{Memory};
 use crate::other_lines::{add_begin, add_count, add_other, decimal, is_time, reason_written};
 use crate::paths::{add_path, path_in_front};
 use bpf::ImageFault;
+use hex::FromHex;
 use initiator::{NoReply, Reply, Seen};
 use job_parts::bad_lines::BadLine;
 use node_parts::LoadRefusal;
@@ -413,11 +414,29 @@ fn add_cells(text: &mut String, map: &str, words: &[&str]) -> Result<bool, Alloc
     Ok(true)
 }
 
+/// The extended address of a bank that two hexadecimal digits write, if they do.
+fn bank_written(word: &str) -> Option<u8> {
+    match <[u8; 1] as FromHex>::from_hex(word) {
+        Ok(bytes) => Some(bytes[0]),
+        Err(_) => None,
+    }
+}
+
+/// Adds that an entry of a bank is not as it was made. Tells whether the word is that of a bank.
+fn add_damaged(text: &mut String, bank: &str) -> Result<bool, AllocError> {
+    let Some(bank) = bank_written(bank) else {
+        return Ok(false);
+    };
+    write!(text, "bank {bank:02X}: entry that is damaged in memory")?;
+    Ok(true)
+}
+
 /// Adds what a line of these words is in words, but for its packet, if it is none of a packet alone: what `judge` prints of
 /// a packet without a reply, what `live` prints, or the last line of `serve`. Tells whether it is.
 fn add_told(text: &mut String, words: &[&str]) -> Result<bool, AllocError> {
     match words {
         ["journal", count, "entries"] => add_count(text, count, "entries of the journal:"),
+        ["entry", bank, "damaged"] => add_damaged(text, bank),
         ["cells", count, "maps"] => add_count(text, count, "maps of cells:"),
         ["cells", map, words @ ..] => add_cells(text, map, words),
         ["set", count] => add_count(text, count, "bytes set by the instrument:"),
@@ -493,6 +512,19 @@ fn add_entry(text: &mut String, alloc: Global, words: &[&str]) -> Result<(), Lin
     Ok(add_packet(text, alloc, &packet)?)
 }
 
+/// Adds an entry that is handed out at once, of which these are the words after the first: its bank, its
+/// numbers, and its packet.
+fn add_left(text: &mut String, alloc: Global, words: &[&str]) -> Result<(), LineFault> {
+    let [bank, entry @ ..] = words else {
+        return Err(LineFault::NoPort);
+    };
+    let Some(bank) = bank_written(bank) else {
+        return Err(LineFault::NoPort);
+    };
+    write!(text, "bank {bank:02X}: ")?;
+    add_entry(text, alloc, entry)
+}
+
 /// Adds how an event of `sim` ended: its status, and its reply, of which these are the digits, or `-`. Reports whether the words are such.
 fn add_ended(text: &mut String, alloc: Global, status: &str, reply: &str) -> Result<bool, LineFault>
     ensures { IfErr result (λ fault. fault ≡ Memory) }
@@ -541,14 +573,20 @@ fn add_end(text: &mut String, alloc: Global, words: &[&str]) -> Result<bool, Lin
     Ok(true)
 }
 
-/// Adds an entry of a journal, if the words are those of one. Reports whether they are.
+/// Adds an entry of a journal, or one that was handed out at once, of which these are the words.
+fn add_any_entry(text: &mut String, alloc: Global, words: &[&str]) -> Result<(), LineFault> {
+    match words {
+        ["journal", rest @ ..] => add_entry(text, alloc, rest),
+        ["entry", rest @ ..] => add_left(text, alloc, rest),
+        _ => Err(LineFault::NoPort),
+    }
+}
+
+/// Adds an entry, if the words are those of one. Reports whether they are.
 fn add_whole_entry(text: &mut String, alloc: Global, words: &[&str]) -> Result<bool, LineFault>
     ensures { IfErr result (λ fault. fault ≡ Memory) }
 {
-    let ["journal", rest @ ..] = words else {
-        return Ok(false);
-    };
-    match add_entry(text, alloc, rest) {
+    match add_any_entry(text, alloc, words) {
         Ok(()) => Ok(true),
         Err(LineFault::Memory) => Err(LineFault::Memory),
         Err(_) => Ok(false),
@@ -598,6 +636,7 @@ fn add_by_first(
 {
     match first {
         "journal" if rest.len() > 5 => add_entry(text, alloc, rest),
+        "entry" if rest.len() > 6 => add_left(text, alloc, rest),
         _ => add_line(text, alloc, line),
     }
 }
@@ -627,9 +666,12 @@ fn add_beside(text: &mut String, alloc: Global, words: &[&str]) -> Result<bool, 
     add_end(text, alloc, words)
 }
 
-/// A line in words, with its line feed: a packet line, what `judge` prints of a packet without a reply, or what `live`
-/// prints: an entry of the journal, how many there are, the words of a map's cells, how many bytes were set, or that a line
-/// was bad; the last line of `serve`; what an event of `sim` came to; or a line of a journal's file, with its time.
+/// A line in words, with its line feed.
+///
+/// It is a packet line, what `judge` prints of a packet without a reply, the last line of `serve`, or what an
+/// event of `sim` came to. Or it is what `live` prints: an entry of the journal, how many there are, the words
+/// of a map's cells, how many bytes were set, or that a line was bad. Or it is a line of a journal's file, with
+/// its time.
 ///
 /// A line that is none of these has the fault of a packet line, and an entry that of its packet. `Memory` where memory was
 /// refused: of a packet line that is the only one.

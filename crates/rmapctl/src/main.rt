@@ -175,7 +175,7 @@ fn talk_lines<R: rt::Files + Input + Print + Eprint>(
     // Over a buffer a pipe gives what there is, and not a byte at a time.
     let input = BufReader::new(alloc, rt.reader()).map_err(|_| UsageFault::Memory)?;
     let mut talk = ToldTalk::new(rt, alloc, HostTalk::new(input, io::writer(rt)));
-    let mut files = ToldFiles::new(rt, alloc, words.node.inputs());
+    let mut files = ToldFiles::of_node(rt, alloc, &words.node);
     let mut place = None;
     let done = live(alloc, words, &mut files, &mut talk, &mut place);
     tell(
@@ -210,7 +210,7 @@ fn talk_frames<R: rt::Files + Input + Print + Eprint>(
     words: &LiveWords,
 ) -> Status {
     let mut link = HostLink::new(rt.reader(), io::writer(rt), io::writer(errors));
-    let mut files = ToldFiles::new(rt, alloc, words.node.inputs());
+    let mut files = ToldFiles::of_node(rt, alloc, &words.node);
     let mut place = None;
     let done = live_frames(alloc, words, &mut files, &mut link, &mut place);
     tell(
