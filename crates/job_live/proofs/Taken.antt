@@ -30,7 +30,7 @@ pub packet_taken : (at_once : Bool) (line : List ℕ) (number : ℕ) (before ser
 packet_taken at_once line number before served after taken old new takes told left = record {
   fault = None;
   between = new;
-  taken = (Some taken, served, takes, told, left);
+  taken = (Some taken, served, takes, (told, left));
   told = refl;
   bad = refl;
 }
@@ -41,7 +41,7 @@ pub none_taken : (at_once : Bool) (line : List ℕ) (number : ℕ) (before after
 none_taken at_once line number before after text takes = record {
   fault = None;
   between = text;
-  taken = (None, after, takes, refl, refl);
+  taken = (None, after, takes, (refl, refl));
   told = refl;
   bad = refl;
 }

@@ -98,7 +98,7 @@ fn put_fault(text: &mut Vec<u8>, words: &[u8], fault: BadLine)
 
 /// Takes a packet line on the node, and puts what came of it behind a text, or its fault, whose words before its number are
 /// these. Whether the line is bad. The condition is room for the longest lines, and for those words and two bytes.
-#[tactic(auto, using(crate::proofs::Taken::packet_taken, crate::proofs::Taken::none_taken))]
+#[tactic(auto, using(crate::proofs::Taken::packet_taken))]
 fn take_line(
     alloc: Global,
     node: &mut LiveNode,
@@ -301,7 +301,6 @@ pub fn last_text(alloc: Global, node: &mut LiveNode) -> io::Result<Vec<u8>>
 
 /// A law and no work: if entries are handed out at once, and no journal has an entry before a line, none has one after
 /// it. So the entry that a packet leaves is always in the lines before its answer.
-#[tactic(auto, using(crate::proofs::OneEntry::answers_empty))]
 pub fn no_entry_stays()
     ensures { LeavesNone }
 {}
