@@ -1,6 +1,6 @@
 -- A packet that is answered in the room that was taken before.
 use Rattle.std.proofs.Common.{◌≡◌, ℕ, Bool, List, [], ◌++◌, Option, Some, sym, ap, subst, ◌∙◌}
-use Rattle.std.proofs.lemmas.List.{append-nil, append_assoc}
+use Rattle.std.proofs.lemmas.List.{append-nil}
 use Rattle.spw.specs.Cargo.{Cargo}
 use Rattle.scrub.specs.declared.answer.Answer.{Answer}
 use Rattle.job_nodes.specs.LiveNodes.{LiveNodeValue, ServesLive}
@@ -30,8 +30,7 @@ packet_answered at_once packet frame before ready behind after words old journal
   serves = serves;
   replied = replied;
   told =
-      tells frame is ∙ ap (λ (l : List ℕ). l ++ served_text frame answer.told.served) (left ∙ ap (λ (l : List ℕ). l ++ entries_text at_once behind.node.banks) told)
-      ∙ append_assoc (journal ++ found_text answer.found) (entries_text at_once behind.node.banks) (served_text frame answer.told.served)
-      ∙ append_assoc journal (found_text answer.found) (entries_text at_once behind.node.banks ++ served_text frame answer.told.served);
+      tells frame is
+      ∙ ap (λ (l : List ℕ). l ++ served_text frame answer.told.served) (left ∙ ap (λ (l : List ℕ). l ++ entries_text at_once behind.node.banks) told);
   turned = turned;
 }
