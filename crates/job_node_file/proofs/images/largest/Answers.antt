@@ -1,4 +1,4 @@
-use Rattle.std.proofs.Common.{◌≡◌, ◌<◌, ap, length, subst, rules}
+use Rattle.std.proofs.Common.{◌<◌, length, subst, rules}
 use Rattle.bpf.specs.Program.{Program}
 use Rattle.job_node_file.specs.Images.{IsSizeOf}
 use Rattle.job_node_file.proofs.Sizes.{begins, ends, goes_on}

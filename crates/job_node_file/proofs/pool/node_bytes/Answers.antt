@@ -1,4 +1,4 @@
-use Rattle.std.proofs.Common.{◌≡◌, ◌≤◌, List, ap, arith, length, subst, sym}
+use Rattle.std.proofs.Common.{◌≤◌, List, length, subst, sym}
 use Rattle.node_parts.specs.declared.config.BankConfig.{BankConfig}
 use Rattle.job_node_file.proofs.Sizes.{at_most_eight}
 use Rattle.job_node_file.proofs.pool.node_bytes.Goals as goal
