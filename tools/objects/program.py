@@ -32,7 +32,8 @@ WAYS = ((False, False), (True, False), (False, True), (True, True))
 OTHER_LOOP = "count from a number by one number, end it by AGAIN, or write `#pragma unroll` before a `for` that ends at a number"
 UNKNOWN_ROUNDS = "begin its counter with a number, or bound it before by an `if` of its own: `if (i > 12) return ..`"
 NO_RMAPCTL = "begin its counter with a number, or let `rmapctl` be asked: name it by --rmapctl"
-OTHER_LOOP_OF_GCC = "compile with -fno-ivopts -fno-unroll-loops -fno-unroll-all-loops, or write a `for` with `#pragma GCC unroll N` before it"
+OTHER_LOOP_OF_GCC = ("compile with -fno-ivopts -fno-unroll-loops -fno-unroll-all-loops, or write a `for` with `#pragma GCC unroll N` "
+                     "before it")
 
 
 def program_of(content: bytes, name: str, section: str, asker: Asker | None = None,
@@ -114,7 +115,8 @@ class Laid:
         self.finder = Loops(self.blocks, OTHER_LOOP_OF_GCC if is_of_gcc else OTHER_LOOP, helped)
         self.loops = self.finder.found(back)
         if stores and any(0 in it.body for it in self.loops):
-            raise Refusal("constant data, or a pointer that is kept, and a loop at the very beginning", "do something before the loop", stores[0].slot)
+            raise Refusal("constant data, or a pointer that is kept, and a loop at the very beginning", "do something before the loop",
+                          stores[0].slot)
         self.blocks[0].body = stores + self.blocks[0].body
 
     def layout(self) -> Layout:
