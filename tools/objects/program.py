@@ -73,8 +73,8 @@ def text_of(layout: Layout, version: int, maps: Maps, source: Source) -> str:
 def chosen(laid_out: Callable[[bool, bool], Laid], text: Callable[[Laid, Layout], str], maps: str,
            asker: Asker | None) -> tuple[Laid, Layout, Answer | None]:
     """The function as it stands, if that may judge. If not, without the registers that only say where its loops go on, and with what helps
-    the verifier, if it may judge then; else the first of these that is a text."""
-    first, refusal = None, None
+    the verifier, if it may judge then; else the text of these that is refused farthest down."""
+    best, refusal = None, None
     for threaded, helped in WAYS:
         try:
             laid = laid_out(threaded, helped)
@@ -84,10 +84,16 @@ def chosen(laid_out: Callable[[bool, bool], Laid], text: Callable[[Laid, Layout]
             continue
         if found[2] is None or found[2].code is None:
             return found
-        first = first or found
-    if first is None:
+        if best is None or refused_at(found[1], found[2]) > refused_at(best[1], best[2]):
+            best = found
+    if best is None:
         raise refusal
-    return first
+    return best
+
+
+def refused_at(layout: Layout, said: Answer) -> int:
+    """The slot of the function at which it is refused."""
+    return layout.slot_lines()[said.slot] if said.slot is not None else -1
 
 
 class Laid:
