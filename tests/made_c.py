@@ -61,8 +61,8 @@ class Maker:
             before, limit = f"{kind} {n} = {value} & 7; {kind} {i} = {n};", 8
             head = f"while ({i}--)"
         elif form == 6:
-            return (f"uint64_t {i} = {value}; if ({i} == 0) return 10; if ({i} > {few}) return 3;\nL{self.count}: h = h * 7 + bytes[{i} - 1]; "
-                    f"if ((h & 0x1FF) == 5) return 12; AGAIN({i}, L{self.count});\n")
+            return (f"uint64_t {i} = {value}; if ({i} == 0) return 10; if ({i} > {few}) return 3;\n"
+                    f"L{self.count}: h = h * 7 + bytes[{i} - 1]; if ((h & 0x1FF) == 5) return 12; AGAIN({i}, L{self.count});\n")
         else:
             head = f"for ({kind} {i} = 1; {i} != {limit}; {i}++)"
         return f"{before}\n{AS_IT_STANDS}{head} {{ {self.body(i, depth, limit)} }}\n"

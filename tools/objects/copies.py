@@ -101,7 +101,9 @@ def say_ranges(blocks: Blocks) -> None:
         for place, way in enumerate(block.next):
             begun = wanted_in(blocks[way], wanted[way])[0]
             for pair in sorted(ends[at]):
-                if pair.one != last.dst or not pair.more or pair.other not in begun or kinds[at][pair.other] or last.family == JMP and not pair.whole:
+                if pair.one != last.dst or not pair.more or last.family == JMP and not pair.whole:
+                    continue
+                if pair.other not in begun or kinds[at][pair.other]:
                     continue
                 known = range_of(last, bool(place), pair.more)
                 if known is not None:

@@ -85,7 +85,8 @@ def again(load: Insn, place: Place, base: int) -> list[Insn]:
     if root < 0:
         return [Insn(load.slot, WIDE, load.dst, 5, 0, 0, map=-1 - root)]
     first = {FRONT: base, TAIL: base + BYTES[FRONT], FRAME: 0}[root]
-    return [Insn(load.slot, MOV << 4 | BY_REGISTER | ALU, load.dst, FRAME, 0, 0), Insn(load.slot, ADD << 4 | ALU, load.dst, 0, 0, first + more)]
+    moved = Insn(load.slot, MOV << 4 | BY_REGISTER | ALU, load.dst, FRAME, 0, 0)
+    return [moved, Insn(load.slot, ADD << 4 | ALU, load.dst, 0, 0, first + more)]
 
 
 def copy_of_header(base: int) -> list[Insn]:

@@ -32,7 +32,8 @@ WAYS = ((False, False), (True, False), (False, True), (True, True))
 OTHER_LOOP = "count from a number by one number, end it by AGAIN, or write `#pragma unroll` before a `for` that ends at a number"
 UNKNOWN_ROUNDS = "begin its counter with a number, or bound it before by an `if` of its own: `if (i > 12) return ..`"
 NO_RMAPCTL = "begin its counter with a number, or let `rmapctl` be asked: name it by --rmapctl"
-OTHER_LOOP_OF_GCC = "compile with -fno-ivopts -fno-unroll-loops -fno-unroll-all-loops, or write a `for` with `#pragma GCC unroll N` before it"
+OTHER_LOOP_OF_GCC = ("compile with -fno-ivopts -fno-unroll-loops -fno-unroll-all-loops, or write a `for` with `#pragma GCC unroll N` "
+                     "before it")
 
 
 def program_of(content: bytes, name: str, section: str, asker: Asker | None = None,
@@ -72,8 +73,8 @@ def text_of(layout: Layout, version: int, maps: Maps, source: Source) -> str:
 def chosen(laid_out: Callable[[bool, bool], Laid], text: Callable[[Laid, Layout], str], maps: str,
            asker: Asker | None) -> tuple[Laid, Layout, Answer | None]:
     """The function as it stands, if that may judge. If not, without the registers that only say where its loops go on, and with what helps
-    the verifier, if it may judge then; else the first of these that is a text."""
-    first, refusal = None, None
+    the verifier, if it may judge then; else the text of these that is refused farthest down."""
+    best, refusal = None, None
     for threaded, helped in WAYS:
         try:
             laid = laid_out(threaded, helped)
@@ -83,10 +84,16 @@ def chosen(laid_out: Callable[[bool, bool], Laid], text: Callable[[Laid, Layout]
             continue
         if found[2] is None or found[2].code is None:
             return found
-        first = first or found
-    if first is None:
+        if best is None or refused_at(found[1], found[2]) > refused_at(best[1], best[2]):
+            best = found
+    if best is None:
         raise refusal
-    return first
+    return best
+
+
+def refused_at(layout: Layout, said: Answer) -> int:
+    """The slot of the function at which it is refused."""
+    return layout.slot_lines()[said.slot] if said.slot is not None else -1
 
 
 class Laid:
@@ -114,7 +121,8 @@ class Laid:
         self.finder = Loops(self.blocks, OTHER_LOOP_OF_GCC if is_of_gcc else OTHER_LOOP, helped)
         self.loops = self.finder.found(back)
         if stores and any(0 in it.body for it in self.loops):
-            raise Refusal("constant data, or a pointer that is kept, and a loop at the very beginning", "do something before the loop", stores[0].slot)
+            raise Refusal("constant data, or a pointer that is kept, and a loop at the very beginning", "do something before the loop",
+                          stores[0].slot)
         self.blocks[0].body = stores + self.blocks[0].body
 
     def layout(self) -> Layout:

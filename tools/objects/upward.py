@@ -131,7 +131,8 @@ def upward_of(loops, loop) -> Upward | None:
         if test is None:
             continue
         counter = counter_of(loops, loop)
-        found = Upward(register, start, end.more, test.offset, test.code, test.narrow, test.other, test.number, test.small or end.small, counter)
+        found = Upward(register, start, end.more, test.offset, test.code, test.narrow, test.other, test.number,
+                       test.small or end.small, counter)
         if start is not None:
             return found
         if far is None and goes_to_end(found) and not kinds_at(loops.blocks)[loop.head][register]:
@@ -170,12 +171,14 @@ def values_in(loops, loop) -> dict[int, Values]:
 
 
 def after_round(loops, loop, known: dict[int, Values]) -> Values:
-    """What each register is after a round, by what it was at its beginning. A compiler may have two registers for one number that counts, of
-    which one is set by the other: then it goes on as that does, if it begins as far from it."""
+    """What each register is after a round, by what it was at its beginning. A compiler may have two registers for one number that counts,
+    of which one is set by the other: then it goes on as that does, if it begins as far from it."""
     stays = dict(known.get(loop.latch, {}))
     for register, end in known.get(loop.latch, {}).items():
         other = known[loop.latch].get(end.register)
-        if register < 0 or end.register == register or other is None or other.register != end.register or not other.more or end.lifted or other.lifted:
+        if register < 0 or end.register == register or other is None or other.register != end.register:
+            continue
+        if not other.more or end.lifted or other.lifted:
             continue
         start, begun = loops.start(loop, register), loops.start(loop, end.register)
         if start is not None and begun is not None and start - begun == end.more - other.more:
