@@ -79,8 +79,8 @@ pub fn own_source<'a, R: rt::Files>(rt: &R, inputs: &Inputs<'a>) -> Option<&'a s
     }
 }
 
-/// The name of the file that a job would write, if that is one with which a bank of the node's file of that name begins, by whatever
-/// names. The node's file was read last of these.
+/// The name of the file that a job would write, if a bank of the node's file begins with that file, by any name. The node's file was
+/// read last of these.
 ///
 /// # Errors
 ///

@@ -58,9 +58,10 @@ abbrev pub programs_units : ImageSize → ℕ
 programs_units size =
     5 * kept_units size.slots + block size.slots + block (2 * size.slots) + block (1368 * size.entries)
 
--- the gaps that programs of several sizes leave, of up to eight loads
+-- the gaps that programs of several sizes leave if there are loads: one as long as the longest list of a program, and some more for each
+-- of up to eight loads
 abbrev pub gaps_units : (loads : ℕ) → ImageSize → ℕ
-gaps_units loads size = min loads 8 * block (9 * size.slots)
+gaps_units loads size = min loads 1 * block (32 * size.slots) + min loads 8 * block (4 * size.slots)
 
 -- all of a node with images of at most that size, and one packet more than its journals have room for
 abbrev pub node_units : OwnNodeValue → ImageSize → ℕ

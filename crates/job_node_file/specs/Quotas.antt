@@ -1,6 +1,6 @@
 -- The quotas of a table that is flown, and the end of the header that has them.
 use Rattle.std.specs.Prelude.{◌≡◌, ◌⊎◌, ℕ, Bool, ◌||◌, true, false, List, [], ◌∷◌, ◌++◌, length, Option, Some, None, codes, decimal}
-use Rattle.std.specs.List.{flat_map, list_any}
+use Rattle.std.specs.List.{flat_map}
 use Rattle.std.specs.Str.{IsUtf8, bytes_eq}
 use Rattle.bpf.specs.Program.{Program, image_bytes}
 use Rattle.bver.specs.Justified.{AcceptedValue}
@@ -32,9 +32,14 @@ abbrev pub quotas_in : List PortRule → List Quota
 quotas_in [] = []
 quotas_in (own ∷ rules) = quota_list own.rule.quota ++ quotas_in rules
 
+-- whether an image is that of a load
+abbrev pub is_loaded : (image : List ℕ) → List LoadValue → Bool
+is_loaded image [] = false
+is_loaded image (load ∷ loads) = bytes_eq image load.image || is_loaded image loads
+
 -- whether an image is that of the program that judges at first, or of a load
 abbrev pub is_flown : (image first : List ℕ) → List LoadValue → Bool
-is_flown image first loads = bytes_eq image first || list_any (λ load. bytes_eq image load.image) loads
+is_flown image first loads = bytes_eq image first || is_loaded image loads
 
 -- why lines are no table that compiles for these maps: they are no table, or it has this fault, or memory was refused
 abbrev pub IsTableFault : Maps → (lines : List (List ℕ)) → TextFault → Type 0
@@ -116,12 +121,16 @@ abbrev pub quota_rows : List Quota → List ℕ
 quota_rows [] = codes "  {0, 0, 0}," ++ 10 ∷ []
 quota_rows (quota ∷ quotas) = flat_map quota_row (quota ∷ quotas)
 
+-- the line before the rows
+unfoldable pub quotas_head : List ℕ
+quotas_head =
+    codes "static const struct { uint8_t map; uint16_t cell; uint64_t limit; } node_quotas[] = {" ++ 10 ∷ []
+
 -- how many there are, and the array of them
 abbrev pub c_quotas : List Quota → List ℕ
 c_quotas quotas =
-    codes "#define NODE_QUOTAS " ++ decimal (length quotas) ++ 10 ∷ 10 ∷ []
-    ++ codes "static const struct { uint8_t map; uint16_t cell; uint64_t limit; } node_quotas[] = {" ++ 10 ∷ []
-    ++ quota_rows quotas ++ codes "};" ++ 10 ∷ []
+    codes "#define NODE_QUOTAS " ++ decimal (length quotas) ++ 10 ∷ 10 ∷ [] ++ quotas_head ++ quota_rows quotas
+    ++ codes "};\n"
 
 -- those of a table, if one was named
 abbrev pub c_asked : Option (List Quota) → List ℕ
@@ -135,4 +144,4 @@ lines_asked (Some quotas) = flat_map quota_line quotas
 -- the end of a header: the bytes of the pool, and the quotas
 abbrev pub header_end : (pool : ℕ) → Option (List Quota) → List ℕ
 header_end pool quotas =
-    10 ∷ codes "#define NODE_POOL_BYTES " ++ decimal pool ++ 10 ∷ [] ++ c_asked quotas ++ 10 ∷ codes "#endif" ++ 10 ∷ []
+    10 ∷ codes "#define NODE_POOL_BYTES " ++ decimal pool ++ 10 ∷ [] ++ c_asked quotas ++ codes "\n#endif\n"

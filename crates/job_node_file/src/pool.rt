@@ -131,7 +131,8 @@ fn gaps_units(loads: usize, size: ImageSize) -> u64
     ensures units { result ≡ gaps_units loads size }
     ensures few { result < 2 ^ 20 }
 {
-    loads.min(8) as u64 * block(9 * u64::from(size.slots))
+    let slots = u64::from(size.slots);
+    loads.min(1) as u64 * block(32 * slots) + loads.min(8) as u64 * block(4 * slots)
 }
 
 /// The bytes of a pool over which a node with images of at most that size serves without want of memory.

@@ -3,7 +3,7 @@
 ghost use Rattle.std.specs.Prelude.{◌≡◌, ◌++◌, IfErr, IfOk, OnOk, Some, length, option_map, string_bytes};
 ghost use Rattle.std.specs.List.{flat_map};
 ghost use Rattle.job_config.specs.Reads.{Ends};
-ghost use Rattle.job_node_file.specs.Quotas.{AreAsked, AreNotAsked, AreQuotas, IsNoQuotas, IsTableFault, ReadsAsked, ReadsNotAsked, c_asked, c_quotas, header_end, is_flown, lines_asked, quota_line, quota_list, quota_row, quota_rows, quotas_in};
+ghost use Rattle.job_node_file.specs.Quotas.{AreAsked, AreNotAsked, AreQuotas, IsNoQuotas, IsTableFault, ReadsAsked, ReadsNotAsked, c_asked, c_quotas, header_end, is_flown, is_loaded, lines_asked, quota_line, quota_list, quota_row, quota_rows, quotas_head, quotas_in};
 ghost use Rattle.job_parts.specs.declared.node_codes.NodeCode.TheVariants.{Program as NoImage};
 ghost use Rattle.policy.specs.Compiled.{IsPortCompiled};
 ghost use Rattle.policy_table.specs.Policies.{WritesPolicy};
@@ -34,11 +34,23 @@ fn quotas_in(alloc: Global, rules: &[PortRule]) -> Result<Vec<Quota>, AllocError
     Ok(quotas)
 }
 
+/// Whether an image is that of a load.
+fn is_loaded(image: &[u8], loads: &[OwnLoad]) -> bool
+    ensures { result ≡ is_loaded image.now loads.now }
+{
+    for load in loads {
+        if image == load.image() {
+            return true;
+        }
+    }
+    false
+}
+
 /// Whether an image is that of the program that judges at first, or of a load.
 fn is_flown(image: &[u8], first: &[u8], loads: &[OwnLoad]) -> bool
     ensures { result ≡ is_flown image.now first.now loads.now }
 {
-    image == first || loads.iter().any(|load| image == load.image())
+    image == first || is_loaded(image, loads)
 }
 
 /// The table that a text writes, and its image on a node with these maps.
@@ -117,8 +129,9 @@ pub fn asked_quotas<'a>(
     program: &Accepted,
 ) -> Result<Option<Vec<Quota>>, Fault<'a>>
     ensures quotas { IfOk result (λ quotas. AreAsked node.now program.now
-        (option_map (λ t. t.now) text) (option_map (λ q. q.items) quotas)) }
-    ensures none { IfErr result (AreNotAsked node.now program.now (option_map (λ t. t.now) text)) }
+        (option_map (λ t. t.now) text.entry) (option_map (λ q. q.items) quotas)) }
+    ensures none { IfErr result
+        (AreNotAsked node.now program.now (option_map (λ t. t.now) text.entry)) }
 {
     match text {
         Some(text) => Ok(Some(quotas_of(alloc, text, node, program)?)),
@@ -172,6 +185,16 @@ fn add_rows(text: &mut String, quotas: &[Quota]) -> Result<(), AllocError>
     add_each_row(text, quotas)
 }
 
+/// Adds the line before the rows of quotas.
+#[tactic(auto, unfolding(crate::specs::Quotas::quotas_head))]
+fn add_quotas_head(text: &mut String) -> Result<(), AllocError>
+    ensures { OnOk result (string_bytes text.new ≡ string_bytes text.old ++ quotas_head) }
+{
+    text.push_str(
+        "static const struct { uint8_t map; uint16_t cell; uint64_t limit; } node_quotas[] = {\n",
+    )
+}
+
 /// Adds how many quotas there are, and the array of them.
 fn add_c_quotas(text: &mut String, quotas: &[Quota]) -> Result<(), AllocError>
     ensures { OnOk result
@@ -179,11 +202,10 @@ fn add_c_quotas(text: &mut String, quotas: &[Quota]) -> Result<(), AllocError>
 {
     let count = quotas.len();
     writeln!(text, "#define NODE_QUOTAS {count}\n")?;
-    text.push_str(
-        "static const struct { uint8_t map; uint16_t cell; uint64_t limit; } node_quotas[] = {\n",
-    )?;
+    add_quotas_head(text)?;
     add_rows(text, quotas)?;
-    text.push_str("};\n")
+    text.push_str("};\n")?;
+    Ok(())
 }
 
 /// Adds the quotas of a table, if one was named.
@@ -208,5 +230,6 @@ pub fn add_header_end(
 {
     writeln!(text, "\n#define NODE_POOL_BYTES {pool}")?;
     add_c_asked(text, quotas)?;
-    text.push_str("\n#endif\n")
+    text.push_str("\n#endif\n")?;
+    Ok(())
 }

@@ -1,4 +1,4 @@
-use Rattle.std.proofs.Common.{◌≡◌, List, ap, arith}
+use Rattle.std.proofs.Common.{arith}
 use Rattle.std.proofs.lemmas.List.{at_drop_all}
 use Rattle.job_node_file.specs.Pools.{banks_units as units_of}
 use Rattle.job_node_file.proofs.pool.banks_units.Goals as goal
