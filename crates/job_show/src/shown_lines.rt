@@ -627,9 +627,8 @@ fn add_beside(text: &mut String, alloc: Global, words: &[&str]) -> Result<bool, 
     add_end(text, alloc, words)
 }
 
-/// A line in words, with its line feed: a packet line, what `judge` prints of a packet without a reply, or what `live`
-/// prints: an entry of the journal, how many there are, the words of a map's cells, how many bytes were set, or that a line
-/// was bad; the last line of `serve`; what an event of `sim` came to; or a line of a journal's file, with its time.
+/// A line in words, with its line feed: a packet line, or one that `judge`, `serve`, `sim` or `live` prints of packets, journals and
+/// scrubs. It may be one of a journal's file, with its time.
 ///
 /// A line that is none of these has the fault of a packet line, and an entry that of its packet. `Memory` where memory was
 /// refused: of a packet line that is the only one.
