@@ -14,6 +14,9 @@
  * each. At any code except ::SANDBAR_OK the call did nothing. It then wrote nothing, except @c why if the function says so.
  * ::sandbar_scrub is the one call that does its work and returns ::SANDBAR_NO_MEMORY.
  *
+ * A struct that a call writes has no bytes beside its fields: those between or after them are fields that are 0. So if a
+ * struct is copied to a link, its bytes are what the call wrote, and nothing else.
+ *
  * No pointer may be null, also if its length is 0. A pointer with a length must point to that many bytes or structs. Memory
  * that a call writes must not overlap anything else that is passed to it.
  */
@@ -171,6 +174,8 @@ typedef struct sandbar_served {
   uint8_t extended;      /**< its extended address: the number of the bank, or 255 for the boot window (at 32) */
   uint8_t found;         /**< ::sandbar_found, of a scrub before the packet (at 33) */
   uint8_t found_slot;    /**< the slot of the program that was scrubbed, or ::SANDBAR_NO_SLOT (at 34) */
+  uint8_t unused;        /**< 0, as the one after it (at 35) */
+  uint32_t unused_word;  /**< (at 36) */
 } sandbar_served;
 
 /**
@@ -184,6 +189,8 @@ typedef struct sandbar_scrubbed {
   uint8_t restored;  /**< 1: the image that was lent is now the program of slot 3, which was withdrawn; else 0 (at 10) */
   uint8_t sizes;     /**< ::sandbar_difference, or 0 (at 11) */
   uint8_t journals;  /**< a bit a bank: its journal has an entry that ::sandbar_entry_at calls damaged (at 12) */
+  uint8_t unused;    /**< 0, as the one after it (at 13) */
+  uint16_t unused_half; /**< (at 14) */
 } sandbar_scrubbed;
 
 /** An entry of a bank's journal, without its packet. 32 bytes. */
@@ -195,12 +202,15 @@ typedef struct sandbar_entry {
   uint8_t port;           /**< (at 24) */
   uint8_t status;         /**< (at 25) */
   uint8_t end;            /**< ::sandbar_end (at 26) */
+  uint8_t unused;         /**< 0, as the one after it (at 27) */
+  uint32_t unused_word;   /**< (at 28) */
 } sandbar_entry;
 
 /** The state of a bank's journal. 16 bytes. */
 typedef struct sandbar_journal {
   uint64_t entries; /**< how many it has (at 0) */
   uint32_t loaded;  /**< how many programs were loaded into the node (at 8) */
+  uint32_t unused;  /**< 0 (at 12) */
 } sandbar_journal;
 
 /**

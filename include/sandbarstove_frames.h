@@ -44,6 +44,7 @@ typedef struct sandbar_came {
   uint8_t kind;    /**< ::sandbar_came_kind (at 12) */
   uint8_t end;     /**< of a packet: ::sandbar_end; else 0 (at 13) */
   uint8_t flag;    /**< of a frame for a bridge: its first byte; else 0 (at 14) */
+  uint8_t unused;  /**< 0 (at 15) */
 } sandbar_came;
 
 /**

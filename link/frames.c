@@ -105,9 +105,9 @@ static int is_untouched(size_t from) {
 }
 
 static sandbar_came take(const uint8_t *bytes, size_t count) {
-  sandbar_came came = {0x1122334455667788u, 0x99AABBCCu, 0xDD, 0xEE, 0xFF};
+  sandbar_came came = {0x1122334455667788u, 0x99AABBCCu, 0xDD, 0xEE, 0xFF, 0xAA};
   memset(packet, 0xEE, sizeof packet);
-  if (sandbar_frames_take(&frames, bytes, count, packet, sizeof packet, &came) != SANDBAR_OK) exit(EXIT_FAILURE);
+  if (sandbar_frames_take(&frames, bytes, count, packet, sizeof packet, &came) != SANDBAR_OK || came.unused != 0) exit(EXIT_FAILURE);
   add(came.taken), add(came.length), add(came.kind), add(came.end), add(came.flag);
   for (size_t k = 0; k < came.length; k += 1) add(packet[k]);
   return came;
@@ -223,7 +223,7 @@ static void endless(void) {
 
 static void codes(void) {
   const uint8_t bytes[SANDBAR_FRAME_HEAD + 1] = {0, 0, 0, 0, 0, 0, 0, 0, 0, 0, 0, 1, 0xFE};
-  const sandbar_came before = {1, 2, 3, 4, 5};
+  const sandbar_came before = {1, 2, 3, 4, 5, 6};
   sandbar_came came = before;
   memset(packet, 0xEE, sizeof packet);
   holds(sandbar_frames_take(&frames, bytes, sizeof bytes, packet, 0, &came) == SANDBAR_NO_NODE, "not open, and no room");

@@ -32,7 +32,8 @@ static const uint8_t yes[] = IMAGE_OF(0), no[] = IMAGE_OF(10);
 static const sandbar_bank bank = {0xA0000000u, 65536, 1024};
 static const sandbar_map map = {1, 0};
 static const sandbar_served untouched_served = {
-    0x1122334455667788u, 0x99AABBCCu, 0xDDEEFF01u, 0x12345678u, 0x9ABCDEF0u, 0x13572468u, 0x23, 0x45, 0x67, 0x89, 0xAB, 0xCD, 0xEF};
+    0x1122334455667788u, 0x99AABBCCu, 0xDDEEFF01u, 0x12345678u, 0x9ABCDEF0u, 0x13572468u, 0x23, 0x45, 0x67, 0x89, 0xAB, 0xCD, 0xEF,
+    0x10, 0x23456789u};
 
 static int checks, failures;
 static unsigned codes_seen;
@@ -58,7 +59,7 @@ static int same_served(const sandbar_served *a, const sandbar_served *b) {
   return a->verdict == b->verdict && a->generation == b->generation && a->reply_length == b->reply_length &&
          a->address == b->address && a->length == b->length && a->room == b->room && a->kind == b->kind &&
          a->status == b->status && a->command == b->command && a->place == b->place && a->extended == b->extended && a->found == b->found &&
-         a->found_slot == b->found_slot;
+         a->found_slot == b->found_slot && a->unused == b->unused && a->unused_word == b->unused_word;
 }
 
 /* What the command of a packet asked for, and the room that the journal of its bank has left. */
@@ -389,7 +390,7 @@ static void words_of_cells(void) {
   answers(sandbar_close(&node), SANDBAR_OK, "close");
 }
 
-static const sandbar_scrubbed touched_scrubbed = {7, 7, 7, 7, 7, 7};
+static const sandbar_scrubbed touched_scrubbed = {7, 7, 7, 7, 7, 7, 7, 7};
 
 static bool are_zeros(const sandbar_scrubbed *told) {
   return told->first == 0 && told->mended == 0 && told->withdrawn == 0 && told->restored == 0 && told->sizes == 0 &&
@@ -430,6 +431,30 @@ static void scrubs(void) {
   holds(journal.loaded == 0 && journal.entries == 20, "no program is published");
   answers(sandbar_scrub(&node, SANDBAR_ALL, yes, sizeof yes, &told), SANDBAR_OK, "scrub");
   holds(are_zeros(&told), "each entry is whole");
+  answers(sandbar_close(&node), SANDBAR_OK, "close");
+}
+
+/* A struct that a call writes has no byte of before. */
+static void fields(void) {
+  static uint8_t packet[SANDBAR_MAX_PACKET], reply[SANDBAR_MAX_REPLY];
+  sandbar_node node = opened(&bank, 1, yes, sizeof yes);
+  sandbar_served served;
+  sandbar_journal journal;
+  sandbar_entry entry;
+  sandbar_scrubbed scrubbed;
+  memset(&served, 0xEE, sizeof served);
+  memset(&journal, 0xEE, sizeof journal);
+  memset(&entry, 0xEE, sizeof entry);
+  memset(&scrubbed, 0xEE, sizeof scrubbed);
+  size_t length = put_read(packet, 1, 0, 0xA0000000u, 4);
+  answers(sandbar_serve(&node, 0, packet, length, SANDBAR_EOP, reply, sizeof reply, &served), SANDBAR_OK, "serve");
+  holds(served.unused == 0 && served.unused_word == 0, "of what was served");
+  answers(sandbar_journal_of(&node, 0, &journal), SANDBAR_OK, "journal");
+  holds(journal.unused == 0, "of a journal");
+  answers(sandbar_entry_at(&node, 0, 0, packet, sizeof packet, &entry), SANDBAR_OK, "entry");
+  holds(entry.unused == 0 && entry.unused_word == 0, "of an entry");
+  answers(sandbar_scrub(&node, SANDBAR_ALL, yes, 0, &scrubbed), SANDBAR_OK, "scrub");
+  holds(scrubbed.unused == 0 && scrubbed.unused_half == 0, "of a scrub");
   answers(sandbar_close(&node), SANDBAR_OK, "close");
 }
 
@@ -576,6 +601,7 @@ int main(int count, char **words) {
   openings();
   words_of_cells();
   scrubs();
+  fields();
   refusals();
   order();
   /* NO_MEMORY is left to memory.c, and DAMAGED to upsets.c */

@@ -226,6 +226,7 @@ static void take_served(module *it, uint64_t at, sandbar_served *served) {
   served->extended = (uint8_t)number(it, at + 32, 1);
   served->found = (uint8_t)number(it, at + 33, 1);
   served->found_slot = (uint8_t)number(it, at + 34, 1);
+  served->unused = 0, served->unused_word = 0;
 }
 
 uint32_t sandbar_serve(sandbar_node *node, uint8_t port, const uint8_t *packet, size_t packet_length, uint8_t end,
@@ -253,6 +254,7 @@ uint32_t sandbar_journal_of(sandbar_node *node, uint8_t bank, sandbar_journal *j
   if (code != SANDBAR_OK) return code;
   journal->entries = number(it, inside->small, 8);
   journal->loaded = (uint32_t)number(it, inside->small + 8, 4);
+  journal->unused = 0;
   return code;
 }
 
@@ -264,6 +266,7 @@ static void take_entry(module *it, uint64_t at, sandbar_entry *entry) {
   entry->port = (uint8_t)number(it, at + 24, 1);
   entry->status = (uint8_t)number(it, at + 25, 1);
   entry->end = (uint8_t)number(it, at + 26, 1);
+  entry->unused = 0, entry->unused_word = 0;
 }
 
 uint32_t sandbar_entry_at(sandbar_node *node, uint8_t bank, uint32_t which, uint8_t *packet, size_t packet_room,
@@ -361,6 +364,7 @@ uint32_t sandbar_scrub(sandbar_node *node, uint8_t part, const uint8_t *image, s
   scrubbed->restored = (uint8_t)number(it, inside->small + 10, 1);
   scrubbed->sizes = (uint8_t)number(it, inside->small + 11, 1);
   scrubbed->journals = (uint8_t)number(it, inside->small + 12, 1);
+  scrubbed->unused = 0, scrubbed->unused_half = 0;
   return code;
 }
 
@@ -413,6 +417,7 @@ uint32_t sandbar_frames_take(sandbar_frames *frames, const uint8_t *bytes, size_
   came->length = (uint32_t)number(it, inside->small + 8, 4);
   came->end = (uint8_t)number(it, inside->small + 13, 1);
   came->flag = (uint8_t)number(it, inside->small + 14, 1);
+  came->unused = 0;
   take(it, inside->packet, packet, came->length);
   return SANDBAR_OK;
 }

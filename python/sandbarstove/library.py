@@ -57,21 +57,22 @@ class Why(Structure):
 class ServedRecord(Structure):
     _fields_ = [("verdict", c_uint64), ("generation", c_uint32), ("reply_length", c_uint32), ("address", c_uint32),
                 ("length", c_uint32), ("room", c_uint32), ("kind", c_uint8), ("status", c_uint8), ("command", c_uint8),
-                ("place", c_uint8), ("extended", c_uint8), ("found", c_uint8), ("found_slot", c_uint8)]
+                ("place", c_uint8), ("extended", c_uint8), ("found", c_uint8), ("found_slot", c_uint8), ("unused", c_uint8),
+                ("unused_word", c_uint32)]
 
 
 class ScrubbedRecord(Structure):
     _fields_ = [("first", c_uint64), ("mended", c_uint8), ("withdrawn", c_uint8), ("restored", c_uint8), ("sizes", c_uint8),
-                ("journals", c_uint8)]
+                ("journals", c_uint8), ("unused", c_uint8), ("unused_half", c_uint16)]
 
 
 class EntryRecord(Structure):
     _fields_ = [("number", c_uint64), ("verdict", c_uint64), ("generation", c_uint32), ("packet_length", c_uint32),
-                ("port", c_uint8), ("status", c_uint8), ("end", c_uint8)]
+                ("port", c_uint8), ("status", c_uint8), ("end", c_uint8), ("unused", c_uint8), ("unused_word", c_uint32)]
 
 
 class JournalRecord(Structure):
-    _fields_ = [("entries", c_uint64), ("loaded", c_uint32)]
+    _fields_ = [("entries", c_uint64), ("loaded", c_uint32), ("unused", c_uint32)]
 
 
 #: The structs by their names in the header.

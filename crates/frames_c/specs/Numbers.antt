@@ -10,12 +10,12 @@ use Rattle.frames_c.specs.declared.numbers.TheConstants.{BRIDGE, NOTHING, PACKET
 -- the numbers of what came whole with the last of so many bytes, if anything did. The end of a packet is the first byte of the
 -- frame that ends it
 abbrev pub came_numbers : (taken : ℕ) → Option Came → CameNumbers
-came_numbers taken None = record { taken = taken; length = 0; kind = NOTHING; end = 0; flag = 0 }
+came_numbers taken None = record { taken = taken; length = 0; kind = NOTHING; end = 0; flag = 0; unused = 0 }
 came_numbers taken (Some (Whole packet)) =
-    record { taken = taken; length = length packet.bytes; kind = PACKET; end = flag_code (Last packet.end); flag = 0 }
-came_numbers taken (Some Piece) = record { taken = taken; length = 0; kind = NOTHING; end = 0; flag = 0 }
-came_numbers taken (Some Time) = record { taken = taken; length = 0; kind = TIME; end = 0; flag = 0 }
-came_numbers taken (Some (Unknown flag)) = record { taken = taken; length = 0; kind = BRIDGE; end = 0; flag = flag }
+    record { taken = taken; length = length packet.bytes; kind = PACKET; end = flag_code (Last packet.end); flag = 0; unused = 0 }
+came_numbers taken (Some Piece) = record { taken = taken; length = 0; kind = NOTHING; end = 0; flag = 0; unused = 0 }
+came_numbers taken (Some Time) = record { taken = taken; length = 0; kind = TIME; end = 0; flag = 0; unused = 0 }
+came_numbers taken (Some (Unknown flag)) = record { taken = taken; length = 0; kind = BRIDGE; end = 0; flag = flag; unused = 0 }
 
 -- the numbers, if anything came
 abbrev pub numbers_if : (taken : ℕ) → Option Came → Option CameNumbers

@@ -26,6 +26,7 @@ pub struct CameNumbers {
     pub kind: u8,
     pub end: u8,
     pub flag: u8,
+    pub unused: u8,
 }
 
 impl CameNumbers {
@@ -39,6 +40,7 @@ impl CameNumbers {
             kind: NOTHING,
             end: 0,
             flag: 0,
+            unused: 0,
         }
     }
 }

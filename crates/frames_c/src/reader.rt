@@ -128,6 +128,7 @@ impl Frames {
             kind: PACKET,
             end: Flag::Last(end).code(),
             flag: 0,
+            unused: 0,
         }
     }
 

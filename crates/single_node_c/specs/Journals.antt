@@ -21,6 +21,7 @@ pub record TellsJournal (number : ℕ) (numbers : JournalNumbers) (node : Single
   pub own : slice_get node.banks number ≡ Some bank
   pub entries : numbers.entries ≡ length bank.journal.entries
   pub loaded : numbers.loaded + 1 ≡ length node.programs
+  pub unused : numbers.unused ≡ 0
 
 -- the entries of a bank, if there is one
 abbrev pub entries_of : Option BankValue → List EntryValue

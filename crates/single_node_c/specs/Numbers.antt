@@ -70,6 +70,8 @@ served_numbers answer parts room reply_length = record {
   extended = parts.extended;
   found = found_number answer.found;
   found_slot = found_slot answer.found;
+  unused = 0;
+  unused_word = 0;
 }
 
 -- the number of an end
@@ -91,6 +93,8 @@ entry_numbers entry = record {
   port = entry.port;
   status = status_code entry.status;
   end = end_number entry.packet.end;
+  unused = 0;
+  unused_word = 0;
 }
 
 -- the bank of these numbers

@@ -146,6 +146,8 @@ scrubbed_numbers programs sizes broken = record {
   restored = programs.restored;
   sizes = sizes;
   journals = broken.banks;
+  unused = 0;
+  unused_half = 0;
 }
 
 -- the part of the node was scrubbed: its programs, of which some may be mended or withdrawn; of its sizes and journals it is

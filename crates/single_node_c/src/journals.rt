@@ -25,6 +25,7 @@ fn journal_of(node: &SingleNode, bank: u8) -> JournalNumbers
     JournalNumbers {
         entries: node.bank(bank).entries().len() as u64,
         loaded: node.loaded(),
+        unused: 0,
     }
 }
 

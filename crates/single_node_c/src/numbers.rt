@@ -1,4 +1,5 @@
-//! The structs of numbers that cross. The header has the same fields in the same order.
+//! The structs of numbers that cross. The header has the same fields in the same order. The bytes between fields, and after them, are
+//! fields of their own, and 0.
 
 ghost use Rattle.std.specs.Prelude.{◌≡◌};
 ghost use Rattle.single_node_c.specs.Numbers.{entry_numbers, end_number, end_of, kind_of, place_of, served_numbers, status_of};
@@ -52,6 +53,8 @@ pub struct ServedNumbers {
     pub extended: u8,
     pub found: u8,
     pub found_slot: u8,
+    pub unused: u8,
+    pub unused_word: u32,
 }
 
 /// An entry of a journal, but for its packet.
@@ -65,6 +68,8 @@ pub struct EntryNumbers {
     pub port: u8,
     pub status: u8,
     pub end: u8,
+    pub unused: u8,
+    pub unused_word: u32,
 }
 
 /// How a journal stands.
@@ -73,6 +78,7 @@ pub struct EntryNumbers {
 pub struct JournalNumbers {
     pub entries: u64,
     pub loaded: u32,
+    pub unused: u32,
 }
 
 /// What a scrub found: of programs a bit a slot, and whether the slot of the boot window was given the program that was lent; whether
@@ -86,6 +92,8 @@ pub struct ScrubbedNumbers {
     pub restored: u8,
     pub sizes: u8,
     pub journals: u8,
+    pub unused: u8,
+    pub unused_half: u16,
 }
 
 /// The kind of a packet that is no command.
@@ -161,6 +169,8 @@ impl ServedNumbers {
             extended: parts.extended,
             found: found_number(answer.found),
             found_slot: found_slot(answer.found),
+            unused: 0,
+            unused_word: 0,
         }
     }
 }
@@ -199,6 +209,8 @@ impl EntryNumbers {
             port: entry.port(),
             status: entry.status().code(),
             end: end_number(entry.packet().end()),
+            unused: 0,
+            unused_word: 0,
         }
     }
 }

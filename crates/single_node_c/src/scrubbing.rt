@@ -268,6 +268,8 @@ fn scrub(
         restored: programs.restored,
         sizes,
         journals: broken.banks,
+        unused: 0,
+        unused_half: 0,
     };
     short_code(programs.is_short)
 }
