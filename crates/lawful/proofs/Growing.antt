@@ -7,6 +7,7 @@ use Rattle.rmap.specs.declared.places.Place.TheVariants.{Bank, Staging, LoadResu
 use Rattle.rmap.specs.declared.status.Status.{Status}
 use Rattle.bank.specs.Records.{JudgedValue, ShareValue}
 use Rattle.node_programs.specs.declared.publishes.Publish.{Publish}
+use Rattle.node_programs.specs.Histories.{entry}
 use Rattle.node_parts.specs.Applied.{with_share}
 use Rattle.node_parts.specs.Loaded.{EndsAs}
 use Rattle.node_parts.specs.Passes.{PassValue}
@@ -64,8 +65,8 @@ line_grown port loaded asked asks (Some status) h after old new j result begins 
     let same = ap (λ (x : PassValue). length x.programs) end.1 in
     omega (arith, none, same)
 line_grown port loaded asked asks None h after old new j result begins asked_for (inl it) =
-    let one = one_made port loaded old new asked asks _ asked_for it.published.extends in
-    let many = ap length it.published.extends ∙ longer old _ in
+    let one = one_made port loaded old new asked asks (entry it.published.slot it.published.program) asked_for it.published.extends in
+    let many = ap length it.published.extends ∙ longer old (entry it.published.slot it.published.program) in
     let learnt = ap length it.published.learnt in
     let few = prefix_length h.programs old begins in
     omega (arith, one, many, learnt, few)

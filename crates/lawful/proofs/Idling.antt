@@ -59,14 +59,14 @@ pub record IsIdle (n : Node) (port : ℕ) (start : List Link) (h : History) (s :
   pub began : IsPrefix start s.front
   pub banks : (k : ℕ) (bank : BankConfig) → slice_get n.banks k ≡ Some bank → IsLeftSoFar (entries n h k) k s
 
-known_kept : (n : Node) (port : ℕ) (h after : History) (programs : List Publish) → Keeps n port h after → IsKnown n h programs → IsKnown n after programs
+pub known_kept : (n : Node) (port : ℕ) (h after : History) (programs : List Publish) → Keeps n port h after → IsKnown n h programs → IsKnown n after programs
 known_kept n port h after programs keeps known = record {
   shown = λ slot. known.shown slot ∙ ap (λ (x : Program × ℕ). Some x) (sym (keeps.programs slot));
   count = known.count ∙ ap (λ (x : ℕ). x + 1) (sym keeps.count);
   sizes = known.sizes;
 }
 
-left_kept : (es fs : List EntryValue) (k : ℕ) (s : Standing) → fs ≡ es → IsLeftSoFar es k s → IsLeftSoFar fs k s
+pub left_kept : (es fs : List EntryValue) (k : ℕ) (s : Standing) → fs ≡ es → IsLeftSoFar es k s → IsLeftSoFar fs k s
 left_kept es fs k s same left = subst (λ (xs : List EntryValue). IsLeftSoFar xs k s) (sym same) left
 
 -- behind events that keep all, a port that is as it was
@@ -145,7 +145,7 @@ answered_by n port start p reply status h s after there idle is same =
     let next = Then h (Take port p) o in
     let line : header_line (command_of p) (windows_in n) ≡ Some status = ap (header_line (command_of p)) (sym idle.windows) ∙ is.0.stopped in
     let told : o ≡ take_outcome n h p (opened h port) =
-    ap (Answered status) is.1 ∙ sym (ap (take_outcome n h p) idle.closed ∙ (ap (packet_outcome n h p) is.0.command ∙ ap (header_outcome n h p) line)) in
+    ap (λ (bytes : List ℕ). Answered status bytes) is.1 ∙ sym (ap (take_outcome n h p) idle.closed ∙ (ap (packet_outcome n h p) is.0.command ∙ ap (header_outcome n h p) line)) in
     let keeps : Keeps n port h next = record {
       programs = λ slot. refl;
       count = refl;

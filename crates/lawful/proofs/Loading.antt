@@ -261,7 +261,7 @@ module _ (n : Node) (port : ℕ) (now : History) (o : Open) (j : Judging) (old :
   line_thus images next (Some status) line at q asked asks first last after before new result reply around begins asked_for end reply_is =
       stopped_thus at status line after result reply end.0 end.1 reply_is
   line_thus images next None line at q asked asks first last after before new result reply around begins asked_for (inl end) reply_is =
-      let one = one_made q j.loaded before new asked asks _ asked_for end.published.extends in
+      let one = one_made q j.loaded before new asked asks (entry end.published.slot end.published.program) asked_for end.published.extends in
       let many = ap length end.published.extends ∙ length-append before (entry end.published.slot end.published.program ∷ []) in
       let learnt = ap length end.published.learnt in
       let few = around.few in

@@ -96,7 +96,7 @@ module _ (n : Node) (port : ℕ) (there : port < n.ports) (p : Cargo) (g : ℕ) 
       let here = one_lawful n h port (asking p g first (answers_of before)) c there is (along before (c ∷ cs) all) small.0 in
       let more : answers_of (before ++ c ∷ []) ≡ answers_of before ++ c.answer ∷ [] = map-append (λ (d : Call). d.answer) before (c ∷ []) in
       let open_next : opened next port ≡ Some (asking p g first (answers_of (before ++ c ∷ []))) =
-      opened_here h e (Told c.answer) port own ∙ (ap (after_told c.answer) is ∙ ap (λ (as : List ℕ). Some (asking p g first as)) (sym more)) in
+      opened_here h e (Told c.answer) port own ∙ (ap (after_told c.answer) is ∙ ap (λ (answers : List ℕ). Some (asking p g first answers)) (sym more)) in
       let rest = told next (before ++ c ∷ []) cs (all ∙ sym (append_assoc before (c ∷ []) cs)) small.1 (lawful, here) open_next in
       record {
         lawful = rest.lawful;
