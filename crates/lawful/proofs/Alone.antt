@@ -134,8 +134,8 @@ done_dealt n port start p j h now s after between e status loaded there idle ver
     }
 
 -- the list of the node, of which all that banks have is the port's
-abbrev AreOwn : (n : Node) (port : ℕ) (start whole : List Link) → Type 0
-AreOwn n port start whole = (k : ℕ) (bank : BankConfig) → slice_get n.banks k ≡ Some bank → IsOwnBank port k bank start whole
+abbrev AreOwn : (n : Node) (port : ℕ) (whole : List Link) → Type 0
+AreOwn n port whole = (k : ℕ) (bank : BankConfig) → slice_get n.banks k ≡ Some bank → IsOwnBank port k bank whole
 
 -- a bank's entries behind a command at that bank
 left_after : (n : Node) (port k m : ℕ) (bank : BankConfig) (now next : History) (o : Open) (j : Judging) (s after : Standing) → length s.pass.shares ≡ length n.banks → slice_get n.banks m ≡ Some bank
@@ -188,7 +188,7 @@ pub record Laws : Type 0 where
   pub next : IsSetByNext
   pub counts : WorkersSharesCount
 
-judged_dealt : Laws → (n : Node) (port : ℕ) (start whole : List Link) (p : Cargo) (j : Judging) (h : History) (s after : Standing) → port < n.ports → AreOwn n port start whole → IsIdle n port start h s
+judged_dealt : Laws → (n : Node) (port : ℕ) (start whole : List Link) (p : Cargo) (j : Judging) (h : History) (s after : Standing) → port < n.ports → AreOwn n port whole → IsIdle n port start h s
     → (is : IsJudged j p s after) → IsJudgedInFull s after j → length after.pass.programs ≤ length s.pass.programs + made j.loaded → IsPrefix after.front whole → HasDealt n port start (Judged j) p h after
 judged_dealt laws n port start whole p j h s after there own idle is full few begins =
     let grown = judged_grown j p s after is in
@@ -222,7 +222,7 @@ judged_dealt laws n port start whole p j h s after there own idle is full few be
           let bank = there_at n.banks k (subst (λ (w : WindowsValue). k < length w.banks) idle.windows placed.below) in
           let port_is : j.judged.port ≡ port = is.judgement.judged_for.port_of ∙ idle.port_is in
           let number : number_at is.between k ≡ number_at s.pass k = ap (λ (x : PassValue). number_at x k) is.judgement.asked in
-          let end = bank_thus n port k bank.bank start whole now o j s middle after bank.is (own k bank.bank bank.is) here refl port_is banked.place left banked idle.began moment begins (so_far k bank.bank bank.is) number in
+          let end = bank_thus n port k bank.bank whole now o j s middle after bank.is (own k bank.bank bank.is) here refl port_is banked.place left banked moment begins (so_far k bank.bank bank.is) number in
           let later : IsPrefix s.front after.front = prefix_trans s.front is.reached after.front moment end.grown in
           let programs : after.pass.programs ≡ is.between.programs = banked_programs j middle after banked in
           done_dealt n port start p j h now s after is.between (Effect port) end.status None there idle verdict staging_same count later (sym (ap (λ (x : Place). ending x port) banked.place)) end.outcome
@@ -280,13 +280,13 @@ worked_front s last [] (d ∷ ds) w = absurd w
 worked_front s last (p ∷ ps) [] w = absurd w
 worked_front s last (p ∷ ps) (d ∷ ds) w = prefix_trans s.front w.0.front last.front (dealt_front d p s w.0 w.1) (worked_front w.0 last ps ds w.2)
 
-dealt : Laws → (n : Node) (port : ℕ) (start whole : List Link) (d : Deed) (p : Cargo) (h : History) (s after : Standing) → port < n.ports → AreOwn n port start whole → IsIdle n port start h s
+dealt : Laws → (n : Node) (port : ℕ) (start whole : List Link) (d : Deed) (p : Cargo) (h : History) (s after : Standing) → port < n.ports → AreOwn n port whole → IsIdle n port start h s
     → IsDealt d p s after → IsDealtInFull n d p s after → length after.pass.programs ≤ length s.pass.programs + made_by d → IsPrefix after.front whole → HasDealt n port start d p h after
 dealt laws n port start whole Dropped p h s after there own idle is full few begins = dropped n port start p h s after there idle is
 dealt laws n port start whole (Answered reply) p h s after there own idle is full few begins = replied n port start p reply h s after there idle full is
 dealt laws n port start whole (Judged j) p h s after there own idle is full few begins = judged_dealt laws n port start whole p j h s after there own idle is full few begins
 
-gone : Laws → (n : Node) (port : ℕ) (start whole : List Link) (ps : List Cargo) (ds : List Deed) (h : History) (s last : Standing) (w : Worked s ps ds last) → port < n.ports → AreOwn n port start whole → IsIdle n port start h s
+gone : Laws → (n : Node) (port : ℕ) (start whole : List Link) (ps : List Cargo) (ds : List Deed) (h : History) (s last : Standing) (w : Worked s ps ds last) → port < n.ports → AreOwn n port whole → IsIdle n port start h s
     → AreDealtInFull n s ps ds last w → length last.pass.programs ≤ length s.pass.programs + length (loaded_by (judgings ds)) → IsPrefix last.front whole → HasGone n port start ps ds h last
 gone laws n port start whole [] [] h s last w there own idle full few begins = record {
   after = h;
@@ -324,11 +324,11 @@ fresh_idle n s fresh = record {
 }
 
 -- the entries that the port left are all that the list has of the bank
-all_entries : (n : Node) (port k : ℕ) (bank : BankConfig) (start whole : List Link) (h : History) (last : Standing) → slice_get n.banks k ≡ Some bank → IsOwnBank port k bank start whole → IsIdle n port start h last → IsPrefix last.front whole
+all_entries : (n : Node) (port k : ℕ) (bank : BankConfig) (start whole : List Link) (h : History) (last : Standing) → slice_get n.banks k ≡ Some bank → IsOwnBank port k bank whole → IsIdle n port start h last → IsPrefix last.front whole
     → IsPrefix (numbers_of last.pass.port (entries_of k whole)) (range_with_len 0 (share_of last.pass (places.Bank k)).number) → entries n h k ≡ entries_of k whole
 all_entries n port k bank start whole h last there own idle begins counted =
     let left = idle.banks k bank there in
-    let far = own_so_far port k bank start whole whole own (prefix_trans start last.front whole idle.began begins) (prefix_self whole) in
+    let far = own_so_far port k bank whole whole own (prefix_self whole) in
     let mine : IsPrefix (numbers_of port (entries_of k whole)) (range_with_len 0 (number_at last.pass k)) =
     subst (λ (q : ℕ). IsPrefix (numbers_of q (entries_of k whole)) (range_with_len 0 (number_at last.pass k))) idle.port_is counted in
     let few = prefix_length (numbers_of port (entries_of k whole)) (range_with_len 0 (number_at last.pass k)) mine in

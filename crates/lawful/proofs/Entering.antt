@@ -38,7 +38,7 @@ use Rattle.lawful.specs.ButTold.{IsOutcomeAtButTold}
 use Rattle.lawful.proofs.Idling.{IsLeftSoFar}
 use Rattle.lawful.proofs.Keeping.{apart, itself}
 use Rattle.lawful.proofs.Loading.{IsNow, effect_told, entries_done}
-use Rattle.lawful.proofs.Owning.{entries_prefix, entry_last, own_so_far, range_length}
+use Rattle.lawful.proofs.Owning.{begun_before, entries_prefix, entry_last, own_so_far, range_length}
 use Rattle.lemmas.proofs.Prefixes.{prefix_same, prefix_trans, prefix_whole}
 
 left_some : (b : BankValue) (share : ShareValue) (j : JudgedValue) → banks.has_room b j.port ≡ true → number_left b share j ≡ Some share.number
@@ -123,11 +123,11 @@ pub record EndsAtBank (n : Node) (port k : ℕ) (now : History) (o : Open) (repl
   pub more : length (entries_of k after.front) ≡ length (entries n now k) + 1
   pub others : (m : ℕ) → (m ≡ k → ⊥) → entries n (Then now (Effect port) (Done status reply None)) m ≡ entries n now m
 
-pub bank_thus : (n : Node) (port k : ℕ) (bank : BankConfig) (start whole : List Link) (now : History) (o : Open) (j : Judging) (s h after : Standing) → slice_get n.banks k ≡ Some bank → IsOwnBank port k bank start whole
+pub bank_thus : (n : Node) (port k : ℕ) (bank : BankConfig) (whole : List Link) (now : History) (o : Open) (j : Judging) (s h after : Standing) → slice_get n.banks k ≡ Some bank → IsOwnBank port k bank whole
     → IsNow n port now o j h.pass → o.generation ≡ j.judged.generation → j.judged.port ≡ port → j.judged.place ≡ places.Bank k → j.entered ≡ true → (is : IsBanked j h after)
-    → IsPrefix start s.front → IsPrefix s.front h.front → IsPrefix after.front whole → IsLeftSoFar (entries n now k) k s → number_at h.pass k ≡ number_at s.pass k
+    → IsPrefix s.front h.front → IsPrefix after.front whole → IsLeftSoFar (entries n now k) k s → number_at h.pass k ≡ number_at s.pass k
     → EndsAtBank n port k now o j.reply h after
-bank_thus n port k bank start whole now o j s h after there own_bank is generation port_is place left banked began known begins so_far number =
+bank_thus n port k bank whole now o j s h after there own_bank is generation port_is place left banked known begins so_far number =
     let done = done_at k j h after banked place left in
     let v = j.judged.verdict in
     let es = entries n now k in
@@ -135,9 +135,8 @@ bank_thus n port k bank start whole now o j s h after there own_bank is generati
     let e = entry_of done.share j.judged done.status in
     let into : IsPrefix s.front before = prefix_trans s.front h.front before known done.seen in
     let out : IsPrefix before after.front = (_, sym done.log) in
-    let at_start : IsPrefix start before = prefix_trans start s.front before began into in
-    let so_before = own_so_far port k bank start before whole own_bank at_start (prefix_trans before after.front whole out begins) in
-    let later = own_so_far port k bank start after.front whole own_bank (prefix_trans start before after.front at_start out) begins in
+    let so_before = own_so_far port k bank before whole own_bank (prefix_trans before after.front whole out begins) in
+    let later = own_so_far port k bank after.front whole own_bank begins in
     let last : entries_of k after.front ≡ entries_of k before ++ e ∷ [] = ap (entries_of k) done.log ∙ entry_last k (length (chain_of k before)) done.next before e in
     let share_number : done.share.number ≡ number_at s.pass k =
     ap (λ (x : ShareValue). x.number) done.share_is ∙ (ap (λ (x : Place). (share_of h.pass x).number) place ∙ number) in
@@ -158,7 +157,7 @@ bank_thus n port k bank start whole now o j s h after there own_bank is generati
     let room : has_room (slice_get n.banks k) port es ≡ true =
     ap (λ (b : Option BankConfig). has_room b port es) there ∙ and_from (nat_lt (length es) bank.room) (nat_lt (length (numbers_of port es)) (2 ^ 64 - 1)) has_place has_number in
     let memory_is : memory n now k ≡ memory_after k before =
-    ap (λ (b : Option BankConfig). replay (first_memory b) es) there ∙ (ap (replay (first_memory (Some bank))) same ∙ sym so_before.memory) in
+    ap (λ (b : Option BankConfig). replay (first_memory b) es) there ∙ (ap (replay (first_memory (Some bank))) same ∙ sym (so_before.memory (begun_before port k (length (chain_of k before)) done.next bank before after.front whole e own_bank done.log begins))) in
     let answer_is : bank_answer n now k port (command_of o.packet) v ≡ answer_after k before j.judged =
     ap (λ (m : Memory). answer m (has_room (slice_get n.banks k) port es) (command_of o.packet) v) memory_is
     ∙ (ap (λ (r : Bool). answer (memory_after k before) r (command_of o.packet) v) room ∙ ap (λ (p : Cargo). answer (memory_after k before) true (command_of p) v) (sym is.packet)) in

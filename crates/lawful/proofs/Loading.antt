@@ -280,12 +280,12 @@ module _ (n : Node) (port : ℕ) (now : History) (o : Open) (j : Judging) (old :
       let bytes = old.staging.bytes in
       staged_thus places.Staging at after result reply end.0 (ap (λ (x : PassValue). x.programs) end.0.rest) (λ k status es. refl)
       (ap (λ (s : Staged). done (answer (memory_at 0 s.bytes) true (command_of o.packet) j.judged.verdict)) is.staging_is
-          ∙ ap (λ (p : Cargo). done (answer (memory_at 0 bytes) true (command_of p) j.judged.verdict)) (sym is.packet))
+      ∙ ap (λ (p : Cargo). done (answer (memory_at 0 bytes) true (command_of p) j.judged.verdict)) (sym is.packet))
       (ap (λ (p : Cargo). staged (effect_at (answer_at_place places.Staging old.staging j.judged).status (memory_at 0 bytes) (command_of p)).memory.bytes old.staging.load_result) (sym is.packet))
   window_thus images next places.LoadResult at q asked asks first last after before new result reply around begins asked_for end =
       staged_thus places.LoadResult at after result reply end.0 (ap (λ (x : PassValue). x.programs) end.0.rest) (λ k status es. refl)
       (ap (λ (s : Staged). done (answer (memory_at LOAD_REGISTER s.load_result) true (command_of o.packet) j.judged.verdict)) is.staging_is
-          ∙ ap (λ (p : Cargo). done (answer (memory_at LOAD_REGISTER old.staging.load_result) true (command_of p) j.judged.verdict)) (sym is.packet))
+      ∙ ap (λ (p : Cargo). done (answer (memory_at LOAD_REGISTER old.staging.load_result) true (command_of p) j.judged.verdict)) (sym is.packet))
       refl
   window_thus images next places.Control at q asked asks first last after before new result reply around begins asked_for end =
       line_thus images next (judged_line (command_of o.packet) j.judged.verdict) refl at q asked asks first last after before new result reply around begins asked_for

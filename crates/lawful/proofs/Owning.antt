@@ -15,7 +15,7 @@ use Rattle.annals.specs.Banks.{after_deed, after_link, entries_in, entries_of, m
 use Rattle.annals.specs.Chains.{chain_of, link}
 use Rattle.node_parts.specs.declared.config.BankConfig.{BankConfig}
 use Rattle.sched.specs.Looking.{first_memory}
-use Rattle.lawful.specs.Alone.{AreEntriesOf, IsEntryOf, IsOwnBank}
+use Rattle.lawful.specs.Alone.{AreEntriesOf, IsEntryOf, IsOwnBank, IsOwnChain}
 use Rattle.lawful.proofs.Keeping.{itself}
 use Rattle.lemmas.proofs.Prefixes.{prefix_length, prefix_trans}
 
@@ -47,13 +47,19 @@ entries_prefix k xs ys p =
     let q = chain_prefix k xs ys p in
     (entries_in q.0, sym (entries_append (chain_of k xs) q.0) ∙ ap entries_in q.1)
 
+chain_last : (k place next : ℕ) (before : List Link) (e : EntryValue) → chain_of k (before ++ link k place (Does (Leaves e)) next ∷ []) ≡ chain_of k before ++ link k place (Does (Leaves e)) next ∷ []
+chain_last k place next before e =
+    let l = link k place (Does (Leaves e)) next in
+    let here : chain_of k (l ∷ []) ≡ l ∷ [] = ap (λ (b : Bool). cond b (l ∷ []) []) (itself k) in
+    filter-append (λ (x : Link). x.chain == k) before (l ∷ []) ∙ ap (λ (ls : List Link). chain_of k before ++ ls) here
+
 -- an entry that was left at the bank is the last of its entries
 pub entry_last : (k place next : ℕ) (before : List Link) (e : EntryValue) → entries_of k (before ++ link k place (Does (Leaves e)) next ∷ []) ≡ entries_of k before ++ e ∷ []
 entry_last k place next before e =
-    let l = link k place (Does (Leaves e)) next in
-    let here : chain_of k (l ∷ []) ≡ l ∷ [] = ap (λ (b : Bool). cond b (l ∷ []) []) (itself k) in
-    ap entries_in (filter-append (λ (x : Link). x.chain == k) before (l ∷ []) ∙ ap (λ (ls : List Link). chain_of k before ++ ls) here)
-    ∙ entries_append (chain_of k before) (l ∷ [])
+    ap entries_in (chain_last k place next before e) ∙ entries_append (chain_of k before) (link k place (Does (Leaves e)) next ∷ [])
+
+not_begun : (e : EntryValue) (opening : ℕ × ℕ × ℕ) → Does (Leaves e) ≡ Opens opening → ⊥
+not_begun e opening same = cc (same)
 
 -- ---- entries of one port
 
@@ -109,24 +115,47 @@ own_replay port m (l ∷ ls) own =
 pub record IsOwnSoFar (port k : ℕ) (bank : BankConfig) (before : List Link) : Type 0 where
   pub numbers : length (numbers_of port (entries_of k before)) ≡ length (entries_of k before)
   pub few : length (entries_of k before) ≤ bank.room
-  pub memory : memory_after k before ≡ replay (first_memory (Some bank)) (entries_of k before)
+  pub memory : (chain_of k before ≡ [] → ⊥) → memory_after k before ≡ replay (first_memory (Some bank)) (entries_of k before)
 
-pub own_so_far : (port k : ℕ) (bank : BankConfig) (first before whole : List Link) → IsOwnBank port k bank first whole → IsPrefix first before → IsPrefix before whole → IsOwnSoFar port k bank before
-own_so_far port k bank first before whole is began begins =
-    let p = chain_prefix k first before began in
-    let q = chain_prefix k before whole begins in
-    let here : is.opening ∷ p.0 ≡ chain_of k before = ap (λ (ls : List Link). ls ++ p.0) (sym is.begun) ∙ p.1 in
-    let all : is.opening ∷ (p.0 ++ q.0) ≡ is.opening ∷ is.left = ap (λ (ls : List Link). ls ++ q.0) here ∙ (q.1 ∙ is.chain) in
-    let rest : p.0 ++ q.0 ≡ is.left = cc (all) in
-    let own : AreEntriesOf port p.0 = own_front port p.0 q.0 (subst (AreEntriesOf port) (sym rest) is.own) in
-    let entries : entries_of k before ≡ entries_in p.0 = ap entries_in (sym here) ∙ ap (λ (d : Deed). with_entry d (entries_in p.0)) is.opens in
-    let count : length (entries_of k before) ≡ length p.0 = ap length entries ∙ own_count port p.0 own in
-    let size : length p.0 + length q.0 ≡ length is.left = sym (length-append p.0 q.0) ∙ ap length rest in
-    record {
-      numbers = ap (λ (es : List EntryValue). length (numbers_of port es)) entries ∙ (own_numbers port p.0 own ∙ sym (ap length entries));
-      few = let room = is.room in omega (arith, count, size, room);
-      memory =
-          ap (fold after_link (zeros (0, 0))) (sym here)
-          ∙ (ap (λ (d : Deed). fold after_link (after_deed (zeros (0, 0)) d) p.0) is.opens
-          ∙ (own_replay port (first_memory (Some bank)) p.0 own ∙ ap (replay (first_memory (Some bank))) (sym entries)));
-    }
+pub own_so_far : (port k : ℕ) (bank : BankConfig) (before whole : List Link) → IsOwnBank port k bank whole → IsPrefix before whole → IsOwnSoFar port k bank before
+own_so_far port k bank before whole is begins = by (chain_of k before) refl
+  where
+    rest : List Link
+    rest = (let q = chain_prefix k before whole begins in q.0)
+
+    all : chain_of k before ++ rest ≡ chain_of k whole
+    all = (chain_prefix k before whole begins).1
+
+    by : (ls : List Link) → chain_of k before ≡ ls → IsOwnSoFar port k bank before
+    by [] here =
+        let none : entries_of k before ≡ [] = ap entries_in here in
+        record {
+          numbers = ap (λ (es : List EntryValue). length (numbers_of port es)) none ∙ sym (ap length none);
+          few = let size = ap length none in omega (arith, size);
+          memory = λ some. absurd (some here);
+        }
+    by (l ∷ ls) here =
+        let chain : IsOwnChain port bank (l ∷ (ls ++ rest)) = subst (IsOwnChain port bank) (sym all ∙ ap (λ (xs : List Link). xs ++ rest) here) is.chain in
+        let own : AreEntriesOf port ls = own_front port ls rest chain.1 in
+        let entries : entries_of k before ≡ entries_in ls = ap entries_in here ∙ ap (λ (d : Deed). with_entry d (entries_in ls)) chain.0 in
+        let count : length (entries_of k before) ≡ length ls = ap length entries ∙ own_count port ls own in
+        let size : length (ls ++ rest) ≡ length ls + length rest = length-append ls rest in
+        let room = chain.2 in
+        record {
+          numbers = ap (λ (es : List EntryValue). length (numbers_of port es)) entries ∙ (own_numbers port ls own ∙ sym (ap length entries));
+          few = omega (arith, count, size, room);
+          memory = λ some.
+              ap (fold after_link (zeros (0, 0))) here
+              ∙ (ap (λ (d : Deed). fold after_link (after_deed (zeros (0, 0)) d) ls) chain.0
+              ∙ (own_replay port (first_memory (Some bank)) ls own ∙ ap (replay (first_memory (Some bank))) (sym entries)));
+        }
+
+-- a bank that has an entry had begun before that
+pub begun_before : (port k place next : ℕ) (bank : BankConfig) (before after whole : List Link) (e : EntryValue) → IsOwnBank port k bank whole → after ≡ before ++ link k place (Does (Leaves e)) next ∷ [] → IsPrefix after whole
+    → chain_of k before ≡ [] → ⊥
+begun_before port k place next bank before after whole e is log begins none =
+    let l = link k place (Does (Leaves e)) next in
+    let q = chain_prefix k after whole begins in
+    let first : chain_of k after ≡ l ∷ [] = ap (chain_of k) log ∙ (chain_last k place next before e ∙ ap (λ (ls : List Link). ls ++ l ∷ []) none) in
+    let chain : IsOwnChain port bank (l ∷ q.0) = subst (IsOwnChain port bank) (sym q.1 ∙ ap (λ (ls : List Link). ls ++ q.0) first) is.chain in
+    not_begun e (bank.base, bank.size, bank.room) chain.0

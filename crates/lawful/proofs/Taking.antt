@@ -84,7 +84,7 @@ taken front n port start p j h s after there idle is same =
       elsewhere = one_elsewhere n h (Take port p) (Taken g) port refl;
     } in
     let answered = told n port there p g h j.calls v along begun [] j.calls refl (small_run front (program_of n o) (header_in p) port j.calls v whole_run)
-        (idle.lawful, outcome_here n h (Take port p) (Taken g) port refl there take_is) (opened_here h (Take port p) (Taken g) port refl) in
+    (idle.lawful, outcome_here n h (Take port p) (Taken g) port refl there take_is) (opened_here h (Take port p) (Taken g) port refl) in
     record {
       lawful = answered.lawful;
       is_open = answered.is_open;

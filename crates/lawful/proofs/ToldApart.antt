@@ -40,8 +40,7 @@ at_joined n h (Publish port) outcome is told = is
 parted : (n : Node) (h : History) → IsLawful n h → TellsWords h → IsLawfulButTold n h × TellsLookedBack n h
 parted n Start lawful words = (tt, tt)
 parted n (Then h event outcome) lawful words =
-    let rest = parted n h lawful.0 words.0 in
-    (
+    let rest = parted n h lawful.0 words.0 in (
       (rest.0, record { here = λ below. (at_parted n h event outcome (lawful.1.here below) words.1).0; nowhere = lawful.1.nowhere }),
       (rest.1, λ below. (at_parted n h event outcome (lawful.1.here below) words.1).1),
     )

@@ -61,16 +61,16 @@ abbrev pub AreEntriesOf : (port : ℕ) → List Link → Type 0
 AreEntriesOf port [] = Unit {0}
 AreEntriesOf port (l ∷ ls) = IsEntryOf port l.deed × AreEntriesOf port ls
 
--- when its port was served first the bank had begun, as the node's configuration says, and in the end its chain has entries of
--- that port alone, for which its journal has room
-pub record IsOwnBank (port k : ℕ) (bank : BankConfig) (first whole : List Link) : Type 0 where
-  pub opening : Link
-  pub left : List Link
-  pub opens : opening.deed ≡ Opens (bank.base, bank.size, bank.room)
-  pub begun : chain_of k first ≡ opening ∷ []
-  pub chain : chain_of k whole ≡ opening ∷ left
-  pub own : AreEntriesOf port left
-  pub room : length left ≤ bank.room
+-- what the list has of a bank, if anything: first it began, as the node's configuration says, then come entries of that port
+-- alone, for which its journal has room
+abbrev pub IsOwnChain : (port : ℕ) → BankConfig → List Link → Type 0
+IsOwnChain port bank [] = Unit {0}
+IsOwnChain port bank (l ∷ ls) =
+    (l.deed ≡ Opens (bank.base, bank.size, bank.room)) × AreEntriesOf port ls × (length ls ≤ bank.room)
+
+-- what the list has of the bank of that number is the port's, and the numbers of its entries are below 2^64
+pub record IsOwnBank (port k : ℕ) (bank : BankConfig) (whole : List Link) : Type 0 where
+  pub chain : IsOwnChain port bank (chain_of k whole)
   pub few : bank.room < 2 ^ 64
 
 -- the load of a control write was refused for what the port had staged, which its load result tells
@@ -105,7 +105,7 @@ AreDealtInFull n h (p ∷ ps) (d ∷ ds) after worked =
 pub record IsServedAlone (n : Node) (first : Standing) (ps : List Cargo) (ds : List Deed) (last : Standing) (whole : List Link) : Type 0 where
   pub worked : Worked first ps ds last
   pub fresh : IsFreshPort n first
-  pub banks : (k : ℕ) (bank : BankConfig) → slice_get n.banks k ≡ Some bank → IsOwnBank first.pass.port k bank first.front whole
+  pub banks : (k : ℕ) (bank : BankConfig) → slice_get n.banks k ≡ Some bank → IsOwnBank first.pass.port k bank whole
   pub begins : IsPrefix last.front whole
   pub counted : CountsAllOf last.pass whole
   pub loads : length last.pass.programs ≤ 1 + length (loaded_by (judgings ds))
