@@ -118,23 +118,17 @@ pub record IsOwnSoFar (port k : ℕ) (bank : BankConfig) (before : List Link) : 
   pub memory : (chain_of k before ≡ [] → ⊥) → memory_after k before ≡ replay (first_memory (Some bank)) (entries_of k before)
 
 pub own_so_far : (port k : ℕ) (bank : BankConfig) (before whole : List Link) → IsOwnBank port k bank whole → IsPrefix before whole → IsOwnSoFar port k bank before
-own_so_far port k bank before whole is begins = by (chain_of k before) refl
+own_so_far port k bank before whole is begins = let q = chain_prefix k before whole begins in by q.0 q.1 (chain_of k before) refl
   where
-    rest : List Link
-    rest = (let q = chain_prefix k before whole begins in q.0)
-
-    all : chain_of k before ++ rest ≡ chain_of k whole
-    all = (chain_prefix k before whole begins).1
-
-    by : (ls : List Link) → chain_of k before ≡ ls → IsOwnSoFar port k bank before
-    by [] here =
+    by : (rest : List Link) → chain_of k before ++ rest ≡ chain_of k whole → (ls : List Link) → chain_of k before ≡ ls → IsOwnSoFar port k bank before
+    by rest all [] here =
         let none : entries_of k before ≡ [] = ap entries_in here in
         record {
           numbers = ap (λ (es : List EntryValue). length (numbers_of port es)) none ∙ sym (ap length none);
           few = let size = ap length none in omega (arith, size);
           memory = λ some. absurd (some here);
         }
-    by (l ∷ ls) here =
+    by rest all (l ∷ ls) here =
         let chain : IsOwnChain port bank (l ∷ (ls ++ rest)) = subst (IsOwnChain port bank) (sym all ∙ ap (λ (xs : List Link). xs ++ rest) here) is.chain in
         let own : AreEntriesOf port ls = own_front port ls rest chain.1 in
         let entries : entries_of k before ≡ entries_in ls = ap entries_in here ∙ ap (λ (d : Deed). with_entry d (entries_in ls)) chain.0 in
