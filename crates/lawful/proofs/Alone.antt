@@ -1,10 +1,9 @@
 -- What a thread did at a fresh port that it served alone is a lawful history, but for what cells told.
-use Rattle.std.proofs.Common.{◌≡◌, ◌==◌, ◌+◌, ◌<◌, ◌≤◌, ◌⊎◌, ◌&&◌, ℕ, zero, suc, Bool, true, false, cond, List, [], ◌∷◌, ◌++◌, length, map, Option, Some, None, refl, sym, ap, subst, ◌∙◌, inl, inr, arith, append_assoc, length-append}
-use Rattle.std.specs.Prelude.{if◌then◌else◌, option_map, slice_get, filter}
+use Rattle.std.proofs.Common.{◌≡◌, ◌==◌, ◌+◌, ◌<◌, ◌≤◌, ◌&&◌, ℕ, zero, suc, Bool, true, false, cond, List, [], ◌∷◌, ◌++◌, length, map, Option, Some, None, refl, sym, ap, subst, ◌∙◌, inl, inr, arith, append_assoc}
+use Rattle.std.specs.Prelude.{slice_get}
 use Rattle.std.specs.List.{range_with_len}
-use Rattle.std.proofs.lemmas.Bool.{cases_Bool}
 use Rattle.std.proofs.lemmas.Bool.Decides.{nat_tests}
-use Rattle.std.proofs.lemmas.List.{append-nil, length-map}
+use Rattle.std.proofs.lemmas.List.{append-nil}
 use Rattle.std.proofs.lemmas.Option.{slice_get_within}
 use mathlib.Core.List.{IsPrefix}
 use Rattle.spw.specs.Cargo.{Cargo}
@@ -18,33 +17,29 @@ use Rattle.bpf.specs.Program.{Program}
 use Rattle.machine.specs.Laws.{RunsFromTheFront}
 use Rattle.node_programs.specs.declared.publishes.Publish.{Publish}
 use Rattle.node_programs.specs.Laws.{IsSetByNext}
-use Rattle.node_programs.specs.Published.{judging_program, sizes_of}
-use Rattle.node_programs.specs.Staged.{Staged}
 use Rattle.node_parts.specs.declared.config.BankConfig.{BankConfig}
 use Rattle.node_parts.specs.Applied.{share_of}
 use Rattle.node_parts.specs.Nodes.{range_of}
 use Rattle.node_parts.specs.Passes.{PassValue}
 use Rattle.annals.specs.declared.deed.Link.{Link}
 use Rattle.annals.specs.Banks.{entries_of}
-use Rattle.ports.specs.Due.{Deed, IsBanked, IsDealt, IsJudged, IsWindowed, Judging, Standing, Worked, judgings, stand}
+use Rattle.ports.specs.Due.{Deed, IsDealt, IsJudged, Judging, Standing, Worked, judgings, stand}
 use Rattle.ports.specs.Due.Deed.{Dropped, Answered, Judged}
 use Rattle.ports.specs.Laws.{SharesCount, WorkersSharesCount, entries_at, is_bank_of, is_entry_at, loaded_by, number_at}
-use Rattle.sched.specs.Agreement.{program_and_generation}
 use Rattle.sched.specs.declared.event.Event.{Event}
 use Rattle.sched.specs.declared.event.Event.TheVariants.{Take, Effect}
-use Rattle.sched.specs.declared.event.Outcome.{Outcome}
 use Rattle.sched.specs.declared.event.Outcome.TheVariants.{Done, Taken}
-use Rattle.sched.specs.History.{History, Start, Then, Open, opened, port_of}
-use Rattle.sched.specs.Looking.{Node, entries, published, staged_behind, staging, windows_in}
+use Rattle.sched.specs.History.{History, Start, Then, Open, port_of}
+use Rattle.sched.specs.Looking.{Node, entries, staged_behind, staging}
 use Rattle.sched.specs.Turns.{answers_of}
-use Rattle.lawful.specs.Alone.{AreDealtInFull, HasLawfulHistory, IsDealtInFull, IsFreshPort, IsJudgedInFull, IsOwnBank, IsServedAlone, OnePortIsLawful}
-use Rattle.lawful.specs.ButTold.{IsLawfulButTold, IsOutcomeAtButTold}
-use Rattle.lawful.specs.Happenings.{Happening, HappenBy, HappensBy, ending, happened_at, happening, told_calls}
-use Rattle.lawful.proofs.Entering.{EndsAtBank, bank_staging, bank_thus, finished_front}
+use Rattle.lawful.specs.Alone.{AreDealtInFull, IsDealtInFull, IsFreshPort, IsJudgedInFull, IsOwnBank, OnePortIsLawful}
+use Rattle.lawful.specs.ButTold.{IsOutcomeAtButTold}
+use Rattle.lawful.specs.Happenings.{Happening, HappenBy, ending, happened_at, happening, told_calls}
+use Rattle.lawful.proofs.Entering.{bank_staging, bank_thus, finished_front}
 use Rattle.lawful.proofs.Growing.{banked_programs, dealt_grown, judged_grown, loads_first, made, made_by, taken_longer, worked_grown}
 use Rattle.lawful.proofs.Idling.{HasDealt, HasGone, IsIdle, IsKnown, IsLeftSoFar, dropped, gone_on, known_kept, left_kept, replied}
-use Rattle.lawful.proofs.Keeping.{Keeps, apart, itself, elsewhere_on, elsewhere_same, happened_here, one_elsewhere, opened_here, staging_here}
-use Rattle.lawful.proofs.Loading.{EndsThus, IsAround, IsNow, quiet_known, window_thus}
+use Rattle.lawful.proofs.Keeping.{apart, itself, elsewhere_on, elsewhere_same, happened_here, one_elsewhere, opened_here, staging_here}
+use Rattle.lawful.proofs.Loading.{IsAround, IsNow, quiet_known, window_thus}
 use Rattle.lawful.proofs.Owning.{entries_prefix, own_so_far, range_length}
 use Rattle.lawful.proofs.Taking.{HasVerdict, taken}
 use Rattle.lawful.proofs.Telling.{asking, outcome_here, tell}

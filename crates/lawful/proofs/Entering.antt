@@ -1,5 +1,5 @@
 -- How a judged command ends at a bank where one port alone leaves entries.
-use Rattle.std.proofs.Common.{◌≡◌, ◌==◌, ◌+◌, ◌-◌, ◌<◌, ◌≤◌, ◌^◌, ◌&&◌, ℕ, Bool, true, false, List, [], ◌∷◌, ◌++◌, length, Option, Some, None, refl, sym, ap, subst, ◌∙◌, arith, length-append}
+use Rattle.std.proofs.Common.{◌≡◌, ◌+◌, ◌-◌, ◌<◌, ◌≤◌, ◌^◌, ℕ, Bool, true, List, [], ◌∷◌, ◌++◌, length, Option, Some, None, refl, sym, ap, subst, ◌∙◌, arith, length-append}
 use Rattle.std.specs.Prelude.{IfNone, IfSome, if◌then◌else◌, nat_lt, slice_get}
 use Rattle.std.specs.List.{range_with_len}
 use Rattle.std.proofs.lemmas.Bool.{and_from, and_parts}
@@ -32,7 +32,7 @@ use Rattle.sched.specs.declared.event.Event.TheVariants.{Effect}
 use Rattle.sched.specs.declared.event.Outcome.TheVariants.{Done}
 use Rattle.sched.specs.History.{History, Then, Open, opened}
 use Rattle.sched.specs.Lawful.{bank_answer, effect_outcome}
-use Rattle.sched.specs.Looking.{Node, entered, entries, entry_left, first_memory, has_room, memory, place_in, staged_at, staged_behind, turn_of, verdict_at}
+use Rattle.sched.specs.Looking.{Node, entered, entries, entry_left, first_memory, has_room, memory, place_in, staged_at, staged_behind, verdict_at}
 use Rattle.lawful.specs.Alone.{IsOwnBank}
 use Rattle.lawful.specs.ButTold.{IsOutcomeAtButTold}
 use Rattle.lawful.proofs.Idling.{IsLeftSoFar}

@@ -1,37 +1,30 @@
 -- A port between two packets: what looking back on the history finds of it, and what it has.
 use Rattle.std.proofs.Common.{◌≡◌, ◌+◌, ◌<◌, ℕ, List, [], ◌∷◌, ◌++◌, length, Option, Some, None, refl, sym, ap, subst, ◌∙◌, append_assoc, inl, inr}
 use Rattle.std.specs.Prelude.{option_map, slice_get}
-use Rattle.std.proofs.lemmas.List.{append-nil}
 use mathlib.Core.List.{IsPrefix}
 use Rattle.spw.specs.Cargo.{Cargo}
-use Rattle.rmap.specs.declared.discard.Discard.{Discard}
 use Rattle.rmap.specs.declared.status.Status.{Status}
 use Rattle.rmap.specs.Checks.{header_line}
-use Rattle.rmap.specs.Command.{command_of, discard_of}
-use Rattle.rmap.specs.Reply.{reply_of}
-use Rattle.rmap.specs.Windows.{WindowsValue}
+use Rattle.rmap.specs.Command.{command_of}
 use Rattle.bank.specs.Records.{EntryValue}
 use Rattle.bpf.specs.Program.{Program}
 use Rattle.node_programs.specs.declared.publishes.Publish.{Publish}
 use Rattle.node_programs.specs.Published.{judging_program, sizes_of}
-use Rattle.node_programs.specs.Staged.{Staged}
 use Rattle.node_parts.specs.declared.config.BankConfig.{BankConfig}
 use Rattle.node_parts.specs.declared.stop.Stop.TheVariants as stops
-use Rattle.node_parts.specs.Steps.{IsStopped, IsUnread}
+use Rattle.node_parts.specs.Steps.{IsStopped}
 use Rattle.annals.specs.declared.deed.Link.{Link}
 use Rattle.annals.specs.Banks.{entries_of}
 use Rattle.ports.specs.Due.{Deed, IsDropped, IsUnjudged, Standing}
-use Rattle.ports.specs.Due.Deed.{Dropped, Answered as Replied, Judged}
+use Rattle.ports.specs.Due.Deed.{Dropped, Answered as Replied}
 use Rattle.ports.specs.Laws.{number_at}
 use Rattle.sched.specs.Agreement.{program_and_generation}
-use Rattle.sched.specs.declared.event.Event.{Event}
 use Rattle.sched.specs.declared.event.Event.TheVariants.{Take}
-use Rattle.sched.specs.declared.event.Outcome.{Outcome}
 use Rattle.sched.specs.declared.event.Outcome.TheVariants.{Discarded, Answered}
 use Rattle.sched.specs.History.{History, Then, opened}
 use Rattle.sched.specs.Lawful.{header_outcome, packet_outcome, take_outcome}
 use Rattle.sched.specs.Looking.{Node, entries, published, publishes, staging, windows_in}
-use Rattle.lawful.specs.ButTold.{IsLawfulButTold, IsOutcomeButTold}
+use Rattle.lawful.specs.ButTold.{IsLawfulButTold}
 use Rattle.lawful.specs.Happenings.{Happening, HappenBy, HappensBy, happened_at, happening}
 use Rattle.lawful.proofs.Keeping.{Keeps, StaysElsewhere, elsewhere_on, happened_here, one_elsewhere, opened_here, staging_here}
 use Rattle.lawful.proofs.Telling.{outcome_here}

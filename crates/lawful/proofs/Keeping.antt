@@ -1,15 +1,12 @@
 -- What some events of one port leave as it was.
-use Rattle.std.proofs.Common.{◌≡◌, ◌==◌, ℕ, Bool, true, false, List, [], ◌∷◌, ◌++◌, Option, Some, None, refl, sym, ap, ◌∙◌, eqb-true, arith}
+use Rattle.std.proofs.Common.{◌≡◌, ◌==◌, ℕ, Bool, true, false, [], ◌∷◌, ◌++◌, refl, sym, ap, ◌∙◌, eqb-true, arith}
 use Rattle.std.specs.Prelude.{if◌then◌else◌}
 use Rattle.std.proofs.lemmas.Bool.Decides.{nat_tests}
-use Rattle.bank.specs.Records.{EntryValue}
-use Rattle.bpf.specs.Program.{Program}
-use Rattle.node_programs.specs.Staged.{Staged}
 use Rattle.sched.specs.declared.event.Event.{Event}
 use Rattle.sched.specs.declared.event.Outcome.{Outcome}
-use Rattle.sched.specs.History.{History, Then, Open, opened, opened_by, port_of}
+use Rattle.sched.specs.History.{History, Then, opened, opened_by, port_of}
 use Rattle.sched.specs.Looking.{Node, entries, published, publishes, staged_by, staging}
-use Rattle.lawful.specs.Happenings.{Happening, happened_at, happening}
+use Rattle.lawful.specs.Happenings.{happened_at, happening}
 
 pub itself : (q : ℕ) → (q == q) ≡ true
 itself q = grind (arith, nat_tests)

@@ -1,5 +1,5 @@
 -- How a judged command ends in the boot window: at the port's staging, or as a control write.
-use Rattle.std.proofs.Common.{◌≡◌, ◌==◌, ◌+◌, ◌<◌, ◌≤◌, ◌^◌, ◌⊎◌, ℕ, Bool, true, false, cond, List, [], ◌∷◌, ◌++◌, length, Option, Some, None, Ok, refl, sym, ap, subst, ◌∙◌, inl, inr, arith, length-append}
+use Rattle.std.proofs.Common.{◌≡◌, ◌==◌, ◌+◌, ◌<◌, ◌≤◌, ℕ, Bool, true, false, cond, List, [], ◌∷◌, ◌++◌, length, Option, Some, None, Ok, refl, sym, ap, subst, ◌∙◌, inl, inr, arith, length-append}
 use Rattle.std.specs.Prelude.{if◌then◌else◌, option_map}
 use mathlib.Core.List.{IsPrefix}
 use Rattle.spw.specs.Cargo.{Cargo}
@@ -14,7 +14,7 @@ use Rattle.rmap.specs.Command.{command_of}
 use Rattle.rmap.specs.Reply.{reply_of}
 use Rattle.bank.specs.Answer.{answer, effect_at, judged_line}
 use Rattle.bank.specs.Effect.{memory_at}
-use Rattle.bank.specs.Records.{EntryValue, JudgedValue}
+use Rattle.bank.specs.Records.{EntryValue}
 use Rattle.bpf.specs.Laws.{ImagesAreRead}
 use Rattle.bpf.specs.Program.{Program}
 use Rattle.bpf.specs.Reading.{image_reading}
@@ -27,9 +27,9 @@ use Rattle.node_programs.specs.Histories.{entry, longer_history}
 use Rattle.node_programs.specs.Laws.{IsSetByNext}
 use Rattle.node_programs.specs.Published.{judging_program, sizes_of}
 use Rattle.node_programs.specs.Staged.{Staged, staged}
-use Rattle.node_parts.specs.Loaded.{EndsAs, HasLoaded, HasRefused, after_load}
+use Rattle.node_parts.specs.Loaded.{EndsAs, HasLoaded, HasRefused}
 use Rattle.node_parts.specs.Loads.{IsPrepared, IsUnprepared, loaded_bytes, published_result, refused_result}
-use Rattle.node_parts.specs.Outcomes.{Load, IsLoad}
+use Rattle.node_parts.specs.Outcomes.{IsLoad}
 use Rattle.node_parts.specs.Outcomes as loads
 use Rattle.node_parts.specs.Passes.{PassValue}
 use Rattle.node_parts.specs.Served.{EndsAtWindow, IsStagedAt}
@@ -50,8 +50,7 @@ use Rattle.lawful.specs.ButTold.{IsOutcomeAtButTold}
 use Rattle.lawful.specs.Happenings.{ending}
 use Rattle.lawful.proofs.Growing.{made as programs_made, none_made, one_made}
 use Rattle.lawful.proofs.Idling.{IsKnown}
-use Rattle.lawful.proofs.Keeping.{Keeps}
-use Rattle.lemmas.proofs.Prefixes.{prefix_length, prefix_whole}
+use Rattle.lemmas.proofs.Prefixes.{prefix_whole}
 
 -- ---- what is told
 

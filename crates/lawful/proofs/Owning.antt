@@ -1,8 +1,7 @@
 -- A bank's chain that has entries of one port alone: its entries, their numbers, and its memory.
-use Rattle.std.proofs.Common.{◌≡◌, ◌==◌, ◌+◌, ◌≤◌, ℕ, suc, zero, Bool, true, false, cond, List, [], ◌∷◌, ◌++◌, map, length, Option, Some, None, refl, sym, ap, subst, ◌∙◌, append_assoc, length-append, arith}
-use Rattle.std.specs.Prelude.{fold, filter, slice_get}
+use Rattle.std.proofs.Common.{◌≡◌, ◌==◌, ◌+◌, ◌≤◌, ℕ, suc, zero, Bool, true, cond, List, [], ◌∷◌, ◌++◌, map, length, Some, refl, sym, ap, subst, ◌∙◌, length-append, arith}
+use Rattle.std.specs.Prelude.{fold, filter}
 use Rattle.std.specs.List.{range_with_len}
-use Rattle.std.proofs.lemmas.Bool.Decides.{nat_tests}
 use Rattle.std.proofs.lemmas.List.Elements.{filter-append}
 use mathlib.Core.List.{IsPrefix}
 use Rattle.bank.specs.Effect.{Memory}
@@ -17,7 +16,6 @@ use Rattle.node_parts.specs.declared.config.BankConfig.{BankConfig}
 use Rattle.sched.specs.Looking.{first_memory}
 use Rattle.lawful.specs.Alone.{AreEntriesOf, IsEntryOf, IsOwnBank, IsOwnChain}
 use Rattle.lawful.proofs.Keeping.{itself}
-use Rattle.lemmas.proofs.Prefixes.{prefix_length, prefix_trans}
 
 -- ---- lists
 

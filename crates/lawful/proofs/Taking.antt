@@ -1,12 +1,11 @@
 -- A command that is taken, and the helper calls of its run: it then has its verdict.
-use Rattle.std.proofs.Common.{◌≡◌, ◌<◌, ◌+◌, ℕ, List, [], ◌∷◌, ◌++◌, Option, Some, None, refl, sym, ap, subst, ◌∙◌, append_assoc}
+use Rattle.std.proofs.Common.{◌≡◌, ◌<◌, ◌+◌, ℕ, List, [], ◌∷◌, ◌++◌, Some, None, refl, sym, ap, subst, ◌∙◌, append_assoc}
 use Rattle.std.specs.Prelude.{option_map}
 use Rattle.std.proofs.lemmas.List.{append-nil}
 use Rattle.spw.specs.Cargo.{Cargo}
-use Rattle.rmap.specs.declared.places.Place.{Place}
 use Rattle.rmap.specs.Checks.{header_line}
 use Rattle.rmap.specs.Command.{command_kind, command_of}
-use Rattle.rmap.specs.Windows.{WindowsValue, place_of}
+use Rattle.rmap.specs.Windows.{place_of}
 use Rattle.bpf.specs.Program.{Program}
 use Rattle.bver.specs.Justified.{AcceptedValue}
 use Rattle.brun.specs.declared.turns.Turn.TheVariants as turns
@@ -21,7 +20,6 @@ use Rattle.annals.specs.declared.deed.Link.{Link}
 use Rattle.ports.specs.Due.{IsJudged, Judging, Standing}
 use Rattle.sched.specs.Agreement.{program_and_generation}
 use Rattle.sched.specs.declared.event.Event.TheVariants.{Take}
-use Rattle.sched.specs.declared.event.Outcome.{Outcome}
 use Rattle.sched.specs.declared.event.Outcome.TheVariants.{Taken}
 use Rattle.sched.specs.History.{History, Then, opened}
 use Rattle.sched.specs.Lawful.{header_outcome, packet_outcome, take_outcome}

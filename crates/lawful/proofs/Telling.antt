@@ -1,10 +1,8 @@
 -- The helper calls of a run, answered one after the other, are lawful but for what cells told.
-use Rattle.std.proofs.Common.{◌≡◌, ◌==◌, ◌<◌, ◌≤◌, ◌^◌, ℕ, Bool, List, [], ◌∷◌, ◌++◌, map, Option, Some, None, refl, sym, ap, subst, ◌∙◌, append_assoc, arith}
+use Rattle.std.proofs.Common.{◌≡◌, ◌<◌, ◌^◌, ℕ, Bool, List, [], ◌∷◌, ◌++◌, map, Option, Some, None, refl, sym, ap, subst, ◌∙◌, append_assoc, arith}
 use Rattle.std.specs.Prelude.{if◌then◌else◌}
 use Rattle.std.proofs.lemmas.List.{append-nil, map-append}
 use Rattle.spw.specs.Cargo.{Cargo}
-use Rattle.bpf.specs.Program.{Program}
-use Rattle.brun.specs.declared.turns.Turn.{Turn}
 use Rattle.brun.specs.declared.turns.Turn.TheVariants as turns
 use Rattle.machine.specs.declared.calls.Call.{Call}
 use Rattle.machine.specs.declared.calls.Question.{Question}
@@ -16,12 +14,12 @@ use Rattle.sched.specs.declared.event.Event.{Event}
 use Rattle.sched.specs.declared.event.Outcome.{Outcome}
 use Rattle.sched.specs.declared.event.Outcome.TheVariants.{Told}
 use Rattle.sched.specs.History.{History, Then, Open, after_told, opened, port_of}
-use Rattle.sched.specs.Looking.{Node, cell_asked, header_in, program_of, staging, turn_at, turn_by, turn_of}
+use Rattle.sched.specs.Looking.{Node, cell_asked, header_in, program_of, turn_at, turn_by, turn_of}
 use Rattle.sched.specs.Turns.{answers_of}
 use Rattle.lawful.specs.ButTold.{IsLawfulButTold, IsOutcomeAtButTold, IsOutcomeButTold, IsSomeTold}
-use Rattle.lawful.specs.Happenings.{Happening, happened_at, happening, told_call, told_calls}
+use Rattle.lawful.specs.Happenings.{Happening, happened_at, told_call, told_calls}
 use Rattle.lawful.proofs.Keeping.{Keeps, happened_here, itself, keeps_on, keeps_same, one_elsewhere, opened_here, staging_here}
-use Rattle.lawful.proofs.Turning.{AreSmall, StandsAlong, turn_before}
+use Rattle.lawful.proofs.Turning.{AreSmall, StandsAlong}
 
 -- a command that was taken after that history, with that generation, whose helpers were told that
 abbrev pub asking : Cargo → (generation : ℕ) → History → List ℕ → Open

@@ -1,11 +1,11 @@
 -- A history is lawful if it is lawful but for what cells told, and cells told what looking back gives.
-use Rattle.std.proofs.Common.{◌≡◌, ◌<◌, ℕ, Option, Some, None, subst}
+use Rattle.std.proofs.Common.{◌≡◌, ℕ, Option, Some, None, subst}
 use Rattle.machine.specs.declared.helpers.Helper.{Helper}
 use Rattle.machine.specs.declared.helpers.Helper.TheVariants as helpers
 use Rattle.sched.specs.declared.event.Event.{Event}
 use Rattle.sched.specs.declared.event.Event.TheVariants.{Take, Count, Ticket, Peak, Effect, Publish}
 use Rattle.sched.specs.declared.event.Outcome.{Outcome}
-use Rattle.sched.specs.History.{History, Start, Then, port_of}
+use Rattle.sched.specs.History.{History, Start, Then}
 use Rattle.sched.specs.Lawful.{IsLawful, IsOutcomeAt, told_of_cell, told_on}
 use Rattle.sched.specs.Looking.{Node, argument_asked, cell_asked, turn_at}
 use Rattle.lawful.specs.ButTold.{IsLawfulButTold, IsOutcomeAtButTold, IsSomeTold, IsToldBy, IsToldOf, IsWordIfTold, LawfulIsButTold, TellsLookedBack, TellsWords}
