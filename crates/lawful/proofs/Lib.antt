@@ -1,0 +1,11 @@
+mod ToldApart
+mod Turning
+mod Keeping
+mod Telling
+mod Owning
+mod Growing
+mod Idling
+mod Taking
+mod Loading
+mod Entering
+mod Alone

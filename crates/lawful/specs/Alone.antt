@@ -1,0 +1,133 @@
+-- The law of one port: what a thread did at a port, while nobody else changed what it met, is a lawful history of the node but
+-- for what cells told.
+use Rattle.std.specs.Prelude.{◌≡◌, ◌<◌, ◌≤◌, ◌+◌, ◌^◌, ℕ, true, List, [], ◌∷◌, length, slice_get, Some, None, option_map}
+use mathlib.Core.List.{IsPrefix}
+use Rattle.spw.specs.Cargo.{Cargo}
+use Rattle.rmap.specs.declared.places.Place.TheVariants as places
+use Rattle.rmap.specs.declared.status.Status.{Status}
+use Rattle.rmap.specs.BootRecords.{control_of}
+use Rattle.rmap.specs.Checks.{header_line}
+use Rattle.rmap.specs.Command.{command_of}
+use Rattle.annals.specs.declared.deed.Act.TheVariants.{Leaves, Sets, Rotates, Publishes}
+use Rattle.annals.specs.declared.deed.Deed.{Deed as LinkDeed}
+use Rattle.annals.specs.declared.deed.Deed.TheVariants.{Opens, Does, Asks, Shows}
+use Rattle.annals.specs.declared.deed.Link.{Link}
+use Rattle.annals.specs.Banks.{entries_of}
+use Rattle.annals.specs.Chains.{chain_of}
+use Rattle.bank.specs.Answer.{judged_line}
+use Rattle.bank.specs.Records.{is_bank_place}
+use Rattle.node_programs.specs.declared.publishes.Publish.{Publish}
+use Rattle.node_programs.specs.Published.{judging_program, sizes_of}
+use Rattle.node_parts.specs.declared.config.BankConfig.{BankConfig}
+use Rattle.node_parts.specs.declared.refusal.LoadRefusal.{LoadRefusal}
+use Rattle.node_parts.specs.Loads.{IsUnprepared, refused_result}
+use Rattle.node_parts.specs.Nodes.{first_staging}
+use Rattle.target.specs.Lines.{CountsAllOf}
+use Rattle.ports.specs.Due.{Deed, Judging, Standing, Worked, judgings}
+use Rattle.ports.specs.Due.Deed.{Dropped, Answered, Judged}
+use Rattle.ports.specs.Laws.{loaded_by, number_at}
+use Rattle.sched.specs.Agreement.{program_and_generation}
+use Rattle.sched.specs.History.{History, opened}
+use Rattle.sched.specs.Looking.{Node, entries, published, staging, windows_in}
+use Rattle.lawful.specs.ButTold.{IsLawfulButTold}
+use Rattle.lawful.specs.Happenings.{HappenBy, happened_at}
+
+-- ---- premises
+
+-- a port of the node that was not served yet: it knows of the factory program, its staging is the first, and it left no entry
+pub record IsFreshPort (n : Node) (s : Standing) : Type 0 where
+  pub there : s.pass.port < n.ports
+  pub windows : s.pass.windows ≡ windows_in n
+  pub factory : Publish
+  pub programs : s.pass.programs ≡ factory ∷ []
+  pub program : factory.program.program ≡ n.factory
+  pub sizes : factory.program.sizes ≡ n.sizes
+  pub staging_is : s.pass.staging ≡ first_staging
+  pub shares : length s.pass.shares ≡ length n.banks
+  pub numbers : (k : ℕ) → number_at s.pass k ≡ 0
+
+-- a deed at a bank is an entry of that port
+abbrev pub IsEntryOf : (port : ℕ) → LinkDeed → Type 0
+IsEntryOf port (Opens opening) = ⊥
+IsEntryOf port (Does (Leaves entry)) = entry.port ≡ port
+IsEntryOf port (Does (Sets setting)) = ⊥
+IsEntryOf port (Does (Rotates room)) = ⊥
+IsEntryOf port (Does (Publishes publish)) = ⊥
+IsEntryOf port (Asks due) = ⊥
+IsEntryOf port Shows = ⊥
+
+-- each deed is an entry of that port
+abbrev pub AreEntriesOf : (port : ℕ) → List Link → Type 0
+AreEntriesOf port [] = Unit {0}
+AreEntriesOf port (l ∷ ls) = IsEntryOf port l.deed × AreEntriesOf port ls
+
+-- what the list has of a bank, if anything: first it began, as the node's configuration says, then come entries of that port
+-- alone, for which its journal has room
+abbrev pub IsOwnChain : (port : ℕ) → BankConfig → List Link → Type 0
+IsOwnChain port bank [] = Unit {0}
+IsOwnChain port bank (l ∷ ls) =
+    (l.deed ≡ Opens (bank.base, bank.size, bank.room)) × AreEntriesOf port ls × (length ls ≤ bank.room)
+
+-- what the list has of the bank of that number is the port's, and the numbers of its entries are below 2^64
+pub record IsOwnBank (port k : ℕ) (bank : BankConfig) (whole : List Link) : Type 0 where
+  pub chain : IsOwnChain port bank (chain_of k whole)
+  pub few : bank.room < 2 ^ 64
+
+-- the load of a control write was refused for what the port had staged, which its load result tells
+pub record IsRefusedForStaged (h after : Standing) (j : Judging) : Type 0 where
+  pub refusal : LoadRefusal
+  pub unprepared : IsUnprepared (control_of (command_of j.judged.packet).body) h.pass.staging.bytes (sizes_of h.pass.programs) refusal
+  pub told : after.pass.staging.load_result ≡ refused_result refusal
+
+-- of a command that was judged nothing was wanting: at a bank it left its entry, and a load published its program, or was
+-- refused for what was staged
+pub record IsJudgedInFull (h after : Standing) (j : Judging) : Type 0 where
+  pub entered : is_bank_place j.judged.place ≡ true → j.entered ≡ true
+  pub loads : j.judged.place ≡ places.Control → judged_line (command_of j.judged.packet) j.judged.verdict ≡ None
+      → j.loaded ≡ None → IsRefusedForStaged h after j
+
+-- nothing was wanting to what became of a packet: where no verdict answered it, a check of its header did
+abbrev pub IsDealtInFull : Node → Deed → Cargo → (h after : Standing) → Type 0
+IsDealtInFull n Dropped p h after = Unit {0}
+IsDealtInFull n (Answered reply) p h after = (status : Status) × (header_line (command_of p) (windows_in n) ≡ Some status)
+IsDealtInFull n (Judged j) p h after = IsJudgedInFull h after j
+
+-- nothing was wanting to what became of some packets
+abbrev pub AreDealtInFull : Node → (h : Standing) (ps : List Cargo) (ds : List Deed) (after : Standing) → Worked h ps ds after → Type 0
+AreDealtInFull n h [] [] after worked = Unit {0}
+AreDealtInFull n h [] (d ∷ ds) after worked = Unit {0}
+AreDealtInFull n h (p ∷ ps) [] after worked = Unit {0}
+AreDealtInFull n h (p ∷ ps) (d ∷ ds) after worked =
+    IsDealtInFull n d p h worked.0 × AreDealtInFull n worked.0 ps ds after worked.2
+
+-- a fresh port of the node was served alone: of the list of the node all that its banks had is the port's, nothing was published
+-- but by its loads, and nothing was wanting
+pub record IsServedAlone (n : Node) (first : Standing) (ps : List Cargo) (ds : List Deed) (last : Standing) (whole : List Link) : Type 0 where
+  pub worked : Worked first ps ds last
+  pub fresh : IsFreshPort n first
+  pub banks : (k : ℕ) (bank : BankConfig) → slice_get n.banks k ≡ Some bank → IsOwnBank first.pass.port k bank whole
+  pub begins : IsPrefix last.front whole
+  pub counted : CountsAllOf last.pass whole
+  pub loads : length last.pass.programs ≤ 1 + length (loaded_by (judgings ds))
+  pub in_full : AreDealtInFull n first ps ds last worked
+
+-- ---- the law
+
+-- there is a history of the node, lawful but for what cells told, in which at the port happened what became of its packets, and
+-- elsewhere nothing; its entries at each bank are those of the list, its programs are those that the port knows in the end, and
+-- its staging is the port's
+pub record HasLawfulHistory (n : Node) (port : ℕ) (ps : List Cargo) (ds : List Deed) (last : Standing) (whole : List Link) : Type 0 where
+  pub history : History
+  pub lawful : IsLawfulButTold n history
+  pub happened : HappenBy port ps ds (happened_at port history)
+  pub elsewhere : (other : ℕ) → (other ≡ port → ⊥) → happened_at other history ≡ []
+  pub closed : opened history port ≡ None
+  pub entries_are : (k : ℕ) (bank : BankConfig) → slice_get n.banks k ≡ Some bank → entries n history k ≡ entries_of k whole
+  pub programs : (slot : ℕ) → option_map program_and_generation (judging_program last.pass.programs slot) ≡ Some (published n history slot)
+  pub staging_is : staging n history port ≡ last.pass.staging
+
+-- what a thread did at a fresh port of a node that it served alone is a lawful history but for what cells told
+abbrev pub OnePortIsLawful : Type 0
+OnePortIsLawful =
+    (n : Node) (first last : Standing) (ps : List Cargo) (ds : List Deed) (whole : List Link) → IsServedAlone n first ps ds last whole
+    → HasLawfulHistory n first.pass.port ps ds last whole

@@ -1,0 +1,27 @@
+//! The laws of what threads did. Each function does no work: its contract is the law.
+
+ghost use Rattle.lawful.specs.Alone.{OnePortIsLawful};
+ghost use Rattle.lawful.specs.ButTold.{LawfulIsButTold};
+
+use bpf::image_laws;
+use machine::runs_from_the_front;
+use node_programs::published_programs;
+use ports::workers_shares_count;
+
+/// A law and no work: a history whose answers are words is lawful exactly if it is lawful but for what cells told, and cells
+/// told what looking back gives.
+pub fn told_apart()
+    ensures { LawfulIsButTold }
+{}
+
+/// A law and no work: what a thread did at a fresh port of a node that it served alone is a lawful history of the node, but for
+/// what cells told. At the port happened, in order, what became of its packets: a command was taken, each helper that its run
+/// asked was answered, and it was done with the reply that was due. The entries of each bank are those of the node's one list.
+pub fn one_port_is_lawful()
+    ensures { OnePortIsLawful }
+{
+    runs_from_the_front();
+    image_laws();
+    published_programs();
+    workers_shares_count();
+}
