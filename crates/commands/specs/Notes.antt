@@ -1,5 +1,5 @@
 -- What is noted of the files that a job reads.
-use Rattle.std.specs.Prelude.{Bool, false, ℕ, ◌+◌}
+use Rattle.std.specs.Prelude.{Bool, false, ℕ, ◌+◌, Option, Some, None, min}
 use Rattle.job_parts.specs.declared.inputs.Content.{Content}
 use Rattle.job_parts.specs.declared.inputs.Content.TheVariants as content
 use Rattle.commands.specs.declared.jobs.Job.{Job}
@@ -33,6 +33,11 @@ is_dump (Rehearse words) = false
 -- whether the lines that are read next are those of a dump
 abbrev pub reads_dump : Noted → Bool
 reads_dump noted = noted.is_dump
+
+-- how many ports the node of a job has: those that its file says, or 32
+abbrev pub ports_of : Option ℕ → ℕ
+ports_of None = 32
+ports_of (Some ports) = min ports 32
 
 -- how many bytes are read of a file that has to be that: one that has as many is too long, or has enough
 abbrev pub most_of : Content → ℕ

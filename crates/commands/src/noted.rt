@@ -1,12 +1,13 @@
 //! What is noted of the files that a job reads: why one could not be read or written, and what was read last.
 
-ghost use Rattle.std.specs.Prelude.{◌≡◌, IfOk, IfSome, Some, false, option_copied, option_map, string_bytes};
-ghost use Rattle.commands.specs.Notes.{is_dump, most_of, reads_dump};
+ghost use Rattle.std.specs.Prelude.{◌≡◌, ◌≤◌, IfOk, IfSome, Some, false, is_some, option_copied, option_map, string_bytes};
+ghost use Rattle.commands.specs.Notes.{is_dump, most_of, ports_of, reads_dump};
 
 use crate::dumps::dump_lines;
 use crate::jobs::Job;
 use job_parts::inputs::{Content, Inputs};
 use job_parts::storage::Cannot;
+use spw::PORTS;
 use std::alloc::{AllocError, Global};
 use std::io;
 
@@ -39,7 +40,7 @@ pub enum Cause {
 pub struct Noted<'a> {
     inputs: Inputs<'a>,
     is_dump: bool,
-    is_on_node: bool,
+    ports: Option<u8>,
     cause: Option<Cause>,
     lines: Option<String>,
     last: Option<Vec<u8>>,
@@ -122,29 +123,40 @@ impl<'a> Noted<'a> {
         Noted {
             inputs,
             is_dump: false,
-            is_on_node: false,
+            ports: None,
             cause: None,
             lines: None,
             last: None,
         }
     }
 
-    /// Nothing yet, of the files that the job reads; whether a node's file says its maps. The lines of a dump are given as its
-    /// packet lines.
-    pub fn of_job(job: &'a Job, is_on_node: bool) -> Noted<'a>
+    /// Nothing yet, of the files that the job reads; how many ports the node has whose file says the job's maps, if one says them. The
+    /// lines of a dump are given as its packet lines.
+    pub fn of_job(job: &'a Job, ports: Option<u8>) -> Noted<'a>
         ensures { reads_dump result ≡ is_dump job.now }
     {
         let mut noted = Noted::new(job.inputs());
         noted.is_dump = shows_dump(job);
-        noted.is_on_node = is_on_node;
+        noted.ports = ports;
         noted
     }
 
     /// Whether a node's file says the maps of the job.
     pub fn is_on_node(&self) -> bool
-        ensures { result ≡ self.now.is_on_node }
+        ensures { result ≡ is_some self.now.ports }
     {
-        self.is_on_node
+        self.ports.is_some()
+    }
+
+    /// How many ports the node of the job has: those of its file, which has no more than 32, or 32.
+    pub fn ports(&self) -> u8
+        ensures value { result ≡ ports_of self.now.ports }
+        ensures few { result ≤ 32 }
+    {
+        match self.ports {
+            Some(ports) => ports.min(PORTS),
+            None => PORTS,
+        }
     }
 
     /// Why the last file could not be read or written, if it could not.

@@ -1,3 +1,5 @@
 mod Stopping
 mod Returning
 mod Runs
+mod Loading
+mod Starting

@@ -5,7 +5,9 @@ use Rattle.job_parts.specs.declared.faults.Fault.{Fault}
 use Rattle.job_parts.specs.declared.stops.Halt.{Halt}
 use Rattle.job_parts.specs.declared.stops.Halt.TheVariants.{Ended, Unwritten}
 use Rattle.job_parts.specs.declared.status.Status.{Status}
-use Rattle.job_rehearse.specs.Rehearsed.{TellsBad}
+use Rattle.job_rehearse.specs.Rehearsed.{AsksAny, TellsBad}
+use Rattle.job_rehearse.specs.declared.open_ports.LoadedNode.{LoadedNode}
+use Rattle.job_rehearse.specs.declared.policies.Asked.{Asked}
 use Rattle.job_rehearse.specs.declared.policies.NoPolicy.{NoPolicy}
 
 pub stops_more : (P Q : Fault → Type 0) → ((fault : Fault) → P fault → Q fault) → (halt : Halt) → StopsBy P halt → StopsBy Q halt
@@ -22,3 +24,8 @@ tells_none holds none old new status held told = record {
   told = told.told;
   failed = told.failed;
 }
+
+-- the new policy was asked at the same node
+pub asks_at : (node other : LoadedNode) (asked : Asked) (old new : Option (List ℕ)) (status : Status)
+    → node ≡ other → AsksAny node asked old new status → AsksAny other asked old new status
+asks_at node other asked old new status is asks = subst (λ (n : LoadedNode). AsksAny n asked old new status) is asks
