@@ -3,3 +3,5 @@ mod Returning
 mod Runs
 mod Loading
 mod Starting
+mod Trying
+mod Telling

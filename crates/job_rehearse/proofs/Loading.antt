@@ -1,7 +1,8 @@
 -- Slots into which an image is loaded, one more at a time.
-use Rattle.std.proofs.Common.{◌≡◌, ◌≤◌, ◌<◌, ◌++◌, ◌∷◌, [], ◌&&◌, not, ℕ, zero, suc, Bool, true, false, List, Some, arith, refl, sym, ap, subst, ◌∙◌}
+use Rattle.std.proofs.Common.{◌≡◌, ◌≤◌, ◌<◌, ◌+◌, ◌++◌, ◌∷◌, [], ◌&&◌, not, ℕ, zero, suc, Bool, true, false, List, Some, arith, refl, sym, ap, subst, ◌∙◌, get_or, length, take}
 use Rattle.std.specs.Prelude.{Decides, if◌then◌else◌, slice_get}
 use Rattle.std.proofs.lemmas.Bool.{false≢true}
+use Rattle.std.proofs.lemmas.List.{take_more}
 use Rattle.std.proofs.lemmas.Option.{none-some, same_Some}
 use Rattle.std.specs.List.{list_all, list_any}
 use Rattle.bpf.specs.Program.{image_bytes}
@@ -20,6 +21,19 @@ one_more_slot image count programs [] [] slot is are one = (one, tt)
 one_more_slot image count programs [] (b ∷ rest) slot is are one = absurd are
 one_more_slot image count programs (s ∷ slots) [] slot is are one = absurd are
 one_more_slot image count programs (s ∷ slots) (b ∷ rest) slot is are one = (are.0, one_more_slot image count programs slots rest slot is are.1 one)
+
+-- before the first slot there is none
+pub no_slot : (image : List ℕ) (count : ℕ) (programs : List Publish) (slots : List ℕ) (loaded : List Bool) → loaded ≡ [] → AreLoaded image count programs (take 0 slots) loaded
+no_slot image count programs slots loaded is = subst (λ (l : List Bool). AreLoaded image count programs [] l) (sym is) tt
+
+-- one more slot, at its place
+pub slot_more : (image : List ℕ) (count : ℕ) (programs : List Publish) (slots : List ℕ) (k d slot : ℕ) (before loaded : List Bool) (is : Bool) → k < length slots → slot ≡ get_or slots k d
+    → AreLoaded image count programs (take k slots) before → Decides is (IsLoaded image count programs slot) → loaded ≡ before ++ is ∷ []
+    → AreLoaded image count programs (take (k + 1) slots) loaded
+slot_more image count programs slots k d slot before loaded is below at are one more =
+    subst (λ (l : List Bool). AreLoaded image count programs (take (k + 1) slots) l) (sym more)
+    (subst (λ (s : List ℕ). AreLoaded image count programs s (before ++ is ∷ [])) (sym (take_more slots k d below))
+    (one_more_slot image count programs (take k slots) before (get_or slots k d) is are (subst (λ (n : ℕ). Decides is (IsLoaded image count programs n)) at one)))
 
 -- the loads ended as those of an image that is loaded
 IsWhole : Ending → Type 0
@@ -54,25 +68,38 @@ each_loaded image count programs slots loaded refused failed are is = each_of im
 -- ---- one slot
 
 -- there is no such slot
-pub not_there : (image : List ℕ) (count : ℕ) (programs : List Publish) (slot : ℕ) → ¬ (slot < 4) → Decides false (IsLoaded image count programs slot)
-not_there image count programs slot none = (λ e. absurd (false≢true e), λ is. absurd (none is.there))
-
--- its last program was published before
-pub not_later : (image : List ℕ) (count : ℕ) (programs : List Publish) (slot generation : ℕ) → generation_at programs slot ≡ Some generation → generation < count
-    → Decides false (IsLoaded image count programs slot)
-not_later image count programs slot generation at before = (
+pub not_there : (image : List ℕ) (count : ℕ) (programs : List Publish) (slot : ℕ) → 3 < slot → Decides false (IsLoaded image count programs slot)
+not_there image count programs slot above = (
   λ e. absurd (false≢true e),
   λ is.
-      let same : is.generation ≡ generation = same_Some is.generation generation (sym is.is_generation ∙ at) in
-      let later : count ≤ is.generation = is.later in
+      let there : slot < 4 = is.there in
+      absurd (omega (arith, above, there)),
+)
+
+-- its last program was published before
+pub not_later : (image : List ℕ) (generation : ℕ) (programs : List Publish) (slot own : ℕ) → generation_at programs slot ≡ Some own → own ≤ generation
+    → Decides false (IsLoaded image (generation + 1) programs slot)
+not_later image generation programs slot own at before = (
+  λ e. absurd (false≢true e),
+  λ is.
+      let same : is.generation ≡ own = same_Some is.generation own (sym is.is_generation ∙ at) in
+      let later : generation + 1 ≤ is.generation = is.later in
       absurd (omega (arith, same, later, before)),
 )
 
 -- its last program was published after that, and is compared with the image
-pub by_bytes : (image : List ℕ) (count : ℕ) (programs : List Publish) (slot generation : ℕ) (program : AcceptedValue) (is : Bool)
-    → slot < 4 → generation_at programs slot ≡ Some generation → count ≤ generation → program_at programs slot ≡ Some program → Decides is (image_bytes program.program ≡ image)
-    → Decides is (IsLoaded image count programs slot)
-by_bytes image count programs slot generation program is there at later own same = (
-  λ e. record { there = there; generation = generation; is_generation = at; later = later; program = program; is_program = own; is_image = same.0 e },
-  λ loaded. same.1 (ap (λ (p : AcceptedValue). image_bytes p.program) (same_Some program loaded.program (sym own ∙ loaded.is_program)) ∙ loaded.is_image),
+pub by_bytes : (image bytes : List ℕ) (generation : ℕ) (programs : List Publish) (slot own : ℕ) (program : AcceptedValue) (is : Bool)
+    → slot ≤ 3 → generation_at programs slot ≡ Some own → generation < own → program_at programs slot ≡ Some program → bytes ≡ image_bytes program.program
+    → Decides is (bytes ≡ image) → Decides is (IsLoaded image (generation + 1) programs slot)
+by_bytes image bytes generation programs slot own program is low at later own_program spelled same = (
+  λ e. record {
+    there = omega (arith, low);
+    generation = own;
+    is_generation = at;
+    later = omega (arith, later);
+    program = program;
+    is_program = own_program;
+    is_image = sym spelled ∙ same.0 e;
+  },
+  λ loaded. same.1 (spelled ∙ ap (λ (p : AcceptedValue). image_bytes p.program) (same_Some program loaded.program (sym own_program ∙ loaded.is_program)) ∙ loaded.is_image),
 )

@@ -7,7 +7,7 @@ use Rattle.machine.specs.Sizes.{Maps, kind_of_map}
 use Rattle.machine.specs.declared.calls.Call.{Call}
 use Rattle.machine.specs.declared.calls.Question.{Question}
 use Rattle.plain_cells.specs.Cells.{CellsValue}
-use Rattle.job_rehearse.specs.Starts.{AreAnswered, AreBegun, Stays, asked_so_far, home_of, raised_answer, raised_call}
+use Rattle.job_rehearse.specs.Starts.{AreAnswered, AreBegun, asked_so_far, home_of, raised_answer, raised_call}
 use Rattle.job_rehearse.specs.declared.starts.LoadCells.{LoadCells}
 use Rattle.job_rehearse.specs.declared.starts.Start.{Start}
 use Rattle.job_rehearse.specs.declared.starts.Start.TheVariants.{Fresh, Spent}
@@ -41,8 +41,8 @@ pub unasked : (start : Start) (sizes : Maps) (c : LoadCells) → AreBegun start 
 unasked start sizes c is = ap (λ (calls : List Call). map (raised_call c.start c.cells.sizes) calls) is.unasked
 
 -- so the calls since are those of cells that began so
-pub answered_since : (start : Start) (sizes : Maps) (c after : LoadCells) → AreBegun start sizes c → Stays c after → AreAnswered after.start after.cells.sizes (asked_so_far after)
-    → AreAnswered start sizes (asked_so_far after)
-answered_since start sizes c after is stays answered =
-    subst (λ (s : Maps). AreAnswered start s (asked_so_far after)) (stays.sizes ∙ is.sizes_are)
-    (subst (λ (b : Start). AreAnswered b after.cells.sizes (asked_so_far after)) (same_start after.start c.start stays.home ∙ is.start_is) answered)
+pub answered_since : (start : Start) (sizes : Maps) (c after : LoadCells) → AreBegun start sizes c → after.cells.sizes ≡ c.cells.sizes → home_of after.start ≡ home_of c.start
+    → AreAnswered after.start after.cells.sizes (asked_so_far after) → AreAnswered start sizes (asked_so_far after)
+answered_since start sizes c after is maps home answered =
+    subst (λ (s : Maps). AreAnswered start s (asked_so_far after)) (maps ∙ is.sizes_are)
+    (subst (λ (b : Start). AreAnswered b after.cells.sizes (asked_so_far after)) (same_start after.start c.start home ∙ is.start_is) answered)

@@ -1,6 +1,8 @@
 -- The packets of a load, which a node takes a second time.
-use Rattle.std.specs.Prelude.{◌≡◌, ℕ, Bool, false, List, [], ◌∷◌, Option, Some, None}
+use Rattle.std.specs.Prelude.{◌≡◌, ℕ, Bool, true, false, List, [], ◌∷◌, replicate, Option, Some, None}
 use Rattle.bpf.specs.Program.{IsProgram, Program, image_bytes}
+use Rattle.bpf.specs.declared.fault.ImageFault.{ImageFault}
+use Rattle.bpf.specs.declared.fault.ImageFault.TheVariants as faults
 use Rattle.bver.specs.Justified.{AcceptedValue, IsJustified}
 use Rattle.job_parts.specs.Factory.{factory}
 use Rattle.job_parts.specs.Turns.{AreTaken}
@@ -40,6 +42,17 @@ pub record IsDeniedAgain (address : ℕ) (sizes : Maps) (lines : List ℕ) (deni
   pub after : Rehearsing
   pub second : TakesAll lines between after denied
 
+-- memory was refused to what reads an image
+abbrev pub lacks_memory : ImageFault → Bool
+lacks_memory faults.Memory = true
+lacks_memory faults.Magic = false
+lacks_memory faults.Version = false
+lacks_memory faults.Length = false
+lacks_memory faults.Count = false
+lacks_memory faults.Budget = false
+lacks_memory faults.Loop = false
+lacks_memory (faults.Insn slot fault) = false
+
 -- the bytes are the image of a program that is justified for a node with these maps
 pub record IsAcceptable (bytes : List ℕ) (sizes : Maps) : Type 0 where
   pub program : Program
@@ -55,7 +68,7 @@ abbrev pub one_map : Maps
 one_map = counter_maps (256 ∷ [])
 
 abbrev pub eight_maps : Maps
-eight_maps = counter_maps (32 ∷ 32 ∷ 32 ∷ 32 ∷ 32 ∷ 32 ∷ 32 ∷ 32 ∷ [])
+eight_maps = counter_maps (replicate 8 32)
 
 -- the first of these for which the bytes are acceptable
 pub data IsFirst (bytes : List ℕ) (sizes : Maps) : Type 0 where

@@ -46,8 +46,3 @@ pub record AreBegun (start : Start) (sizes : Maps) (c : LoadCells) : Type 0 wher
   pub start_is : c.start ≡ start
   pub sizes_are : c.cells.sizes ≡ sizes
   pub unasked : c.cells.asked ≡ []
-
--- the maps stay, and how the cells began
-pub record Stays (before after : LoadCells) : Type 0 where
-  pub sizes : after.cells.sizes ≡ before.cells.sizes
-  pub home : home_of after.start ≡ home_of before.start

@@ -116,7 +116,7 @@ mended_front text = mending_line ++ text
 
 -- the text with that line behind its first line
 abbrev pub mended_second : (text : List ℕ) → List ℕ
-mended_second text = before_first is_feed text ++ 10 ∷ mending_line ++ after_first is_feed text
+mended_second text = before_first is_feed text ++ 10 ∷ [] ++ mending_line ++ after_first is_feed text
 
 -- initiator 67 with key 00, at port 0
 abbrev pub sixty_seven : Loader

@@ -3,7 +3,7 @@
 ghost use Rattle.std.specs.Prelude.{◌≡◌, Decides, IfOk};
 ghost use Rattle.bver.specs.Justified.{IsJustified};
 ghost use Rattle.machine.specs.Sizes.{counter_maps};
-ghost use Rattle.job_rehearse.specs.Again.{IsAcceptable, IsDeniedAgain, IsDeniedSomewhere, IsNewNode, IsTriedOn, TakesAll};
+ghost use Rattle.job_rehearse.specs.Again.{IsAcceptable, IsDeniedAgain, IsDeniedSomewhere, IsNewNode, IsTriedOn, TakesAll, lacks_memory};
 
 use crate::steps::Rehearsing;
 use bpf::{Image, ImageFault};
@@ -72,7 +72,23 @@ fn is_accepted(alloc: Global, image: Image, sizes: &MapSizes) -> Result<bool, Al
     match verify(alloc, image, sizes) {
         Ok(_) => Ok(true),
         Err(refused) if refused.code == Refusal::Memory => Err(AllocError),
-        Err(_) => Ok(false),
+        Err(_refused) => Ok(false),
+    }
+}
+
+/// Whether memory was refused to what reads an image.
+fn lacks_memory(fault: ImageFault) -> bool
+    ensures { result ≡ lacks_memory fault }
+{
+    match fault {
+        ImageFault::Memory => true,
+        ImageFault::Magic
+        | ImageFault::Version
+        | ImageFault::Length
+        | ImageFault::Count
+        | ImageFault::Budget
+        | ImageFault::Loop
+        | ImageFault::Insn { .. } => false,
     }
 }
 
@@ -82,8 +98,8 @@ fn is_acceptable(alloc: Global, bytes: &[u8], sizes: &MapSizes) -> Result<bool, 
 {
     match Image::read(alloc, bytes) {
         Ok(image) => is_accepted(alloc, image, sizes),
-        Err(ImageFault::Memory) => Err(AllocError),
-        Err(_) => Ok(false),
+        Err(fault) if lacks_memory(fault) => Err(AllocError),
+        Err(_fault) => Ok(false),
     }
 }
 
@@ -99,6 +115,7 @@ fn counter_maps(cells: &[u16]) -> Result<MapSizes, AllocError>
 
 /// The maps on which an image is tried: the first of none, one of 256 cells and eight of 32 for which it is accepted. `None` if it
 /// is accepted for none of them.
+#[tactic(auto, using(crate::proofs::Trying::first_of_none, crate::proofs::Trying::first_of_one, crate::proofs::Trying::first_of_eight, crate::proofs::Trying::first_of_all))]
 fn sizes_for(alloc: Global, image: &[u8]) -> Result<Option<MapSizes>, AllocError>
     ensures { IfOk result (IsTriedOn image.now) }
 {

@@ -3,7 +3,7 @@
 ghost use Rattle.std.specs.Prelude.{◌≡◌, ◌≤◌, ◌<◌, ◌^◌, IfOk, length};
 ghost use Rattle.rmap.specs.declared.boot.TheConstants.{STAGING_SIZE};
 ghost use Rattle.job_rehearse.specs.Judging.{HasAnswered, IsAnswer, LetsLoad, LetsPart, LetsPass, LetsWrites};
-ghost use Rattle.job_rehearse.specs.Starts.{Stays, asked_so_far};
+ghost use Rattle.job_rehearse.specs.Starts.{asked_so_far, home_of};
 
 use crate::loaders::{Loader, header_of};
 use crate::starts::{LoadCells, Start};
@@ -22,7 +22,8 @@ fn verdict_on(judge: &Accepted, port: u8, command: &Command, cells: &mut LoadCel
     requires sizes { cells.old.cells.sizes ≡ judge.now.sizes }
     ensures verdict { HasAnswered judge.now port command.now result
         (asked_so_far cells.old) (asked_so_far cells.new) }
-    ensures stays { Stays cells.old cells.new }
+    ensures sizes { cells.new.cells.sizes ≡ cells.old.cells.sizes }
+    ensures home { home_of cells.new.start ≡ home_of cells.old.start }
 {
     let mut stack = [0; STACK_SIZE];
     let (front, tail) = (command.front(), command.tail());
@@ -44,7 +45,8 @@ fn answer_to(
     ensures answer { IfOk result (λ verdict.
         IsAnswer judge.now loader request verdict
         (asked_so_far cells.old) (asked_so_far cells.new)) }
-    ensures stays { Stays cells.old cells.new }
+    ensures sizes { cells.new.cells.sizes ≡ cells.old.cells.sizes }
+    ensures home { home_of cells.new.start ≡ home_of cells.old.start }
 {
     discard_is_exact();
     let header = header_of(alloc, loader);
@@ -68,7 +70,8 @@ fn lets_pass(
     ensures passes { IfOk result (λ passes.
         LetsPass judge.now loader request passes
         (asked_so_far cells.old) (asked_so_far cells.new)) }
-    ensures stays { Stays cells.old cells.new }
+    ensures sizes { cells.new.cells.sizes ≡ cells.old.cells.sizes }
+    ensures home { home_of cells.new.start ≡ home_of cells.old.start }
 {
     let verdict = answer_to(alloc, judge, loader, request, cells)?;
     Ok(verdict == 0)
@@ -89,7 +92,8 @@ fn lets_part(
     ensures passes { IfOk result (λ passes.
         LetsPart judge.now loader image.now number passes
         (asked_so_far cells.old) (asked_so_far cells.new)) }
-    ensures stays { Stays cells.old cells.new }
+    ensures sizes { cells.new.cells.sizes ≡ cells.old.cells.sizes }
+    ensures home { home_of cells.new.start ≡ home_of cells.old.start }
 {
     if image.len() <= PART_SIZE * usize::from(number) {
         return Ok(true);
@@ -113,7 +117,8 @@ fn lets_writes(
     ensures passes { IfOk result (λ passes.
         LetsWrites judge.now loader image.now passes
         (asked_so_far cells.old) (asked_so_far cells.new)) }
-    ensures stays { Stays cells.old cells.new }
+    ensures sizes { cells.new.cells.sizes ≡ cells.old.cells.sizes }
+    ensures home { home_of cells.new.start ≡ home_of cells.old.start }
 {
     let first = lets_part(alloc, judge, loader, image, 0, cells)?;
     let second = lets_part(alloc, judge, loader, image, 1, cells)?;

@@ -2,12 +2,10 @@
 
 ghost use Rattle.std.specs.Prelude.{◌≡◌, ◌++◌, ◌∷◌, [], IfOk};
 ghost use Rattle.machine.specs.Runs.{call};
-ghost use Rattle.machine.specs.Sizes.{AreSizes, IsInside, kind_of_map};
+ghost use Rattle.machine.specs.Sizes.{kind_of_map};
 ghost use Rattle.machine.specs.Step.{question};
-ghost use Rattle.machine.specs.declared.helpers.Helper.TheVariants as helpers;
-ghost use Rattle.machine.specs.declared.kinds.MapKind.TheVariants.{Counter, Peak};
 ghost use Rattle.plain_cells.specs.Words.{IsOfCell};
-ghost use Rattle.job_rehearse.specs.Starts.{AreAnswered, AreBegun, Stays, asked_so_far, raised_answer};
+ghost use Rattle.job_rehearse.specs.Starts.{AreAnswered, AreBegun, asked_so_far, home_of, raised_answer};
 
 use brun::Counters;
 use machine::{Helper, MapKind, MapSizes, Question};
@@ -105,7 +103,8 @@ impl LoadCells {
     fn answer(&mut self, asked: Question) -> u64
         requires { IsOfCell self.old.cells.sizes asked }
         ensures asked { asked_so_far self.new ≡ asked_so_far self.old ++ call asked result ∷ [] }
-        ensures stays { Stays self.old self.new }
+        ensures sizes { self.new.cells.sizes ≡ self.old.cells.sizes }
+        ensures home { home_of self.new.start ≡ home_of self.old.start }
     {
         let kind = kind_of(&self.cells.sizes(), asked.map);
         let own = ask(&mut self.cells, asked);
@@ -123,39 +122,19 @@ impl Counters for LoadCells {
 
     ghost home = { λ c. home_of c.start };
 
-    fn sizes(&self) -> MapSizes
-        ensures sizes { result ≡ self.now.cells.sizes }
-        ensures limits { AreSizes self.now.cells.sizes }
-    {
+    fn sizes(&self) -> MapSizes {
         self.cells.sizes()
     }
 
-    fn count(&mut self, map: u8, key: u16) -> u64
-        requires { IsInside self.old.cells.sizes map key }
-        ensures asked { asked_so_far self.new
-            ≡ asked_so_far self.old ++ call (question helpers.Count map key 0) result ∷ [] }
-        ensures stays { Stays self.old self.new }
-    {
+    fn count(&mut self, map: u8, key: u16) -> u64 {
         self.answer(question(Helper::Count, map, key, 0))
     }
 
-    fn ticket(&mut self, map: u8, key: u16) -> u64
-        requires inside { IsInside self.old.cells.sizes map key }
-        requires kind { kind_of_map self.old.cells.sizes map ≡ Counter }
-        ensures asked { asked_so_far self.new
-            ≡ asked_so_far self.old ++ call (question helpers.Ticket map key 0) result ∷ [] }
-        ensures stays { Stays self.old self.new }
-    {
+    fn ticket(&mut self, map: u8, key: u16) -> u64 {
         self.answer(question(Helper::Ticket, map, key, 0))
     }
 
-    fn peak(&mut self, map: u8, key: u16, value: u64) -> u64
-        requires inside { IsInside self.old.cells.sizes map key }
-        requires kind { kind_of_map self.old.cells.sizes map ≡ Peak }
-        ensures asked { asked_so_far self.new
-            ≡ asked_so_far self.old ++ call (question helpers.Peak map key value) result ∷ [] }
-        ensures stays { Stays self.old self.new }
-    {
+    fn peak(&mut self, map: u8, key: u16, value: u64) -> u64 {
         self.answer(question(Helper::Peak, map, key, value))
     }
 }

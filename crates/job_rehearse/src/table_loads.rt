@@ -5,7 +5,7 @@ ghost use Rattle.std.specs.List.{after_first, before_first};
 ghost use Rattle.policy_table.specs.Policies.{policy_fault};
 ghost use Rattle.rmap.specs.declared.boot.TheConstants.{STAGING_SIZE};
 ghost use Rattle.job_rehearse.specs.Judging.{IsPassing};
-ghost use Rattle.job_rehearse.specs.TableLoads.{AddsOwn, AsksOf, AsksTable, CanBeMended, DoorsOf, FitsStaging, LetsSixtySeven, Mends, TellsBoth, TellsDoors, TellsLoaders, TellsLoads, TellsOf, TellsPolicy, TellsShut, is_feed, lead_of, lines_or_nobody, mended_front, mended_second, mending_words, node_of, sixty_seven};
+ghost use Rattle.job_rehearse.specs.TableLoads.{AddsOwn, AsksOf, AsksTable, CanBeMended, DoorsOf, FitsStaging, LetsSixtySeven, Mends, TellsBoth, TellsDoors, TellsLoaders, TellsLoads, TellsOf, TellsPolicy, TellsShut, is_feed, lead_of, lead_plain, lines_or_nobody, mended_front, mended_second, mending_words, node_of, sixty_seven};
 
 use crate::askers::{Asker, table_askers};
 use crate::loaders::Loader;
@@ -40,7 +40,8 @@ pub struct TableLoads {
 
 /// The node of so many ports.
 fn node_of(ports: u8) -> LoadedNode
-    ensures { result ≡ node_of ports }
+    ensures node { result ≡ node_of ports }
+    ensures ports { result.ports ≡ ports }
 {
     LoadedNode {
         target: NODE_ADDRESS,
@@ -79,7 +80,7 @@ fn asked_of(alloc: Global, text: &str, sizes: &MapSizes) -> Result<Option<TableL
 {
     match Policy::read_for(alloc, text, sizes) {
         Ok(table) => Ok(Some(loads_of(alloc, &table, sizes)?)),
-        Err(_) => Ok(None),
+        Err(_fault) => Ok(None),
     }
 }
 
@@ -112,12 +113,19 @@ fn add_lines(text: &mut String, lead: &str, lines: &str) -> Result<(), AllocErro
     }
 }
 
+/// Adds with what a line of an image of so many bytes begins.
+fn add_lead(text: &mut String, bytes: usize) -> Result<(), AllocError>
+    ensures { OnOk result (string_bytes text.new ≡ string_bytes text.old ++ lead_of bytes) }
+{
+    write!(text, "    loads of {bytes} bytes")
+}
+
 /// With what a line of an image of so many bytes begins.
 fn lead_of(alloc: Global, bytes: usize) -> Result<String, AllocError>
     ensures { IfOk result (λ lead. string_bytes lead ≡ lead_of bytes) }
 {
     let mut lead = String::new(alloc);
-    write!(lead, "    loads of {bytes} bytes")?;
+    add_lead(&mut lead, bytes)?;
     Ok(lead)
 }
 
@@ -145,7 +153,17 @@ fn add_own(
     add_lines(text, lead.as_str(), lines.as_str())
 }
 
+/// These lines, or that nobody loads if there are none.
+fn plain_lines(alloc: Global, plain: &str) -> Result<String, AllocError>
+    ensures { IfOk result (λ text. string_bytes text ≡ lines_or_nobody lead_plain plain.now) }
+{
+    let mut text = String::new(alloc);
+    add_lines(&mut text, LEAD, plain)?;
+    Ok(text)
+}
+
 /// The lines of both, by those of the smallest image and those of the table's own with the same beginning.
+#[tactic(auto, using(crate::proofs::Telling::tells_same, crate::proofs::Telling::tells_other))]
 fn both(
     alloc: Global,
     asked: &TableLoads,
@@ -157,11 +175,11 @@ fn both(
     requires short { length asked.now.image.items ≤ STAGING_SIZE }
     ensures { IfOk result (λ text. TellsOf ports asked.now plain.now own.now (string_bytes text)) }
 {
-    let mut text = String::new(alloc);
-    add_lines(&mut text, LEAD, plain)?;
-    if !are_same(own, plain) {
-        add_own(&mut text, alloc, asked, ports)?;
+    let mut text = plain_lines(alloc, plain)?;
+    if are_same(own, plain) {
+        return Ok(text);
     }
+    add_own(&mut text, alloc, asked, ports)?;
     Ok(text)
 }
 
@@ -279,10 +297,10 @@ fn mending_words(is: bool) -> &'static str
 fn can_be_mended(alloc: Global, table: &str, sizes: &MapSizes) -> Result<bool, AllocError>
     ensures { IfOk result (CanBeMended sizes.now table.now) }
 {
-    let front = mended_front(alloc, table)?;
-    let second = mended_second(alloc, table)?;
-    let front = mends(alloc, front.as_str(), sizes)?;
-    let second = mends(alloc, second.as_str(), sizes)?;
+    let one = mended_front(alloc, table)?;
+    let other = mended_second(alloc, table)?;
+    let front = mends(alloc, one.as_str(), sizes)?;
+    let second = mends(alloc, other.as_str(), sizes)?;
     Ok(front || second)
 }
 
@@ -312,13 +330,11 @@ fn doors(
     ensures { IfOk result (λ text.
         TellsDoors sizes.now table.now ports asked.now plain.now own.now (string_bytes text)) }
 {
-    if plain.is_empty() && own.is_empty() {
-        return told_shut(alloc, table, sizes);
+    match (plain.is_empty(), own.is_empty()) {
+        (true, true) => told_shut(alloc, table, sizes),
+        (true, false) | (false, true) => both(alloc, asked, ports, plain, own),
+        (false, false) => Ok(String::new(alloc)),
     }
-    if plain.is_empty() || own.is_empty() {
-        return both(alloc, asked, ports, plain, own);
-    }
-    Ok(String::new(alloc))
 }
 
 /// What `policy` says of what is asked of a table.

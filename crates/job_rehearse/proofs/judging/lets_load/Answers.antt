@@ -13,5 +13,5 @@ returns c =
     record {
       calls = asked_so_far after;
       writes = subst (λ (before : List Call). LetsWrites c.args.judge.now c.args.loader c.args.image.now c.in_ok-passes.passes before (asked_so_far after)) (unasked c.args.start c.sizes.result c.in_ok-cells.cells begun) c.in_ok-passes.ensures.passes;
-      cells = subst (λ (s : Maps). AreAnswered c.args.start s (asked_so_far after)) c.sizes.ensures.value (answered_since c.args.start c.sizes.result c.in_ok-cells.cells after begun c.in_ok-passes.ensures.stays c.answer_in_order.ensures);
+      cells = subst (λ (s : Maps). AreAnswered c.args.start s (asked_so_far after)) c.sizes.ensures.value (answered_since c.args.start c.sizes.result c.in_ok-cells.cells after begun c.lets_writes.ensures.sizes c.lets_writes.ensures.home c.answer_in_order.ensures);
     }
