@@ -1,5 +1,5 @@
 -- What is told of whose loads a table lets pass, by what the steps before told.
-use Rattle.std.proofs.Common.{◌≡◌, ◌≢◌, ◌==◌, ℕ, Bool, true, false, List, [], ◌∷◌, length, Option, Some, None, inl, inr, refl, sym, subst}
+use Rattle.std.proofs.Common.{◌≡◌, ◌≢◌, ◌==◌, ℕ, Bool, true, false, List, [], ◌∷◌, suc, length, Option, Some, None, inl, inr, refl, sym, subst}
 use Rattle.std.proofs.lemmas.Bool.{false≢true}
 use Rattle.bver.specs.Justified.{AcceptedValue}
 use Rattle.machine.specs.Sizes.{Maps}
