@@ -22,7 +22,7 @@ pub unjustified_is : (p : Program) (maps : Maps) (refused : Refused) → TellsUn
 unjustified_is p maps refused tells other = (λ e. absurd (false≢true e), λ h. absurd (tells other h))
 
 -- the program that was read
-only_that : (p image : Program) → Ok p ≡ Ok image → p ≡ image
+only_that : (p image : Program) → ◌≡◌ {A = Result Program ImageFault} (Ok p) (Ok image) → p ≡ image
 only_that p image is = cc is
 
 -- bytes that are those of an image
@@ -34,7 +34,7 @@ acceptable_by bytes maps image is found only known = (
 )
 
 -- bytes that are those of no image
-none_of : (p : Program) (fault : ImageFault) → Ok p ≡ Err fault → ⊥
+none_of : (p : Program) (fault : ImageFault) → ◌≡◌ {A = Result Program ImageFault} (Ok p) (Err fault) → ⊥
 none_of p fault is = cc is
 
 unread : (bytes : List ℕ) (fault : ImageFault) → ReadsWhatSpells bytes (Err fault) → lacks_memory fault ≡ false → (p : Program) → IsProgram p → bytes ≡ image_bytes p → ⊥
