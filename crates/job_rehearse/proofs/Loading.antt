@@ -36,7 +36,7 @@ slot_more image count programs slots k d slot before loaded is below at are one 
     (one_more_slot image count programs (take k slots) before (get_or slots k d) is are (subst (λ (n : ℕ). Decides is (IsLoaded image count programs n)) at one)))
 
 -- the loads ended as those of an image that is loaded
-IsWhole : Ending → Type 0
+abbrev IsWhole : Ending → Type 0
 IsWhole Loaded = Unit {0}
 IsWhole InPart = ⊥
 IsWhole LockedOut = ⊥
@@ -57,7 +57,7 @@ each_of : (image : List ℕ) (count : ℕ) (programs : List Publish) (slots : Li
     → (number slot : ℕ) → slice_get slots number ≡ Some slot → IsLoaded image count programs slot
 each_of image count programs [] loaded are all number slot at = absurd (none-some slot at)
 each_of image count programs (s ∷ slots) [] are all number slot at = absurd are
-each_of image count programs (s ∷ slots) (true ∷ rest) are all zero slot at = subst (λ n. IsLoaded image count programs n) (same_Some s slot at) (are.0.1 refl)
+each_of image count programs (s ∷ slots) (true ∷ rest) are all zero slot at = subst (λ n. IsLoaded image count programs n) (same_Some s slot at) (are.0.0 refl)
 each_of image count programs (s ∷ slots) (true ∷ rest) are all (suc number) slot at = each_of image count programs slots rest are.1 all number slot at
 each_of image count programs (s ∷ slots) (false ∷ rest) are all number slot at = absurd (false≢true all)
 

@@ -24,7 +24,7 @@ one_more_call start before after q own answer same more is =
 
 -- ---- names
 
-IsNil : Gv → Type 0
+abbrev IsNil : Gv → Type 0
 IsNil gnil = Unit {0}
 IsNil (gnum n) = ⊥
 IsNil (gcons first rest) = ⊥

@@ -1,10 +1,15 @@
 -- What ends a job, told in other words.
-use Rattle.std.proofs.Common.{◌≡◌, ℕ, List, Option, subst, sym}
+use Rattle.std.proofs.Common.{◌≡◌, ◌++◌, ◌∷◌, [], ℕ, List, Option, inr, refl, subst, sym}
+use Rattle.std.specs.Io.KnownBytes.{Appends}
 use Rattle.job_parts.specs.Stops.{StopsBy}
 use Rattle.job_parts.specs.declared.faults.Fault.{Fault}
+use Rattle.job_parts.specs.declared.faults.Fault.TheVariants.{NoMemory}
 use Rattle.job_parts.specs.declared.stops.Halt.{Halt}
 use Rattle.job_parts.specs.declared.stops.Halt.TheVariants.{Ended, Unwritten}
 use Rattle.job_parts.specs.declared.status.Status.{Status}
+use Rattle.job_rehearse.specs.Loads.{StopsLoad, TakesLoad, unrefused}
+use Rattle.job_rehearse.specs.declared.loaders.Loader.{Loader}
+use Rattle.job_rehearse.specs.declared.steps.Rehearsing.{Rehearsing}
 use Rattle.job_rehearse.specs.Rehearsed.{AsksAny, TellsBad}
 use Rattle.job_rehearse.specs.declared.open_ports.LoadedNode.{LoadedNode}
 use Rattle.job_rehearse.specs.declared.policies.Asked.{Asked}
@@ -29,3 +34,13 @@ tells_none holds none old new status held told = record {
 pub asks_at : (node other : LoadedNode) (asked : Asked) (old new : Option (List ℕ)) (status : Status)
     → node ≡ other → AsksAny node asked old new status → AsksAny other asked old new status
 asks_at node other asked old new status is asks = subst (λ (n : LoadedNode). AsksAny n asked old new status) is asks
+
+-- all packets of the loads were taken, and memory was refused to what looks whether the image is loaded
+pub room_stops : (name : List ℕ) (loader : Loader) (slots image : List ℕ) (before after : Rehearsing) (old named new : Option (List ℕ))
+    → Appends old named (name ++ 10 ∷ []) → TakesLoad loader slots image (unrefused before) after named new → StopsLoad name loader slots image before old new NoMemory
+room_stops name loader slots image before after old named new heading taken = record {
+  named = named;
+  heading = heading;
+  after = after;
+  stop = inr (inr (refl, taken));
+}

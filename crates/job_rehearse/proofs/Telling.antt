@@ -1,6 +1,7 @@
 -- What is told of whose loads a table lets pass, by what the steps before told.
-use Rattle.std.proofs.Common.{◌≡◌, ◌≢◌, ◌==◌, ℕ, Bool, true, false, List, [], ◌∷◌, suc, length, Option, Some, None, inl, inr, refl, sym, subst}
+use Rattle.std.proofs.Common.{◌≡◌, ◌≢◌, ◌==◌, ℕ, Bool, true, false, List, [], ◌∷◌, suc, length, Option, Some, None, inl, inr, refl, sym, subst, arith}
 use Rattle.std.proofs.lemmas.Bool.{false≢true}
+use Rattle.std.proofs.lemmas.Bool.Decides.{Decides-eqb}
 use Rattle.bver.specs.Justified.{AcceptedValue}
 use Rattle.machine.specs.Sizes.{Maps}
 use Rattle.job_rehearse.specs.Judging.{IsPassing}
@@ -34,7 +35,9 @@ of_texts ports made plain own first second text one other tells =
 -- ---- nobody loads
 
 never_empty : (n : ℕ) → (suc n == 0) ≡ true → ⊥
-never_empty n is = false≢true is
+never_empty n is =
+    let none : suc n ≡ 0 = (Decides-eqb (suc n) 0).0 is in
+    absurd (omega (arith, none))
 
 pub doors_shut : (sizes : Maps) (text : List ℕ) (ports : ℕ) (made : TableLoads) (plain own told : List ℕ) → (length plain == 0) ≡ true → (length own == 0) ≡ true
     → TellsShut sizes text told → TellsDoors sizes text ports made plain own told

@@ -38,17 +38,17 @@ none_of : (p : Program) (fault : ImageFault) → ◌≡◌ {A = Result Program I
 none_of p fault is = cc is
 
 unread : (bytes : List ℕ) (fault : ImageFault) → ReadsWhatSpells bytes (Err fault) → lacks_memory fault ≡ false → (p : Program) → IsProgram p → bytes ≡ image_bytes p → ⊥
-unread bytes faults.Memory only no p limits spelled = false≢true (sym no)
-unread bytes faults.Magic only no p limits spelled = none_of p _ (only p limits spelled)
-unread bytes faults.Version only no p limits spelled = none_of p _ (only p limits spelled)
-unread bytes faults.Length only no p limits spelled = none_of p _ (only p limits spelled)
-unread bytes faults.Count only no p limits spelled = none_of p _ (only p limits spelled)
-unread bytes faults.Budget only no p limits spelled = none_of p _ (only p limits spelled)
-unread bytes faults.Loop only no p limits spelled = none_of p _ (only p limits spelled)
-unread bytes (faults.Insn slot fault) only no p limits spelled = none_of p _ (only p limits spelled)
+unread bytes faults.Memory only kept p limits spelled = false≢true (sym kept)
+unread bytes faults.Magic only kept p limits spelled = none_of p _ (only p limits spelled)
+unread bytes faults.Version only kept p limits spelled = none_of p _ (only p limits spelled)
+unread bytes faults.Length only kept p limits spelled = none_of p _ (only p limits spelled)
+unread bytes faults.Count only kept p limits spelled = none_of p _ (only p limits spelled)
+unread bytes faults.Budget only kept p limits spelled = none_of p _ (only p limits spelled)
+unread bytes faults.Loop only kept p limits spelled = none_of p _ (only p limits spelled)
+unread bytes (faults.Insn slot fault) only kept p limits spelled = none_of p _ (only p limits spelled)
 
 pub unread_is : (bytes : List ℕ) (maps : Maps) (fault : ImageFault) → ReadsWhatSpells bytes (Err fault) → lacks_memory fault ≡ false → Decides false (IsAcceptable bytes maps)
-unread_is bytes maps fault only no = (λ e. absurd (false≢true e), λ it. absurd (unread bytes fault only no it.program it.limits it.spelled))
+unread_is bytes maps fault only kept = (λ e. absurd (false≢true e), λ it. absurd (unread bytes fault only kept it.program it.limits it.spelled))
 
 -- ---- maps in turn
 

@@ -66,6 +66,7 @@ fn is_denied_again(
 }
 
 /// Whether a program is accepted for a node with these maps.
+#[tactic(auto, using(crate::proofs::Trying::justified_is, crate::proofs::Trying::unjustified_is))]
 fn is_accepted(alloc: Global, image: Image, sizes: &MapSizes) -> Result<bool, AllocError>
     ensures { IfOk result (λ is. Decides is (IsJustified image sizes.now)) }
 {
@@ -93,6 +94,7 @@ fn lacks_memory(fault: ImageFault) -> bool
 }
 
 /// Whether bytes are an image of a program that is accepted for a node with these maps.
+#[tactic(auto, using(crate::proofs::Trying::unread_is))]
 fn is_acceptable(alloc: Global, bytes: &[u8], sizes: &MapSizes) -> Result<bool, AllocError>
     ensures { IfOk result (λ is. Decides is (IsAcceptable bytes.now sizes.now)) }
 {

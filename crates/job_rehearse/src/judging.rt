@@ -1,6 +1,6 @@
 //! What a program says of the writes of a load, in turn.
 
-ghost use Rattle.std.specs.Prelude.{◌≡◌, ◌≤◌, ◌<◌, ◌^◌, IfOk, length};
+ghost use Rattle.std.specs.Prelude.{◌≡◌, ◌≤◌, ◌<◌, ◌^◌, ◌&&◌, IfOk, length};
 ghost use Rattle.rmap.specs.declared.boot.TheConstants.{STAGING_SIZE};
 ghost use Rattle.job_rehearse.specs.Judging.{HasAnswered, IsAnswer, LetsLoad, LetsPart, LetsPass, LetsWrites};
 ghost use Rattle.job_rehearse.specs.Starts.{asked_so_far, home_of};
@@ -102,6 +102,13 @@ fn lets_part(
     lets_pass(alloc, judge, loader, stage_request(0, part, number), cells)
 }
 
+/// Whether each of five packets passes.
+fn all_pass(first: bool, second: bool, third: bool, fourth: bool, fifth: bool) -> bool
+    ensures { result ≡ (first && second && third && fourth && fifth) }
+{
+    first && second && third && fourth && fifth
+}
+
 /// Whether a program lets each write of a load of an image pass, in turn. The read of the load result, which does nothing, is not
 /// asked for.
 fn lets_writes(
@@ -125,7 +132,7 @@ fn lets_writes(
     let third = lets_part(alloc, judge, loader, image, 2, cells)?;
     let fourth = lets_part(alloc, judge, loader, image, 3, cells)?;
     let control = lets_pass(alloc, judge, loader, control_request(0, image), cells)?;
-    Ok(first && second && third && fourth && control)
+    Ok(all_pass(first, second, third, fourth, control))
 }
 
 /// Whether a program lets the whole load of an image pass, on cells that began so.

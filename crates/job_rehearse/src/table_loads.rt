@@ -1,10 +1,12 @@
 //! Whose loads a table lets pass, in slot 3 of a node: those of the smallest image, and those of its own.
 
-ghost use Rattle.std.specs.Prelude.{◌≡◌, ◌≤◌, ◌++◌, Decides, IfOk, None, OnOk, length, string_bytes};
+ghost use Rattle.std.specs.Prelude.{◌≡◌, ◌≤◌, ◌++◌, ◌&&◌, ◌||◌, Decides, IfOk, None, OnOk, length, string_bytes};
 ghost use Rattle.std.specs.List.{after_first, before_first};
 ghost use Rattle.policy_table.specs.Policies.{policy_fault};
 ghost use Rattle.rmap.specs.declared.boot.TheConstants.{STAGING_SIZE};
 ghost use Rattle.job_rehearse.specs.Judging.{IsPassing};
+ghost use Rattle.job_rehearse.specs.OpenPorts.{is_kind};
+ghost use Rattle.job_rehearse.specs.declared.passing.Passing.TheVariants.{Always};
 ghost use Rattle.job_rehearse.specs.TableLoads.{AddsOwn, AsksOf, AsksTable, CanBeMended, DoorsOf, FitsStaging, LetsSixtySeven, Mends, TellsBoth, TellsDoors, TellsLoaders, TellsLoads, TellsOf, TellsPolicy, TellsShut, is_feed, lead_of, lead_plain, lines_or_nobody, mended_front, mended_second, mending_words, node_of, sixty_seven};
 
 use crate::askers::{Asker, table_askers};
@@ -230,6 +232,13 @@ fn lets_pass(alloc: Global, asked: &TableLoads, image: &[u8]) -> Result<Passing,
     loader_passing(alloc, &asked.judge, loader, image)
 }
 
+/// Whether both loads pass, whatever quotas are spent.
+fn are_always(plain: Passing, own: Passing) -> bool
+    ensures { result ≡ (is_kind Always plain && is_kind Always own) }
+{
+    is_kind(Passing::Always, plain) && is_kind(Passing::Always, own)
+}
+
 /// Whether a table lets initiator 67 load, whatever quotas are spent: the smallest image, and its own.
 fn lets_sixty_seven(alloc: Global, asked: &TableLoads) -> Result<bool, AllocError>
     requires { length asked.now.image.items ≤ STAGING_SIZE }
@@ -237,7 +246,7 @@ fn lets_sixty_seven(alloc: Global, asked: &TableLoads) -> Result<bool, AllocErro
 {
     let plain = lets_pass(alloc, asked, &SMALLEST)?;
     let own = lets_pass(alloc, asked, asked.image.as_slice())?;
-    Ok(is_kind(Passing::Always, plain) && is_kind(Passing::Always, own))
+    Ok(are_always(plain, own))
 }
 
 /// Whether a text is a table that lets initiator 67 load.
@@ -293,6 +302,13 @@ fn mending_words(is: bool) -> &'static str
     }
 }
 
+/// Whether a text is mended at one of two places.
+fn is_either(front: bool, second: bool) -> bool
+    ensures { result ≡ (front || second) }
+{
+    front || second
+}
+
 /// Whether the line mends a table that lets nobody load: in front of it, or after its first line, which may be `.version 2`.
 fn can_be_mended(alloc: Global, table: &str, sizes: &MapSizes) -> Result<bool, AllocError>
     ensures { IfOk result (CanBeMended sizes.now table.now) }
@@ -301,7 +317,7 @@ fn can_be_mended(alloc: Global, table: &str, sizes: &MapSizes) -> Result<bool, A
     let other = mended_second(alloc, table)?;
     let front = mends(alloc, one.as_str(), sizes)?;
     let second = mends(alloc, other.as_str(), sizes)?;
-    Ok(front || second)
+    Ok(is_either(front, second))
 }
 
 /// What is said of a table that lets nobody load.
@@ -316,6 +332,7 @@ fn told_shut(alloc: Global, table: &str, sizes: &MapSizes) -> Result<String, All
 }
 
 /// What `policy` says of a table by the lines of both images.
+#[tactic(auto, using(crate::proofs::Telling::doors_shut, crate::proofs::Telling::doors_own, crate::proofs::Telling::doors_plain, crate::proofs::Telling::doors_open))]
 fn doors(
     alloc: Global,
     table: &str,
@@ -330,11 +347,16 @@ fn doors(
     ensures { IfOk result (λ text.
         TellsDoors sizes.now table.now ports asked.now plain.now own.now (string_bytes text)) }
 {
-    match (plain.is_empty(), own.is_empty()) {
-        (true, true) => told_shut(alloc, table, sizes),
-        (true, false) | (false, true) => both(alloc, asked, ports, plain, own),
-        (false, false) => Ok(String::new(alloc)),
+    if plain.is_empty() {
+        if own.is_empty() {
+            return Ok(told_shut(alloc, table, sizes)?);
+        }
+        return Ok(both(alloc, asked, ports, plain, own)?);
     }
+    if own.is_empty() {
+        return Ok(both(alloc, asked, ports, plain, own)?);
+    }
+    Ok(String::new(alloc))
 }
 
 /// What `policy` says of what is asked of a table.

@@ -1,4 +1,3 @@
-use Rattle.std.proofs.Common.{rules}
 use Rattle.job_rehearse.specs.Starts.{asked_so_far}
 use Rattle.job_rehearse.proofs.judging.lets_writes.Goals as goal
 
@@ -18,5 +17,5 @@ returns-clause-passes c = record {
   third_is = c.in_ok-third.ensures.passes;
   fourth_is = c.in_ok-fourth.ensures.passes;
   control_is = c.in_ok-control.ensures.passes;
-  passes_is = search rules;
+  passes_is = c.all_pass.ensures;
 }

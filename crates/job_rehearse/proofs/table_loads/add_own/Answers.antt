@@ -8,8 +8,8 @@ returns c =
     let made = c.args.asked.now in
     let lines = string_bytes c.in_ok-lines.lines in
     let image = c.as_slice-image.ensures.value in
-    let lead = c.as_str.ensures.value ∙ c.in_ok-lead.ensures ∙ ap lead_of (c.len.ensures ∙ ap (λ (i : List ℕ). length i) image) in
-    let lead_again = c.as_str-2.ensures.value ∙ c.in_ok-lead.ensures ∙ ap lead_of (c.len.ensures ∙ ap (λ (i : List ℕ). length i) image) in
+    let lead = c.as_str.ensures.value ∙ c.in_ok-lead.ensures ∙ ap (λ (i : List ℕ). lead_of (length i)) image in
+    let lead_again = c.as_str-2.ensures.value ∙ c.in_ok-lead.ensures ∙ ap (λ (i : List ℕ). lead_of (length i)) image in
     on_ok_weaker c.add_lines.result
     (λ added. record {
       lines = lines;
