@@ -1,5 +1,5 @@
 -- Ports and runs of them, one more at a time.
-use Rattle.std.proofs.Common.{◌≡◌, ◌∙◌, ◌+◌, ◌++◌, ◌∷◌, [], ℕ, suc, List, ap, refl, subst, sym, arith}
+use Rattle.std.proofs.Common.{◌≡◌, ◌∙◌, ◌+◌, ◌++◌, ◌∷◌, [], ℕ, suc, List, ap, subst, sym, arith}
 use Rattle.std.specs.Prelude.{if◌then◌else◌}
 use Rattle.bver.specs.Justified.{AcceptedValue}
 use Rattle.job_rehearse.specs.OpenPorts.{AreOpen, PassesAt, TellsFirst, TellsPlace, first_of_run, is_open, with_end, with_runs}

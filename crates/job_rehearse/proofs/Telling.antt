@@ -1,12 +1,11 @@
 -- What is told of whose loads a table lets pass, by what the steps before told.
-use Rattle.std.proofs.Common.{◌≡◌, ◌≢◌, ◌==◌, ℕ, Bool, true, false, List, [], ◌∷◌, suc, length, Option, Some, None, inl, inr, refl, sym, subst, arith}
+use Rattle.std.proofs.Common.{◌≡◌, ◌≢◌, ◌==◌, ℕ, Bool, true, false, List, [], ◌∷◌, suc, length, Some, None, inl, inr, refl, sym, subst, arith}
 use Rattle.std.proofs.lemmas.Bool.{false≢true}
 use Rattle.std.proofs.lemmas.Bool.Decides.{Decides-eqb}
 use Rattle.bver.specs.Justified.{AcceptedValue}
 use Rattle.machine.specs.Sizes.{Maps}
-use Rattle.job_rehearse.specs.Judging.{IsPassing}
 use Rattle.job_rehearse.specs.OpenPorts.{TellsAskers}
-use Rattle.job_rehearse.specs.TableLoads.{AddsOwn, AskedDoors, AskedLoaders, AsksTable, DoorsOf, LetsSixtySeven, Mends, TellsBoth, TellsDoors, TellsLoaders, TellsOf, TellsPolicy, TellsShut, lead_plain, lines_or_nobody}
+use Rattle.job_rehearse.specs.TableLoads.{AddsOwn, AsksTable, DoorsOf, LetsSixtySeven, Mends, TellsBoth, TellsDoors, TellsLoaders, TellsOf, TellsPolicy, TellsShut, lead_plain, lines_or_nobody}
 use Rattle.job_rehearse.specs.declared.askers.Asker.{Asker}
 use Rattle.job_rehearse.specs.declared.open_ports.LoadedNode.{LoadedNode}
 use Rattle.job_rehearse.specs.declared.table_loads.TableLoads.{TableLoads}

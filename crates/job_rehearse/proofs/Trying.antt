@@ -11,7 +11,7 @@ use Rattle.bver.specs.Unjustified.{TellsUnjustified}
 use Rattle.bver_form.specs.declared.refusal.Refusal.TheVariants.{Memory}
 use Rattle.bver_form.specs.declared.refusal.Refused.{Refused}
 use Rattle.machine.specs.Sizes.{Maps}
-use Rattle.job_rehearse.specs.Again.{IsAcceptable, IsFirst, IsForNone, IsTriedOn, eight_maps, lacks_memory, no_maps, one_map}
+use Rattle.job_rehearse.specs.Again.{IsAcceptable, IsFirst, IsForNone, eight_maps, lacks_memory, no_maps, one_map}
 use Rattle.job_rehearse.specs.Again.{of_none, of_one, of_eight}
 
 -- a program that the verifier accepts, and one that it refuses

@@ -1,4 +1,4 @@
-use Rattle.std.proofs.Common.{◌≡◌, ◌∙◌, ℕ, Bool, List, ap, subst, sym, rules}
+use Rattle.std.proofs.Common.{◌∙◌, ℕ, Bool, List, ap, subst, sym, rules}
 use Rattle.job_rehearse.specs.Loads.{AreLoaded, ending_of}
 use Rattle.std.proofs.lemmas.Result.{err_from_is_err_and}
 use Rattle.job_rehearse.proofs.Loading.{each_loaded}
