@@ -1,5 +1,5 @@
 -- What is noted of the files that a job reads.
-use Rattle.std.specs.Prelude.{◌≡◌, Bool, false, true, ℕ, ◌+◌, List, Option, None, Some}
+use Rattle.std.specs.Prelude.{◌≡◌, Bool, false, true, ℕ, ◌+◌, List, Option, None, Some, min}
 use Rattle.machine.specs.Sizes.{Maps}
 use Rattle.commands.specs.InPlace.{IsInPlace}
 use Rattle.job_parts.specs.declared.inputs.Content.{Content}
@@ -70,6 +70,11 @@ GivesFor (Some maps) false bytes given = given ≡ bytes
 -- the same of a file that has to be that
 abbrev pub GivesPlaced : Noted → Content → (bytes given : List ℕ) → Type 0
 GivesPlaced noted content bytes given = GivesFor (maps_for noted) (may_be_text content) bytes given
+
+-- how many ports the node of a job has: those that its file says, or 32
+abbrev pub ports_of : Option ℕ → ℕ
+ports_of None = 32
+ports_of (Some ports) = min ports 32
 
 -- how many bytes are read of a file that has to be that: one that has as many is too long, or has enough
 abbrev pub most_of : Content → ℕ

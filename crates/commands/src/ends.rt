@@ -5,7 +5,6 @@ use crate::in_place::add_source;
 use crate::jobs::{Job, JobEnd};
 use crate::line_paths::{LinePaths, may_have_paths};
 use crate::noted::{Cause, Noted};
-use crate::shut_doors::{self, told_loaders};
 use crate::slips::{self, told_output};
 use crate::{denied_loads, hints};
 use job_codes::forms::form_line;
@@ -15,6 +14,7 @@ use job_packets::packet::PacketWords;
 use job_parts::bad_lines::BadLine;
 use job_parts::faults::Fault;
 use job_parts::status::Status;
+use job_rehearse::table_loads::{told_loaders, told_policy};
 use spw::{LineFault, lines_of};
 use std::alloc::{AllocError, Global};
 
@@ -200,9 +200,13 @@ fn add_done(
             add_load(text, alloc, words, noted.last())
         }
         (Job::Policy(words), Some(table)) if !words.is_final => {
-            text.push_str(shut_doors::advice(alloc, table)?)
+            let told = told_policy(alloc, table, &words.sizes, noted.ports())?;
+            text.push_str(told.as_str())
         }
-        (Job::Map(_), Some(table)) => text.push_str(told_loaders(alloc, table)?.as_str()),
+        (Job::Map(words), Some(table)) => {
+            let told = told_loaders(alloc, table, &words.sizes, noted.ports())?;
+            text.push_str(told.as_str())
+        }
         _ => Ok(()),
     }
 }

@@ -15,7 +15,6 @@ mod node_jobs;
 mod noted;
 mod refusals;
 mod shows;
-mod shut_doors;
 mod slips;
 mod told_files;
 mod told_talk;

@@ -1,8 +1,8 @@
 //! What is noted of the files that a job reads: why one could not be read or written, and what was read last.
 
-ghost use Rattle.std.specs.Prelude.{◌≡◌, IfOk, IfSome, None, Some, false, option_copied, option_map, string_bytes};
+ghost use Rattle.std.specs.Prelude.{◌≡◌, ◌≤◌, IfOk, IfSome, None, Some, false, is_some, option_copied, option_map, string_bytes};
 ghost use Rattle.commands.specs.InPlace.{maps_of_job, maps_of_node};
-ghost use Rattle.commands.specs.Notes.{GivesPlaced, is_dump, maps_for, may_be_text, most_of, next_content, reads_dump};
+ghost use Rattle.commands.specs.Notes.{GivesPlaced, is_dump, maps_for, may_be_text, most_of, next_content, ports_of, reads_dump};
 
 use crate::dumps::dump_lines;
 use crate::in_place::{bytes_in_place, maps_of_job, maps_of_node};
@@ -11,6 +11,7 @@ use job_config::sources::NodeSource;
 use job_parts::inputs::{Content, Inputs};
 use job_parts::storage::Cannot;
 use machine::MapSizes;
+use spw::PORTS;
 use std::alloc::{AllocError, Global};
 use std::io;
 
@@ -40,7 +41,7 @@ pub enum Cause {
 pub struct Noted<'a> {
     inputs: Inputs<'a>,
     is_dump: bool,
-    is_on_node: bool,
+    ports: Option<u8>,
     maps: Option<MapSizes>,
     cause: Option<Cause>,
     lines: Option<String>,
@@ -136,7 +137,7 @@ impl<'a> Noted<'a> {
         Noted {
             inputs,
             is_dump: false,
-            is_on_node: false,
+            ports: None,
             maps: None,
             cause: None,
             lines: None,
@@ -144,15 +145,15 @@ impl<'a> Noted<'a> {
         }
     }
 
-    /// Nothing yet, of the files that the job reads; whether a node's file says its maps. The lines of a dump are given as its
-    /// packet lines, and of the text of a program or a table in the place of an image the image is given.
-    pub fn of_job(job: &'a Job, is_on_node: bool) -> Noted<'a>
+    /// Nothing yet, of the files that the job reads; how many ports the node has whose file says the job's maps, if one says them. The
+    /// lines of a dump are given as its packet lines, and of the text of a program or a table in the place of an image the image is given.
+    pub fn of_job(job: &'a Job, ports: Option<u8>) -> Noted<'a>
         ensures dump { reads_dump result ≡ is_dump job.now }
         ensures maps { maps_for result ≡ maps_of_job job.now }
     {
         let mut noted = Noted::new(job.inputs());
         noted.is_dump = shows_dump(job);
-        noted.is_on_node = is_on_node;
+        noted.ports = ports;
         noted.maps = maps_of_job(job);
         noted
     }
@@ -170,9 +171,20 @@ impl<'a> Noted<'a> {
 
     /// Whether a node's file says the maps of the job.
     pub fn is_on_node(&self) -> bool
-        ensures { result ≡ self.now.is_on_node }
+        ensures { result ≡ is_some self.now.ports }
     {
-        self.is_on_node
+        self.ports.is_some()
+    }
+
+    /// How many ports the node of the job has: those of its file, which has no more than 32, or 32.
+    pub fn ports(&self) -> u8
+        ensures value { result ≡ ports_of self.now.ports }
+        ensures few { result ≤ 32 }
+    {
+        match self.ports {
+            Some(ports) => ports.min(PORTS),
+            None => PORTS,
+        }
     }
 
     /// Why the last file could not be read or written, if it could not.

@@ -78,12 +78,13 @@ fn refuse_output<R: Print + Eprint>(rt: &R, name: &str, text: &str) -> Status
     status
 }
 
-/// Does a job over this machine's files and standard output, and gives how it ends. A node's file may say its maps.
+/// Does a job over this machine's files and standard output, and gives how it ends. If a node's file says its maps, that node has so
+/// many ports.
 fn do_job<R: rt::Files + Input + Print + Eprint + Threads + Wait + Sync>(
     rt: &R,
     alloc: Global,
     job: &Job,
-    is_on_node: bool,
+    ports: Option<u8>,
 ) -> Status {
     if let Some(name) = own_source(rt, &job.inputs()) {
         return refuse_output(rt, name, OWN_SOURCE);
@@ -92,7 +93,7 @@ fn do_job<R: rt::Files + Input + Print + Eprint + Threads + Wait + Sync>(
         Ok(out) => out,
         Err(refused) => return lose(rt, Err(refused)),
     };
-    let mut files = ToldFiles::of_job(rt, alloc, job, is_on_node);
+    let mut files = ToldFiles::of_job(rt, alloc, job, ports);
     let done = perform_told(rt, alloc, job, &mut files, &mut out);
     // What was held back fails again where it failed before, with the reason.
     match (done, out.flush()) {
@@ -161,7 +162,8 @@ fn do_on_node<R: rt::Files + Input + Print + Eprint + Threads + Wait + Sync>(
         Err(status) => return status,
     };
     let NodeJob { job, .. } = own;
-    do_job(rt, alloc, &job.placed(&configuration), true)
+    let ports = Some(configuration.ports);
+    do_job(rt, alloc, &job.placed(&configuration), ports)
 }
 
 /// Holds a talk in lines over standard input and standard output, and gives how it ends. It does not begin if memory is refused.
@@ -233,7 +235,7 @@ fn do_work<R: rt::Files + Input + Print + Eprint + Threads + Wait + Sync>(
     ensures { IfErr result (λ fault. fault ≡ Memory) }
 {
     match work.course() {
-        Course::Perform(job) => Ok(do_job(rt, alloc, &job, false)),
+        Course::Perform(job) => Ok(do_job(rt, alloc, &job, None)),
         Course::OnNode(own) => Ok(do_on_node(rt, alloc, own)),
         Course::Show(words) => show_input(rt, alloc, &words),
         Course::Lines(words) => talk_lines(rt, alloc, &words),
