@@ -8,14 +8,14 @@ use machine::runs_from_the_front;
 use node_programs::published_programs;
 use ports::workers_shares_count;
 
-/// A law and no work: a history whose answers are words is lawful exactly if it is lawful but for what cells told, and cells
-/// told what looking back gives.
+/// A law and no work: a history whose answers are words is lawful exactly if it is lawful apart from what cells answered, and
+/// cells answered what looking back gives.
 pub fn told_apart()
     ensures { LawfulIsButTold }
 {}
 
-/// A law and no work: what a thread did at a fresh port of a node that it served alone is a lawful history of the node, but for
-/// what cells told. At the port happened, in order, what became of its packets: a command was taken, each helper that its run
+/// A law and no work: what a thread did at a fresh port, the only one that was served, is a lawful history of the node, apart
+/// from what cells answered. At the port happened, in order, what became of its packets: a command was taken, each helper that its run
 /// asked was answered, and it was done with the reply that was due. The entries of each bank are those of the node's one list.
 pub fn one_port_is_lawful()
     ensures { OnePortIsLawful }

@@ -1,9 +1,9 @@
 //! What threads did at the ports of a node is a lawful history of it, as a schedule's is.
 //!
 //! A history is lawful if each outcome is the one that looking back from its place gives ([`sched`]). The laws here leave out what
-//! cells told, since each word of a cell has an order of its own: tickets of two words that two ports draw in opposite orders
-//! need have no order in common. [`told_apart`] says that nothing else is left out. [`one_port_is_lawful`] is the law of a port
-//! that was served alone.
+//! cells answered, since each word of a cell has an order of its own: tickets of two words that two ports draw in opposite orders
+//! need have no order in common. [`told_apart`] says that nothing else is left out. [`one_port_is_lawful`] is the law of the only
+//! port that was served.
 #![tactic(auto)]
 
 mod laws;
