@@ -188,7 +188,7 @@ class Variables:
 
     def is_constructor(self, word):
         first = word.split(".")[0]
-        if word in CONSTRUCTORS or word in self.file.of_data or first in self.file.modules:
+        if word in CONSTRUCTORS or word in self.file.of_data or (first != word and first in self.file.modules):
             return True
         if word in self.file.scope:
             module, name = self.file.scope[word]

@@ -3,10 +3,9 @@ use Rattle.std.specs.Prelude.{◌≡◌, ◌⊎◌, ℕ, List, [], Option, None,
 use Rattle.std.specs.Str.{IsUtf8}
 use Rattle.basm.specs.Relation.{IsText}
 use Rattle.bpf.specs.Program.{Program, image_bytes}
-use Rattle.machine.specs.Sizes.{Maps}
+use Rattle.machine.specs.Sizes.{Maps, listed_maps}
 use Rattle.job_config.specs.declared.sources.NodeSource.{NodeSource}
 use Rattle.job_config.specs.declared.sources.NodeSource.TheVariants.{File, Words}
-use Rattle.job_parts.specs.Options.{listed_maps}
 use Rattle.policy.specs.Compiled.{IsPortCompiled}
 use Rattle.policy_table.specs.Policies.{PolicyValue, WritesPolicy}
 use Rattle.spw.specs.Line.{lines_of}

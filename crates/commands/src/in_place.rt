@@ -1,6 +1,7 @@
 //! The text of a program, or a table, in the place of an image.
 
 ghost use Rattle.std.specs.Prelude.{◌≡◌, IfOk, IfSome};
+ghost use Rattle.std.specs.Str.{IsUtf8};
 ghost use Rattle.commands.specs.InPlace.{IsInPlace, IsOfTable, Stands, maps_of_job, maps_of_node};
 
 use crate::hints::{told_placed, told_text};
@@ -96,6 +97,16 @@ pub fn image_of(alloc: Global, text: &str, sizes: &MapSizes) -> Result<Option<Im
     }
 }
 
+/// The image that bytes stand for, if they are such a text.
+fn image_in(alloc: Global, bytes: &[u8], sizes: &MapSizes) -> Result<Option<Image>, AllocError>
+    ensures { IfOk result (λ image. IsUtf8 bytes.now → Stands sizes.now bytes.now image) }
+{
+    match str::from_utf8(bytes) {
+        Ok(text) => image_of(alloc, text, sizes),
+        Err(_) => Ok(None),
+    }
+}
+
 /// The bytes of the image that a text stands for; the text's own if it stands for none.
 ///
 /// # Errors
@@ -108,11 +119,7 @@ pub fn bytes_in_place(
 ) -> Result<Vec<u8>, AllocError>
     ensures { IfOk result (λ given. IsInPlace sizes.now bytes.items given.items) }
 {
-    let image = match str::from_utf8(bytes.as_slice()) {
-        Ok(text) => image_of(alloc, text, sizes)?,
-        Err(_) => None,
-    };
-    match image {
+    match image_in(alloc, bytes.as_slice(), sizes)? {
         Some(image) => image.write(),
         None => Ok(bytes),
     }

@@ -1,5 +1,5 @@
 -- What the words of a command line come to over the files of a folder.
-use Rattle.std.specs.Prelude.{◌≡◌, ◌⊎◌, ℕ, List, [], Some, string_bytes, codes, true, false}
+use Rattle.std.specs.Prelude.{◌≡◌, ◌⊎◌, ℕ, List, [], None, Some, string_bytes, codes, true, false}
 use Rattle.std.specs.Borrow.{Bor}
 use Rattle.commands.specs.CommandLine.{NamesWork}
 pub use Rattle.commands.specs.Given.{words_given}
