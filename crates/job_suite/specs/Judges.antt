@@ -14,10 +14,14 @@ use Rattle.job_suite.specs.declared.judges.Loaded.{Loaded}
 abbrev pub load_of : Loaded → LoadValue
 load_of loaded = load loaded.slot (image_bytes loaded.program.program)
 
+-- the program of a slot behind a load, where that one judged before it
+abbrev pub judge_behind : (judge : AcceptedValue) → Loaded → (slot : ℕ) → AcceptedValue
+judge_behind judge loaded slot = if loaded.slot == slot then loaded.program else judge
+
 -- the program of a slot, where these were loaded in turn, and that one judged before them
 abbrev pub judge_among : (first : AcceptedValue) → List Loaded → (slot : ℕ) → AcceptedValue
 judge_among first [] slot = first
-judge_among first (loaded ∷ more) slot = judge_among (if loaded.slot == slot then loaded.program else first) more slot
+judge_among first (loaded ∷ more) slot = judge_among (judge_behind first loaded slot) more slot
 
 -- the program of a slot
 abbrev pub judge_of : Judges → (slot : ℕ) → AcceptedValue

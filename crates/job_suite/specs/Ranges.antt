@@ -1,14 +1,15 @@
 -- The places of memory that a suite may change, as its words name them.
 use Rattle.std.specs.Prelude.{◌≡◌, ◌==◌, ℕ, Bool, List, [], ◌∷◌}
-use Rattle.std.specs.Borrow.{Bor}
 use Rattle.std.specs.List.{after_first, before_first}
 use Rattle.job_packets.specs.HexWords.{Has, WritesHex}
 use Rattle.job_suite.specs.declared.ranges.Range.{Range}
 
-abbrev is_colon : ℕ → Bool
+-- the colon (58)
+abbrev pub is_colon : ℕ → Bool
 is_colon code = code == 58
 
-abbrev is_dash : ℕ → Bool
+-- the dash (45)
+abbrev pub is_dash : ℕ → Bool
 is_dash code = code == 45
 
 -- a part of a list writes the range: `HH:LOW-HIGH`, each in hexadecimal digits
@@ -21,9 +22,9 @@ pub record WritesRange (part : List ℕ) (range : Range) : Type 0 where
 abbrev pub IsRange : List ℕ → Type 0
 IsRange part = Has (WritesRange part)
 
--- each part writes its range
-abbrev pub WriteRanges : (parts : List (Bor (List ℕ))) → List Range → Type 0
+-- each part of a list writes its range
+abbrev pub WriteRanges : (parts : List (List ℕ)) → List Range → Type 0
 WriteRanges [] [] = Unit {0}
 WriteRanges [] (range ∷ ranges) = ⊥
 WriteRanges (part ∷ parts) [] = ⊥
-WriteRanges (part ∷ parts) (range ∷ ranges) = WritesRange part.now range × WriteRanges parts ranges
+WriteRanges (part ∷ parts) (range ∷ ranges) = WritesRange part range × WriteRanges parts ranges

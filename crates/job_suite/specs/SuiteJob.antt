@@ -1,7 +1,5 @@
 -- The words of the job `suite`.
 use Rattle.std.specs.Prelude.{◌≡◌, ◌⊎◌, ℕ, List, [], Option, Some, None, All, codes, option_map, string_bytes}
-use Rattle.std.specs.Borrow.{Bor}
-use Rattle.basm.specs.Relation.{texts}
 use Rattle.clap.specs.Walk.{Row, first_of}
 use Rattle.clap.specs.Simple.{App, new_app, with_rule}
 use Rattle.job_parts.specs.Arguments.{flag_rule, is_set, option_rule}
@@ -51,16 +49,10 @@ abbrev pub beginning_of : Option (List ℕ) → List ℕ
 beginning_of None = []
 beginning_of (Some word) = word
 
--- the list writes the ranges
-pub record WritesList (text : List ℕ) (ranges : List Range) : Type 0 where
-  pub parts : List (Bor (List ℕ))
-  pub are_parts : texts parts ≡ list_parts text
-  pub written : WriteRanges parts ranges
-
 -- the ranges are those that the option's value writes; without the option there are none
 abbrev pub GivesRanges : Option (List ℕ) → List Range → Type 0
 GivesRanges None ranges = ranges ≡ []
-GivesRanges (Some text) ranges = WritesList text ranges
+GivesRanges (Some text) ranges = WriteRanges (list_parts text) ranges
 
 -- a list of which each part writes a range
 abbrev pub IsRangeList : List ℕ → Type 0

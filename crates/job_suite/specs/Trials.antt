@@ -53,7 +53,11 @@ AreTrials b trials = All (IsTrial b) trials
 abbrev pub trial_line : Trial → List ℕ
 trial_line t = packet_line 0 t.packet ++ 10 ∷ []
 
--- the packet lines of these packets, in order
+-- a text, and behind it the packet lines of these packets, in order
+abbrev pub with_lines : (text : List ℕ) → List Trial → List ℕ
+with_lines text [] = text
+with_lines text (t ∷ trials) = with_lines (text ++ trial_line t) trials
+
+-- the packet lines of these packets
 abbrev pub lines_of : List Trial → List ℕ
-lines_of [] = []
-lines_of (t ∷ trials) = trial_line t ++ lines_of trials
+lines_of trials = with_lines [] trials

@@ -25,16 +25,27 @@ fn eep(alloc: Global, maker: &mut Maker, area: Area) -> Result<(), AllocError> {
     look(maker, area)
 }
 
+/// Packets of a command of that code, each cut after so many bytes.
+fn cut(
+    alloc: Global,
+    maker: &mut Maker,
+    area: Area,
+    code: u8,
+    keeps: &[u16],
+) -> Result<(), AllocError> {
+    for keep in keeps {
+        let mut shape = maker.shape(code, area.extended, area.base, plain_length(code));
+        shape.keep = *keep;
+        maker.full(alloc, Row::EarlyEop, shape)?;
+    }
+    Ok(())
+}
+
 /// Packets that end too early: without data, without the last byte of data, and without the data CRC.
 fn early_eop(alloc: Global, maker: &mut Maker, area: Area) -> Result<(), AllocError> {
-    for code in [WRITE, WRITE_SILENT, RMW] {
-        let length = plain_length(code);
-        for keep in [16_u32, 15 + length, 16 + length] {
-            let mut shape = maker.shape(code, area.extended, area.base, length);
-            shape.keep = keep as u16;
-            maker.full(alloc, Row::EarlyEop, shape)?;
-        }
-    }
+    cut(alloc, maker, area, WRITE, &[16, 19, 20])?;
+    cut(alloc, maker, area, WRITE_SILENT, &[16, 19, 20])?;
+    cut(alloc, maker, area, RMW, &[16, 23, 24])?;
     look(maker, area)
 }
 

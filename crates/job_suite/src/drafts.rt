@@ -117,6 +117,7 @@ impl Shape {
         bytes.push(crc(data) ^ self.data_flaw)?;
         Ok(())
     }
+
     /// The bytes of the packet, with these data after its header.
     pub fn bytes(&self, alloc: Global, data: &Option<Vec<u8>>) -> Result<Vec<u8>, AllocError> {
         let mut bytes = self.header(alloc)?;

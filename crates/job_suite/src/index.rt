@@ -1,7 +1,7 @@
 //! The index of a suite: for each line its number, its row, and what it tries.
 
 use crate::drafts::{COMMAND, Shape};
-use crate::rows::Row;
+use crate::rows::name_of;
 use crate::search::Findings;
 use crate::trials::Trial;
 use rmap::{Instruction, Kind, PROTOCOL};
@@ -15,14 +15,6 @@ fn kind_words(shape: &Shape) -> &'static str {
         Kind::Write => "write",
         Kind::Rmw => "read-modify-write",
         Kind::Unused => "unused code",
-    }
-}
-
-/// Adds the verdict of a row of the program.
-fn add_verdict(text: &mut String, row: Row) -> Result<(), AllocError> {
-    match row {
-        Row::Program(verdict) | Row::ProgramBeforeEep(verdict) => write!(text, "-{verdict}"),
-        _ => Ok(()),
     }
 }
 
@@ -80,16 +72,17 @@ fn add_body_flaws(text: &mut String, shape: &Shape) -> Result<(), AllocError> {
 }
 
 /// Adds the line of a packet.
-fn add_trial(text: &mut String, number: usize, trial: &Trial) -> Result<(), AllocError> {
+fn add_trial(
+    alloc: Global,
+    text: &mut String,
+    number: usize,
+    trial: &Trial,
+) -> Result<(), AllocError> {
     let shape = &trial.shape;
-    let (row, kind) = (trial.row.name(), kind_words(shape));
+    let name = name_of(alloc, trial.row)?;
+    let (row, kind) = (name.as_str(), kind_words(shape));
     let (extended, address, length) = (shape.extended, shape.address, shape.length);
-    write!(text, "{number} {row}")?;
-    add_verdict(text, trial.row)?;
-    write!(
-        text,
-        " {kind} of {length} bytes at {extended:02X}:{address:08X}"
-    )?;
+    write!(text, "{number} {row} {kind} of {length} bytes at {extended:02X}:{address:08X}")?;
     add_code(text, shape)?;
     add_header_flaws(text, shape)?;
     add_body_flaws(text, shape)?;
@@ -110,11 +103,11 @@ fn add_missing(text: &mut String, findings: &Findings, slot: u8) -> Result<(), A
 }
 
 /// Adds the index of these packets.
-fn add_trials(text: &mut String, trials: &[Trial]) -> Result<(), AllocError> {
+fn add_trials(alloc: Global, text: &mut String, trials: &[Trial]) -> Result<(), AllocError> {
     let mut number: usize = 0;
     for trial in trials {
         number = number.saturating_add(1);
-        add_trial(text, number, trial)?;
+        add_trial(alloc, text, number, trial)?;
     }
     Ok(())
 }
@@ -126,7 +119,7 @@ pub fn index_of(
     findings: &Findings,
 ) -> Result<String, AllocError> {
     let mut text = String::new(alloc);
-    add_trials(&mut text, trials)?;
+    add_trials(alloc, &mut text, trials)?;
     for slot in 0..4_u8 {
         add_missing(&mut text, findings, slot)?;
     }

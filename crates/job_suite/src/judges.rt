@@ -3,7 +3,7 @@
 ghost use Rattle.std.specs.Prelude.{◌≡◌, ◌<◌, IfOk, map};
 ghost use Rattle.node_parts.specs.Slots.{slot_of};
 ghost use Rattle.rmap.specs.Command.{command_kind};
-ghost use Rattle.job_suite.specs.Judges.{AreJudges, HasAnswered, judge_among, judge_of, load_of};
+ghost use Rattle.job_suite.specs.Judges.{AreJudges, HasAnswered, judge_among, judge_behind, judge_of, load_of};
 
 use bpf::Image;
 use brun::run;
@@ -58,15 +58,24 @@ fn all_loaded(alloc: Global, first: &Accepted, loads: &[OwnLoad]) -> Result<Vec<
     Ok(all)
 }
 
+/// The program of a slot behind a load, where that one judged before it.
+fn judge_behind<'b>(judge: &'b Accepted, load: &'b Loaded, slot: u8) -> &'b Accepted
+    ensures { result.now ≡ judge_behind judge.now load.now slot }
+{
+    if load.slot == slot {
+        &load.program
+    } else {
+        judge
+    }
+}
+
 /// The program of a slot, where these were loaded in turn, and that one judged before them.
 fn judge_among<'b>(first: &'b Accepted, loaded: &'b [Loaded], slot: u8) -> &'b Accepted
     ensures { result.now ≡ judge_among first.now loaded.now slot }
 {
     let mut judge = first;
     for load in loaded {
-        if load.slot == slot {
-            judge = &load.program;
-        }
+        judge = judge_behind(judge, load, slot);
     }
     judge
 }

@@ -92,10 +92,10 @@ impl Maker {
             transaction: 0,
             random: u64::from(seed),
         };
-        maker.transaction = maker.draw() as u16;
+        maker.transaction = (maker.draw() % 65_536) as u16;
         maker.asker = Asker {
             initiator: (32 + maker.draw() % 192) as u8,
-            key: maker.draw() as u8,
+            key: maker.draw_byte(),
         };
         maker
     }
@@ -106,7 +106,12 @@ impl Maker {
             .random
             .wrapping_mul(6_364_136_223_846_793_005)
             .wrapping_add(1_442_695_040_888_963_407);
-        (self.random >> 32) as u32
+        (self.random / 4_294_967_296) as u32
+    }
+
+    /// The next byte that is drawn.
+    fn draw_byte(&mut self) -> u8 {
+        (self.draw() % 256) as u8
     }
 
     /// The next number that is drawn, below this one; 0 if there is none.
@@ -119,7 +124,7 @@ impl Maker {
     pub fn bytes(&mut self, alloc: Global, count: u32) -> Result<Vec<u8>, AllocError> {
         let mut bytes = Vec::new(alloc);
         for _ in 0..count {
-            bytes.push(self.draw() as u8)?;
+            bytes.push(self.draw_byte())?;
         }
         Ok(bytes)
     }
@@ -179,6 +184,7 @@ impl Maker {
             self.bare(row, shape)
         }
     }
+
     /// The drafts.
     pub fn into_drafts(self) -> Vec<Draft> {
         self.drafts

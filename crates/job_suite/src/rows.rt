@@ -5,6 +5,7 @@ ghost use Rattle.job_suite.specs.Rows.{wanted_of};
 
 use crate::checks::Check;
 use rmap::Status;
+use std::alloc::{AllocError, Global};
 
 /// What a packet must meet to be printed under its row.
 #[derive(Clone, Copy, Debug, PartialEq, Eq)]
@@ -145,8 +146,8 @@ impl Row {
         }
     }
 
-    /// The name of the row; a verdict comes after that of a row of the program.
-    pub fn name(self) -> &'static str {
+    /// The name of the row, without the verdict of a row of the program.
+    fn word(self) -> &'static str {
         match self {
             Row::Short => "short",
             Row::ShortBeforeProtocol => "short+protocol",
@@ -191,7 +192,11 @@ impl Row {
     }
 }
 
-/// Whether the name of a row begins so.
-pub fn is_named(row: Row, beginning: &str) -> bool {
-    row.name().starts_with(beginning)
+/// The name of a row; that of a row of the program has the verdict.
+pub fn name_of(alloc: Global, row: Row) -> Result<String, AllocError> {
+    match row {
+        Row::Program(verdict) => format!(in alloc; "program-{verdict}"),
+        Row::ProgramBeforeEep(verdict) => format!(in alloc; "program-{verdict}+eep"),
+        _ => String::from_str(alloc, row.word()),
+    }
 }

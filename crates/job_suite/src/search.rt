@@ -9,10 +9,10 @@ use spw::{End, Packet};
 use std::alloc::{AllocError, Global};
 
 /// How many packets are tried at most, at each bank for each slot.
-const TRIES: u64 = 1 << 15;
+const TRIES: usize = 32_768;
 
 /// By how many places of the space one goes on from packet to packet.
-const STEP: u64 = 2_654_435_761;
+const STEP: usize = 2_654_435_761;
 
 /// How many values of a field are tried at most.
 const VALUES: usize = 48;
@@ -87,48 +87,58 @@ impl Space {
 
     /// Adds what each word of an image may be compared with.
     fn note_image(&mut self, image: &[u8], low: u32, high: u32) -> Result<(), AllocError> {
-        for number in 0..image.len() / 4 {
-            let place = 4 * number;
-            let word = u32::from_le_bytes([
-                image[place],
-                image[place + 1],
-                image[place + 2],
-                image[place + 3],
-            ]);
-            self.note(word, low, high)?;
+        let (words, _rest) = image.as_chunks::<4>();
+        for word in words {
+            self.note(u32::from_le_bytes(*word), low, high)?;
         }
         Ok(())
     }
 
     /// How many commands the values make.
-    fn count(&self) -> u64 {
-        let fields = (self.codes.len() as u64).saturating_mul(self.keys.len() as u64);
-        let fields = fields.saturating_mul(self.initiators.len() as u64);
-        let fields = fields.saturating_mul(self.addresses.len() as u64);
-        fields.saturating_mul(self.lengths.len() as u64)
+    fn count(&self) -> usize {
+        let fields = self.codes.len().saturating_mul(self.keys.len());
+        let fields = fields.saturating_mul(self.initiators.len());
+        let fields = fields.saturating_mul(self.addresses.len());
+        fields.saturating_mul(self.lengths.len())
     }
 
     /// The command of that number.
-    fn command(&self, maker: &Maker, number: u64) -> Shape {
+    fn command(&self, maker: &Maker, number: usize) -> Shape {
         let mut rest = number;
         let code = pick(self.codes.as_slice(), &mut rest);
         let key = pick(self.keys.as_slice(), &mut rest);
         let initiator = pick(self.initiators.as_slice(), &mut rest);
         let address = pick(self.addresses.as_slice(), &mut rest);
         let length = pick(self.lengths.as_slice(), &mut rest);
-        let mut shape = maker.shape(code as u8, self.extended, address, length);
-        shape.key = key as u8;
-        shape.initiator = initiator as u8;
+        let mut shape = maker.shape(byte_of(code), self.extended, address, length);
+        shape.key = byte_of(key);
+        shape.initiator = byte_of(initiator);
         shape
     }
 }
 
+/// The last byte of a number.
+fn byte_of(number: u32) -> u8 {
+    (number % 256) as u8
+}
+
 /// The value of a list at a number, which is then what is left of it.
-fn pick(values: &[u32], number: &mut u64) -> u32 {
-    let count = (values.len() as u64).max(1);
+fn pick(values: &[u32], number: &mut usize) -> u32 {
+    let count = values.len();
+    if count == 0 {
+        return 0;
+    }
     let place = *number % count;
     *number /= count;
-    values.get(place as usize).copied().unwrap_or(0)
+    values[place]
+}
+
+/// The place of the packet of that number in a space of so many.
+fn place_of(number: usize, count: usize) -> usize {
+    if count == 0 {
+        return 0;
+    }
+    number.wrapping_mul(STEP) % count
 }
 
 impl Findings {
@@ -185,18 +195,29 @@ impl Findings {
         space: &Space,
     ) -> Result<(), AllocError> {
         let count = space.count();
-        let tries = count.min(TRIES);
-        for number in 0..tries {
-            let place = number.wrapping_mul(STEP) % count.max(1);
-            let shape = space.command(maker, place);
-            let header = shape.header(alloc)?;
-            if let Ok(packet) = Packet::new(header, End::Eop) {
-                if let Some(verdict) = bench.verdict(alloc, &packet)? {
-                    self.note(space.slot, verdict, shape)?;
-                }
-            }
+        for number in 0..count.min(TRIES) {
+            let shape = space.command(maker, place_of(number, count));
+            self.judge(alloc, bench, space.slot, shape)?;
         }
         Ok(())
+    }
+
+    /// Tries a command, if it is a packet.
+    fn judge(
+        &mut self,
+        alloc: Global,
+        bench: &Bench,
+        slot: u8,
+        shape: Shape,
+    ) -> Result<(), AllocError> {
+        let header = shape.header(alloc)?;
+        let Ok(packet) = Packet::new(header, End::Eop) else {
+            return Ok(());
+        };
+        match bench.verdict(alloc, &packet)? {
+            Some(verdict) => self.note(slot, verdict, shape),
+            None => Ok(()),
+        }
     }
 }
 

@@ -6,7 +6,7 @@ ghost use Rattle.job_nodes.specs.Making.{IsUnmade};
 ghost use Rattle.job_parts.specs.Statuses.{IsDoneWith};
 ghost use Rattle.job_parts.specs.Stops.{StopsBy};
 ghost use Rattle.job_suite.specs.SuiteFile.{HoldsNoNode, HoldsNode, IsBench, IsNoSuite, IsPlain, IsSuite, PrintsSuite};
-ghost use Rattle.job_suite.specs.Trials.{AreTrials, lines_of, trial_line};
+ghost use Rattle.job_suite.specs.Trials.{AreTrials, lines_of, trial_line, with_lines};
 
 use crate::bodies::body_rows;
 use crate::drafts::Draft;
@@ -17,7 +17,7 @@ use crate::judges::Judges;
 use crate::maker::{Area, Maker};
 use crate::pairs::{body_pairs, header_pairs};
 use crate::places::{beside_bank, no_bank, no_window};
-use crate::rows::is_named;
+use crate::rows::name_of;
 use crate::search::{Findings, program_rows, search_bank, search_window};
 use crate::trials::{Bench, Trial};
 use crate::window_rows::{load_rows, window_rows};
@@ -100,7 +100,7 @@ fn before_program(
     own: &OwnNode,
     area: Area,
 ) -> Result<(), AllocError> {
-    let banks = own.banks().len() as u8;
+    let banks = own.banks().len().min(255) as u8;
     header_rows(alloc, maker, area)?;
     let mut extended: u8 = 0;
     for bank in own.banks() {
@@ -178,10 +178,10 @@ fn drafts_of(
 }
 
 /// Whether a row is one of those that the words name.
-fn is_wanted(words: &SuiteWords, draft: &Draft) -> bool {
-    let without = words.without.as_str();
-    is_named(draft.row, words.rows.as_str())
-        && (without.is_empty() || !is_named(draft.row, without))
+fn is_wanted(alloc: Global, words: &SuiteWords, draft: &Draft) -> Result<bool, AllocError> {
+    let name = name_of(alloc, draft.row)?;
+    let (rows, without) = (words.rows.as_str(), words.without.as_str());
+    Ok(name.starts_with(rows) && (without.is_empty() || !name.starts_with(without)))
 }
 
 /// Those drafts whose rows the words name.
@@ -192,7 +192,7 @@ fn wanted_drafts(
 ) -> Result<Vec<Draft>, AllocError> {
     let mut wanted = Vec::new(alloc);
     for draft in drafts {
-        if is_wanted(words, &draft) {
+        if is_wanted(alloc, words, &draft)? {
             wanted.push(draft)?;
         }
     }
@@ -211,14 +211,22 @@ fn add_line(text: &mut String, alloc: Global, trial: &Trial) -> Result<(), Alloc
     }
 }
 
+/// Adds the packet lines of these packets.
+fn add_lines(text: &mut String, alloc: Global, trials: &[Trial]) -> Result<(), AllocError>
+    ensures { OnOk result (string_bytes text.new ≡ with_lines (string_bytes text.old) trials.now) }
+{
+    for trial in trials {
+        add_line(text, alloc, trial)?;
+    }
+    Ok(())
+}
+
 /// The packet lines of these packets.
 fn lines_of(alloc: Global, trials: &[Trial]) -> Result<String, AllocError>
     ensures { IfOk result (λ text. string_bytes text ≡ lines_of trials.now) }
 {
     let mut text = String::new(alloc);
-    for trial in trials {
-        add_line(&mut text, alloc, trial)?;
-    }
+    add_lines(&mut text, alloc, trials)?;
     Ok(text)
 }
 

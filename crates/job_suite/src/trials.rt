@@ -121,26 +121,48 @@ impl Bench {
         }))
     }
 
-    /// Adds the packet of a draft as the first of these ask by whom it meets its row, if it may be printed.
-    fn add(
+    /// The packet of a draft as the first of these asks by whom it meets its row, if it may be printed.
+    fn asked_trial(
         &self,
         alloc: Global,
-        trials: &mut Vec<Trial>,
         draft: &Draft,
         askers: &[Asker],
-    ) -> Result<(), AllocError>
-        requires { AreTrials self.now trials.old.items }
+    ) -> Result<Option<Trial>, AllocError>
+        ensures { IfOk result (λ came. IfSome came (IsTrial self.now)) }
+    {
+        for asker in askers {
+            let came = self.trial(alloc, draft, *asker)?;
+            if came.is_some() {
+                return Ok(came);
+            }
+        }
+        Ok(None)
+    }
+
+    /// The packet of a draft as it asks itself, or as the first of these asks by whom it meets its row, if it may be printed.
+    fn any_trial(
+        &self,
+        alloc: Global,
+        draft: &Draft,
+        askers: &[Asker],
+    ) -> Result<Option<Trial>, AllocError>
+        ensures { IfOk result (λ came. IfSome came (IsTrial self.now)) }
+    {
+        let came = self.trial(alloc, draft, draft.shape.asker())?;
+        if came.is_some() {
+            return Ok(came);
+        }
+        self.asked_trial(alloc, draft, askers)
+    }
+
+    /// Adds a packet, if there is one.
+    fn add(&self, trials: &mut Vec<Trial>, came: Option<Trial>) -> Result<(), AllocError>
+        requires trials { AreTrials self.now trials.old.items }
+        requires came { IfSome came (IsTrial self.now) }
         ensures { OnOk result (AreTrials self.now trials.new.items) }
     {
-        if let Some(trial) = self.trial(alloc, draft, draft.shape.asker())? {
+        if let Some(trial) = came {
             trials.push(trial)?;
-            return Ok(());
-        }
-        for asker in askers {
-            if let Some(trial) = self.trial(alloc, draft, *asker)? {
-                trials.push(trial)?;
-                return Ok(());
-            }
         }
         Ok(())
     }
@@ -156,7 +178,8 @@ impl Bench {
     {
         let mut trials = Vec::new(alloc);
         for draft in drafts {
-            self.add(alloc, &mut trials, draft, askers)?;
+            let came = self.any_trial(alloc, draft, askers)?;
+            self.add(&mut trials, came)?;
         }
         Ok(trials)
     }

@@ -15,7 +15,8 @@ fn write(
     address: u32,
     bytes: &[u8],
 ) -> Result<(), AllocError> {
-    let shape = maker.shape(WRITE, BOOT_WINDOW, address, bytes.len() as u32);
+    let length = bytes.len().min(4096) as u32;
+    let shape = maker.shape(WRITE, BOOT_WINDOW, address, length);
     let data = Vec::from_slice(alloc, bytes)?;
     maker.push(row, shape, Some(data))
 }
@@ -71,13 +72,13 @@ fn refused(alloc: Global, maker: &mut Maker) -> Result<(), AllocError> {
 
 /// The bytes of a control write for an image of so many bytes.
 fn control_bytes(slot: u8, count: usize) -> [u8; 4] {
-    [slot, 0, (count / 256) as u8, (count % 256) as u8]
+    [slot, 0, (count / 256 % 256) as u8, (count % 256) as u8]
 }
 
 /// Writes an image to the staging.
 fn stage(alloc: Global, maker: &mut Maker, row: Row, image: &[u8]) -> Result<(), AllocError> {
     for number in 0..4_u16 {
-        if image.len() > PART_SIZE * usize::from(number) {
+        if PART_SIZE * usize::from(number) < image.len() {
             let address = 4096 * u32::from(number);
             write(alloc, maker, row, address, part_of(image, number))?;
         }
@@ -89,9 +90,9 @@ fn stage(alloc: Global, maker: &mut Maker, row: Row, image: &[u8]) -> Result<(),
 fn altered(alloc: Global, maker: &mut Maker, image: &[u8]) -> Result<(), AllocError> {
     let row = Row::BootWindow;
     stage(alloc, maker, row, image)?;
-    for place in [0_usize, 4, 5, 6, 8, 12, 16, 17, 20] {
-        let byte = image.get(place).copied().unwrap_or(0);
-        let address = place as u32;
+    for place in [0_u8, 4, 5, 6, 8, 12, 16, 17, 20] {
+        let byte = image.get(usize::from(place)).copied().unwrap_or(0);
+        let address = u32::from(place);
         write(alloc, maker, row, address, &[byte ^ 0xFF])?;
         control(alloc, maker, row, control_bytes(0, image.len()))?;
         write(alloc, maker, row, address, &[byte])?;

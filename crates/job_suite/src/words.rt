@@ -86,7 +86,7 @@ fn node_of(alloc: Global, found: &ArgMatches) -> Result<Option<String>, AllocErr
 }
 
 /// The seed, and 0 without the option.
-fn seed_of(found: &ArgMatches) -> Result<u32, UsageFault>
+pub fn seed_of(found: &ArgMatches) -> Result<u32, UsageFault>
     ensures ok { IfOk result (GivesSeed (first_of (codes "seed") (rows_of (found_of found.now)))) }
     ensures err { IfErr result (RefusesSeed (rows_of (found_of found.now))) }
 {
@@ -111,7 +111,7 @@ fn beginning_of(alloc: Global, found: &ArgMatches, name: &str) -> Result<String,
 }
 
 /// Where memory may change.
-fn within_of(alloc: Global, found: &ArgMatches) -> Result<Vec<Range>, UsageFault>
+pub fn within_of(alloc: Global, found: &ArgMatches) -> Result<Vec<Range>, UsageFault>
     ensures ok { IfOk result (λ ranges.
         GivesRanges (first_of (codes "within") (rows_of (found_of found.now))) ranges.items) }
     ensures err { IfErr result (RefusesRanges (rows_of (found_of found.now))) }

@@ -1,0 +1,3 @@
+mod Loads
+mod RangeLists
+mod TrialLists
