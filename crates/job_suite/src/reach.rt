@@ -1,7 +1,7 @@
 //! What a packet might change, whatever else is wrong with it.
 
-ghost use Rattle.std.specs.Prelude.{◌≡◌};
-ghost use Rattle.job_suite.specs.Reach.{are_within, is_in, is_printed, last_of, may_change, reach_of};
+ghost use Rattle.std.specs.Prelude.{◌≡◌, ◌≤◌, ◌+◌, drop, length, take};
+ghost use Rattle.job_suite.specs.Reach.{are_within, is_in, is_printed, last_of, may_change, may_reach, reach_in, reach_of};
 
 use crate::ranges::Range;
 use byteorder::{BigEndian, ByteOrder};
@@ -38,34 +38,54 @@ fn last_of(instruction: u8, address: u32, length: u32) -> u64
     }
 }
 
+/// The twelve bytes from that place on. The condition is that there are so many.
+fn tail_at(bytes: &[u8], place: usize) -> &[u8; 12]
+    requires { place + 12 ≤ length bytes.now }
+    ensures value { result.now ≡ take 12 (drop place bytes.now) }
+    ensures len { length result.now ≡ 12 }
+{
+    bytes.split_at(place).1.split_first_chunk::<12>().unwrap().0
+}
+
+/// The memory that a header might change, which has this instruction and these last bytes.
+fn reach_in(instruction: u8, tail: &[u8; 12]) -> Reach
+    ensures { result ≡ reach_in instruction tail.now }
+{
+    let address = BigEndian::read_u32(&tail[4..]);
+    let length = BigEndian::read_u24(&tail[8..]);
+    Reach {
+        extended: tail[3],
+        low: address,
+        high: last_of(instruction, address, length),
+    }
+}
+
 /// The memory that a packet of these bytes might change; `None` if it has no whole header, or is of no code that changes
 /// memory.
 pub fn reach_of(bytes: &[u8]) -> Option<Reach>
     ensures { result ≡ reach_of bytes.now }
 {
-    let (front, rest) = bytes.split_first_chunk::<4>()?;
-    let instruction = front[2];
-    let path = Instruction(instruction).reply_address_len();
-    if rest.len() < path || !may_change(instruction) {
+    if bytes.len() < 4 {
         return None;
     }
-    let (tail, _body) = rest.split_at(path).1.split_first_chunk::<12>()?;
-    let address = BigEndian::read_u32(&tail[4..]);
-    let length = BigEndian::read_u24(&tail[8..]);
-    Some(Reach {
-        extended: tail[3],
-        low: address,
-        high: last_of(instruction, address, length),
-    })
+    let instruction = bytes[2];
+    let path = Instruction(instruction).reply_address_len();
+    if bytes.len() < 16 + path {
+        return None;
+    }
+    if may_change(instruction) {
+        Some(reach_in(instruction, tail_at(bytes, 4 + path)))
+    } else {
+        None
+    }
 }
 
 /// Whether the range has all that is reached.
 fn is_in(range: &Range, reach: &Reach) -> bool
     ensures { result ≡ is_in range.now reach.now }
 {
-    range.extended == reach.extended
-        && range.low <= reach.low
-        && reach.high <= u64::from(range.high)
+    let high = u64::from(range.high);
+    range.extended == reach.extended && (range.low <= reach.low && reach.high <= high)
 }
 
 /// Whether one of the ranges has all that is reached.
@@ -80,14 +100,26 @@ fn are_within(ranges: &[Range], reach: &Reach) -> bool
     false
 }
 
+/// Whether what is reached may change, where memory may change in these ranges, and in the boot window if it is so.
+fn may_reach(ranges: &[Range], loads: bool, reach: Option<Reach>) -> bool
+    ensures { result ≡ may_reach ranges.now loads reach }
+{
+    match reach {
+        None => true,
+        Some(reach) => {
+            if reach.extended == BOOT_WINDOW && loads {
+                true
+            } else {
+                are_within(ranges, &reach)
+            }
+        }
+    }
+}
+
 /// Whether a packet of these bytes may be printed, where memory may change in these ranges, and in the boot window if it is
 /// so.
 pub fn is_printed(ranges: &[Range], loads: bool, bytes: &[u8]) -> bool
     ensures { result ≡ is_printed ranges.now loads bytes.now }
 {
-    match reach_of(bytes) {
-        None => true,
-        Some(reach) if reach.extended == BOOT_WINDOW && loads => true,
-        Some(reach) => are_within(ranges, &reach),
-    }
+    may_reach(ranges, loads, reach_of(bytes))
 }

@@ -160,9 +160,19 @@ impl Findings {
         false
     }
 
+    /// Whether it is known that this one passes.
+    fn knows(&self, asker: Asker) -> bool {
+        for known in self.askers.as_slice() {
+            if known.initiator == asker.initiator && known.key == asker.key {
+                return true;
+            }
+        }
+        false
+    }
+
     /// Notes who passes.
     fn note_asker(&mut self, asker: Asker) -> Result<(), AllocError> {
-        if self.askers.len() < ASKERS && !self.askers.contains(&asker) {
+        if self.askers.len() < ASKERS && !self.knows(asker) {
             self.askers.push(asker)?;
         }
         Ok(())

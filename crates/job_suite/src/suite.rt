@@ -5,6 +5,7 @@ ghost use Rattle.job_config.specs.Reads.{ReadsNode};
 ghost use Rattle.job_nodes.specs.Making.{IsUnmade};
 ghost use Rattle.job_parts.specs.Statuses.{IsDoneWith};
 ghost use Rattle.job_parts.specs.Stops.{StopsBy};
+ghost use Rattle.node_parts.specs.Nodes.{windows_of};
 ghost use Rattle.job_suite.specs.SuiteFile.{HoldsNoNode, HoldsNode, IsBench, IsNoSuite, IsPlain, IsSuite, PrintsSuite};
 ghost use Rattle.job_suite.specs.Trials.{AreTrials, lines_of, trial_line, with_lines};
 
@@ -35,6 +36,8 @@ use job_parts::printing::print_text;
 use job_parts::status::Status;
 use job_parts::stops::Halt;
 use job_parts::storage::Files;
+use node_parts::NodeConfig;
+use rmap::Windows;
 use spw::End;
 use std::alloc::{AllocError, Global};
 use std::io::Write;
@@ -230,6 +233,20 @@ fn lines_of(alloc: Global, trials: &[Trial]) -> Result<String, AllocError>
     Ok(text)
 }
 
+/// The address of a node, and where its banks lie.
+#[tactic(auto, using(crate::proofs::BankLimits::at_most_eight))]
+fn windows_of(own: &OwnNode) -> Windows
+    ensures { result ≡ windows_of own.now.address own.now.banks }
+{
+    let config = NodeConfig {
+        address: own.address(),
+        ports: own.ports(),
+        banks: own.banks(),
+        sizes: own.sizes(),
+    };
+    config.windows()
+}
+
 /// What the suite is for.
 fn bench_of(
     alloc: Global,
@@ -241,7 +258,7 @@ fn bench_of(
 {
     let ranges = Vec::from_slice(alloc, words.within.as_slice())?;
     Ok(Bench {
-        windows: own.config().windows(),
+        windows: windows_of(own),
         judges: Judges::of(alloc, own, first)?,
         ranges,
         loads: words.loads,
