@@ -82,7 +82,10 @@ fn add_trial(
     let name = name_of(alloc, trial.row)?;
     let (row, kind) = (name.as_str(), kind_words(shape));
     let (extended, address, length) = (shape.extended, shape.address, shape.length);
-    write!(text, "{number} {row} {kind} of {length} bytes at {extended:02X}:{address:08X}")?;
+    write!(
+        text,
+        "{number} {row} {kind} of {length} bytes at {extended:02X}:{address:08X}"
+    )?;
     add_code(text, shape)?;
     add_header_flaws(text, shape)?;
     add_body_flaws(text, shape)?;
