@@ -1,7 +1,7 @@
 //! The index of a suite: for each line its number, its row, and what it tries.
 
 use crate::drafts::{COMMAND, Shape};
-use crate::rows::name_of;
+use crate::rows::{Row, name_of};
 use crate::search::Findings;
 use crate::trials::Trial;
 use rmap::{Instruction, Kind, PROTOCOL};
@@ -37,7 +37,7 @@ fn add_code(text: &mut String, shape: &Shape) -> Result<(), AllocError> {
 fn add_header_flaws(text: &mut String, shape: &Shape) -> Result<(), AllocError> {
     let (protocol, kind, flaw) = (shape.protocol, shape.kind, shape.header_flaw);
     if protocol != PROTOCOL {
-        write!(text, ", protocol {protocol}")?;
+        write!(text, ", protocol {protocol:02X}")?;
     }
     if kind != COMMAND {
         write!(text, ", packet type {kind}")?;
@@ -71,22 +71,43 @@ fn add_body_flaws(text: &mut String, shape: &Shape) -> Result<(), AllocError> {
     Ok(())
 }
 
-/// Adds the line of a packet.
+/// Adds to whom a command goes that is not to the node of this address, and of a row of the program who asks.
+fn add_addresses(
+    text: &mut String,
+    address: u8,
+    row: Row,
+    shape: &Shape,
+) -> Result<(), AllocError> {
+    let (target, initiator, key) = (shape.target, shape.initiator, shape.key);
+    if target != address {
+        write!(text, ", target {target:02X}")?;
+    }
+    match row {
+        Row::Program(_) | Row::ProgramBeforeEep(_) => {
+            write!(text, ", initiator {initiator:02X}, key {key:02X}")
+        }
+        _ => Ok(()),
+    }
+}
+
+/// Adds the line of a packet, for a node of that logical address.
 fn add_trial(
     alloc: Global,
     text: &mut String,
+    address: u8,
     number: usize,
     trial: &Trial,
 ) -> Result<(), AllocError> {
     let shape = &trial.shape;
     let name = name_of(alloc, trial.row)?;
     let (row, kind) = (name.as_str(), kind_words(shape));
-    let (extended, address, length) = (shape.extended, shape.address, shape.length);
+    let (extended, first, length) = (shape.extended, shape.address, shape.length);
     write!(
         text,
-        "{number} {row} {kind} of {length} bytes at {extended:02X}:{address:08X}"
+        "{number} {row} {kind} of {length} bytes at {extended:02X}:{first:08X}"
     )?;
     add_code(text, shape)?;
+    add_addresses(text, address, trial.row, shape)?;
     add_header_flaws(text, shape)?;
     add_body_flaws(text, shape)?;
     writeln!(text)
@@ -106,23 +127,29 @@ fn add_missing(text: &mut String, findings: &Findings, slot: u8) -> Result<(), A
 }
 
 /// Adds the index of these packets.
-fn add_trials(alloc: Global, text: &mut String, trials: &[Trial]) -> Result<(), AllocError> {
+fn add_trials(
+    alloc: Global,
+    text: &mut String,
+    address: u8,
+    trials: &[Trial],
+) -> Result<(), AllocError> {
     let mut number: usize = 0;
     for trial in trials {
         number = number.saturating_add(1);
-        add_trial(alloc, text, number, trial)?;
+        add_trial(alloc, text, address, number, trial)?;
     }
     Ok(())
 }
 
-/// The index of these packets, and then what was not found.
+/// The index of these packets, for a node of that logical address, and then what was not found.
 pub fn index_of(
     alloc: Global,
+    address: u8,
     trials: &[Trial],
     findings: &Findings,
 ) -> Result<String, AllocError> {
     let mut text = String::new(alloc);
-    add_trials(alloc, &mut text, trials)?;
+    add_trials(alloc, &mut text, address, trials)?;
     for slot in 0..4_u8 {
         add_missing(&mut text, findings, slot)?;
     }

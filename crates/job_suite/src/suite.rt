@@ -265,17 +265,18 @@ fn bench_of(
     })
 }
 
-/// The text of a suite: its lines, or its index.
+/// The text of a suite for a node of that logical address: its lines, or its index.
 fn text_of(
     alloc: Global,
     index: bool,
+    address: u8,
     trials: &[Trial],
     findings: &Findings,
 ) -> Result<String, AllocError>
     ensures { IfOk result (λ text. index ≡ false → string_bytes text ≡ lines_of trials.now) }
 {
     if index {
-        index_of(alloc, trials, findings)
+        index_of(alloc, address, trials, findings)
     } else {
         lines_of(alloc, trials)
     }
@@ -307,7 +308,8 @@ fn suite_text(
 {
     let bench = bench_of(alloc, words, own, first)?;
     let (trials, findings) = trials_of(alloc, words, own, &bench)?;
-    text_of(alloc, words.index, trials.as_slice(), &findings)
+    let address = own.address();
+    text_of(alloc, words.index, address, trials.as_slice(), &findings)
 }
 
 /// Prints the packet lines of a suite, or its index.
