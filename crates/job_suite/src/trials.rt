@@ -1,6 +1,6 @@
 //! The packets of a suite: those drafts that meet their rows, and that may be printed.
 
-ghost use Rattle.std.specs.Prelude.{◌≡◌, IfOk, IfSome, IsTrue, OnOk, true};
+ghost use Rattle.std.specs.Prelude.{◌≡◌, IfOk, IfSome, IsTrue, OnOk, Some, true};
 ghost use Rattle.job_suite.specs.Reach.{is_printed};
 ghost use Rattle.job_suite.specs.Rows.{wanted_of};
 ghost use Rattle.job_suite.specs.Trials.{AreTrials, IsMet, IsMetByRun, IsTrial, IsVerdict};
@@ -12,7 +12,7 @@ use crate::judges::Judges;
 use crate::ranges::Range;
 use crate::reach::is_printed;
 use crate::rows::{Row, Wanted};
-use rmap::{Command, Windows, body_fault};
+use rmap::{Command, Status, Windows, body_fault};
 use spw::Packet;
 use std::alloc::{AllocError, Global};
 
@@ -40,6 +40,16 @@ pub struct Bench {
     pub loads: bool,
 }
 
+/// Whether a status was found, and is this one.
+fn is_status(found: Option<Status>, status: Status) -> bool
+    ensures { IsTrue result → found ≡ Some status }
+{
+    match found {
+        Some(own) => own == status,
+        None => false,
+    }
+}
+
 /// Whether a command that has that verdict meets what is wanted.
 fn is_met_by_run(command: &Command, verdict: u64, wanted: Wanted) -> bool
     ensures { IsTrue result → IsMetByRun command.now verdict wanted }
@@ -47,7 +57,7 @@ fn is_met_by_run(command: &Command, verdict: u64, wanted: Wanted) -> bool
     match wanted {
         Wanted::Stopped(_) => false,
         Wanted::Judged(number) => verdict == number,
-        Wanted::Spoilt(status) => verdict == 0 && body_fault(command) == Some(status),
+        Wanted::Spoilt(status) => verdict == 0 && is_status(body_fault(command), status),
         Wanted::Whole => verdict == 0 && body_fault(command).is_none(),
     }
 }
