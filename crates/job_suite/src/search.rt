@@ -9,7 +9,7 @@ use spw::{End, Packet};
 use std::alloc::{AllocError, Global};
 
 /// How many packets are tried at most, at each bank for each slot.
-const TRIES: usize = 32_768;
+const TRIES: usize = 8192;
 
 /// By how many places of the space one goes on from packet to packet.
 const STEP: usize = 2_654_435_761;
@@ -17,8 +17,8 @@ const STEP: usize = 2_654_435_761;
 /// How many values of a field are tried at most.
 const VALUES: usize = 48;
 
-/// How many who pass are kept at most.
-const ASKERS: usize = 16;
+/// How many who pass are kept at most, at each bank for each slot.
+const ASKERS: usize = 2;
 
 /// A verdict that was found, and the command that has it.
 #[derive(Clone, Copy, Debug)]
@@ -31,13 +31,24 @@ pub struct Found {
     pub shape: Shape,
 }
 
+/// Who passes, and where.
+#[derive(Clone, Copy, Debug)]
+pub struct Passer {
+    /// The slot.
+    pub slot: u8,
+    /// The extended address.
+    pub extended: u8,
+    /// Who asks.
+    pub asker: Asker,
+}
+
 /// What is found.
 #[derive(Debug, Drop)]
 pub struct Findings {
     /// A command for each verdict of each slot.
     pub found: Vec<Found>,
     /// Who passes somewhere.
-    pub askers: Vec<Asker>,
+    pub passers: Vec<Passer>,
 }
 
 /// The values that are tried of each field.
@@ -94,6 +105,11 @@ impl Space {
         Ok(())
     }
 
+    /// How many who ask the values make.
+    fn askers(&self) -> usize {
+        self.keys.len().saturating_mul(self.initiators.len())
+    }
+
     /// How many commands the values make.
     fn count(&self) -> usize {
         let fields = self.codes.len().saturating_mul(self.keys.len());
@@ -105,9 +121,9 @@ impl Space {
     /// The command of that number.
     fn command(&self, maker: &Maker, number: usize) -> Shape {
         let mut rest = number;
-        let code = pick(self.codes.as_slice(), &mut rest);
         let key = pick(self.keys.as_slice(), &mut rest);
         let initiator = pick(self.initiators.as_slice(), &mut rest);
+        let code = pick(self.codes.as_slice(), &mut rest);
         let address = pick(self.addresses.as_slice(), &mut rest);
         let length = pick(self.lengths.as_slice(), &mut rest);
         let mut shape = maker.shape(byte_of(code), self.extended, address, length);
@@ -133,10 +149,10 @@ fn pick(values: &[u32], number: &mut usize) -> u32 {
     values[place]
 }
 
-/// The place of the packet of that number in a space of so many.
-fn place_of(number: usize, count: usize) -> usize {
-    if count == 0 {
-        return 0;
+/// The place of the packet of that number in a space of so many, of which so many come first.
+fn place_of(number: usize, plain: usize, count: usize) -> usize {
+    if number < plain || count == 0 {
+        return number;
     }
     number.wrapping_mul(STEP) % count
 }
@@ -146,7 +162,7 @@ impl Findings {
     pub fn none(alloc: Global) -> Findings {
         Findings {
             found: Vec::new(alloc),
-            askers: Vec::new(alloc),
+            passers: Vec::new(alloc),
         }
     }
 
@@ -160,30 +176,53 @@ impl Findings {
         false
     }
 
-    /// Whether it is known that this one passes.
+    /// Whether it is known that this one passes somewhere.
     fn knows(&self, asker: Asker) -> bool {
-        for known in self.askers.as_slice() {
-            if known.initiator == asker.initiator && known.key == asker.key {
+        for known in self.passers.as_slice() {
+            if known.asker.initiator == asker.initiator && known.asker.key == asker.key {
                 return true;
             }
         }
         false
     }
 
+    /// How many are known to pass in a slot at an extended address.
+    fn count_at(&self, slot: u8, extended: u8) -> usize {
+        let mut count: usize = 0;
+        for known in self.passers.as_slice() {
+            if known.slot == slot && known.extended == extended {
+                count = count.saturating_add(1);
+            }
+        }
+        count
+    }
+
     /// Notes who passes.
-    fn note_asker(&mut self, asker: Asker) -> Result<(), AllocError> {
-        if self.askers.len() < ASKERS && !self.knows(asker) {
-            self.askers.push(asker)?;
+    fn note_passer(&mut self, passer: Passer) -> Result<(), AllocError> {
+        let count = self.count_at(passer.slot, passer.extended);
+        if count < ASKERS && !self.knows(passer.asker) {
+            self.passers.push(passer)?;
         }
         Ok(())
+    }
+
+    /// Who passes somewhere.
+    pub fn askers(&self, alloc: Global) -> Result<Vec<Asker>, AllocError> {
+        let mut askers = Vec::new(alloc);
+        for known in self.passers.as_slice() {
+            askers.push(known.asker)?;
+        }
+        Ok(askers)
     }
 
     /// Notes the verdict on a command.
     fn note(&mut self, slot: u8, verdict: u64, shape: Shape) -> Result<(), AllocError> {
         if verdict == 0 {
-            self.note_asker(Asker {
-                initiator: shape.initiator,
-                key: shape.key,
+            let (extended, asker) = (shape.extended, shape.asker());
+            self.note_passer(Passer {
+                slot,
+                extended,
+                asker,
             })?;
         }
         if !self.has(slot, verdict) {
@@ -204,9 +243,9 @@ impl Findings {
         maker: &Maker,
         space: &Space,
     ) -> Result<(), AllocError> {
-        let count = space.count();
+        let (plain, count) = (space.askers(), space.count());
         for number in 0..count.min(TRIES) {
-            let shape = space.command(maker, place_of(number, count));
+            let shape = space.command(maker, place_of(number, plain, count));
             self.judge(alloc, bench, space.slot, shape)?;
         }
         Ok(())

@@ -293,7 +293,8 @@ fn trials_of(
 {
     let (drafts, findings) = drafts_of(alloc, words, own, bench)?;
     let drafts = wanted_drafts(alloc, words, drafts)?;
-    let trials = bench.trials(alloc, drafts.as_slice(), findings.askers.as_slice())?;
+    let askers = findings.askers(alloc)?;
+    let trials = bench.trials(alloc, drafts.as_slice(), askers.as_slice())?;
     Ok((trials, findings))
 }
 
