@@ -1,5 +1,5 @@
 -- A text in the place of an image.
-use Rattle.std.proofs.Common.{◌≡◌, ◌⊎◌, ◌∙◌, ℕ, List, Option, None, Some, IfSome, inr, ap, subst, sym}
+use Rattle.std.proofs.Common.{◌≡◌, ◌∙◌, ℕ, List, Option, None, Some, IfSome, inr, ap, subst, sym}
 use Rattle.std.specs.Str.{IsUtf8}
 use Rattle.basm.specs.Relation.{IsText}
 use Rattle.bpf.specs.Program.{Program, image_bytes}
@@ -27,10 +27,10 @@ in_place_of sizes bytes given image stands is = record {
   is = (λ none. absurd (not_there image none), λ own some. is ∙ ap image_bytes (same_image image own some));
 }
 
--- the same of bytes that were read as a slice, and of an image that was taken out of what was found
-pub in_place_by : (sizes : Maps) (bytes slice given : List ℕ) (found : Option Program) (image own : Program) → slice ≡ bytes
-    → (IsUtf8 slice → Stands sizes slice found) → found ≡ Some image → own ≡ image → given ≡ image_bytes own → IsInPlace sizes bytes given
-in_place_by sizes bytes slice given found image own same stands is view written =
+-- the same of bytes that were read as a slice
+pub in_place_by : (sizes : Maps) (bytes slice given : List ℕ) (found : Option Program) (image : Program) → slice ≡ bytes
+    → (IsUtf8 slice → Stands sizes slice found) → found ≡ Some image → given ≡ image_bytes image → IsInPlace sizes bytes given
+in_place_by sizes bytes slice given found image same stands is written =
     in_place_of sizes bytes given image
     (λ utf8. subst (λ (f : Option Program). Stands sizes bytes f) is (subst (λ (b : List ℕ). Stands sizes b found) same (stands (subst IsUtf8 (sym same) utf8))))
-    (written ∙ ap image_bytes view)
+    written

@@ -1,4 +1,4 @@
-use Rattle.std.proofs.Common.{◌≡◌, ap, sym}
+use Rattle.std.proofs.Common.{ap, sym}
 use denote.Enum.Bare.{same_false}
 use Rattle.spw.proofs.DigitBlocks.{for_ok}
 use Rattle.basm.specs.contracts.faults.AsmCode.{the_type}
