@@ -178,9 +178,9 @@ int main(int count, char **words) {
       printf("a program of %u slots%s: %zu bytes, and %zu while it is loaded\n", slots, is_branched ? ", of jumps" : "", kept, most);
     }
   try("one bank", opening[1] + (ROOM + 1) * block, packets, 0, 1);
-  try("with loads", opening[1] + (ROOM + 1) * block + 4 * kept + 2 * most, packets, 1, 1);
+  try("with loads", opening[1] + (ROOM + 1) * block + 4 * kept + most, packets, 1, 1);
   banks = 2;
   try("two banks, turned together", opening[2] + (2 * ROOM + 1) * block, packets, 0, 1);
-  try("two banks, each turned by itself", opening[2] + (4 * ROOM + 1) * block, packets, 0, 0);
+  try("two banks, each turned by itself", opening[2] + (2 * ROOM + 1) * block, packets, 0, 0);
   return EXIT_SUCCESS;
 }

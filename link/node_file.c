@@ -31,7 +31,8 @@ static sandbar_served serve_own(size_t length) {
   return served;
 }
 
-/* Loads an image by packets, as `rmapctl packet load` makes them: its parts, the control write, the read of the load result. */
+/* Loads an image by packets, as `rmapctl packet load` makes them: its parts, the control write, the read of the load result. Each must
+   have status 0: the control write has no sum of the image, so after a part that failed it loads other bytes. */
 static void load(uint8_t slot, const uint8_t *image, size_t length) {
   uint16_t transaction = 0;
   for (size_t at = 0; at < length; at += 4096) {

@@ -1,6 +1,8 @@
 /* The heap of the library over one static array, for a program without a heap: include/sandbarstove_heap.h. Free blocks lie
- * in a list by address, the first that is large enough is taken, and neighbours are joined. POOL: how many bytes. It is for
- * one thread: a program of several puts a lock of its own round each of the three. */
+ * in a list by address, and neighbours are joined. A block as large as the longest packet, or smaller, is the end of the last free
+ * block that is large enough. A larger one is the beginning of the first. So what the verifier needs for a while leaves no gap
+ * between blocks that stay. POOL: how many bytes. It is for one thread: a program of several puts a lock of its own round each of the
+ * three. */
 #include "sandbarstove_heap.h"
 
 #include <stdbool.h>
@@ -25,6 +27,9 @@ void pool_clear(void); /* after a node was damaged, before the next is opened: a
 
 void pool_clear(void) { is_laid = false; }
 
+/* How many units a small block has at most: that of a packet of 4,200 bytes. */
+enum { SMALL = 264 };
+
 static size_t units_of(size_t size) { return (size + sizeof(unit) - 1) / sizeof(unit) + 1; }
 
 static void lay(void) {
@@ -44,18 +49,33 @@ static void cut(unit *block, size_t units) {
   rattle_dealloc(rest + 1);
 }
 
+/* The free block before the one that is taken for so many units, in the list; nothing if none is large enough. */
+static unit *before_taken(size_t units) {
+  unit *found = NULL;
+  for (unit *before = &list; before->next != NULL; before = before->next) {
+    if (before->next->units < units) continue;
+    found = before;
+    if (units > SMALL) break;
+  }
+  return found;
+}
+
 rattle_block rattle_alloc(size_t size, size_t align) {
   (void)align; /* each block is aligned to 16 */
   lay();
   size_t units = size > sizeof pool ? SIZE_MAX : units_of(size);
-  for (unit *before = &list; before->next != NULL; before = before->next) {
-    unit *block = before->next;
-    if (block->units < units) continue;
+  unit *before = before_taken(units);
+  if (before == NULL) return (rattle_block){false, pool};
+  unit *block = before->next;
+  if (units <= SMALL && block->units > units) {
+    block->units -= units;
+    block += block->units;
+    block->units = units;
+  } else {
     before->next = block->next;
     cut(block, units);
-    return (rattle_block){true, block + 1};
   }
-  return (rattle_block){false, pool};
+  return (rattle_block){true, block + 1};
 }
 
 void rattle_dealloc(void *at) {

@@ -1,6 +1,6 @@
 /* A loop for flight, which docs/EMBEDDING.md shows: frames come over a link, and a node that the ground described serves them. */
 #include "flight.h"
-#include "node_file.h" /* rmapctl node FILE --c, and the quotas of its table */
+#include "node_file.h" /* rmapctl node FILE --c --table TABLE */
 #include "sandbarstove_frames.h"
 
 static sandbar_node node;

@@ -7,10 +7,10 @@ from pathlib import Path
 from typing import Iterable, Optional, Sequence, Union
 
 from . import library as c
-from .files import NodeFile, read_node_file
+from .files import NOT_LOADED, MapPart, NodeFile, read_node_file
 from .journals import Damaged, Entry
 from .loads import load
-from .packets import load_packets
+from .packets import load_packets, reply
 
 #: The image of the program that says yes to every command: `mov r0, 0; exit`.
 YES = bytes.fromhex("42504641010002000200000000000000B7000000000000009500000000000000")
@@ -108,6 +108,17 @@ def verify(image: bytes, maps: Sequence[Map] = ()) -> None:
         raise NodeFault(code, why)
 
 
+def _why_not(image: bytes, maps: Sequence[MapPart]) -> Optional[str]:
+    """Why a program may not judge in the node of a file, or None."""
+    try:
+        verify(image, [Map(row.cells, row.peak) for row in maps])
+    except NodeFault as fault:
+        if fault.code not in (_BAD_IMAGE, _REFUSED):
+            raise
+        return f"{'image fault ' if fault.code == _BAD_IMAGE else 'refused V'}{fault.why} slot {fault.slot}"
+    return None
+
+
 class Node:
     """An RMAP target. One call at a time: who shares it between threads puts a lock round each."""
 
@@ -126,29 +137,29 @@ class Node:
     @classmethod
     def from_file(cls, path: Union[str, Path]) -> Node:
         """Opens the node that a file says, with the contents of its banks, and its loads done."""
-        return cls._of(read_node_file(path))
+        return cls._of(read_node_file(path, _why_not))
 
     @classmethod
     def _of(cls, file: NodeFile) -> Node:
         banks = [Bank(bank.base, bank.size, bank.journal) for bank in file.banks]
         maps = [Map(row.cells, row.peak) for row in file.maps]
-        try:
-            node = cls(banks, maps, YES if file.program is None else file.program, address=file.address, ports=file.ports)
-        except NodeFault as fault:
-            raise file.fault(f"program: {fault}" if fault.code in (_BAD_IMAGE, _REFUSED) else str(fault)) from None
+        node = cls(banks, maps, YES if file.program is None else file.program, address=file.address, ports=file.ports)
         for number, bank in enumerate(file.banks):
             if bank.contents:
                 node.poke(bank.base, bank.contents, number)
         for number, row in enumerate(file.loads, 1):
-            status = node._load(row.image, row.slot, file.address)
-            if status:
-                raise file.fault(f"load {number}: status {status}")
+            if why := node._load(row.image, row.slot, file.address):
+                raise file.fault(NOT_LOADED, f"load {number}: {why}")
         return node
 
-    def _load(self, image: bytes, slot: int, address: int) -> int:
-        """Does a load as packets at port 0, and gives the status of its control write."""
-        *writes, _ = load_packets(image, slot, target=address)
-        return next((status for status in (self.serve(packet).status for packet in writes) if status), 0)
+    def _load(self, image: bytes, slot: int, address: int) -> Optional[str]:
+        """Does a load as packets at port 0, and says why it was not carried out, if it was not."""
+        *writes, read = load_packets(image, slot, target=address)
+        status = next((status for status in (self.serve(packet).status for packet in writes) if status), 0)
+        if not status:
+            return None
+        told = reply(self.ask(read) or b"")
+        return f"status {status}, load fault {told.data[0] if told.data else 0}"
 
     def _done(self, code: int) -> None:
         if code:

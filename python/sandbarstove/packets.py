@@ -20,7 +20,7 @@ STATUSES = {
     7: "EEP",
     9: "verify buffer overrun",
     10: "not implemented or not authorised",
-    11: "read-modify-write data length error",
+    11: "RMW data length error",
     12: "invalid target logical address",
 }
 

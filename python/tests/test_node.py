@@ -9,6 +9,9 @@ from pathlib import Path
 from unittest import mock
 
 import kit
+
+sys.path.append(str(kit.TOP / "tests"))
+from node_files import GOOD, UNREAD, beside, node_files
 from sandbarstove import (Bank, Damaged, LibraryFault, LoadFault, Map, Node, NodeFault, NodeFileFault, Reply, YES, command, load, reply,
                           verify)
 from sandbarstove import library as c
@@ -40,6 +43,7 @@ contents = "science.bin"
 [[bank]]
 base = 0x1000
 size = 16
+journal = 1
 
 [[map]]
 cells = 5
@@ -51,29 +55,26 @@ peak = true
 slot = 1
 image = "deny.img"
 """
-# (the text, the refusal) of files that no node can be of.
+# (the text, the words of the refusal) of files that no node can be of: those of `rmapctl node`. What each file of tests/node_files.txt
+# is answered is compared too.
 BAD_FILES = [
     ("address = 256", "address 256: wanted 0 to 255"),
-    ("adress = 1", "adress: no such key"),
-    ("ports = 0", "ports 0: wanted 1 to 32"),
-    ("ports = true", "ports True: wanted 1 to 32"),
-    ("[[bank]]\nsize = 0", "bank 1 size 0: wanted 1 to 1048576"),
-    ("[[bank]]\n[[bank]]\nbase = 0xFFFFFFFF\nsize = 2", "bank 2 size 2: it goes past address FFFFFFFF"),
-    ("[[bank]]\njournal = 65537", "bank 1 journal 65537: wanted 1 to 65536"),
-    ("[[bank]]\nsize = 1\ncontents = 'science.bin'", "bank 1 contents: 4 bytes, and the bank has 1"),
-    ("[[bank]]\ncontents = 'none.bin'", "bank 1 contents none.bin: No such file or directory"),
-    ("[bank]\nsize = 1", "bank: wanted [[bank]]"),
-    ("bank = [1]", "bank 1 wanted a table"),
-    ("[[bank]]\n" * 9, "bank: wanted at most 8 tables"),
-    ("[[map]]", "map 1 cells is missing"),
-    ("[[map]]\ncells = 2\npeak = 1", "map 1 peak 1: wanted true or false"),
-    ("[[map]]\ncells = 200\n[[map]]\ncells = 57", "map: 257 cells, wanted at most 256"),
-    ("program = 'science.bin'", "program: the bytes are no image"),
-    ("program = 5", "program 5: wanted a name"),
-    ("[[load]]\nslot = 4\nimage = 'yes.img'", "load 1 slot 4: wanted 0 to 3"),
-    ("[[load]]\nslot = 1", "load 1 image is missing"),
-    ("[[load]]\nslot = 1\nimage = 'science.bin'", "load 1: status 1"),
-    ("address = ", "Invalid value (at end of document)"),
+    ("adress = 1", "key adress: wanted address, bank, load, map, ports or program"),
+    ("ports = true", "ports is no number: wanted 1 to 32"),
+    ("[[bank]]\nsize = 0", "bank 1 base is missing: wanted 0 to 4294967295"),
+    ("[[bank]]\nbase = 0xFFFFFFFF\nsize = 2", "bank 1 size 2: wanted 1 to 1"),
+    ("[[bank]]\nbase = 0\nsize = 1\njournal = 1\ncontents = 'none.bin'", "bank 1 contents none.bin: cannot be read"),
+    ("[bank]\nsize = 1", "bank is no list of tables: wanted [[bank]]"),
+    ("bank = [1]", "bank 1 is no table: wanted [[bank]]"),
+    ("bank = []", "0 banks: wanted 1 to 8"),
+    ("[[map]]\n" * 9, "9 maps: wanted at most 8"),
+    ("[[map]]\ncells = 2\npeak = 1", "map 1 peak: wanted true or false"),
+    ("[[map]]\ncells = 200\n[[map]]\ncells = 57", "map 2 cells 57: wanted 1 to 56"),
+    ("program = 'science.bin'", "program science.bin: image fault 1 slot 0"),
+    ("program = 5", "program: wanted the name of a file"),
+    ("[[load]]\nslot = 1\nimage = 'science.bin'", "load 1 image science.bin: image fault 1 slot 0"),
+    ("[[load]]\nslot = 3\nimage = 'deny.img'\n" * 2, "load 2: status 10, load fault 0"),
+    ("address = ", "is no TOML: Invalid value"),
 ]
 
 
@@ -208,8 +209,24 @@ class Files(unittest.TestCase):
         for text, wanted in BAD_FILES:
             with self.subTest(wanted), self.assertRaises(NodeFileFault) as caught:
                 Node.from_file(self.file(text))
-            self.assertIn(f"node.toml: {wanted}", str(caught.exception))
+            self.assertIn(f"node.toml {wanted}", str(caught.exception))
         self.assertRaisesRegex(NodeFileFault, "No such file", Node.from_file, "/nowhere/node.toml")
+
+    def test_list(self):
+        """Each file of tests/node_files.txt, also those of which only the library can say it."""
+        folder = Path(self.room.name, "beside")
+        folder.mkdir()
+        for name, data in beside().items():
+            (folder / name).write_bytes(data)
+        for file in node_files():
+            (folder / "node.toml").write_bytes(file.content)
+            with self.subTest(file.title):
+                try:
+                    Node.from_file(folder / "node.toml").close()
+                    answer = GOOD
+                except NodeFileFault as fault:
+                    answer = str(fault.code) if fault.code else UNREAD
+                self.assertEqual(answer, file.answer)
 
 
 class Loads(unittest.TestCase):

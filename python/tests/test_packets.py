@@ -1,11 +1,14 @@
 """Commands, replies and the packets of loads: rows of docs/PROTOCOL.md, and what `rmapctl` makes of the same words."""
 import random
+import re
 import tempfile
 import unittest
 from pathlib import Path
 
 import kit
 from sandbarstove import command, crc, load_packets, reply
+from sandbarstove.packets import STATUSES
+from sandbarstove.words import DISCARDS, LINES, LOADS
 
 READ = "FE014C0067000100A0000000000010C9"
 # (words of `command`, its options, the packet): the examples of docs/PROTOCOL.md and docs/COMMANDS.md.
@@ -43,7 +46,7 @@ REPLIES = [
     ("67010C00FE0001000000106D0123456789ABCDEF101112131415161756",
      "reply read status 0 success initiator 67 target FE transaction 0001 length 16 data 0123456789ABCDEF1011121314151617"),
     ("67012C04FE00009E", "reply write status 4 invalid data CRC initiator 67 target FE transaction 0000"),
-    ("67011C0BFE000300000000CB00", "reply rmw status 11 read-modify-write data length error initiator 67 target FE"
+    ("67011C0BFE000300000000CB00", "reply rmw status 11 RMW data length error initiator 67 target FE"
      " transaction 0003 length 0"),
     ("050667010D00FE000200000004A00123456799",
      "reply read status 0 success path 0506 initiator 67 target FE transaction 0002 length 4 data 01234567"),
@@ -90,6 +93,21 @@ class Packets(unittest.TestCase):
         for slots, image in ((4, b""), ([], b""), ("one", b""), (1, bytes(16385))):
             with self.subTest(slots), self.assertRaises(ValueError):
                 list(load_packets(image, slots))
+
+
+class Words(unittest.TestCase):
+    @unittest.skipUnless((kit.TOP / "docs/CODES.md").exists(), "there is no page of codes")
+    def test_codes(self):
+        """Each code has the words of the page, which is made of what the program prints."""
+        page = (kit.TOP / "docs/CODES.md").read_text(encoding="utf-8")
+        printed = {(kind, int(code)): text for kind, code, text in re.findall(r"^\*\*([a-zV]+)(\d+)\*\* (.*)\.$", page, re.M)}
+        for (kind, code), text in list(printed.items()):
+            # (a load result has the codes of the verifier from 1 on, and those of images from 33 on)
+            if kind in ("V", "image"):
+                printed["load", code + 32 * (kind == "image")] = text
+        for kind, words in (("line", LINES), ("discard", DISCARDS), ("load", LOADS), ("status", STATUSES)):
+            with self.subTest(kind):
+                self.assertEqual(words, {code: text for (of, code), text in printed.items() if of == kind})
 
 
 @unittest.skipUnless(kit.program(), "there is no rmapctl")

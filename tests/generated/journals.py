@@ -1,6 +1,7 @@
 #!/usr/bin/env python3
 """Journals of `live`, of commands over the ends of pages and of the instrument's own writes: what is printed is what a node prints that
-was written from docs/PROTOCOL.md alone, and done again on zeros the entries leave what reads of the bank then find."""
+was written from docs/PROTOCOL.md alone, and done again on zeros the entries leave what reads of the bank then find. With --entries each
+of these entries is before the answer to its packet, and no journal has one."""
 from __future__ import annotations
 
 import sys
@@ -42,17 +43,21 @@ def command(random: Random) -> Packet:
 
 
 class Talk:
-    """A talk with a node: its lines, what is wanted, and memory that only the entries and the instrument's writes made."""
+    """A talk with a node: its lines, what is wanted, also with --entries, and memory that only the entries and the instrument's writes
+    made."""
 
     def __init__(self, ports: int):
         self.world = World(YES, [], ports)
         self.replayed = bytearray(SIZE)
         self.lines: list[str] = []
         self.wanted: list[str] = []
+        self.at_once: list[str] = []
 
-    def hand_out(self, seen: Counter[str]) -> None:
+    def hand_out(self, seen: Counter[str], is_asked: bool = True) -> None:
         """Hands the journal out, and does its entries again."""
         lines = self.world.journal()
+        if is_asked:
+            self.at_once.append("journal 0 entries")
         self.wanted += lines
         seen["journals"] += 1
         for line in lines[:-1]:
@@ -65,10 +70,13 @@ class Talk:
     def send(self, port: int, packet: Packet, seen: Counter[str]) -> None:
         """A packet; a full journal is handed out before it."""
         if len(self.world.entries) == ROOM:
-            self.hand_out(seen)
+            self.hand_out(seen, False)
             seen["full journals"] += 1
         self.lines.append(packet.line(port))
-        self.wanted.append(self.world.judge(port, packet))
+        before = len(self.world.entries)
+        answer = self.world.judge(port, packet)
+        self.wanted.append(answer)
+        self.at_once += [f"entry 00 {entry}" for entry in self.world.entries[before:]] + [answer]
         first = packet.address - BASE
         seen["commands over the end of a page"] += first // PAGE != (first + packet.length - 1) // PAGE
 
@@ -79,7 +87,8 @@ class Talk:
         begin = address - BASE
         for memory in (self.world.memory, self.replayed):
             memory[begin:begin + len(data)] = data
-        self.wanted.append(f"set {len(data)}")
+        for wanted in (self.wanted, self.at_once):
+            wanted.append(f"set {len(data)}")
         seen["bytes set"] += len(data)
 
 
@@ -101,7 +110,9 @@ def check(random: Random, room: Room, seen: Counter[str]) -> None:
     talk.hand_out(seen)
     if talk.replayed != talk.world.memory:
         raise Differs("the entries of the node here do not leave its memory")
-    same_lines("live", room.printed("live", "--image", "image", "--ports", "3", given="\n".join(talk.lines) + "\n"), talk.wanted)
+    for more, wanted in ([], talk.wanted), (["--entries"], talk.at_once):
+        words = ["live", "--image", "image", "--ports", "3", *more]
+        same_lines(" ".join(words), room.printed(*words, given="\n".join(talk.lines) + "\n"), wanted)
 
 
 main(__doc__, check, TALKS, KINDS)

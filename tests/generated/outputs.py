@@ -141,6 +141,28 @@ def pipes(room: Room) -> Iterator[str | None]:
     yield same("what came of it", came, [made])
 
 
+def contents(room: Room) -> Iterator[str | None]:
+    """What a bank of the node's file begins with is not written over, by no name; and an image that the file names is."""
+    room.put("table", TABLE)
+    (room.folder / "flight").mkdir()
+    for name, node in (("science.bin", "node.toml"), ("flight/science.bin", "flight/node.toml"), (str(room.folder / "far.bin"), "far.toml")):
+        room.put(node, f'program = "table.img"\n[[bank]]\nbase = 0\nsize = 99\njournal = 1\n[[bank]]\nbase = 0\nsize = 99\njournal = 1\n'
+                       f'contents = "{name.removeprefix("flight/")}"\n')
+        room.put(name, OLD)
+        os.symlink(room.folder / name, room.folder / "link")
+        os.link(room.folder / name, room.folder / "hard")
+        for other in (name, f"./{name}", str(room.folder / name), "link", "hard", f"flight/../{name}"):
+            other = name if other.startswith(".//") or "//" in other else other
+            yield same(f"{node}: {other}", job(room, "policy", "table", other, "--node", node), (1, f"cannot write {other}\n"))
+        yield same("the bytes of the bank", room.content(name), OLD)
+        os.unlink(room.folder / "link")
+        os.unlink(room.folder / "hard")
+        for _ in range(2):
+            yield same("an image that it names", job(room, "policy", "table", "table.img", "--node", node), (0, "slots 24\n"))
+    room.put("science.bin", OLD)
+    yield same("from standard input", job(room, "policy", "table", "science.bin", "--maps", "1"), (0, "slots 24\n"))
+
+
 def check(random: Random, room: Room, seen: Counter[str]) -> None:
     """Texts and places at random, with a limit of bytes: the image whole, or what was there."""
     room.put("text", f".budget 9\nmov r0, {random.choice([0, 3, 10])}\n" + "mov r1, 1\n" * random.randrange(4) + "exit\n")
@@ -159,4 +181,4 @@ def check(random: Random, room: Room, seen: Counter[str]) -> None:
     seen["whole" if status == 0 else "as before"] += 1
 
 
-main(__doc__, check, RUNS, {"whole": 5, "as before": 5}, [links, modes, refusals, folders, pipes])
+main(__doc__, check, RUNS, {"whole": 5, "as before": 5}, [links, modes, refusals, folders, pipes, contents])

@@ -116,6 +116,9 @@ ANSWERS = [("0 67012C00FE00017C EOP\n", "line 1 fault 5\n"), ("line 2 fault 3\n"
            ("journal 0 0 0 0 0 FE016C0067000100A0000010000002411122A3 EOP\njournal 1 entries\n", "journal 0 entries\n"),
            ("journal 0 entries\n",)]
 
+AT_ONCE = [("entry 00 0 0 0 0 0 FE016C0067000100A0000010000002411122A3 EOP\n0 67012C00FE00017C EOP\n", "line 1 fault 5\n"),
+           ("line 2 fault 3\n", "line 2 fault 5\n"), ("journal 0 entries\n",), ("journal 0 entries\n",)]
+
 # A write, a time code, a piece of a read behind a path, with a reserved byte that is not 0, a frame for a bridge, the rest of the
 # read, and two bytes that are no packet.
 FRAMES = bytes.fromhex("000000000000000000000013FE016C0067000100A0000010000002411122A3 3000000000000000000000020500 "
@@ -126,6 +129,10 @@ DUE = [("sent 00000000000000000000000867012C00FE00017C\n",), ("frame 4 fault 1\n
        ("sent 00000000000000000000000F67010C00FE000200000002681122A3\n",), ("frame 6 discard 1\n",),
        ("journal 0 0 0 0 0 FE016C0067000100A0000010000002411122A3 EOP\n"
         "journal 0 1 0 0 0 FE014C0067000200A00000100000024F EOP\njournal 2 entries\n",)]
+
+DUE_AT_ONCE = [("sent 00000000000000000000000867012C00FE00017C\n",), ("entry 00 0 0 0 0 0 FE016C0067000100A0000010000002411122A3 EOP\n",),
+               ("frame 4 fault 1\n",), ("sent 00000000000000000000000F67010C00FE000200000002681122A3\n",),
+               ("entry 00 0 1 0 0 0 FE014C0067000200A00000100000024F EOP\n",), ("frame 6 discard 1\n",), ("journal 0 entries\n",)]
 
 # A reply that finds no memory is lost.
 SERVED = [(REPLY, ""), (REPLY.replace("0", "1", 1), ""), ("discarded 0 lost 0\n", "discarded 0 lost 1\n", "discarded 0 lost 2\n")]
@@ -151,7 +158,9 @@ JOBS = [
     Job("serve lines --ports 2", SERVED, {"lines": READ + READ.replace("0", "1", 1)}, ahead=2),
     Job("live", ANSWERS, given=TALK, status=1),
     Job("live --scrub 1", ANSWERS, given=TALK, status=1),
+    Job("live --entries", AT_ONCE, given=TALK, status=1),
     Job("live --frames", DUE, given=FRAMES),
+    Job("live --frames --entries", DUE_AT_ONCE, given=FRAMES),
 ]
 
 
@@ -226,12 +235,20 @@ def difference(room: Room, came: Refused) -> str | None:
     return None
 
 
+def said_lost(came: Refused) -> str | None:
+    """What differs in what standard error says of replies that were lost, or None."""
+    found = re.search(r" lost (\d+)\n$", came.printed)
+    lost = int(found[1]) if found else 0
+    said = [int(number) for number in re.findall(rb"^    lost (\d+): memory to keep a reply was refused$", came.done.err, re.M)]
+    return None if said == [lost] * (lost > 0) else f"{came}\nand standard error: {came.done.err!r}"
+
+
 def each_request(room: Room) -> Iterator[str | None]:
     """Refuses each request of each job in turn, until one is done with none refused."""
     for job in JOBS:
         for number in count():
             came = refused(room, job, REFUSE=number)
-            text = difference(room, came)
+            text = difference(room, came) or said_lost(came)
             is_whole = (came.printed, came.done.status) == ("".join(part[0] for part in job.parts), job.status)
             if text is None and number in (0, came.requests + 1) and not is_whole:
                 text = f"with nothing refused: {came}"

@@ -1,22 +1,24 @@
 #!/usr/bin/env python3
 """Random policies and who loads: `rehearse` prints what a node at which they judge answers to the packets of the loads, and with `--any`
-whose loads pass. The node, the tables and the packets were written from docs/PROTOCOL.md and docs/POLICIES.md alone."""
+whose loads pass, as `map` and `policy` do; `packet load` says if the same load is denied after it. The node, the tables and the packets
+were written from docs/PROTOCOL.md and docs/POLICIES.md alone."""
 from __future__ import annotations
 
 import sys
 from collections import Counter
 from pathlib import Path
 from random import Random
+from typing import NamedTuple
 
 sys.dont_write_bytecode = True
 sys.path.insert(0, str(Path(__file__).resolve().parent.parent))
 from generator import main, same_lines
 from models.images import assembled, parsed
-from models.loads import PLAIN, Loader, Node, Policy, load_of, open_to
-from models.tables import Rule
-from rmapctl import Room
+from models.loads import PART, PLAIN, Loader, Node, Policy, load_of, open_to
+from models.tables import PortRule, Rule
+from rmapctl import Done, Room
 
-# How many pairs of policies the gate makes; by hand 600 were.
+# How many pairs of policies the gate makes; by hand 2,000 were.
 PAIRS = 60
 
 # The maps of the nodes.
@@ -25,7 +27,8 @@ LIST = ["--maps", "1,3"]
 
 # What the runs have to come to, and how often.
 KINDS = {"NEW lets OLD be loaded": 10, "NEW locks loads out": 5, "NEW is locked out": 5, "NEW is loaded in part": 3,
-         "loads by somebody": 10, "loads by nobody": 10, "images": 5}
+         "loads by somebody": 10, "loads by nobody": 10, "images": 5, "images of two parts": 5, "until quotas are spent": 5,
+         "only after quotas are spent": 1, "denied again": 5}
 
 # Keys and initiators, of who loads and of rules; and ends of ranges, round the staging and the load register.
 KEYS, INITIATORS = [0x00, 0x20], [0x67, 0x00, 0x20]
@@ -33,6 +36,14 @@ ENDS = [0, 0x1000, 0x3FFF, 0x4000, 0x10000, 0x10003, 0x10007, 0xFFFFFFFF]
 
 # Lets everybody load.
 OPEN = Rule("any", [None, None, 0xFF], 0, 0xFFFFFFFF, None, 0)
+OPEN_POLICY = Policy(assembled([".budget 2", "mov r0, 0", "exit"]), None)
+
+# Bytes of the size of the smallest image, and with what a line of its loads begins.
+SMALLEST, LEAD = bytes(32), "    loads"
+
+# What mends a table that lets nobody load, and what is said of a load after which the same is denied.
+MENDS = "    as its first rule this line lets initiator 67 load: any * 67 FF 00000000 FFFFFFFF - 0"
+DENIED = ["    after this load the same load is denied", "    --final says that it is meant, and then nothing is said"]
 
 WORDS = {0: "success", 1: "general error", 3: "invalid key", 10: "not implemented or not authorised",
          12: "invalid target logical address"}
@@ -48,10 +59,26 @@ def rule(random: Random) -> Rule:
 
 
 def table(random: Random, room: Room, name: str) -> Policy:
+    """A table of either version; one of version 2 has ports, and ranges by name."""
     rules = [rule(random) for _ in range(random.randrange(1, 5))] + [OPEN] * (random.randrange(3) == 0)
-    room.put(name, "".join(it.text() for it in rules))
+    if random.randrange(2):
+        made = [PortRule(it, None, None) for it in rules]
+        room.put(name, "".join(it.text() for it in rules))
+    else:
+        ports = [random.choice([None, None, 0, 1, 31]) for _ in rules]
+        made = [PortRule(it, port, random.choice([None, f"range{number}"])) for number, (it, port) in enumerate(zip(rules, ports))]
+        ranges = [f".range {own.name} {own.rule.low:08X} {own.rule.high:08X}\n" for own in made if own.name]
+        room.put(name, ".version 2\n; loads\n" + "".join(ranges) + "".join(own.text(" ; a rule") for own in made))
     room.printed("policy", name, "image", *LIST)
-    return Policy(parsed(room.content("image") or b""), rules)
+    return Policy(parsed(room.content("image") or b""), made)
+
+
+def sized(random: Random, room: Room, name: str) -> Policy:
+    """The image of a program that lets everything pass, of the smallest size or of two parts."""
+    slots = random.choice([2, 511])
+    image = assembled([f".budget {slots}", *["mov r0, 0"] * (slots - 1), "exit"])
+    room.put(name, image.spelled())
+    return Policy(image, None)
 
 
 def program(random: Random, room: Room, name: str) -> Policy:
@@ -64,19 +91,33 @@ def program(random: Random, room: Room, name: str) -> Policy:
     return Policy(image, None)
 
 
-def told(node: Node, name: str, image: bytes, slots: list[int], loader: Loader) -> tuple[list[str], int, bool]:
-    """The lines of the loads of an image, how many programs were published, and whether a verdict refused a write."""
-    lines, before, is_refused, transaction = [name], node.published, False, 0
+class Ending(NamedTuple):
+    """How loads ended: whether the image is loaded into each slot, whether a verdict refused a write, and whether one failed."""
+    loaded: list[bool]
+    is_refused: bool
+    is_failed: bool
+
+    @property
+    def is_whole(self) -> bool:
+        return all(self.loaded) and not self.is_refused and not self.is_failed
+
+
+def told(node: Node, name: str, image: bytes, slots: list[int], loader: Loader) -> tuple[list[str], Ending]:
+    """The lines of the loads of an image, and how they ended."""
+    lines, before, is_refused, is_failed, transaction = [name], node.published, False, False, 0
     for slot in slots:
         packets = load_of(image, slot, loader, transaction)
         transaction += len(packets)
         for what, packet in zip(["write of the image"] * (len(packets) - 2) + ["load", "read of the load result"], packets):
             status = node.status_of(loader.port, packet)
-            is_refused |= what != "read of the load result" and node.verdict != 0
+            if what != "read of the load result":
+                is_refused |= node.verdict != 0
+                is_failed |= status != 0
             lines.append(f"    {what}: status {status} {WORDS[status]}")
             if packet is packets[-1] and status == 0:
                 lines[-1] += result_of(node.ports[loader.port].result)
-    return lines, node.published - before, is_refused
+    loaded = [node.slots[slot][1] > before and node.slots[slot][0].spelled() == image for slot in slots]
+    return lines, Ending(loaded, is_refused, is_failed)
 
 
 def result_of(data: bytes) -> str:
@@ -90,36 +131,85 @@ def result_of(data: bytes) -> str:
 def rehearsed(old: Policy, new: Policy, slots: list[int], loader: Loader, ports: int) -> tuple[list[str], str, int]:
     """The lines of a rehearsal, the last of them, and the status."""
     node = Node([old, new], MAPS, ports)
-    lines, published, is_refused = told(node, "NEW", new.image.spelled(), slots, loader)
-    if published < len(slots):
-        ends = ["NEW is loaded in part" if published else "NEW is locked out"] if is_refused else ["NEW is not loaded"]
-        return lines, ends[0], 1
-    more, published, is_refused = told(node, "OLD", old.image.spelled(), slots, loader)
-    if published == len(slots):
+    lines, there = told(node, "NEW", new.image.spelled(), slots, loader)
+    if not there.is_whole:
+        part = "NEW is loaded in part" if any(there.loaded) else "NEW is locked out"
+        return lines, part if there.is_refused else "NEW is not loaded", 1
+    more, back = told(node, "OLD", old.image.spelled(), slots, loader)
+    if back.is_whole:
         return lines + more, "NEW lets OLD be loaded", 0
-    return lines + more, "NEW locks loads out" if is_refused else "OLD is not loaded", 1
+    return lines + more, "NEW locks loads out" if back.is_refused else "OLD is not loaded", 1
+
+
+def denied_again(new: Policy, loader: Loader) -> bool:
+    """Whether the load of a policy into slot 3 of a node is denied after that load: at one with 32 ports, and with the first maps
+    on which its image is accepted."""
+    asked = [own.rule.quota[0] for own in new.rules or [] if own.rule.quota]
+    node = Node([OPEN_POLICY, new], [(32, False)] * 8 if 1 in asked else [(256, False)] if asked else [], 32)
+    packets = load_of(new.image.spelled(), 3, loader)
+    for packet in packets:
+        node.status_of(loader.port, packet)
+    refused = False
+    for packet in packets:
+        node.status_of(loader.port, packet)
+        refused |= packet is not packets[-1] and node.verdict != 0
+    return refused
+
+
+def done_lines(done: Done) -> str:
+    """What a job printed, and its status."""
+    return (done.out + done.err).decode() + f"status {done.status}\n"
+
+
+def told_lines(done: Done) -> list[str]:
+    """What a job printed on standard error."""
+    return done.err.decode().splitlines()
+
+
+def of_table(room: Room, new: Policy, ports: int, node: list[str]) -> None:
+    """`map` and `policy` print whose loads a table lets pass: of the smallest image, and of its own if these are others."""
+    own = new.image.spelled()
+    plain = list(open_to(new, MAPS, SMALLEST, ports, LEAD)) or [LEAD + " by nobody"]
+    same = list(open_to(new, MAPS, own, ports, LEAD)) or [LEAD + " by nobody"]
+    lead = f"    loads of {len(own)} bytes"
+    both = plain + [line.replace(LEAD, lead, 1) for line in same] * (same != plain)
+    same_lines("map", told_lines(room.job("map", "new", *node)), both)
+    wanted = both if (plain == [LEAD + " by nobody"]) != (same == [LEAD + " by nobody"]) else []
+    if plain == same == [LEAD + " by nobody"]:
+        wanted = ["    in slot 3 this table lets nobody load another", MENDS, "    --final says that it is meant, and then nothing is said"]
+    same_lines("policy", told_lines(room.job("policy", "new", "made", *node)), wanted)
+    same_lines("policy --final", told_lines(room.job("policy", "new", "made", "--final", *node)), [])
 
 
 def check(random: Random, room: Room, seen: Counter[str]) -> None:
-    old = table(random, room, "old")
+    old = table(random, room, "old") if random.randrange(3) else sized(random, room, "old")
     new = table(random, room, "new") if random.randrange(6) else program(random, room, "new")
     seen["images"] += new.rules is None
+    seen["images of two parts"] += len(old.image.spelled()) > PART
     slots = random.choice([[3], [0], [3, 0], [2, 3, 1], [0, 1, 2, 3]])
     words = ["rehearse", "old", "new", *LIST, "--slot", ",".join(map(str, slots))]
     loader = Loader(random.choice([0, 1, 31]), random.choice(INITIATORS), random.choice(KEYS))
     named = ["--port", str(loader.port), "--initiator", f"{loader.initiator:02X}", "--key", f"{loader.key:02X}"]
-    who = f" (port {loader.port} initiator {loader.initiator:02X} key {loader.key:02X})"
-    for it, given, ports, behind in [(PLAIN, [], 1, ""), (loader, named, 32, who)]:
+    for it, given, ports in [(PLAIN, [], 1), (loader, named, 32)]:
         lines, last, status = rehearsed(old, new, slots, it, ports)
         seen[last] += 1
-        done = room.job(*words, *given)
-        same_lines(" ".join([*words, *given]), (done.out + done.err).decode() + f"status {done.status}\n",
-                   [*lines, last + behind, f"status {status}"])
-    wanted = list(open_to(new, MAPS, old.image.spelled()))
-    seen["loads by somebody" if wanted else "loads by nobody"] += 1
-    done = room.job("rehearse", "old", "new", *LIST, "--any")
-    same_lines("rehearse --any", (done.out + done.err).decode() + f"status {done.status}\n",
-               [*(wanted or ["loads by nobody"]), f"status {int(not wanted)}"])
+        who = f" (port {it.port} initiator {it.initiator:02X} key {it.key:02X})"
+        same_lines(" ".join([*words, *given]), done_lines(room.job(*words, *given)), [*lines, last + who, f"status {status}"])
+    ports = random.choice([1, 2, 5, 32])
+    room.put("node.toml", f"ports = {ports}\n" + "".join(f"[[map]]\ncells = {count}\n" for count, _ in MAPS))
+    for given, count in [(LIST, 32), (["--node", "node.toml"], ports)]:
+        wanted = list(open_to(new, MAPS, old.image.spelled(), count))
+        seen["loads by somebody" if wanted else "loads by nobody"] += 1
+        seen["until quotas are spent"] += any("until" in line for line in wanted)
+        seen["only after quotas are spent"] += any("only" in line for line in wanted)
+        same_lines(" ".join(["rehearse --any", *given]), done_lines(room.job("rehearse", "old", "new", *given, "--any")),
+                   [*(wanted or ["loads by nobody"]), f"status {int(not wanted)}"])
+        if new.rules is not None:
+            of_table(room, new, count, given)
+    room.put("new.img", new.image.spelled())
+    denied = denied_again(new, loader)
+    seen["denied again"] += denied
+    same_lines("packet load", told_lines(room.job("packet", "load", "new.img", "--slot", "3", *named)), DENIED * denied)
 
 
 main(__doc__, check, PAIRS, KINDS)

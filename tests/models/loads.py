@@ -6,7 +6,7 @@ from typing import NamedTuple
 
 from models.images import BadImage, Image, parsed
 from models.machine import Machine, Map
-from models.tables import Rule, decide
+from models.tables import PortRule, decide, rules_at
 from models.world import CONTROL, Packet, World
 from packets import crc, header
 
@@ -17,7 +17,7 @@ PART = 4096
 class Policy(NamedTuple):
     """A policy: its image, and its rules if it is a table."""
     image: Image
-    rules: list[Rule] | None
+    rules: list[PortRule] | None
 
 
 class Loader(NamedTuple):
@@ -70,7 +70,7 @@ class Node(World):
         assert it is not None
         rules = self.tables.get(it.machine.image.spelled())
         if rules is not None:
-            it.asked, it.verdict = None, decide(rules, it.packet, self.draw)
+            it.asked, it.verdict = None, decide(rules_at(rules, port), it.packet, self.draw)
         while it.asked is not None:
             self.tell(it.asked.helper, port)
         self.verdict = it.verdict
@@ -82,20 +82,29 @@ class Node(World):
         return int(self.end(port).split()[1])
 
 
-def fresh_verdict(policy: Policy, maps: list[Map], port: int, packet: Packet) -> int:
-    """The verdict of a policy on cells that nobody asked."""
-    cells = [[0] * cells for cells, _ in maps]
+def draws(told: int) -> int:
+    """What a counter has after a ticket."""
+    return (told + 1) % 2 ** 64
+
+
+def cells_of(maps: list[Map], is_spent: bool) -> list[list[int]]:
+    """Cells that nobody asked; or such that have each given 2^32 tickets, with the greatest number in each peak map."""
+    return [[(2 ** 64 - 1 if is_peak else 2 ** 32) if is_spent else 0] * count for count, is_peak in maps]
+
+
+def verdict_on(policy: Policy, maps: list[Map], cells: list[list[int]], port: int, packet: Packet) -> int:
+    """The verdict of a policy on a packet, which draws its tickets of the cells."""
 
     def ask(helper: int, index: int, key: int, argument: int) -> int:
         told = cells[index][key]
         if helper == 2:
-            cells[index][key] += 1
+            cells[index][key] = draws(told)
         if helper == 3:
             told = cells[index][key] = max(told, argument)
         return told
 
     if policy.rules is not None:
-        return decide(policy.rules, packet, lambda index, key: ask(2, index, key, 0))
+        return decide(rules_at(policy.rules, port), packet, lambda index, key: ask(2, index, key, 0))
     run = Machine(policy.image, maps, packet.data[:4], packet.data[4:16], port).run(policy.image.budget)
     told = None
     while True:
@@ -106,14 +115,16 @@ def fresh_verdict(policy: Policy, maps: list[Map], port: int, packet: Packet) ->
         told = ask(*asked)
 
 
-def lets_load(policy: Policy, maps: list[Map], image: bytes, loader: Loader) -> bool:
-    """Whether a policy lets each write of a load pass."""
-    return all(fresh_verdict(policy, maps, loader.port, packet) == 0 for packet in load_of(image, 3, loader)[:-1])
+def lets_load(policy: Policy, maps: list[Map], image: bytes, loader: Loader, is_spent: bool) -> bool:
+    """Whether a policy lets a whole load pass: each write, after the tickets of those before it."""
+    cells = cells_of(maps, is_spent)
+    verdicts = [verdict_on(policy, maps, cells, loader.port, packet) for packet in load_of(image, 3, loader)[:-1]]
+    return not any(verdicts)
 
 
-def values(rules: list[Rule], field: int) -> Iterator[tuple[int, str]]:
+def values(rules: list[PortRule], field: int) -> Iterator[tuple[int, str]]:
     """The values of a field that rules name, and the least that none names, each with its text."""
-    named = {rule.fields[field] for rule in rules}
+    named = {own.rule.fields[field] for own in rules}
     least = min((byte for byte in range(256) if byte not in named), default=None)
     return ((byte, "*" if byte == least else f"{byte:02X}") for byte in range(256) if byte in named or byte == least)
 
@@ -127,13 +138,30 @@ def askers(policy: Policy) -> Iterator[tuple[tuple[int, str], tuple[int, str]]]:
     return iter([(it, every[0]) for it in every] + [(every[0x67], it) for it in every[1:]])
 
 
-def open_to(policy: Policy, maps: list[Map], image: bytes) -> Iterator[str]:
-    """The lines of all whose loads a policy lets pass."""
+# When loads pass: of a load on cells that nobody asked, and of one on cells that are past every quota.
+WHEN = {(True, True): "", (True, False): " until quotas are spent", (False, True): " only after quotas are spent"}
+
+
+def open_to(policy: Policy, maps: list[Map], image: bytes, count: int, lead: str = "loads") -> Iterator[str]:
+    """The lines of all whose loads a policy lets pass at a node of so many ports."""
+    named = None if policy.rules is None else {own.port for own in policy.rules}
     for (initiator, initiator_text), (key, key_text) in askers(policy):
-        ports = [lets_load(policy, maps, image, Loader(port, initiator, key)) for port in range(32)]
-        first = 0
-        for port, is_open in enumerate(ports):
-            if is_open and (port == 31 or not ports[port + 1]):
-                yield f"loads by port {first}-{port} initiator {initiator_text} key {key_text}"
-            if not is_open:
-                first = port + 1
+        answers: dict[int | None, tuple[bool, bool]] = {}
+
+        def passes(port: int, initiator: int = initiator, key: int = key, answers: dict[int | None, tuple[bool, bool]] = answers
+                   ) -> tuple[bool, bool]:
+            # (ports that no rule names are alike)
+            alike = port if named is None or port in named else None
+            if alike not in answers:
+                loader = Loader(port, initiator, key)
+                answers[alike] = (lets_load(policy, maps, image, loader, False), lets_load(policy, maps, image, loader, True))
+            return answers[alike]
+
+        ports = [passes(port) for port in range(count)]
+        for kind, words in WHEN.items():
+            first = 0
+            for port, answer in enumerate(ports):
+                if answer == kind and ports[port + 1:port + 2] != [kind]:
+                    yield f"{lead} by port {first}-{port} initiator {initiator_text} key {key_text}{words}"
+                if answer != kind:
+                    first = port + 1

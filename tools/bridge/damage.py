@@ -4,6 +4,7 @@ from __future__ import annotations
 import random
 from typing import Callable, Optional
 
+from .digits import decimal
 from .packets import crc, head_of
 from .telling import Misuse, print_error
 
@@ -45,10 +46,10 @@ class Rule:
     def __init__(self, text: str):
         self.what, _, often = text.partition(":")
         self.by_chance = often.startswith("r")
-        digits = often[self.by_chance:]
-        if self.what not in WAYS or not (digits.isascii() and digits.isdigit() and 0 < int(digits) <= 10**9):
-            raise Misuse(f"--spoil {text}: WHAT:N or WHAT:rN, WHAT is {', '.join(WAYS)}, and N at least 1")
-        self.often, self.count = int(digits), 0
+        count = decimal(often[self.by_chance:], 10**9)
+        if self.what not in WAYS or not count:
+            raise Misuse(f"--spoil {text[:80]}: WHAT:N or WHAT:rN, WHAT is {', '.join(WAYS)}, and N at least 1")
+        self.often, self.count = count, 0
 
     def is_due(self, reply: bytes, chance: random.Random) -> bool:
         if self.what == "data" and head_of(reply)[1] + 1 >= len(reply):

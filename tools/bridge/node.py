@@ -8,6 +8,7 @@ import re
 import time
 from typing import TYPE_CHECKING, Callable, Iterable, Optional
 
+from .digits import decimal
 from .journal import END_OF_JOURNAL, HANDED_OUT, MOST_DIGITS, Journal
 from .log import Log
 from .packets import CONTROL_PLACE, Loads
@@ -17,6 +18,8 @@ from .telling import Misuse, print_error, tell
 if TYPE_CHECKING:
     from .clients import Client
 
+# How many ports a node may have.
+PORTS = 32
 # The most bytes of a line of a client.
 LINE = 16384
 # How the last line ends of what comes of a line that has more than one.
@@ -187,10 +190,12 @@ class Node:
             return
         if answer.startswith(b"set "):
             self.log.note("set", *(word.decode() for word in words[1:3]), answer[4:-1].decode(), peer=client.peer)
-        elif words[0].isdigit() and is_piece:
-            self.pieces[int(words[0])].add(words[1:-1], client)
-        elif words[0].isdigit():
-            self.note_packet(client, int(words[0]), words, answer, came)
+            return
+        port = decimal(words[0], PORTS - 1)
+        if port is not None and is_piece:
+            self.pieces[port].add(words[1:-1], client)
+        elif port is not None:
+            self.note_packet(client, port, words, answer, came)
 
     def note_packet(self, client: Client, port: int, words: list[bytes], answer: bytes, came: float) -> None:
         self.packets += 1

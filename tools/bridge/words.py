@@ -9,6 +9,7 @@ import subprocess
 from typing import Optional
 
 from .damage import Spoiler
+from .digits import decimal
 from .telling import Misuse
 
 VALUED = ("--frames", "--bind", "--journal", "--log", "--clients", "--patience", "--spoil", "--seed")
@@ -18,9 +19,10 @@ STRINGS = re.compile(r'"([^"\n]*)"|\'([^\'\n]*)\'')
 
 
 def number(text: str, least: int, most: int, what: str) -> int:
-    if not (text.isascii() and text.isdigit() and least <= int(text) <= most):
-        raise Misuse(f"{text or 'nothing'} is no {what}: {least} to {most}")
-    return int(text)
+    value = decimal(text, most)
+    if value is None or value < least:
+        raise Misuse(f"{text[:80] or 'nothing'} is no {what}: {least} to {most}")
+    return value
 
 
 def address(text: str) -> str:

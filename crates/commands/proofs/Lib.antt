@@ -1,4 +1,5 @@
 mod Apart
+mod InPlace
 mod Matching
 mod Placing
 mod ShownLines

@@ -1,6 +1,7 @@
 pub mod CommandLine
 pub mod Courses
 pub mod Given
+pub mod InPlace
 pub mod Losses
 pub mod Notes
 pub mod OnNodes

@@ -1,10 +1,10 @@
 //! What is told on standard error of a job that ended, after what it printed.
 
 use crate::foreign::Foreign;
+use crate::in_place::add_source;
 use crate::jobs::{Job, JobEnd};
 use crate::line_paths::{LinePaths, may_have_paths};
 use crate::noted::{Cause, Noted};
-use crate::shut_doors::{self, told_loaders};
 use crate::slips::{self, told_output};
 use crate::{denied_loads, hints};
 use job_codes::forms::form_line;
@@ -14,6 +14,7 @@ use job_packets::packet::PacketWords;
 use job_parts::bad_lines::BadLine;
 use job_parts::faults::Fault;
 use job_parts::status::Status;
+use job_rehearse::table_loads::{told_loaders, told_policy};
 use spw::{LineFault, lines_of};
 use std::alloc::{AllocError, Global};
 
@@ -45,6 +46,23 @@ fn add_form(text: &mut String, alloc: Global, bytes: Option<&[u8]>) -> Result<()
         return Ok(());
     }
     write!(text, "    {line}")
+}
+
+/// Adds the place in a text in the place of an image for which it was refused, or why it is none.
+fn add_place_in(text: &mut String, alloc: Global, noted: &Noted<'_>) -> Result<(), AllocError> {
+    match noted.source() {
+        Some((source, maps)) => add_source(text, alloc, source, maps, noted.is_on_node()),
+        None => Ok(()),
+    }
+}
+
+/// Adds what bytes are that are no image: why a text is none, where one may be in its place, or else what a text
+/// is.
+fn add_no_image(text: &mut String, alloc: Global, noted: &Noted<'_>) -> Result<(), AllocError> {
+    match noted.source() {
+        Some(_) => add_place_in(text, alloc, noted),
+        None => add_form(text, alloc, noted.last()),
+    }
 }
 
 /// Adds what the line of that number has of another system, if it was kept.
@@ -101,15 +119,17 @@ fn add_failed(
             add_foreign(text, noted.lines(), *number)
         }
         Some(Fault::BadNode { place, .. }) => add_place(text, place.as_str()),
-        Some(Fault::BadImage(_)) => add_form(text, alloc, noted.last()),
+        Some(Fault::BadImage(_)) => add_no_image(text, alloc, noted),
         Some(Fault::BadText(_) | Fault::BadTable(_)) | None => match noted.text() {
             Some(read) => {
                 let more = hints::advice(alloc, job, read, noted.is_on_node())?;
-                text.push_str(more.as_str())
+                text.push_str(more.as_str())?;
+                add_place_in(text, alloc, noted)
             }
             None => Ok(()),
         },
-        Some(Fault::Refused(_) | Fault::NoMemory) => Ok(()),
+        Some(Fault::Refused(_)) => add_place_in(text, alloc, noted),
+        Some(Fault::NoMemory) => Ok(()),
     }
 }
 
@@ -180,16 +200,31 @@ fn add_done(
             add_load(text, alloc, words, noted.last())
         }
         (Job::Policy(words), Some(table)) if !words.is_final => {
-            text.push_str(shut_doors::advice(alloc, table)?)
+            let told = told_policy(alloc, table, &words.sizes, noted.ports())?;
+            text.push_str(told.as_str())
         }
-        (Job::Map(_), Some(table)) => text.push_str(told_loaders(alloc, table)?.as_str()),
+        (Job::Map(words), Some(table)) => {
+            let told = told_loaders(alloc, table, &words.sizes, noted.ports())?;
+            text.push_str(told.as_str())
+        }
         _ => Ok(()),
     }
 }
 
+/// Adds how many replies were lost, if some were, and why.
+fn add_lost(text: &mut String, lost: u64) -> Result<(), AllocError> {
+    if lost == 0 {
+        return Ok(());
+    }
+    write!(
+        text,
+        "    lost {lost}: memory to keep a reply was refused\n"
+    )
+}
+
 /// What is told of a job that ended so, after what it printed: the cause of its fault, as what the system says of a file, what the
-/// line of a text holds, or what a file is that is none of what it has to be; the first path that stands before a packet; and that
-/// `judge` found the journal full. It is empty where there is nothing to tell.
+/// line of a text holds, or what a file is that is none of what it has to be; the first path that stands before a packet; that
+/// `judge` found the journal full; and how many replies of `serve` were lost. It is empty where there is nothing to tell.
 ///
 /// # Errors
 ///
@@ -210,6 +245,7 @@ pub fn told_end(
         add_first_path(&mut text, alloc, job, lines)?;
     }
     add_full(&mut text, end.full)?;
+    add_lost(&mut text, end.lost)?;
     Ok(text)
 }
 
@@ -222,7 +258,7 @@ fn add_unread(
 ) -> Result<(), AllocError> {
     match (node.input(), noted.cause()) {
         (Some(file), Some(cause)) => add_cause(text, file.name, Some(cause)),
-        _ => add_form(text, alloc, noted.last()),
+        _ => add_no_image(text, alloc, noted),
     }
 }
 

@@ -392,7 +392,7 @@ fn told_table(
 }
 
 /// The same of a job that told the fault's number alone: where it is, too, and first.
-fn told_placed(
+pub fn told_placed(
     alloc: Global,
     table: &str,
     sizes: &MapSizes,
@@ -456,7 +456,7 @@ fn last_word(line: &str) -> &str {
 
 /// What more is told of the fault of a program's text: its line, with what cannot be seen spelled, and of a name that no line
 /// defines the lines that look like it.
-fn told_text(alloc: Global, source: &str) -> Result<String, AllocError> {
+pub fn told_text(alloc: Global, source: &str) -> Result<String, AllocError> {
     let mut text = String::new(alloc);
     let Err(AsmFault { line: number, code }) = assemble(alloc, source) else {
         return Ok(text);

@@ -111,9 +111,11 @@ pub struct JobEnd<'a> {
     pub fault: Option<Fault<'a>>,
     /// Of `judge` the first line whose command found the journal of the bank full.
     pub full: Option<usize>,
+    /// Of `serve` how many replies were lost, since memory to keep them was refused.
+    pub lost: u64,
 }
 
-/// Does a job, up to its end or the fault that ends it, which is still to be printed. `full` is as in [`JobEnd`].
+/// Does a job, up to its end or the fault that ends it, which is still to be printed. `full` and `lost` are as in [`JobEnd`].
 fn attempt<'a, J: Family + Send + Sync + 'static, R: Threads + Wait + Sync, F: Files, W: Write>(
     rt: &R,
     alloc: Global,
@@ -122,6 +124,7 @@ fn attempt<'a, J: Family + Send + Sync + 'static, R: Threads + Wait + Sync, F: F
     files: &mut F,
     out: &mut W,
     full: &mut Option<usize>,
+    lost: &mut u64,
 ) -> Result<Status, Halt<'a>>
     requires { opened ≡ J.book }
     ensures done { IfOk result (IsDone F.reads F.writes job.now files.old files.new
@@ -131,7 +134,7 @@ fn attempt<'a, J: Family + Send + Sync + 'static, R: Threads + Wait + Sync, F: F
 {
     match job {
         Job::Judge(args) => judge_file(alloc, args, files, out, full),
-        Job::Serve(args) => serve_file::<J, _, _, _>(rt, alloc, opened, args, files, out),
+        Job::Serve(args) => serve_file::<J, _, _, _>(rt, alloc, opened, args, files, out, lost),
         Job::Simulate(args) => sim_file(alloc, args, files, out),
         Job::Trace(args) => trace_file(alloc, args, files, out),
         Job::Assemble(words) => {
@@ -173,11 +176,13 @@ fn perform_opened<
         (W.contents out.old) (W.contents out.new) end.status) }
 {
     let mut full = None;
-    match attempt::<J, _, _, _>(rt, alloc, opened, job, files, out, &mut full) {
+    let mut lost = 0;
+    match attempt::<J, _, _, _>(rt, alloc, opened, job, files, out, &mut full, &mut lost) {
         Ok(status) => Ok(JobEnd {
             status,
             fault: None,
             full,
+            lost,
         }),
         Err(Halt::Ended(fault)) => {
             writeln!(out, "{fault}")?;
@@ -185,6 +190,7 @@ fn perform_opened<
                 status: Status::Failed,
                 fault: Some(fault),
                 full,
+                lost,
             })
         }
         Err(Halt::Unwritten(fault)) => Err(fault),

@@ -65,12 +65,13 @@ pub fn node_inputs(node: &str) -> Inputs<'_>
 impl<'a> JobEnd<'a> {
     /// How a job ends if the file of its node has this fault.
     pub fn refused(fault: Fault<'a>) -> JobEnd<'a>
-        ensures { result ≡ record { status = Failed; fault = Some fault.entry; full = None } }
+        ensures { result ≡ record { status = Failed; fault = Some fault.entry; full = None; lost = 0 } }
     {
         JobEnd {
             status: Status::Failed,
             fault: Some(fault),
             full: None,
+            lost: 0,
         }
     }
 }

@@ -1,20 +1,22 @@
 //! What is noted of the files that a job reads: why one could not be read or written, and what was read last.
 
-ghost use Rattle.std.specs.Prelude.{◌≡◌, IfOk, IfSome, Some, false, option_copied, option_map, string_bytes};
-ghost use Rattle.commands.specs.Notes.{is_dump, most_of, reads_dump};
+ghost use Rattle.std.specs.Prelude.{◌≡◌, ◌≤◌, IfOk, IfSome, None, Some, false, is_some, option_copied, option_map, string_bytes};
+ghost use Rattle.commands.specs.InPlace.{maps_of_job, maps_of_node};
+ghost use Rattle.commands.specs.Notes.{GivesPlaced, is_dump, maps_for, may_be_text, most_of, next_content, ports_of, reads_dump};
 
 use crate::dumps::dump_lines;
+use crate::in_place::{bytes_in_place, maps_of_job, maps_of_node};
 use crate::jobs::Job;
+use job_config::sources::NodeSource;
 use job_parts::inputs::{Content, Inputs};
 use job_parts::storage::Cannot;
+use machine::MapSizes;
+use spw::PORTS;
 use std::alloc::{AllocError, Global};
 use std::io;
 
 /// The bytes with which an image begins.
 const MAGIC: &[u8] = b"BPFA";
-
-/// More bytes than any image has: its header, 8 loops and 512 slots.
-const MAX_IMAGE: u64 = 8192;
 
 /// The most bytes of a text or of a table.
 pub const MAX_TEXT: u64 = 1_048_576;
@@ -39,7 +41,8 @@ pub enum Cause {
 pub struct Noted<'a> {
     inputs: Inputs<'a>,
     is_dump: bool,
-    is_on_node: bool,
+    ports: Option<u8>,
+    maps: Option<MapSizes>,
     cause: Option<Cause>,
     lines: Option<String>,
     last: Option<Vec<u8>>,
@@ -56,8 +59,8 @@ pub fn most_of(content: Content) -> u64
 {
     match content {
         Content::Lines => u64::MAX,
-        Content::Text | Content::Table | Content::ImageOrText | Content::Node => MAX_TEXT + 1,
-        Content::Image => MAX_IMAGE,
+        Content::Text | Content::Table | Content::ImageOrText | Content::Image | Content::Node =>
+            MAX_TEXT + 1,
         Content::Bytes(enough) => enough,
     }
 }
@@ -73,6 +76,17 @@ fn no_content(content: Content, bytes: &[u8]) -> Option<Cause> {
         },
         Content::ImageOrText => too_long(bytes),
         Content::Image | Content::Bytes(_) => None,
+    }
+}
+
+/// Whether a file that has to be that may be the text of a program or a table in the place of an image.
+fn may_be_text(content: Content) -> bool
+    ensures { result ≡ may_be_text content }
+{
+    match content {
+        Content::Image | Content::ImageOrText => true,
+        Content::Lines | Content::Text | Content::Table | Content::Node | Content::Bytes(_) =>
+            false,
     }
 }
 
@@ -117,34 +131,60 @@ fn packet_lines(alloc: Global, bytes: &[u8]) -> Result<Vec<u8>, AllocError> {
 impl<'a> Noted<'a> {
     /// Nothing yet, of files that are read in the order of these.
     pub fn new(inputs: Inputs<'a>) -> Noted<'a>
-        ensures { reads_dump result ≡ false }
+        ensures dump { reads_dump result ≡ false }
+        ensures maps { maps_for result ≡ None }
     {
         Noted {
             inputs,
             is_dump: false,
-            is_on_node: false,
+            ports: None,
+            maps: None,
             cause: None,
             lines: None,
             last: None,
         }
     }
 
-    /// Nothing yet, of the files that the job reads; whether a node's file says its maps. The lines of a dump are given as its
-    /// packet lines.
-    pub fn of_job(job: &'a Job, is_on_node: bool) -> Noted<'a>
-        ensures { reads_dump result ≡ is_dump job.now }
+    /// Nothing yet, of the files that the job reads; how many ports the node has whose file says the job's maps, if one says them. The
+    /// lines of a dump are given as its packet lines, and of the text of a program or a table in the place of an image the image is given.
+    pub fn of_job(job: &'a Job, ports: Option<u8>) -> Noted<'a>
+        ensures dump { reads_dump result ≡ is_dump job.now }
+        ensures maps { maps_for result ≡ maps_of_job job.now }
     {
         let mut noted = Noted::new(job.inputs());
         noted.is_dump = shows_dump(job);
-        noted.is_on_node = is_on_node;
+        noted.ports = ports;
+        noted.maps = maps_of_job(job);
+        noted
+    }
+
+    /// Nothing yet, of the files that a talk on this node reads. Of the text of a program or a table in the
+    /// place of its image the image is given.
+    pub fn of_node(node: &'a NodeSource) -> Noted<'a>
+        ensures dump { reads_dump result ≡ false }
+        ensures maps { maps_for result ≡ Some (maps_of_node node.now) }
+    {
+        let mut noted = Noted::new(node.inputs());
+        noted.maps = Some(maps_of_node(node));
         noted
     }
 
     /// Whether a node's file says the maps of the job.
     pub fn is_on_node(&self) -> bool
-        ensures { result ≡ self.now.is_on_node }
+        ensures { result ≡ is_some self.now.ports }
     {
-        self.is_on_node
+        self.ports.is_some()
+    }
+
+    /// How many ports the node of the job has: those of its file, which has no more than 32, or 32.
+    pub fn ports(&self) -> u8
+        ensures value { result ≡ ports_of self.now.ports }
+        ensures few { result ≤ 32 }
+    {
+        match self.ports {
+            Some(ports) => ports.min(PORTS),
+            None => PORTS,
+        }
     }
 
     /// Why the last file could not be read or written, if it could not.
@@ -180,9 +220,19 @@ impl<'a> Noted<'a> {
         }
     }
 
+    /// The text in the place of an image that was read last, and the maps for which it is one, if it is one.
+    pub fn source(&self) -> Option<(&str, &MapSizes)> {
+        match (self.text(), &self.maps) {
+            (Some(text), Some(maps)) => Some((text, maps)),
+            _ => None,
+        }
+    }
+
     /// What the file has to be that is read next.
     pub fn next(&mut self) -> Content
-        ensures { reads_dump self.new ≡ reads_dump self.old }
+        ensures content { result ≡ next_content self.old }
+        ensures dump { reads_dump self.new ≡ reads_dump self.old }
+        ensures maps { maps_for self.new ≡ maps_for self.old }
     {
         match self.inputs.next() {
             Some(input) => input.content,
@@ -193,7 +243,8 @@ impl<'a> Noted<'a> {
 
     /// Notes why a file could not be read or written.
     pub fn refuse(&mut self, cause: Cause) -> Cannot
-        ensures { reads_dump self.new ≡ reads_dump self.old }
+        ensures dump { reads_dump self.new ≡ reads_dump self.old }
+        ensures maps { maps_for self.new ≡ maps_for self.old }
     {
         self.cause = Some(cause);
         Cannot
@@ -201,14 +252,16 @@ impl<'a> Noted<'a> {
 
     /// Notes that memory was refused to a file.
     fn refuse_memory(&mut self) -> Cannot
-        ensures { reads_dump self.new ≡ reads_dump self.old }
+        ensures dump { reads_dump self.new ≡ reads_dump self.old }
+        ensures maps { maps_for self.new ≡ maps_for self.old }
     {
         self.refuse(Cause::System(io::Error::from(io::ErrorKind::OutOfMemory)))
     }
 
     /// Keeps bytes that were read, if there is memory.
     fn keep(&mut self, alloc: Global, content: Content, bytes: &[u8])
-        ensures { reads_dump self.new ≡ reads_dump self.old }
+        ensures dump { reads_dump self.new ≡ reads_dump self.old }
+        ensures maps { maps_for self.new ≡ maps_for self.old }
     {
         match content {
             Content::Lines if bytes.len() as u64 <= MAX_TEXT => {
@@ -221,9 +274,31 @@ impl<'a> Noted<'a> {
         }
     }
 
+    /// The bytes that a job gets of those of a file: of the text of a program or a table in the place of an
+    /// image those of the image.
+    ///
+    /// `Cannot` if memory was refused; then the cause is noted.
+    fn placed(&mut self, alloc: Global, content: Content, bytes: Vec<u8>) -> Result<Vec<u8>, Cannot>
+        ensures given { IfOk result (λ given. GivesPlaced self.old content bytes.items given.items) }
+        ensures dump { reads_dump self.new ≡ reads_dump self.old }
+        ensures maps { maps_for self.new ≡ maps_for self.old }
+    {
+        let Some(maps) = self.maps else {
+            return Ok(bytes);
+        };
+        if !may_be_text(content) {
+            return Ok(bytes);
+        }
+        match bytes_in_place(alloc, bytes, &maps) {
+            Ok(given) => Ok(given),
+            Err(_) => Err(self.refuse_memory()),
+        }
+    }
+
     /// Keeps the bytes of a file that was read again, as those that were read last.
     pub fn keep_last(&mut self, bytes: Vec<u8>)
-        ensures { reads_dump self.new ≡ reads_dump self.old }
+        ensures dump { reads_dump self.new ≡ reads_dump self.old }
+        ensures maps { maps_for self.new ≡ maps_for self.old }
     {
         self.last = Some(bytes);
     }
@@ -234,6 +309,7 @@ impl<'a> Noted<'a> {
     pub fn lent(&mut self, bytes: Vec<u8>) -> Result<Vec<u8>, Cannot>
         ensures given { IfOk result (λ given. given.items ≡ bytes.items) }
         ensures dump { reads_dump self.new ≡ reads_dump self.old }
+        ensures maps { maps_for self.new ≡ maps_for self.old }
     {
         match no_content(Content::Text, bytes.as_slice()) {
             Some(cause) => Err(self.refuse(cause)),
@@ -250,15 +326,17 @@ impl<'a> Noted<'a> {
         content: Content,
         bytes: Vec<u8>,
     ) -> Result<Vec<u8>, Cannot>
-        ensures given { IfOk result (λ given. reads_dump self.old ≡ false → given.items ≡ bytes.items) }
+        ensures given { IfOk result
+            (λ given. reads_dump self.old ≡ false → GivesPlaced self.old content bytes.items given.items) }
         ensures dump { reads_dump self.new ≡ reads_dump self.old }
+        ensures maps { maps_for self.new ≡ maps_for self.old }
     {
         if let Some(cause) = no_content(content, bytes.as_slice()) {
             return Err(self.refuse(cause));
         }
         if !self.is_dump {
             self.keep(alloc, content, bytes.as_slice());
-            return Ok(bytes);
+            return self.placed(alloc, content, bytes);
         }
         let Ok(lines) = packet_lines(alloc, bytes.as_slice()) else {
             return Err(self.refuse_memory());

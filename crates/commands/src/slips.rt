@@ -34,9 +34,6 @@ const ONE_PORT: &str = "1 if frames come";
 /// What may not be there beside `--any`.
 const ANY_ALONE: &str = "    --any is there: without --port, --initiator, --key and --slot\n";
 
-/// What may not be there beside `--any` of the node.
-const ANY_AT_NODE: &str = "    --any is there beside --node: give the maps by --maps\n";
-
 /// What NEW may be where OLD is standard input.
 const ONE_INPUT: &str = "the name of a file if OLD is - too";
 
@@ -46,6 +43,9 @@ const TIMES: &str =
 
 /// What is told of an OUT that is the file that is read.
 pub const OWN_SOURCE: &str = "    this is the file that is read\n";
+
+/// What is printed of an OUT that a bank begins with.
+pub const OWN_CONTENTS: &str = "    a bank of the node's file begins with this file\n";
 
 /// The words of the jobs that may be left to a node's file.
 const LEFT: [&str; 8] = [
@@ -97,9 +97,6 @@ fn pair_line(alloc: Global, found: &ArgMatches) -> Result<String, AllocError> {
     }
     if is_any_beside(found) {
         return String::from_str(alloc, ANY_ALONE);
-    }
-    if is_set(found, "any") && text_of(found, "node").is_some() {
-        return String::from_str(alloc, ANY_AT_NODE);
     }
     match text_of(found, "new") {
         Some(new) => line_of(alloc, "NEW", Some(new), ONE_INPUT),

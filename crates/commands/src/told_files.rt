@@ -1,6 +1,6 @@
 //! The files of this machine, with why one could not be read or written.
 
-ghost use Rattle.std.specs.Prelude.{◌≡◌, IfSome, Some, false, ⊤};
+ghost use Rattle.std.specs.Prelude.{◌≡◌, IfOk, IfSome, Some, false, ⊤};
 ghost use Rattle.job_parts.specs.Arguments.{name_in};
 ghost use Rattle.commands.specs.Notes.{is_dump, reads_dump};
 
@@ -8,6 +8,8 @@ use crate::ends::told_end;
 use crate::jobs::{Job, JobEnd};
 use crate::noted::{Cause, MAX_TEXT, Noted, most_of};
 use crate::whole_file::write_whole;
+use job_config::contents_named::contents_paths;
+use job_config::sources::NodeSource;
 use job_parts::inputs::{Content, InputFile, Inputs};
 use job_parts::status::Status;
 use job_parts::storage::{Cannot, Files};
@@ -78,6 +80,32 @@ pub fn own_source<'a, R: rt::Files>(rt: &R, inputs: &Inputs<'a>) -> Option<&'a s
     }
 }
 
+/// The name of the file that a job would write, if a bank of the node's file begins with that file, by any name. The node's file was
+/// read last of these.
+///
+/// # Errors
+///
+/// If memory was refused.
+pub fn own_contents<'a, R: rt::Files>(
+    rt: &R,
+    alloc: Global,
+    inputs: &Inputs<'a>,
+    node: &str,
+    noted: &Noted<'_>,
+) -> Result<Option<&'a str>, AllocError>
+    ensures { IfOk result (λ found. IfSome found (λ name. name_in inputs.now.output ≡ Some name.now)) }
+{
+    let (Some(output), Some(text)) = (inputs.output, noted.text()) else {
+        return Ok(None);
+    };
+    for path in &contents_paths(alloc, node, text)? {
+        if are_one_file(rt, path.as_str(), output) {
+            return Ok(Some(output));
+        }
+    }
+    Ok(None)
+}
+
 impl<'a, R: rt::Files + Input> ToldFiles<'a, R> {
     /// The files that are read of these.
     pub fn new(rt: &'a R, alloc: Global, inputs: Inputs<'a>) -> ToldFiles<'a, R>
@@ -90,14 +118,27 @@ impl<'a, R: rt::Files + Input> ToldFiles<'a, R> {
         }
     }
 
-    /// The files that the job reads; whether a node's file says its maps. The lines of a dump are given as its packet lines.
-    pub fn of_job(rt: &'a R, alloc: Global, job: &'a Job, is_on_node: bool) -> ToldFiles<'a, R>
+    /// The files that the job reads; how many ports the node has whose file says the job's maps, if one says them. The lines of a
+    /// dump are given as its packet lines.
+    pub fn of_job(rt: &'a R, alloc: Global, job: &'a Job, ports: Option<u8>) -> ToldFiles<'a, R>
         ensures { reads_dump result.noted ≡ is_dump job.now }
     {
         ToldFiles {
             rt,
             alloc,
-            noted: Noted::of_job(job, is_on_node),
+            noted: Noted::of_job(job, ports),
+        }
+    }
+
+    /// The files that a talk on this node reads. Of the text of a program or a table in the place of its image
+    /// the image is given.
+    pub fn of_node(rt: &'a R, alloc: Global, node: &'a NodeSource) -> ToldFiles<'a, R>
+        ensures { reads_dump result.noted ≡ false }
+    {
+        ToldFiles {
+            rt,
+            alloc,
+            noted: Noted::of_node(node),
         }
     }
 

@@ -1,9 +1,10 @@
 -- What the words of a command line come to over the files of a folder.
-use Rattle.std.specs.Prelude.{◌≡◌, ◌⊎◌, ℕ, List, [], Some, string_bytes, codes, true, false}
+use Rattle.std.specs.Prelude.{◌≡◌, ◌⊎◌, ℕ, List, [], None, Some, string_bytes, codes, true, false}
 use Rattle.std.specs.Borrow.{Bor}
 use Rattle.commands.specs.CommandLine.{NamesWork}
 pub use Rattle.commands.specs.Given.{words_given}
-use Rattle.commands.specs.Notes.{is_dump, reads_dump}
+use Rattle.commands.specs.InPlace.{maps_of_job, maps_of_node}
+use Rattle.commands.specs.Notes.{is_dump, maps_for, reads_dump}
 use Rattle.commands.specs.OnNodes.{placed}
 use Rattle.commands.specs.Performed.{Performs}
 use Rattle.commands.specs.ShownTalk.{ShowsTalk}
@@ -51,6 +52,7 @@ pub record DoesJob (job : Job) (before : FolderValue) (left : Left) : Type 0 whe
   pub status : Status
   pub begun : start.folder ≡ before
   pub dump : reads_dump start.noted ≡ is_dump job
+  pub maps : maps_for start.noted ≡ maps_of_job job
   pub performs : Performs DeskReads DeskWrites job start stop (Some []) (Some left.done.out.items) status
   pub ended : left.folder ≡ stop.folder
   pub code : left.done.status ≡ status_code status
@@ -75,6 +77,7 @@ pub record HoldsLines (words : LiveWords) (before : FolderValue) (left : Left) :
   pub status : Status
   pub begun : start.folder ≡ before
   pub dump : reads_dump start.noted ≡ false
+  pub maps : maps_for start.noted ≡ Some (maps_of_node words.node)
   pub silent : first.out.items ≡ []
   pub lives : Lives DeskReads SpeechHears SpeechSends SpeechLoses SpeechMisses words start stop first last status
   pub printed : left.done.out.items ≡ last.out.items
@@ -115,6 +118,7 @@ pub record DoesPlaced (own : NodeJob) (before : FolderValue) (left : Left) : Typ
   pub configuration : Configuration
   pub begun : start.folder ≡ before
   pub dump : reads_dump start.noted ≡ false
+  pub maps : maps_for start.noted ≡ None
   pub read : ReadsConfiguration DeskReads (string_bytes own.node) start configuration stop
   pub done : DoesOnce (placed own.job (numbers_in configuration)) stop.folder left
 
@@ -125,6 +129,7 @@ pub record TellsNode (own : NodeJob) (before : FolderValue) (left : Left) : Type
   pub fault : Fault
   pub begun : start.folder ≡ before
   pub dump : reads_dump start.noted ≡ false
+  pub maps : maps_for start.noted ≡ None
   pub read : ReadsNoConfiguration DeskReads (string_bytes own.node) start fault stop
   pub told : TellsFault fault stop.folder left
 

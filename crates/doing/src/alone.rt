@@ -86,6 +86,7 @@ pub fn perform_alone<'a, F: Files, W: Write>(
             status,
             fault: None,
             full,
+            lost: 0,
         }),
         Err(Halt::Ended(fault)) => {
             writeln!(out, "{fault}")?;
@@ -93,6 +94,7 @@ pub fn perform_alone<'a, F: Files, W: Write>(
                 status: Status::Failed,
                 fault: Some(fault),
                 full,
+                lost: 0,
             })
         }
         Err(Halt::Unwritten(fault)) => Err(fault),

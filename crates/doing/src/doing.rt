@@ -70,17 +70,17 @@ fn told<'a>(
     Ok(Left { done, folder })
 }
 
-/// Does a job over the files of a folder, where a node's file may say its maps.
+/// Does a job over the files of a folder. If a node's file says its maps, that node has so many ports.
 fn do_job<'a>(
     alloc: Global,
     job: &Job,
-    is_on_node: bool,
+    ports: Option<u8>,
     folder: Folder<'a>,
 ) -> Result<Left<'a>, AllocError>
     requires { IsAlone job.now }
     ensures { IfOk result (DoesJob job.now folder.entry) }
 {
-    let mut desk = Desk::new(folder, Noted::of_job(job, is_on_node));
+    let mut desk = Desk::new(folder, Noted::of_job(job, ports));
     let mut out = Vec::new(alloc);
     let Ok(end) = perform_alone(alloc, job, &mut desk, &mut out) else {
         return Err(AllocError);
@@ -116,7 +116,7 @@ fn talk_lines<'a>(
     let input = input_of(alloc, &folder)?;
     let slate = Slate::new(alloc);
     let mut speech = Speech::new(alloc, &slate, input.as_slice(), false);
-    let mut desk = Desk::new(folder, Noted::new(words.node.inputs()));
+    let mut desk = Desk::new(folder, Noted::of_node(&words.node));
     let mut place = None;
     let Ok(status) = live(alloc, words, &mut desk, &mut speech, &mut place) else {
         return Err(AllocError);
@@ -159,12 +159,12 @@ fn show_input<'a>(
     Ok(Left { done, folder })
 }
 
-/// Does a job: `show -` as a talk, `serve` not at all, and each other over the files of the folder, where a node's file may say
-/// its maps.
+/// Does a job: `show -` as a talk, `serve` not at all, and each other over the files of the folder. If a node's file says its maps,
+/// that node has so many ports.
 fn do_once<'a>(
     alloc: Global,
     job: &Job,
-    is_on_node: bool,
+    ports: Option<u8>,
     folder: Folder<'a>,
 ) -> Result<Left<'a>, AllocError>
     ensures { IfOk result (DoesOnce job.now folder.entry) }
@@ -174,7 +174,7 @@ fn do_once<'a>(
         Job::Show(words) if words.lines.as_str() == STANDARD_INPUT => {
             show_input(alloc, words, folder)
         }
-        _ => do_job(alloc, job, is_on_node, folder),
+        _ => do_job(alloc, job, ports, folder),
     }
 }
 
@@ -244,7 +244,15 @@ fn do_on_node<'a>(alloc: Global, own: NodeJob, folder: Folder<'a>) -> Result<Lef
     }
     let mut desk = Desk::new(folder, Noted::new(node_inputs(name)));
     match configuration_in(alloc, &mut desk, name) {
-        Ok(configuration) => do_once(alloc, &job.placed(&configuration), true, desk.into_folder()),
+        Ok(configuration) => {
+            let ports = Some(configuration.ports);
+            do_once(
+                alloc,
+                &job.placed(&configuration),
+                ports,
+                desk.into_folder(),
+            )
+        }
         Err(fault) => refuse_node(alloc, &job, fault, desk),
     }
 }
@@ -265,7 +273,7 @@ fn do_work<'a>(alloc: Global, work: Work, folder: Folder<'a>) -> Result<Left<'a>
     ensures { IfOk result (DoesWork work folder.entry) }
 {
     match work {
-        Work::Once(job) => do_once(alloc, &job, false, folder),
+        Work::Once(job) => do_once(alloc, &job, None, folder),
         Work::OnNode(own) => do_on_node(alloc, own, folder),
         Work::Live(words) => do_live(alloc, &words, folder),
     }

@@ -4,8 +4,8 @@ use Rattle.std.specs.Io.KnownBytes.{Appends}
 use Rattle.std.specs.Str.{IsUtf8}
 use Rattle.bpf.specs.Program.{Program}
 use Rattle.basm.specs.Relation.{IsText}
-use Rattle.policy_table.specs.Lines.{IsTable}
-use Rattle.policy_table.specs.declared.rules.Rule.{Rule}
+use Rattle.policy_table.specs.Policies.{PolicyValue, WritesPolicy}
+use Rattle.spw.specs.Line.{lines_of}
 
 -- the bytes are the text of a program
 pub record AreProgramText (bytes : List ℕ) : Type 0 where
@@ -13,12 +13,12 @@ pub record AreProgramText (bytes : List ℕ) : Type 0 where
   pub program : Program
   pub text : IsText bytes program
 
--- the bytes are a table of a policy that has a rule
+-- the bytes are a table of a policy, of version 1 or 2, that has a rule
 pub record ArePolicyTable (bytes : List ℕ) : Type 0 where
   pub utf8 : IsUtf8 bytes
-  pub rules : List Rule
-  pub table : IsTable bytes rules
-  pub some : rules ≢ []
+  pub policy : PolicyValue
+  pub table : WritesPolicy (lines_of bytes) policy
+  pub some : policy.rules ≢ []
 
 -- the line that tells what the bytes are, or no line
 abbrev pub IsFormLine : (bytes line : List ℕ) → Type 0

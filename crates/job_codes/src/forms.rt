@@ -3,7 +3,7 @@
 ghost use Rattle.job_codes.specs.Forms.{IsFormLine};
 
 use basm::assemble;
-use policy::Table;
+use policy::Policy;
 use std::alloc::Global;
 
 /// The line that tells whether bytes are the text of a program, or a table that has a rule. There is none where they are
@@ -17,7 +17,7 @@ pub fn form_line(alloc: Global, bytes: &[u8]) -> &'static str
     if assemble(alloc, text).is_ok() {
         return "this is the text of a program\n";
     }
-    match Table::read(alloc, text) {
+    match Policy::read(alloc, text) {
         Ok(table) if !table.rules().is_empty() => "this is a table of a policy\n",
         _ => "",
     }

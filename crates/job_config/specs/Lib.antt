@@ -1,4 +1,5 @@
 pub mod Configured
+pub mod ContentsNamed
 pub mod Faults
 pub mod Names
 pub mod NodeLines

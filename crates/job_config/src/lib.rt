@@ -7,6 +7,7 @@
 
 mod banks;
 pub mod configuration;
+pub mod contents_named;
 pub mod faults;
 mod keys;
 mod maps;

@@ -1,10 +1,11 @@
 -- A packet that is answered in the room that was taken before.
-use Rattle.std.proofs.Common.{◌≡◌, ℕ, List, [], ◌++◌, Option, Some, sym, ap, subst, ◌∙◌}
+use Rattle.std.proofs.Common.{◌≡◌, ℕ, Bool, List, [], ◌++◌, Option, Some, sym, ap, subst, ◌∙◌}
 use Rattle.std.proofs.lemmas.List.{append-nil}
 use Rattle.spw.specs.Cargo.{Cargo}
 use Rattle.scrub.specs.declared.answer.Answer.{Answer}
 use Rattle.job_nodes.specs.LiveNodes.{LiveNodeValue, ServesLive}
 use Rattle.job_live.specs.Answering.{MakesRoom}
+use Rattle.job_live.specs.Entries.{HandsOutLeft, entries_text}
 use Rattle.job_live.specs.ScrubLines.{found_text}
 use Rattle.job_frames.specs.Answering.{AnswersPacket, due_of}
 use Rattle.job_frames.specs.Told.{discard_words, served_text}
@@ -14,16 +15,21 @@ pub no_more : (begun new : List ℕ) → new ≡ begun → new ≡ begun ++ []
 no_more begun new is = is ∙ sym (append-nil begun)
 
 -- a packet that was served after that
-pub packet_answered : (packet : Cargo) (frame : ℕ) (before ready after : LiveNodeValue) (words old journal mid text reply : List ℕ) (answer : Answer)
-    → old ≡ [] → MakesRoom before ready (Some old) (Some journal) → words ≡ discard_words frame → ServesLive answer 0 packet ready after → reply ≡ due_of after.node.reply
-    → mid ≡ journal ++ found_text answer.found → ((frame : ℕ) → words ≡ discard_words frame → text ≡ mid ++ served_text frame answer.told.served)
-    → AnswersPacket packet frame before after reply text
-packet_answered packet frame before ready after words old journal mid text reply answer none made is serves replied told tells = record {
+pub packet_answered : (at_once : Bool) (packet : Cargo) (frame : ℕ) (before ready behind after : LiveNodeValue) (words old journal mid all text reply : List ℕ) (answer : Answer)
+    → old ≡ [] → MakesRoom before ready (Some old) (Some journal) → words ≡ discard_words frame → ServesLive answer 0 packet ready behind → reply ≡ due_of behind.node.reply
+    → mid ≡ journal ++ found_text answer.found → all ≡ mid ++ entries_text at_once behind.node.banks
+    → ((frame : ℕ) → words ≡ discard_words frame → text ≡ all ++ served_text frame answer.told.served)
+    → HandsOutLeft at_once behind after
+    → AnswersPacket at_once packet frame before after reply text
+packet_answered at_once packet frame before ready behind after words old journal mid all text reply answer none made is serves replied told left tells turned = record {
   ready = ready;
   journal = journal;
   answer = answer;
   room = subst (λ (l : List ℕ). MakesRoom before ready (Some l) (Some journal)) none made;
+  behind = behind;
   serves = serves;
   replied = replied;
-  told = tells frame is ∙ ap (λ (l : List ℕ). l ++ served_text frame answer.told.served) told;
+  told =
+      tells frame is ∙ ap (λ (l : List ℕ). l ++ served_text frame answer.told.served) (left ∙ ap (λ (l : List ℕ). l ++ entries_text at_once behind.node.banks) told);
+  turned = turned;
 }

@@ -8,19 +8,21 @@ use Rattle.frames.specs.declared.came.Came.TheVariants.{Whole, Piece, Time, Othe
 use Rattle.job_nodes.specs.LiveNodes.{LiveNodeValue, ServesLive}
 use Rattle.job_live.specs.Answering.{MakesRoom}
 use Rattle.job_live.specs.Journals.{Turns, journals_text}
+use Rattle.job_live.specs.Entries.{HandsOutLeft, entries_text}
 use Rattle.job_live.specs.ScrubLines.{found_text}
 use Rattle.job_frames.specs.Told.{fault_line, served_text}
 use Rattle.frames.specs.declared.faults.FrameFault.TheVariants.{ForBridge, CutOff}
 
--- a node, how many frames came, and whether a packet goes on with the next
+-- a node, whether its entries are handed out at once, how many frames came, and whether a packet goes on with the next
 pub record AnsweringValue : Type 0 where
   pub node : LiveNodeValue
+  pub at_once : Bool
   pub count : ℕ
   pub is_open : Bool
 
 -- a node before a frame came
-abbrev pub first_answering : LiveNodeValue → AnsweringValue
-first_answering node = record { node = node; count = 0; is_open = false }
+abbrev pub first_answering : LiveNodeValue → (at_once : Bool) → AnsweringValue
+first_answering node at_once = record { node = node; at_once = at_once; count = 0; is_open = false }
 
 -- the number of the next frame; they are counted up to 2⁶⁴ - 1
 abbrev pub next_number : AnsweringValue → ℕ
@@ -28,7 +30,7 @@ next_number behind = min (behind.count + 1) (2 ^ 64 - 1)
 
 -- the same node behind a frame more, and whether a packet goes on then
 abbrev pub one_more : AnsweringValue → (is_open : Bool) → AnsweringValue
-one_more behind is_open = record { node = behind.node; count = next_number behind; is_open = is_open }
+one_more behind is_open = record behind { count = next_number behind; is_open = is_open }
 
 -- the bytes that are sent of a reply: a frame of its own, or none where no reply is due
 abbrev pub due_of : List ℕ → List ℕ
@@ -36,15 +38,20 @@ due_of [] = []
 due_of (byte ∷ reply) = reply_frame_of (byte ∷ reply)
 
 -- a packet, which ended with the frame of that number, met a journal with room for its command, and was served; its reply is
--- due, and then are told the journals that were full, what a scrub found, and that the packet was discarded, if it was
-pub record AnswersPacket (packet : Cargo) (frame : ℕ) (before after : LiveNodeValue) (reply text : List ℕ) : Type 0 where
+-- due, and then are told the journals that were full, what a scrub found, the entries that are handed out at once, whose
+-- journals begin anew, and that the packet was discarded, if it was
+pub record AnswersPacket (at_once : Bool) (packet : Cargo) (frame : ℕ) (before after : LiveNodeValue) (reply text : List ℕ) : Type 0 where
   pub ready : LiveNodeValue
   pub journal : List ℕ
   pub answer : Answer
   pub room : MakesRoom before ready (Some []) (Some journal)
-  pub serves : ServesLive answer 0 packet ready after
-  pub replied : reply ≡ due_of after.node.reply
-  pub told : text ≡ journal ++ found_text answer.found ++ served_text frame answer.told.served
+  pub behind : LiveNodeValue
+  pub serves : ServesLive answer 0 packet ready behind
+  pub replied : reply ≡ due_of behind.node.reply
+  pub told : text
+      ≡ journal ++ found_text answer.found ++ entries_text at_once behind.node.banks
+      ++ served_text frame answer.told.served
+  pub turned : HandsOutLeft at_once behind after
 
 -- nothing is due
 abbrev pub AreNone : (reply text : List ℕ) → Type 0
@@ -58,8 +65,8 @@ IsFaultDue frame reply text = (reply ≡ []) × (text ≡ fault_line frame ForBr
 -- time code or bytes of a packet that goes on nothing
 abbrev pub Answers : AnsweringValue → Came → (reply text : List ℕ) → AnsweringValue → Type 0
 Answers before (Whole packet) reply text after =
-    AnswersPacket packet (next_number before) before.node after.node reply text
-    × (after.count ≡ next_number before) × (after.is_open ≡ false)
+    AnswersPacket before.at_once packet (next_number before) before.node after.node reply text
+    × (after.at_once ≡ before.at_once) × (after.count ≡ next_number before) × (after.is_open ≡ false)
 Answers before Piece reply text after = AreNone reply text × (after ≡ one_more before true)
 Answers before Time reply text after = AreNone reply text × (after ≡ one_more before before.is_open)
 Answers before (Other code) reply text after =

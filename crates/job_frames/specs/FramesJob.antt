@@ -82,7 +82,7 @@ pub record AreReady {S : Type 0} (reads : Reads S) (words : LiveWords) (before :
     Type 0 where
   pub fresh : LiveNodeValue
   pub node : HoldsLive reads words before fresh after
-  pub untouched : behind ≡ first_answering fresh
+  pub untouched : behind ≡ first_answering fresh words.entries
   pub unread : read ≡ first_reading
 
 -- the node of the words was made, but memory was refused to the reader of frames
@@ -103,7 +103,7 @@ module _ {S L : Type 0} (reads : Reads S) (came sent told : Moves L) (unread : F
     pub left : LiveNodeValue
     pub read : Reading
     pub node : HoldsLive reads words before fresh after
-    pub link : HoldsLink came sent told first_reading read (first_answering fresh) left start stop is_whole
+    pub link : HoldsLink came sent told first_reading read (first_answering fresh words.entries) left start stop is_whole
 
   -- a link on the node of the words was cut off
   pub record BreaksFrames (before after : S) (start stop : L) (halt : Halt) : Type 0 where
@@ -111,7 +111,7 @@ module _ {S L : Type 0} (reads : Reads S) (came sent told : Moves L) (unread : F
     pub left : LiveNodeValue
     pub read : Reading
     pub node : HoldsLive reads words before fresh after
-    pub broken : StopsLink came sent told unread unsent untold first_reading read (first_answering fresh) left start stop halt
+    pub broken : StopsLink came sent told unread unsent untold first_reading read (first_answering fresh words.entries) left start stop halt
 
   -- why no link was held to its end: there is no such node, and nothing came, was sent or was told; or a link was cut off
   abbrev pub IsUnheld : (before after : S) (start stop : L) → Halt → Type 0

@@ -9,6 +9,7 @@ ghost use Rattle.job_parts.specs.Printed.{Prints};
 use crate::faults::print_fault;
 use frames::{Came, FrameFault, HEAD_LENGTH, reply_head};
 use job_live::answering::{CODE, hand_out, make_room};
+use job_live::entries::{put_left, room_of, turn_left};
 use job_live::putting::{put, put_discard_code};
 use job_live::scrub_lines::{MOST_OF_SCRUB, put_found};
 use job_nodes::live_node::LiveNode;
@@ -74,22 +75,30 @@ fn tell_served(text: &mut Vec<u8>, words: &[u8], served: Served)
 /// Serves a packet, for whose command the journal has room then, and gives the reply that is due, and what is told. Memory is
 /// taken before anything is done.
 #[tactic(auto, using(crate::proofs::Told::packet_answered))]
-fn answer_packet(alloc: Global, node: &mut LiveNode, packet: Packet, frame: u64) -> io::Result<Due>
-    ensures due { IfOk result (λ due. AnswersPacket packet frame node.old node.new
+fn answer_packet(
+    alloc: Global,
+    node: &mut LiveNode,
+    at_once: bool,
+    packet: Packet,
+    frame: u64,
+) -> io::Result<Due>
+    ensures due { IfOk result (λ due. AnswersPacket at_once packet frame node.old node.new
         due.reply.items due.text.items) }
     ensures kept { OnErr result (node.new ≡ node.old) }
 {
     let words = discard_words(alloc, frame)?;
     let mut reply = Vec::with_capacity(alloc, MOST_OF_REPLY)?;
     let mut text = Vec::new(alloc);
-    let more = words.len() + MOST_BESIDE;
+    let more = words.len() + MOST_BESIDE + room_of(at_once);
     make_room(node, more, &mut text)?;
     // A node has a port.
     let _ports = node.ports();
     let answer = node.serve(alloc, PORT, packet);
     put_due(&mut reply, node.reply());
     put_found(&mut text, answer.found);
+    put_left(&mut text, node.single(), at_once);
     tell_served(&mut text, words.as_slice(), answer.told.served);
+    turn_left(node, at_once);
     Ok(Due { reply, text })
 }
 
@@ -112,11 +121,13 @@ fn fault_due(alloc: Global, frame: u64) -> io::Result<Due>
     Ok(due)
 }
 
-/// A node behind a link, how many frames came, and whether a packet goes on with the next.
+/// A node behind a link, whether its entries are handed out at once, how many frames came, and whether a packet
+/// goes on with the next.
 #[derive(Drop)]
 pub struct Answering {
     alloc: Global,
     node: LiveNode,
+    at_once: bool,
     count: u64,
     is_open: bool,
 }
@@ -126,7 +137,7 @@ impl Model for Answering {
 
     ghost Value = { AnsweringValue };
 
-    ghost view = { λ a. record { node = a.node; count = a.count; is_open = a.is_open } };
+    ghost view = { λ a. record { node = a.node; at_once = a.at_once; count = a.count; is_open = a.is_open } };
 }
 
 /// Prints what is told first where no more bytes come: that the frame of that number was cut off, if the input did not end
@@ -141,13 +152,14 @@ fn print_cut<W: Write>(out: &mut W, frame: u64, is_whole: bool) -> io::Result<()
 }
 
 impl Answering {
-    /// The node, before a frame came.
-    pub fn new(alloc: Global, node: LiveNode) -> Answering
-        ensures { result ≡ first_answering node }
+    /// The node, before a frame came, and whether its entries are handed out at once.
+    pub fn new(alloc: Global, node: LiveNode, at_once: bool) -> Answering
+        ensures { result ≡ first_answering node at_once }
     {
         Answering {
             alloc,
             node,
+            at_once,
             count: 0,
             is_open: false,
         }
@@ -182,7 +194,9 @@ impl Target for Answering {
         let frame = self.count.saturating_add(1);
         match came {
             Came::Whole(packet) => {
-                let Ok(due) = answer_packet(self.alloc, &mut self.node, packet, frame) else {
+                let at_once = self.at_once;
+                let Ok(due) = answer_packet(self.alloc, &mut self.node, at_once, packet, frame)
+                else {
                     return Err(Cannot);
                 };
                 self.count = frame;

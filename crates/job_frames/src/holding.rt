@@ -35,7 +35,7 @@ fn ends_of_link<'a, F: Files>(
     let node = node_from(alloc, &words.node, files)?;
     let reader = FrameReader::new(alloc)?;
     let live = LiveNode::new(node, words.scrub);
-    Ok((reader, Answering::new(alloc, live)))
+    Ok((reader, Answering::new(alloc, live, words.entries)))
 }
 
 /// Why the job stops, where a link was cut off so.

@@ -15,7 +15,7 @@ range_more n =
     ∙ ap (λ (l : List ℕ). l ++ n ∷ []) (map-id (range_with_len 0 n))
 
 -- the text of one number more
-rows_more : (row : ℕ → List ℕ) (n : ℕ)
+pub rows_more : (row : ℕ → List ℕ) (n : ℕ)
     → flat_map row (range_with_len 0 (n + 1)) ≡ flat_map row (range_with_len 0 n) ++ row n
 rows_more row n =
     ap (λ (l : List ℕ). flat_map row l) (range_more n)

@@ -1,8 +1,10 @@
 mod CellRows
+mod EntriesLeft
 mod EntryLines
 mod HandingOut
 mod HostReading
 mod LinesInTurn
+mod OneEntry
 mod PutText
 mod SameNode
 mod SetLines

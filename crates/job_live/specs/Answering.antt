@@ -16,7 +16,7 @@ use Rattle.job_nodes.specs.declared.live_node.Taken.{Taken}
 use Rattle.single_node.specs.Nodes.{SingleNodeValue, covers_in}
 use Rattle.job_live.specs.Asks.{IsAsked}
 use Rattle.job_live.specs.CellLines.{cells_text}
-use Rattle.job_live.specs.ScrubLines.{taken_text}
+use Rattle.job_live.specs.Entries.{AreEmpty, HandsOutLeft, taken_text}
 use Rattle.job_live.specs.Settings.{IsNoSetting, WritesSetting}
 use Rattle.job_live.specs.Journals.{TellsJournals, bank_text}
 use Rattle.job_live.specs.declared.answering.TheConstants.{MAX_LINE}
@@ -37,24 +37,27 @@ pub record TellsCells (before after : LiveNodeValue) (old new : Option (List ℕ
 abbrev pub MakesRoom : (before after : LiveNodeValue) → (old new : Option (List ℕ)) → Type 0
 MakesRoom before after old new = TellsJournals false before after old new
 
--- of a line that ended no packet nothing was printed, and else what came of its packet
-abbrev pub PrintsTaken : Option Taken → (reply : List ℕ) → (old new : Option (List ℕ)) → Type 0
-PrintsTaken None reply old new = new ≡ old
-PrintsTaken (Some taken) reply old new = Appends old new (taken_text taken reply)
+-- of a line that ended no packet nothing was printed, and else what came of its packet; the entries that are handed out at once
+-- are among that, and their journals begin anew
+abbrev pub PrintsTaken : (at_once : Bool) → Option Taken → (served after : LiveNodeValue) → (old new : Option (List ℕ)) → Type 0
+PrintsTaken at_once None served after old new = (after ≡ served) × (new ≡ old)
+PrintsTaken at_once (Some taken) served after old new =
+    Appends old new (taken_text at_once taken served.node) × HandsOutLeft at_once served after
 
 -- the node took a packet line, and what came of it was printed; or it refuses the line for that fault
-abbrev pub TakesOrRefuses : (line : List ℕ) (fault : Option BadLine) (before after : LiveNodeValue) (old new : Option (List ℕ)) → Type 0
-TakesOrRefuses line None before after old new =
-    (taken : Option Taken) × TakesLine line taken before after × PrintsTaken taken after.node.reply old new
-TakesOrRefuses line (Some fault) before after old new =
+abbrev pub TakesOrRefuses : (at_once : Bool) (line : List ℕ) (fault : Option BadLine) (before after : LiveNodeValue) (old new : Option (List ℕ)) → Type 0
+TakesOrRefuses at_once line None before after old new =
+    (taken : Option Taken) × (served : LiveNodeValue) × TakesLine line taken before served
+    × PrintsTaken at_once taken served after old new
+TakesOrRefuses at_once line (Some fault) before after old new =
     RefusesLine line fault before.node after.node × KeepsGuard before after × (new ≡ old)
 
 -- a packet line met a journal with room for its command
-pub record MeetsRoom (line : List ℕ) (fault : Option BadLine) (before after : LiveNodeValue) (old new : Option (List ℕ)) : Type 0 where
+pub record MeetsRoom (at_once : Bool) (line : List ℕ) (fault : Option BadLine) (before after : LiveNodeValue) (old new : Option (List ℕ)) : Type 0 where
   pub ready : LiveNodeValue
   pub between : Option (List ℕ)
   pub room : MakesRoom before ready old between
-  pub taken : TakesOrRefuses line fault ready after between new
+  pub taken : TakesOrRefuses at_once line fault ready after between new
 
 -- the bytes of a write lie in the bank of its extended address, if there is one
 unfoldable pub is_inside : SingleNodeValue → Setting → Bool
@@ -122,16 +125,16 @@ RefusesLong words asks None before after old new = ⊥
 RefusesLong words asks (Some fault) before after old new = IsLongFault words asks fault × (after ≡ before) × (new ≡ old)
 
 -- what a line does that is not too long, by what it asks for; only a packet line may have a program scrubbed
-abbrev pub DoesAsked : Asks → (line : List ℕ) (fault : Option BadLine) (before after : LiveNodeValue) (old new : Option (List ℕ)) → Type 0
-DoesAsked Packet line fault before after old new = MeetsRoom line fault before after old new
-DoesAsked Journal line fault before after old new = (fault ≡ None) × TellsJournal before after old new
-DoesAsked Cells line fault before after old new = (fault ≡ None) × TellsCells before after old new
-DoesAsked Set line fault before after old new = SetsOrRefuses (words_of line) fault before after old new
+abbrev pub DoesAsked : (at_once : Bool) → Asks → (line : List ℕ) (fault : Option BadLine) (before after : LiveNodeValue) (old new : Option (List ℕ)) → Type 0
+DoesAsked at_once Packet line fault before after old new = MeetsRoom at_once line fault before after old new
+DoesAsked at_once Journal line fault before after old new = (fault ≡ None) × TellsJournal before after old new
+DoesAsked at_once Cells line fault before after old new = (fault ≡ None) × TellsCells before after old new
+DoesAsked at_once Set line fault before after old new = SetsOrRefuses (words_of line) fault before after old new
 
 -- what a line does that may be too long, by what it asks for
-abbrev pub DoesBy : (is_long : Bool) → Asks → (line : List ℕ) (fault : Option BadLine) (before after : LiveNodeValue) (old new : Option (List ℕ)) → Type 0
-DoesBy true asks line fault before after old new = RefusesLong (words_of line) asks fault before after old new
-DoesBy false asks line fault before after old new = DoesAsked asks line fault before after old new
+abbrev pub DoesBy : (at_once is_long : Bool) → Asks → (line : List ℕ) (fault : Option BadLine) (before after : LiveNodeValue) (old new : Option (List ℕ)) → Type 0
+DoesBy at_once true asks line fault before after old new = RefusesLong (words_of line) asks fault before after old new
+DoesBy at_once false asks line fault before after old new = DoesAsked at_once asks line fault before after old new
 
 -- the words before the number of a line's fault
 abbrev pub fault_words : (number : ℕ) → List ℕ
@@ -143,11 +146,11 @@ IsFaultPrinted number None old new = new ≡ old
 IsFaultPrinted number (Some fault) old new = Appends old new (fault_line (AtLine number fault))
 
 -- the node took a packet line or refuses it, and behind a text stands what came of it, or its fault
-pub record TakesAndTells (line : List ℕ) (number : ℕ) (is_bad : Bool) (before after : LiveNodeValue) (old new : List ℕ) :
+pub record TakesAndTells (at_once : Bool) (line : List ℕ) (number : ℕ) (is_bad : Bool) (before after : LiveNodeValue) (old new : List ℕ) :
     Type 0 where
   pub fault : Option BadLine
   pub between : List ℕ
-  pub taken : TakesOrRefuses line fault before after (Some old) (Some between)
+  pub taken : TakesOrRefuses at_once line fault before after (Some old) (Some between)
   pub told : IsFaultPrinted number fault (Some between) (Some new)
   pub bad : is_bad ≡ is_some fault
 
@@ -162,17 +165,23 @@ pub record AnswersSetting (words : List (List ℕ)) (number : ℕ) (before after
 
 -- the line, which came as the one of that number, did what it asks for, and what is due for it was printed; it is bad
 -- where it has a fault
-pub record AnswersAsked (is_long : Bool) (asks : Asks) (line : List ℕ) (number : ℕ) (before after : LiveNodeValue)
+pub record AnswersAsked (at_once is_long : Bool) (asks : Asks) (line : List ℕ) (number : ℕ) (before after : LiveNodeValue)
     (old new : Option (List ℕ)) (is_bad : Bool) : Type 0 where
   pub fault : Option BadLine
   pub between : Option (List ℕ)
-  pub done : DoesBy is_long asks line fault before after old between
+  pub done : DoesBy at_once is_long asks line fault before after old between
   pub told : IsFaultPrinted number fault between new
   pub bad : is_bad ≡ is_some fault
 
 -- the same, by what its words ask for and by its length
-pub record Answers (line : List ℕ) (number : ℕ) (before after : LiveNodeValue) (old new : Option (List ℕ)) (is_bad : Bool) :
+pub record Answers (at_once : Bool) (line : List ℕ) (number : ℕ) (before after : LiveNodeValue) (old new : Option (List ℕ)) (is_bad : Bool) :
     Type 0 where
   pub asks : Asks
   pub asked : IsAsked (words_of line) asks
-  pub answered : AnswersAsked (nat_lt MAX_LINE (length line)) asks line number before after old new is_bad
+  pub answered : AnswersAsked at_once (nat_lt MAX_LINE (length line)) asks line number before after old new is_bad
+
+-- if entries are handed out at once, and no journal has an entry before a line, none has one after it
+abbrev pub LeavesNone : Type 0
+LeavesNone =
+    (line : List ℕ) (number : ℕ) (before after : LiveNodeValue) (old new : Option (List ℕ)) (is_bad : Bool)
+    → Answers true line number before after old new is_bad → AreEmpty before.node.banks → AreEmpty after.node.banks

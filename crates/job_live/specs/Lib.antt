@@ -1,6 +1,7 @@
 pub mod Answering
 pub mod Asks
 pub mod CellLines
+pub mod Entries
 pub mod HostLines
 pub mod Journals
 pub mod LiveJob

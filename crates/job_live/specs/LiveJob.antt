@@ -21,14 +21,14 @@ use Rattle.job_live.specs.declared.words.LiveWords.{LiveWords}
 abbrev pub most_lines : ℕ
 most_lines = 18446744073709551614
 
-module _ {T : Type 0} (came : Comes T) (sent : Sends T) where
+module _ {T : Type 0} (came : Comes T) (sent : Sends T) (at_once : Bool) where
   -- the line of this number came, its answer was made on the node, and was sent; it may be bad
   pub record AnswersNext (line : List ℕ) (number : ℕ) (before after : LiveNodeValue) (start stop : T) (is_bad : Bool) : Type 0
     where
       pub heard : T
       pub text : List ℕ
       pub line_came : came start (Some line) heard
-      pub answered : Answers line number before after (Some []) (Some text) is_bad
+      pub answered : Answers at_once line number before after (Some []) (Some text) is_bad
       pub left : sent heard text stop
 
   -- lines came, behind so many others: each was taken on the node that those before left, and what is due for it was sent
@@ -61,11 +61,11 @@ pub record SendsEnd {T : Type 0} (sent : Sends T) (before after : LiveNodeValue)
   pub left : sent start text stop
 
 -- a whole talk, behind which the entries of the journal were sent
-pub record EndsTalk {T : Type 0} (came : Comes T) (sent : Sends T) (before after : LiveNodeValue) (start stop : T) (some_bad : Bool) : Type 0
+pub record EndsTalk {T : Type 0} (came : Comes T) (sent : Sends T) (at_once : Bool) (before after : LiveNodeValue) (start stop : T) (some_bad : Bool) : Type 0
   where
     pub behind : LiveNodeValue
     pub last : T
-    pub talk : IsWholeTalk came sent before behind start last some_bad
+    pub talk : IsWholeTalk came sent at_once before behind start last some_bad
     pub end : SendsEnd sent behind after last stop
 
 -- the entries of the journal were not sent where no more lines came: memory was refused to them, and the node is as before;
@@ -84,7 +84,7 @@ pub record TellsLast {T : Type 0} (sent : Sends T) (fault : Fault) (start stop :
   pub is_last : IsLastLine fault text
   pub left : sent start text stop
 
-module _ {T : Type 0} (came : Comes T) (sent unsent : Sends T) (missed : Misses T) where
+module _ {T : Type 0} (came : Comes T) (sent unsent : Sends T) (missed : Misses T) (at_once : Bool) where
   -- a line came, and an answer was made to it on the node, of which not all could be sent
   pub record LosesAnswer (number : ℕ) (before after : LiveNodeValue) (start stop : T) : Type 0 where
     pub line : List ℕ
@@ -92,7 +92,7 @@ module _ {T : Type 0} (came : Comes T) (sent unsent : Sends T) (missed : Misses 
     pub text : List ℕ
     pub is_bad : Bool
     pub line_came : came start (Some line) heard
-    pub answered : Answers line number before after (Some []) (Some text) is_bad
+    pub answered : Answers at_once line number before after (Some []) (Some text) is_bad
     pub lost : unsent heard text stop
 
   -- why no line of this number was answered: it could not be read; it came, but memory was refused to its answer, of which
@@ -110,7 +110,7 @@ module _ {T : Type 0} (came : Comes T) (sent unsent : Sends T) (missed : Misses 
     pub left : LiveNodeValue
     pub last : T
     pub some_bad : Bool
-    pub talks : Talks came sent lines 0 before left start last some_bad
+    pub talks : Talks came sent at_once lines 0 before left start last some_bad
     pub unanswered : IsUnanswered (suc (length lines)) left after last stop halt
 
   -- a whole talk, behind which the entries of the journal were not sent
@@ -118,7 +118,7 @@ module _ {T : Type 0} (came : Comes T) (sent unsent : Sends T) (missed : Misses 
     pub some_bad : Bool
     pub behind : LiveNodeValue
     pub last : T
-    pub talk : IsWholeTalk came sent before behind start last some_bad
+    pub talk : IsWholeTalk came sent at_once before behind start last some_bad
     pub end_unsent : IsEndUnsent unsent behind after last stop halt
 
   -- a line was not answered, or only the entries of the journal were not sent
@@ -140,14 +140,14 @@ module _ {S T : Type 0} (reads : Reads S) (came : Comes T) (sent unsent : Sends 
       pub fresh : LiveNodeValue
       pub left : LiveNodeValue
       pub node : HoldsLive reads words before fresh after
-      pub talk : EndsTalk came sent fresh left start stop some_bad
+      pub talk : EndsTalk came sent words.entries fresh left start stop some_bad
 
     -- a talk on the node of the words was cut off, with the node left so
     pub record BreaksTalk (before after : S) (start stop : T) (halt : Halt) : Type 0 where
       pub fresh : LiveNodeValue
       pub left : LiveNodeValue
       pub node : HoldsLive reads words before fresh after
-      pub broken : StopsTalk came sent unsent missed fresh left start stop halt
+      pub broken : StopsTalk came sent unsent missed words.entries fresh left start stop halt
 
     -- why no whole talk was held: there is no such node, and nothing came or was sent; or a talk was cut off
     abbrev pub IsCutOff : (before after : S) (start stop : T) → Halt → Type 0

@@ -3,8 +3,6 @@ use Rattle.std.specs.Prelude.{ℕ, List, [], ◌∷◌, ◌++◌, codes, decimal
 use Rattle.scrub.specs.declared.guard.Found.{Found}
 use Rattle.scrub.specs.declared.guard.Health.{Health}
 use Rattle.scrub.specs.declared.guard.Health.TheVariants.{Whole, Mended, Unmended, Withdrawn}
-use Rattle.job_nodes.specs.Lines.{served_line}
-use Rattle.job_nodes.specs.declared.live_node.Taken.{Taken}
 
 -- `journal scrub SLOT STATE`
 abbrev pub scrub_line : (slot : ℕ) → (state : List ℕ) → List ℕ
@@ -21,8 +19,3 @@ health_text slot Unmended = scrub_line slot (codes "withdrawn")
 abbrev pub found_text : Option Found → List ℕ
 found_text None = []
 found_text (Some found) = health_text found.slot found.health
-
--- the lines that tell what came of a packet, with the reply that was due: first that of a scrub that did not find a program
--- whole
-abbrev pub taken_text : Taken → (reply : List ℕ) → List ℕ
-taken_text taken reply = found_text taken.answer.found ++ served_line taken.port taken.answer.told.served reply

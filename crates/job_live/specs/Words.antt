@@ -12,10 +12,12 @@ use Rattle.job_parts.specs.declared.usage.UsageFault.{UsageFault}
 use Rattle.job_parts.specs.declared.usage.UsageFault.TheVariants.{Parse, BadOption, Memory}
 use Rattle.job_live.specs.declared.words.LiveWords.{LiveWords}
 
--- `live [--image FILE] [--maps LIST] [--ports N] [--scrub N] [--frames]`, or `live --node FILE [--scrub N] [--frames]`
+-- `live [--image FILE] [--maps LIST] [--ports N] [--scrub N] [--entries] [--frames]`, or `live --node FILE [--scrub N]
+-- [--entries] [--frames]`
 abbrev pub live_app : App
 live_app =
-    with_rule (with_rule (with_source_options (new_app (codes "live"))) (option_rule (codes "scrub")))
+    with_rule
+    (with_rule (with_rule (with_source_options (new_app (codes "live"))) (option_rule (codes "scrub"))) (flag_rule (codes "entries")))
     (flag_rule (codes "frames"))
 
 -- before each packet of how many a program is scrubbed: one to 2³² - 1
@@ -47,6 +49,7 @@ serves_frames (Words words) = words.ports == 1
 pub record NamesLive (rows : List Row) (words : LiveWords) : Type 0 where
   pub node : GivesSource rows words.node
   pub scrub : GivesScrub (first_of (codes "scrub") rows) words.scrub
+  pub entries : words.entries ≡ is_set (codes "entries") rows
   pub frames : words.frames ≡ is_set (codes "frames") rows
   pub link : words.frames ≡ true → serves_frames words.node ≡ true
 

@@ -4,15 +4,16 @@ ghost use Rattle.std.specs.Prelude.{◌≡◌, ◌≤◌, ◌+◌, ◌++◌, [],
 ghost use Rattle.std.specs.Vec.{vec_capacity, vec_len};
 ghost use Rattle.job_parts.specs.Printed.{Prints, fault_line};
 ghost use Rattle.job_parts.specs.declared.faults.Fault.TheVariants.{BadLine as AtLine};
-ghost use Rattle.job_live.specs.Answering.{Answers, AnswersAsked, AnswersSetting, IsFaultByPort, IsLongFault, IsUnset, MakesRoom, TakesAndTells, TellsJournal, TellsSetting, WritesInside, fault_words, is_inside};
+ghost use Rattle.job_live.specs.Answering.{Answers, AnswersAsked, AnswersSetting, IsFaultByPort, IsLongFault, IsUnset, LeavesNone, MakesRoom, TakesAndTells, TellsJournal, TellsSetting, WritesInside, fault_words, is_inside};
 ghost use Rattle.job_live.specs.Asks.{IsAsked};
-ghost use Rattle.job_live.specs.ScrubLines.{taken_text};
+ghost use Rattle.job_live.specs.Entries.{room_of, taken_text};
 ghost use Rattle.job_nodes.specs.JobNode.{alone};
 ghost use Rattle.rmap.specs.declared.reply.TheConstants.{MAX_REPLY};
 ghost use Rattle.job_live.specs.declared.asks.Asks.TheVariants.{Packet, Set};
 
 use crate::asks::{Asks, asked};
 use crate::cell_lines::print_cells;
+use crate::entries::{put_left, room_of, turn_left};
 use crate::journals::{print_bank, print_journals, turn_journals};
 use crate::putting::{MOST_OF_PACKET, put, put_code, put_served};
 use crate::scrub_lines::{MOST_OF_SCRUB, put_found};
@@ -71,15 +72,17 @@ fn fault_words(alloc: Global, number: usize) -> io::Result<Vec<u8>>
     Ok(words)
 }
 
-/// Puts what came of a packet behind a text, with the reply that was due: the line of a scrub that did not find a program whole,
-/// and then the packet's. Conditions: a reply that is no longer than any ([`MAX_REPLY`]), and room for the longest lines.
-fn put_taken(text: &mut Vec<u8>, taken: Taken, reply: &[u8])
-    requires reply { length reply.now ≤ MAX_REPLY }
-    requires room { vec_len text.old + (MOST_OF_SCRUB + MOST_OF_PACKET) ≤ vec_capacity text.old }
-    ensures { text.new.items ≡ text.old.items ++ taken_text taken reply.now }
+/// Puts what came of a packet behind a text, with the reply that was due: the line of a scrub that did not find
+/// a program whole, those of the entries that are handed out at once, and then the packet's. The condition is
+/// room for the longest lines.
+#[tactic(auto, using(crate::proofs::Taken::text_taken))]
+fn put_taken(text: &mut Vec<u8>, taken: Taken, node: &LiveNode, at_once: bool)
+    requires { vec_len text.old + (MOST_OF_SCRUB + MOST_OF_PACKET + room_of at_once) ≤ vec_capacity text.old }
+    ensures { text.new.items ≡ text.old.items ++ taken_text at_once taken node.now.node }
 {
     put_found(text, taken.answer.found);
-    put_served(text, taken.port, taken.answer.told.served, reply);
+    put_left(text, node.single(), at_once);
+    put_served(text, taken.port, taken.answer.told.served, node.reply());
 }
 
 /// Puts the line of a fault behind a text, whose words before its number are these. The condition is room for them and two bytes.
@@ -95,21 +98,25 @@ fn put_fault(text: &mut Vec<u8>, words: &[u8], fault: BadLine)
 
 /// Takes a packet line on the node, and puts what came of it behind a text, or its fault, whose words before its number are
 /// these. Whether the line is bad. The condition is room for the longest lines, and for those words and two bytes.
+#[tactic(auto, using(crate::proofs::Taken::packet_taken))]
 fn take_line(
     alloc: Global,
     node: &mut LiveNode,
+    at_once: bool,
     line: &str,
     words: &[u8],
     text: &mut Vec<u8>,
 ) -> bool
-    requires told { vec_len text.old + (MOST_OF_SCRUB + MOST_OF_PACKET) ≤ vec_capacity text.old }
+    requires told { vec_len text.old + (MOST_OF_SCRUB + MOST_OF_PACKET + room_of at_once)
+        ≤ vec_capacity text.old }
     requires fault { vec_len text.old + (length words.now + CODE) ≤ vec_capacity text.old }
     ensures { (number : ℕ) → words.now ≡ fault_words number
-        → TakesAndTells line.now number result node.old node.new text.old.items text.new.items }
+        → TakesAndTells at_once line.now number result node.old node.new text.old.items text.new.items }
 {
     match node.take_line(alloc, line) {
         Ok(Some(taken)) => {
-            put_taken(text, taken, node.reply());
+            put_taken(text, taken, node, at_once);
+            turn_left(node, at_once);
             false
         }
         Ok(None) => false,
@@ -126,18 +133,19 @@ fn take_line(
 fn answer_packet(
     alloc: Global,
     node: &mut LiveNode,
+    at_once: bool,
     line: &str,
     number: usize,
     text: &mut Vec<u8>,
 ) -> io::Result<bool>
-    ensures answers { IfOk result (AnswersAsked false Packet line.now number node.old node.new
+    ensures answers { IfOk result (AnswersAsked at_once false Packet line.now number node.old node.new
         (Some text.old.items) (Some text.new.items)) }
     ensures kept { OnErr result (node.new ≡ node.old) }
 {
     let words = fault_words(alloc, number)?;
-    let more = words.len() + MOST_OF_LINES;
+    let more = words.len() + MOST_OF_LINES + room_of(at_once);
     make_room(node, more, text)?;
-    Ok(take_line(alloc, node, line, words.as_slice(), text))
+    Ok(take_line(alloc, node, at_once, line, words.as_slice(), text))
 }
 
 /// Whether the bytes of a write lie in the bank of its extended address, if there is one.
@@ -240,19 +248,22 @@ fn long_fault(words: &[&str], asks: Asks) -> BadLine
 /// Does what a line asks for, which came as the one of that number, and puts what is due for it behind a text: whether the
 /// line is bad.
 ///
-/// Of a bad line that is `line K fault C`: the faults are those of [`LiveNode::take_line`] and [`read_setting`], `NoPort` for
-/// bytes that do not lie in their bank, and of a line over [`MAX_LINE`] bytes `TooLong`, or `NoPort` where it begins as no
-/// packet line and no write. Before a packet line is taken the journals that are full are handed out.
+/// Of a bad line that is `line K fault C`: the faults are those of [`LiveNode::take_line`] and [`read_setting`],
+/// `NoPort` for bytes that do not lie in their bank, and of a line over [`MAX_LINE`] bytes `TooLong`, or
+/// `NoPort` where it begins as no packet line and no write. Before a packet line is taken the journals that are
+/// full are handed out. If entries are handed out at once, the entry that a packet leaves is before its answer,
+/// and its journal begins anew.
 ///
 /// Where memory is refused the node is as before the line.
 pub fn answer(
     alloc: Global,
     node: &mut LiveNode,
+    at_once: bool,
     line: &str,
     number: usize,
     text: &mut Vec<u8>,
 ) -> io::Result<bool>
-    ensures answers { IfOk result (Answers line.now number node.old node.new
+    ensures answers { IfOk result (Answers at_once line.now number node.old node.new
         (Some text.old.items) (Some text.new.items)) }
     ensures kept { OnErr result (node.new ≡ node.old) }
 {
@@ -263,7 +274,7 @@ pub fn answer(
         return Ok(true);
     }
     match asks {
-        Asks::Packet => answer_packet(alloc, node, line, number, text),
+        Asks::Packet => answer_packet(alloc, node, at_once, line, number, text),
         Asks::Journal => {
             hand_out(node, text)?;
             Ok(false)
@@ -287,3 +298,9 @@ pub fn last_text(alloc: Global, node: &mut LiveNode) -> io::Result<Vec<u8>>
     hand_out(node, &mut text)?;
     Ok(text)
 }
+
+/// A law and no work: if entries are handed out at once, and no journal has an entry before a line, none has one after
+/// it. So the entry that a packet leaves is always in the lines before its answer.
+pub fn no_entry_stays()
+    ensures { LeavesNone }
+{}

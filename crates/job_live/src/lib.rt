@@ -4,6 +4,7 @@
 pub mod answering;
 pub mod asks;
 pub mod cell_lines;
+pub mod entries;
 pub mod host;
 pub mod journals;
 pub mod live;

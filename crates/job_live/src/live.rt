@@ -26,12 +26,13 @@ pub const NO_MEMORY: &[u8] = b"no memory\n";
 fn exchange<'a, T: Talk>(
     alloc: Global,
     node: &mut LiveNode,
+    at_once: bool,
     talk: &mut T,
     number: usize,
 ) -> Result<Option<bool>, Halt<'a>>
-    ensures exchanged { IfOk result (λ went. Exchanges T.came T.sent number went
+    ensures exchanged { IfOk result (λ went. Exchanges T.came T.sent at_once number went
         node.old node.new talk.old talk.new) }
-    ensures stops { IfErr result (IsUnanswered T.came T.sent T.unsent T.missed number
+    ensures stops { IfErr result (IsUnanswered T.came T.sent T.unsent T.missed at_once number
         node.old node.new talk.old talk.new) }
 {
     let mut line = String::new(alloc);
@@ -42,7 +43,7 @@ fn exchange<'a, T: Talk>(
         return Ok(None);
     }
     let mut text = Vec::new(alloc);
-    let Ok(is_bad) = answer(alloc, node, line.as_str(), number, &mut text) else {
+    let Ok(is_bad) = answer(alloc, node, at_once, line.as_str(), number, &mut text) else {
         return Err(Halt::Ended(Fault::NoMemory));
     };
     match talk.send(text.as_slice()) {
@@ -59,14 +60,19 @@ fn either(first: bool, second: bool) -> bool
 }
 
 /// Holds a talk to its end: whether one of its lines was bad.
-fn hold<'a, T: Talk>(alloc: Global, node: &mut LiveNode, talk: &mut T) -> Result<bool, Halt<'a>>
-    ensures held { IfOk result (IsWholeTalk T.came T.sent node.old node.new talk.old talk.new) }
-    ensures stops { IfErr result (IsBrokenOff T.came T.sent T.unsent T.missed
+fn hold<'a, T: Talk>(
+    alloc: Global,
+    node: &mut LiveNode,
+    at_once: bool,
+    talk: &mut T,
+) -> Result<bool, Halt<'a>>
+    ensures held { IfOk result (IsWholeTalk T.came T.sent at_once node.old node.new talk.old talk.new) }
+    ensures stops { IfErr result (IsBrokenOff T.came T.sent T.unsent T.missed at_once
         node.old node.new talk.old talk.new) }
 {
     let mut some_bad = false;
     for number in 1..usize::MAX {
-        let Some(is_bad) = exchange(alloc, node, talk, number)? else {
+        let Some(is_bad) = exchange(alloc, node, at_once, talk, number)? else {
             return Ok(some_bad);
         };
         some_bad = either(some_bad, is_bad);
@@ -88,13 +94,14 @@ fn send_end<'a, T: Talk>(alloc: Global, node: &mut LiveNode, talk: &mut T) -> Re
 fn hold_to_end<'a, T: Talk>(
     alloc: Global,
     node: &mut LiveNode,
+    at_once: bool,
     talk: &mut T,
 ) -> Result<bool, Halt<'a>>
-    ensures held { IfOk result (EndsTalk T.came T.sent node.old node.new talk.old talk.new) }
-    ensures stops { IfErr result (StopsTalk T.came T.sent T.unsent T.missed
+    ensures held { IfOk result (EndsTalk T.came T.sent at_once node.old node.new talk.old talk.new) }
+    ensures stops { IfErr result (StopsTalk T.came T.sent T.unsent T.missed at_once
         node.old node.new talk.old talk.new) }
 {
-    let some_bad = hold(alloc, node, talk)?;
+    let some_bad = hold(alloc, node, at_once, talk)?;
     send_end(alloc, node, talk)?;
     Ok(some_bad)
 }
@@ -113,7 +120,7 @@ fn live_on<'a, F: Files, T: Talk>(
 {
     let plain = node_from(alloc, &words.node, files)?;
     let mut node = LiveNode::new(plain, words.scrub);
-    hold_to_end(alloc, &mut node, talk)
+    hold_to_end(alloc, &mut node, words.entries, talk)
 }
 
 /// Sends the line of the fault that cut a talk off; where memory is refused to it, that there is none.

@@ -38,7 +38,7 @@ fn digits_of(byte: u8) -> [u8; 2]
 }
 
 /// Puts bytes behind a text as hexadecimal digits, in upper case. The condition is room for two digits a byte.
-fn put_hex(text: &mut Vec<u8>, bytes: &[u8])
+pub(crate) fn put_hex(text: &mut Vec<u8>, bytes: &[u8])
     requires { vec_len text.old + 2 * length bytes.now ≤ vec_capacity text.old }
     ensures items { text.new.items ≡ text.old.items ++ encode_upper bytes.now }
     ensures len { vec_len text.new ≡ vec_len text.old + 2 * length bytes.now }

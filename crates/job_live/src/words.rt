@@ -19,11 +19,14 @@ pub struct LiveWords {
     pub node: NodeSource,
     /// Before each packet of so many the program that judges it is scrubbed, if there is a number: 1 to 4,294,967,295.
     pub scrub: Option<u32>,
+    /// Whether each entry is handed out at once, before the answer to its packet.
+    pub entries: bool,
     /// Whether frames come, and not packet lines. They come in at port 0; a node without a file has no other port then.
     pub frames: bool,
 }
 
-/// `live [--image FILE] [--maps LIST] [--ports N] [--scrub N] [--frames]` or `live --node FILE [--scrub N] [--frames]`.
+/// `live [--image FILE] [--maps LIST] [--ports N] [--scrub N] [--entries] [--frames]` or
+/// `live --node FILE [--scrub N] [--entries] [--frames]`.
 pub fn live_command<'a>(alloc: Global) -> Result<Command<'a>, AllocError>
     ensures shape { IfOk result (λ c. app_of c ≡ live_app) }
     ensures local { IfOk result (λ c. (fields_of c).has_globals ≡ false) }
@@ -31,10 +34,13 @@ pub fn live_command<'a>(alloc: Global) -> Result<Command<'a>, AllocError>
     let about = "Answers packet lines, or frames, at standard input as they come";
     let help = "Scrubs the program that judges, before each N-th packet; without it none";
     let scrub = option(alloc, "scrub", "N", help);
+    let help = "Hands each entry of the journal out before the answer to its packet";
+    let entries = flag(alloc, "entries", help);
     let help = "Answers frames, in bytes, of an initiator on a link, which is port 0";
     let frames = flag(alloc, "frames", help);
     source_arguments(alloc, Command::new(alloc, "live").about(about))?
         .arg(scrub)?
+        .arg(entries)?
         .arg(frames)
 }
 
@@ -84,6 +90,7 @@ pub fn live_job(alloc: Global, found: &ArgMatches) -> Result<LiveWords, UsageFau
 {
     let node = source_of(alloc, found)?;
     let scrub = scrub_of(found)?;
+    let entries = is_set(found, "entries");
     let frames = is_set(found, "frames");
     if frames && !serves_frames(&node) {
         return Err(UsageFault::BadOption);
@@ -91,6 +98,7 @@ pub fn live_job(alloc: Global, found: &ArgMatches) -> Result<LiveWords, UsageFau
     Ok(LiveWords {
         node,
         scrub,
+        entries,
         frames,
     })
 }

@@ -1,2 +1,5 @@
+pub mod Images
 pub mod NodeFileJob
+pub mod Pools
 pub mod Printed
+pub mod Quotas

@@ -1,25 +1,54 @@
 -- What the job `node` reads and prints.
-use Rattle.std.specs.Prelude.{◌≡◌, ◌⊎◌, ℕ, List, Option, string_bytes}
+use Rattle.std.specs.Prelude.{◌≡◌, ◌⊎◌, ℕ, Bool, true, false, List, ◌++◌, Option, option_map, string_bytes}
+use Rattle.std.specs.Io.KnownBytes.{Appends}
 use Rattle.bver.specs.Justified.{AcceptedValue}
+use Rattle.policy_table.specs.declared.rules.Quota.{Quota}
 use Rattle.job_config.specs.OwnNodes.{OwnNodeValue}
 use Rattle.job_config.specs.Reads.{ReadsNoNode, ReadsNode}
 use Rattle.job_parts.specs.Files.{Reads}
-use Rattle.job_parts.specs.Printed.{PrintsMore}
 use Rattle.job_parts.specs.declared.faults.Fault.{Fault}
 use Rattle.job_parts.specs.declared.faults.Fault.TheVariants.{NoMemory}
+use Rattle.job_node_file.specs.Pools.{IsPool}
+use Rattle.job_node_file.specs.Quotas.{AreAsked, AreNotAsked, ReadsAsked, ReadsNotAsked, header_end, lines_asked}
 use Rattle.job_node_file.specs.declared.node_file.NodeFileWords.{NodeFileWords}
 
+-- the text of a node ends so: a header in the bytes of its pool and the quotas of its table, lines in these quotas
+abbrev pub HasEnd : (header : Bool) → OwnNodeValue → AcceptedValue → Option (List Quota) → (text : List ℕ) → Type 0
+HasEnd true own program quotas text =
+    (begun : List ℕ) × (pool : ℕ) × IsPool own program pool × (text ≡ begun ++ header_end pool quotas)
+HasEnd false own program quotas text = (begun : List ℕ) × (text ≡ begun ++ lines_asked quotas)
+
+-- the name of the table's file, if there is one
+abbrev pub table_of : NodeFileWords → Option (List ℕ)
+table_of words = option_map string_bytes words.table
+
 module _ {S : Type 0} (reads : Reads S) where
-  -- the node's file is that of a node and of a program, and text was printed
+  -- the table that is named was read, the node's file is that of a node and of a program, the table is one that it flies, and a text was
+  -- printed that ends in what is reckoned of them
   pub record PrintsNodeFile (words : NodeFileWords) (before after : S) (old new : Option (List ℕ)) : Type 0 where
     pub own : OwnNodeValue
     pub program : AcceptedValue
-    pub read : ReadsNode reads (string_bytes words.node) before own program after
-    pub printed : PrintsMore old new
+    pub between : S
+    pub table : Option (List ℕ)
+    pub asked : ReadsAsked reads (table_of words) before table between
+    pub read : ReadsNode reads (string_bytes words.node) between own program after
+    pub quotas : Option (List Quota)
+    pub held : AreAsked own program table quotas
+    pub text : List ℕ
+    pub end : HasEnd words.header own program quotas text
+    pub printed : Appends old new text
 
-  -- there is no node of the node's file; or memory was refused behind it
+  -- there is a node of the node's file, and there are no quotas; or there are, and memory was refused to the text
+  abbrev pub IsNotEnded : OwnNodeValue → AcceptedValue → (table : Option (List ℕ)) → Fault → Type 0
+  IsNotEnded own program table fault =
+      AreNotAsked own program table fault
+      ⊎ ((quotas : Option (List Quota)) × AreAsked own program table quotas × (fault ≡ NoMemory))
+
+  -- the table that is named gives no text; or there is no node of the node's file; or no text of it
   abbrev pub IsNotTold : NodeFileWords → (before after : S) → Fault → Type 0
   IsNotTold words before after fault =
-      ReadsNoNode reads (string_bytes words.node) before fault after
-      ⊎ ((own : OwnNodeValue) × (program : AcceptedValue) × ReadsNode reads (string_bytes words.node) before own program after
-      × (fault ≡ NoMemory))
+      ReadsNotAsked reads (table_of words) before fault after
+      ⊎ ((between : S) × (table : Option (List ℕ)) × ReadsAsked reads (table_of words) before table between
+      × (ReadsNoNode reads (string_bytes words.node) between fault after
+      ⊎ ((own : OwnNodeValue) × (program : AcceptedValue)
+      × ReadsNode reads (string_bytes words.node) between own program after × IsNotEnded own program table fault)))

@@ -1,22 +1,26 @@
 //! The job `node`.
 
-ghost use Rattle.std.specs.Prelude.{◌≡◌, IfErr, IfOk, codes, false, string_bytes, None, Some};
+ghost use Rattle.std.specs.Prelude.{◌≡◌, ◌++◌, ℕ, List, IfErr, IfOk, codes, false, option_map, string_bytes, None, Some};
+ghost use Rattle.clap.specs.Walk.{first_of};
 ghost use Rattle.job_parts.specs.Matched.{app_of, fields_of, found_of, rows_of};
-ghost use Rattle.job_node_file.specs.NodeFileJob.{NamesNodeFile, node_file_app};
-ghost use Rattle.job_node_file.specs.Printed.{IsNotTold, PrintsNodeFile};
+ghost use Rattle.job_node_file.specs.NodeFileJob.{NamesNodeFile, first_input, node_file_app, second_input};
+ghost use Rattle.job_node_file.specs.Pools.{IsPool};
+ghost use Rattle.job_node_file.specs.Printed.{HasEnd, IsNotTold, PrintsNodeFile};
+ghost use Rattle.job_node_file.specs.Quotas.{header_end, lines_asked};
 ghost use Rattle.job_parts.specs.Arguments.{Lacks};
 ghost use Rattle.job_parts.specs.Statuses.{IsDoneWith};
 ghost use Rattle.job_parts.specs.Stops.{StopsBy};
-ghost use Rattle.job_parts.specs.Inputs.{AreInputs, input};
-ghost use Rattle.job_parts.specs.declared.inputs.Content.TheVariants.{Node};
+ghost use Rattle.job_parts.specs.Inputs.{AreInputs};
 
+use crate::pool::pool_of;
+use crate::quotas::{add_header_end, add_quota_lines, asked_quotas, asked_text};
 use bpf::Image;
 use bver::Accepted;
 use clap::{ArgMatches, Command};
 use job_config::own_node::{OwnLoad, OwnNode};
 use job_config::reading::{ReadNode, node_in};
-use job_parts::arguments::{file, flag, is_set, name_of};
-use job_parts::inputs::{Content, Inputs};
+use job_parts::arguments::{file, flag, is_set, name_of, option};
+use job_parts::inputs::{Content, InputFile, Inputs};
 use job_parts::printing::print_text;
 use job_parts::status::Status;
 use job_parts::stops::Halt;
@@ -24,6 +28,7 @@ use job_parts::storage::Files;
 use job_parts::usage::UsageFault;
 use machine::{MapKind, MapSizes};
 use node_parts::BankConfig;
+use policy_table::Quota;
 use std::alloc::{AllocError, Global};
 use std::io::Write;
 
@@ -134,7 +139,7 @@ fn add_loads(text: &mut String, node: &OwnNode) -> Result<(), AllocError> {
     text.push_str("};\n")
 }
 
-/// The header of a node, with the image that judges in all slots at first.
+/// The header of a node up to its end, with the image that judges in all slots at first.
 fn header_text(alloc: Global, node: &OwnNode, program: &Accepted) -> Result<String, AllocError> {
     let image = program.image().write()?;
     let mut text = String::from_str(alloc, HEAD)?;
@@ -145,7 +150,22 @@ fn header_text(alloc: Global, node: &OwnNode, program: &Accepted) -> Result<Stri
     add_c_bytes(&mut text, image.as_slice())?;
     add_contents(&mut text, node)?;
     add_loads(&mut text, node)?;
-    text.push_str("\n#endif\n")?;
+    Ok(text)
+}
+
+/// The header of a node, with the bytes of its pool and the quotas of its table.
+fn whole_header(
+    alloc: Global,
+    node: &OwnNode,
+    program: &Accepted,
+    quotas: &Option<Vec<Quota>>,
+) -> Result<String, AllocError>
+    ensures { IfOk result (λ text. (begun : List ℕ) × (pool : ℕ) × IsPool node.now program.now pool
+        × (string_bytes text ≡ begun ++ header_end pool (option_map (λ q. q.items) quotas.now))) }
+{
+    let mut text = header_text(alloc, node, program)?;
+    let pool = pool_of(alloc, node, program)?;
+    add_header_end(&mut text, pool, quotas)?;
     Ok(text)
 }
 
@@ -222,6 +242,39 @@ fn node_text(alloc: Global, node: &OwnNode, program: &Accepted) -> Result<String
     Ok(text)
 }
 
+/// The lines of a node, and those of the quotas of its table.
+fn whole_lines(
+    alloc: Global,
+    node: &OwnNode,
+    program: &Accepted,
+    quotas: &Option<Vec<Quota>>,
+) -> Result<String, AllocError>
+    ensures { IfOk result (λ text. (begun : List ℕ)
+        × (string_bytes text ≡ begun ++ lines_asked (option_map (λ q. q.items) quotas.now))) }
+{
+    let mut text = node_text(alloc, node, program)?;
+    add_quota_lines(&mut text, quotas)?;
+    Ok(text)
+}
+
+/// The header or the lines of a node.
+fn text_of(
+    alloc: Global,
+    words: &NodeFileWords,
+    node: &OwnNode,
+    program: &Accepted,
+    quotas: &Option<Vec<Quota>>,
+) -> Result<String, AllocError>
+    ensures { IfOk result (λ text. HasEnd words.now.header node.now program.now
+        (option_map (λ q. q.items) quotas.now) (string_bytes text)) }
+{
+    if words.header {
+        whole_header(alloc, node, program, quotas)
+    } else {
+        whole_lines(alloc, node, program, quotas)
+    }
+}
+
 /// The words of the job `node`.
 #[derive(Debug, Drop)]
 pub struct NodeFileWords {
@@ -229,18 +282,27 @@ pub struct NodeFileWords {
     pub node: String,
     /// Whether a header of C is printed in place of lines.
     pub header: bool,
+    /// The name of the file of the table that the node flies, of which the quotas are printed.
+    pub table: Option<String>,
 }
 
 impl NodeFileWords {
-    /// What the job reads: the node's file; those beside it are named there.
+    /// What the job reads: the table, if one is named, and then the node's file; files beside the node's are named there.
     pub fn inputs(&self) -> Inputs<'_>
-        ensures { AreInputs (Some (input (string_bytes self.now.node) Node)) None None result }
+        ensures { AreInputs (first_input self.now) (second_input self.now) None result }
     {
-        Inputs::one(self.node.as_str(), Content::Node)
+        let node = InputFile::new(self.node.as_str(), Content::Node);
+        match &self.table {
+            Some(name) => Inputs::of(
+                Some(InputFile::new(name.as_str(), Content::Table)),
+                Some(node),
+            ),
+            None => Inputs::of(Some(node), None),
+        }
     }
 }
 
-/// `node FILE [--c]`.
+/// `node FILE [--c] [--table TABLE]`.
 pub fn node_file_command<'a>(alloc: Global) -> Result<Command<'a>, AllocError>
     ensures shape { IfOk result (λ c. app_of c ≡ node_file_app) }
     ensures local { IfOk result (λ c. (fields_of c).has_globals ≡ false) }
@@ -250,10 +312,24 @@ pub fn node_file_command<'a>(alloc: Global) -> Result<Command<'a>, AllocError>
     let node = file(alloc, "node", "FILE", help);
     let help = "Prints a header of C, with the banks, the maps and all bytes";
     let header = flag(alloc, "c", help);
+    let help = "The policy table that the node flies: prints the limits of its quotas, too";
+    let table = option(alloc, "table", "TABLE", help);
     Command::new(alloc, "node")
         .about(about)
         .arg(node)?
-        .arg(header)
+        .arg(header)?
+        .arg(table)
+}
+
+/// The name of the file of the table by `--table`, where the option is given.
+fn table_of(alloc: Global, found: &ArgMatches) -> Result<Option<String>, AllocError>
+    ensures { IfOk result (λ table. first_of (codes "table") (rows_of (found_of found.now))
+        ≡ option_map string_bytes table) }
+{
+    match job_parts::arguments::text_of(found, "table") {
+        Some(name) => Ok(Some(String::from_str(alloc, name)?)),
+        None => Ok(None),
+    }
 }
 
 /// The words of `node` with these matches.
@@ -263,12 +339,18 @@ pub fn node_file_job(alloc: Global, found: &ArgMatches) -> Result<NodeFileWords,
 {
     let node = name_of(alloc, found, "node")?;
     let header = is_set(found, "c");
-    Ok(NodeFileWords { node, header })
+    let table = table_of(alloc, found)?;
+    Ok(NodeFileWords {
+        node,
+        header,
+        table,
+    })
 }
 
-/// Prints the node of a node's file: its lines, or a header of C. Nothing is printed of a file with a fault.
+/// Prints the node of a node's file: its lines, or a header of C; with the limits of the quotas of the table that is named. Nothing is
+/// printed of a file with a fault.
 ///
-/// Faults are those of [`node_in`].
+/// Faults are those of [`asked_text`], then those of [`node_in`], and then those of [`asked_quotas`].
 pub fn print_node_file<'a, F: Files, W: Write>(
     alloc: Global,
     words: &'a NodeFileWords,
@@ -281,12 +363,10 @@ pub fn print_node_file<'a, F: Files, W: Write>(
         IsNotTold F.reads words.now files.old files.new fault)) }
     ensures quiet { IfErr result (StopsBy (λ _. W.contents out.new ≡ W.contents out.old)) }
 {
+    let table = asked_text(alloc, files, words.table.as_deref())?;
     let ReadNode { node, program } = node_in(alloc, files, words.node.as_str())?;
-    let text = if words.header {
-        header_text(alloc, &node, &program)?
-    } else {
-        node_text(alloc, &node, &program)?
-    };
+    let quotas = asked_quotas(alloc, table.as_deref(), &node, &program)?;
+    let text = text_of(alloc, words, &node, &program, &quotas)?;
     print_text(out, text.as_str())?;
     Ok(Status::Done)
 }

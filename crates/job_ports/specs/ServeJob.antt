@@ -1,5 +1,6 @@
 -- The job `serve`: its words, and what it prints.
-use Rattle.std.specs.Prelude.{ℕ, suc, List, [], ◌∷◌, ◌++◌, codes, decimal}
+use Rattle.std.specs.Prelude.{◌≡◌, ℕ, suc, List, [], ◌∷◌, ◌++◌, Option, codes, decimal}
+use Rattle.std.specs.Io.KnownBytes.{Appends}
 use Rattle.std.specs.List.{flat_map}
 use Rattle.clap.specs.Simple.{App}
 use Rattle.ports.specs.declared.worker.Report.{Report}
@@ -22,3 +23,10 @@ lines_from first (replies ∷ others) = port_lines first replies ++ lines_from (
 -- the line of how many packets were no command, and how many replies were lost
 abbrev pub report_line : Report → List ℕ
 report_line report = codes "discarded " ++ decimal report.discarded ++ codes " lost " ++ decimal report.lost ++ 10 ∷ []
+
+-- what was printed after that ends in the line that so many replies were lost
+pub record EndsInLost (old new : Option (List ℕ)) (lost : ℕ) : Type 0 where
+  pub replies : List ℕ
+  pub report : Report
+  pub printed : Appends old new (replies ++ report_line report)
+  pub is : report.lost ≡ lost

@@ -7,7 +7,7 @@ ghost use Rattle.ports.specs.Sinks.{replies_in};
 ghost use Rattle.job_parts.specs.Printed.{Prints};
 ghost use Rattle.job_parts.specs.Statuses.{IsDoneWith};
 ghost use Rattle.job_parts.specs.Stops.{StopsBy};
-ghost use Rattle.job_ports.specs.ServeJob.{lines_from, port_lines, report_line, serve_app};
+ghost use Rattle.job_ports.specs.ServeJob.{EndsInLost, lines_from, port_lines, report_line, serve_app};
 ghost use Rattle.job_nodes.specs.Judged.{IsNotReady};
 ghost use Rattle.job_ports.specs.ServedFile.{AreGiven, IsNotServed, ServesFile, ServesWords};
 
@@ -117,7 +117,7 @@ pub fn print_report<W: Write>(out: &mut W, report: Report) -> io::Result<()>
 
 /// Serves the packet lines of a file on the node of these arguments: one worker a port, each in a thread of its own. All lines
 /// are read before, and nothing is printed before all is served: then the replies of each port in order, port by port, and the
-/// sum of the workers' reports.
+/// sum of the workers' reports. `lost` is then how many replies were lost, as the last line has it.
 ///
 /// Faults are found in this order: the file of lines (`CannotRead`, also where it is not UTF-8), those of the node
 /// ([`own_from`]), and then the first line that has one, as [`read_lines`] tells it. `NoMemory` where memory or a thread was
@@ -135,15 +135,18 @@ pub fn serve_file<
     args: &'a NodeLines,
     files: &mut F,
     out: &mut W,
+    lost: &mut u64,
 ) -> Result<Status, Halt<'a>>
     requires { opened ≡ J.book }
     ensures done { IfOk result (IsDoneWith (ServesFile F.reads args.now files.old files.new
         (W.contents out.old) (W.contents out.new))) }
+    ensures lost { OnOk result (EndsInLost (W.contents out.old) (W.contents out.new) lost.new) }
     ensures stops { IfErr result (StopsBy (λ fault.
         IsNotServed F.reads args.now files.old files.new fault
         × (W.contents out.new ≡ W.contents out.old))) }
 {
     let (sinks, report) = serve_words::<J, _, _>(rt, alloc, opened, args, files)?;
+    *lost = report.lost;
     print_ports(out, &sinks)?;
     print_report(out, report)?;
     Ok(Status::Done)

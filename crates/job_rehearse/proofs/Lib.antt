@@ -1,3 +1,7 @@
 mod Stopping
 mod Returning
 mod Runs
+mod Loading
+mod Starting
+mod Trying
+mod Telling

@@ -1,11 +1,18 @@
 -- What ends a job, told in other words.
-use Rattle.std.proofs.Common.{◌≡◌, ℕ, List, Option, subst, sym}
+use Rattle.std.proofs.Common.{◌≡◌, ◌++◌, ◌∷◌, [], ℕ, List, Option, inr, refl, subst, sym}
+use Rattle.std.specs.Io.KnownBytes.{Appends}
 use Rattle.job_parts.specs.Stops.{StopsBy}
 use Rattle.job_parts.specs.declared.faults.Fault.{Fault}
+use Rattle.job_parts.specs.declared.faults.Fault.TheVariants.{NoMemory}
 use Rattle.job_parts.specs.declared.stops.Halt.{Halt}
 use Rattle.job_parts.specs.declared.stops.Halt.TheVariants.{Ended, Unwritten}
 use Rattle.job_parts.specs.declared.status.Status.{Status}
-use Rattle.job_rehearse.specs.Rehearsed.{TellsBad}
+use Rattle.job_rehearse.specs.Loads.{StopsLoad, TakesLoad, unrefused}
+use Rattle.job_rehearse.specs.declared.loaders.Loader.{Loader}
+use Rattle.job_rehearse.specs.declared.steps.Rehearsing.{Rehearsing}
+use Rattle.job_rehearse.specs.Rehearsed.{AsksAny, TellsBad}
+use Rattle.job_rehearse.specs.declared.open_ports.LoadedNode.{LoadedNode}
+use Rattle.job_rehearse.specs.declared.policies.Asked.{Asked}
 use Rattle.job_rehearse.specs.declared.policies.NoPolicy.{NoPolicy}
 
 pub stops_more : (P Q : Fault → Type 0) → ((fault : Fault) → P fault → Q fault) → (halt : Halt) → StopsBy P halt → StopsBy Q halt
@@ -21,4 +28,19 @@ tells_none holds none old new status held told = record {
   bad = subst holds (sym told.bad) held;
   told = told.told;
   failed = told.failed;
+}
+
+-- the new policy was asked at the same node
+pub asks_at : (node other : LoadedNode) (asked : Asked) (old new : Option (List ℕ)) (status : Status)
+    → node ≡ other → AsksAny node asked old new status → AsksAny other asked old new status
+asks_at node other asked old new status is asks = subst (λ (n : LoadedNode). AsksAny n asked old new status) is asks
+
+-- all packets of the loads were taken, and memory was refused to what looks whether the image is loaded
+pub room_stops : (name : List ℕ) (loader : Loader) (slots image : List ℕ) (before after : Rehearsing) (old named new : Option (List ℕ))
+    → Appends old named (name ++ 10 ∷ []) → TakesLoad loader slots image (unrefused before) after named new → StopsLoad name loader slots image before old new NoMemory
+room_stops name loader slots image before after old named new heading taken = record {
+  named = named;
+  heading = heading;
+  after = after;
+  stop = inr (inr (refl, taken));
 }

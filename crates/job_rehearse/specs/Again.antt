@@ -1,9 +1,12 @@
 -- The packets of a load, which a node takes a second time.
-use Rattle.std.specs.Prelude.{◌≡◌, ◌⊎◌, ℕ, Bool, false, List, Option}
-use Rattle.bver.specs.Justified.{AcceptedValue}
+use Rattle.std.specs.Prelude.{◌≡◌, ℕ, Bool, true, false, List, [], ◌∷◌, replicate, Option, Some, None}
+use Rattle.bpf.specs.Program.{IsProgram, Program, image_bytes}
+use Rattle.bpf.specs.declared.fault.ImageFault.{ImageFault}
+use Rattle.bpf.specs.declared.fault.ImageFault.TheVariants as faults
+use Rattle.bver.specs.Justified.{AcceptedValue, IsJustified}
 use Rattle.job_parts.specs.Factory.{factory}
 use Rattle.job_parts.specs.Turns.{AreTaken}
-use Rattle.machine.specs.Sizes.{Maps}
+use Rattle.machine.specs.Sizes.{Maps, counter_maps}
 use Rattle.node_parts.specs.declared.config.NodeConfig.{NodeConfig}
 use Rattle.single_node.specs.Nodes.{IsFresh}
 use Rattle.spw.specs.Line.{lines_of}
@@ -39,8 +42,58 @@ pub record IsDeniedAgain (address : ℕ) (sizes : Maps) (lines : List ℕ) (deni
   pub after : Rehearsing
   pub second : TakesAll lines between after denied
 
--- this is whether a verdict refused one of them the second time at such a node with some maps; it is not said so where none
--- was asked
-abbrev pub IsDeniedSomewhere : (address : ℕ) → (lines : List ℕ) → (denied : Bool) → Type 0
-IsDeniedSomewhere address lines denied =
-    (denied ≡ false) ⊎ ((sizes : Maps) × IsDeniedAgain address sizes lines denied)
+-- memory was refused to what reads an image
+abbrev pub lacks_memory : ImageFault → Bool
+lacks_memory faults.Memory = true
+lacks_memory faults.Magic = false
+lacks_memory faults.Version = false
+lacks_memory faults.Length = false
+lacks_memory faults.Count = false
+lacks_memory faults.Budget = false
+lacks_memory faults.Loop = false
+lacks_memory (faults.Insn slot fault) = false
+
+-- the bytes are the image of a program that is justified for a node with these maps
+pub record IsAcceptable (bytes : List ℕ) (sizes : Maps) : Type 0 where
+  pub program : Program
+  pub limits : IsProgram program
+  pub spelled : bytes ≡ image_bytes program
+  pub justified : IsJustified program sizes
+
+-- the maps on which an image is tried, in this order: none, one of 256 cells, and eight of 32
+abbrev pub no_maps : Maps
+no_maps = counter_maps []
+
+abbrev pub one_map : Maps
+one_map = counter_maps (256 ∷ [])
+
+abbrev pub eight_maps : Maps
+eight_maps = counter_maps (replicate 8 32)
+
+-- the first of these for which the bytes are acceptable
+pub data IsFirst (bytes : List ℕ) (sizes : Maps) : Type 0 where
+  of_none : IsAcceptable bytes no_maps → sizes ≡ no_maps → IsFirst bytes sizes
+  of_one : ¬ IsAcceptable bytes no_maps → IsAcceptable bytes one_map → sizes ≡ one_map → IsFirst bytes sizes
+  of_eight : ¬ IsAcceptable bytes no_maps → ¬ IsAcceptable bytes one_map → IsAcceptable bytes eight_maps → sizes ≡ eight_maps
+      → IsFirst bytes sizes
+
+-- the bytes are acceptable for none of them
+pub record IsForNone (bytes : List ℕ) : Type 0 where
+  pub none : ¬ IsAcceptable bytes no_maps
+  pub one : ¬ IsAcceptable bytes one_map
+  pub eight : ¬ IsAcceptable bytes eight_maps
+
+-- the maps on which the bytes are tried, if there are some
+abbrev pub IsTriedOn : (bytes : List ℕ) → Option Maps → Type 0
+IsTriedOn bytes None = IsForNone bytes
+IsTriedOn bytes (Some sizes) = IsFirst bytes sizes
+
+-- whether a verdict refused one of the packets the second time at such a node with those maps; of an image that is not tried it is no
+abbrev pub IsDeniedOn : (address : ℕ) → (lines : List ℕ) → (denied : Bool) → Option Maps → Type 0
+IsDeniedOn address lines denied None = denied ≡ false
+IsDeniedOn address lines denied (Some sizes) = IsDeniedAgain address sizes lines denied
+
+-- this is whether a verdict refused one of them the second time at such a node with the first maps for which the image is acceptable
+abbrev pub IsDeniedSomewhere : (address : ℕ) → (image lines : List ℕ) → (denied : Bool) → Type 0
+IsDeniedSomewhere address image lines denied =
+    (sizes : Option Maps) × IsTriedOn image sizes × IsDeniedOn address lines denied sizes

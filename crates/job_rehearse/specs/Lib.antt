@@ -1,3 +1,4 @@
+pub mod Starts
 pub mod Loaders
 pub mod Askers
 pub mod Policies
@@ -8,5 +9,6 @@ pub mod Places
 pub mod Again
 pub mod Judging
 pub mod OpenPorts
+pub mod TableLoads
 pub mod RehearseJob
 pub mod Rehearsed

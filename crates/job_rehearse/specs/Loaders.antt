@@ -58,10 +58,9 @@ named_words port initiator key =
 abbrev pub named_text : Loader → List ℕ
 named_text loader = named_words loader.port (encode_upper (loader.initiator ∷ [])) (encode_upper (loader.key ∷ []))
 
--- what it says of who was named; nothing where nobody was
+-- what it says of who loads: the one that is named, or port 0, initiator 67 and key 00
 abbrev pub loader_text : Option Loader → List ℕ
-loader_text None = []
-loader_text (Some loader) = named_text loader
+loader_text named = named_text (loader_in named)
 
 -- the words of a header are those of the loader, and but for its port, initiator, key and target those that `packet` has
 -- without an option

@@ -1,6 +1,11 @@
 -- The load of an image at the node of a rehearsal.
-use Rattle.std.specs.Prelude.{◌≡◌, ◌⊎◌, ◌==◌, ◌-◌, nat_lt, ℕ, Bool, false, if◌then◌else◌, List, [], ◌∷◌, ◌++◌, length, Option}
+use Rattle.std.specs.Prelude.{◌≡◌, ◌≤◌, ◌<◌, ◌⊎◌, ◌&&◌, not, ℕ, Bool, Decides, false, if◌then◌else◌, List, [], ◌∷◌, ◌++◌, length, slice_get, Option, Some}
+use Rattle.std.specs.List.{list_all, list_any}
 use Rattle.std.specs.Io.KnownBytes.{Appends}
+use Rattle.bpf.specs.Program.{image_bytes}
+use Rattle.bver.specs.Justified.{AcceptedValue}
+use Rattle.node_programs.specs.Published.{generation_at, program_at}
+use Rattle.node_programs.specs.declared.publishes.Publish.{Publish}
 use Rattle.spw.specs.Line.{lines_of}
 use Rattle.job_packets.specs.Loads.{with_loads}
 use Rattle.job_packets.specs.declared.packet_options.HeaderWords.{HeaderWords}
@@ -33,22 +38,48 @@ pub record StopsAtStep (loader : Loader) (slots image : List ℕ) (before after 
   pub are_lines : AreLoadLines loader slots image text
   pub stop : StopsIn TakesStep IsNoStep (lines_of text) before after old new fault
 
--- memory was refused before the first packet, or the node stopped at one
+-- the node took all of them, and memory was refused to what looks whether the image is loaded
+abbrev pub LacksRoom : Loader → (slots image : List ℕ) → (before after : Rehearsing) → (old new : Option (List ℕ)) → Fault
+    → Type 0
+LacksRoom loader slots image before after old new fault =
+    (fault ≡ NoMemory) × TakesLoad loader slots image before after old new
+
+-- memory was refused before the first packet or after the last, or the node stopped at one
 abbrev pub StopsTaking : Loader → (slots image : List ℕ) → (before after : Rehearsing) → (old new : Option (List ℕ)) → Fault
     → Type 0
 StopsTaking loader slots image before after old new fault =
-    ((fault ≡ NoMemory) × (after ≡ before) × (new ≡ old)) ⊎ StopsAtStep loader slots image before after old new fault
+    ((fault ≡ NoMemory) × (after ≡ before) × (new ≡ old))
+    ⊎ (StopsAtStep loader slots image before after old new fault ⊎ LacksRoom loader slots image before after old new fault)
 
--- how loads into so many slots ended, by how many programs were published before and after, and whether a verdict refused
--- one of their packets
-abbrev pub ending_of : (slots before after : ℕ) → (is_refused : Bool) → Ending
-ending_of slots before after is_refused =
-    if (after - before) == slots then Loaded
-    else (if is_refused then (if nat_lt before after then InPart else LockedOut) else NotLoaded)
+-- the image is loaded into the slot: the last program that was published for it is that of the image, and was published after so
+-- many others
+pub record IsLoaded (image : List ℕ) (count : ℕ) (programs : List Publish) (slot : ℕ) : Type 0 where
+  pub there : slot < 4
+  pub generation : ℕ
+  pub is_generation : generation_at programs slot ≡ Some generation
+  pub later : count ≤ generation
+  pub program : AcceptedValue
+  pub is_program : program_at programs slot ≡ Some program
+  pub is_image : image_bytes program.program ≡ image
 
--- the node, of whose packets none was refused yet
+-- whether the image is loaded into each of these slots, in turn
+abbrev pub AreLoaded : (image : List ℕ) → (count : ℕ) → (programs : List Publish) → (slots : List ℕ) → List Bool → Type 0
+AreLoaded image count programs [] [] = Unit {0}
+AreLoaded image count programs [] (is ∷ rest) = ⊥
+AreLoaded image count programs (slot ∷ slots) [] = ⊥
+AreLoaded image count programs (slot ∷ slots) (is ∷ rest) =
+    Decides is (IsLoaded image count programs slot) × AreLoaded image count programs slots rest
+
+-- how loads of an image into slots ended, by whether the image is loaded into each slot, whether a verdict refused a write of them,
+-- and whether one was not answered with status 0
+abbrev pub ending_of : (loaded : List Bool) → (is_refused is_failed : Bool) → Ending
+ending_of loaded is_refused is_failed =
+    if is_refused then (if list_any (λ is. is) loaded then InPart else LockedOut)
+    else (if list_all (λ is. is) loaded && not is_failed then Loaded else NotLoaded)
+
+-- the node, of whose packets none was refused yet, and none failed
 abbrev pub unrefused : Rehearsing → Rehearsing
-unrefused r = record r { refused = false }
+unrefused r = record r { refused = false; failed = false }
 
 -- the name of an image was printed, its loads were taken, and they ended so
 pub record Loads (name : List ℕ) (loader : Loader) (slots image : List ℕ) (ending : Ending) (before after : Rehearsing)
@@ -56,8 +87,11 @@ pub record Loads (name : List ℕ) (loader : Loader) (slots image : List ℕ) (e
   pub named : Option (List ℕ)
   pub heading : Appends old named (name ++ 10 ∷ [])
   pub taken : TakesLoad loader slots image (unrefused before) after named new
-  pub ended : ending
-      ≡ ending_of (length slots) (length before.node.programs) (length after.node.programs) after.refused
+  pub loaded : List Bool
+  pub are_loaded : AreLoaded image (length before.node.programs) after.node.programs slots loaded
+  pub ended : ending ≡ ending_of loaded after.refused after.failed
+  pub each : ending ≡ Loaded → (number slot : ℕ) → slice_get slots number ≡ Some slot
+      → IsLoaded image (length before.node.programs) after.node.programs slot
 
 -- the name of an image was printed, and a fault ended its loads
 pub record StopsLoad (name : List ℕ) (loader : Loader) (slots image : List ℕ) (before : Rehearsing)

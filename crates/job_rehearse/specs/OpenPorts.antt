@@ -1,62 +1,105 @@
--- At which ports a program lets loads pass.
-use Rattle.std.specs.Prelude.{◌≡◌, ◌+◌, ◌&&◌, not, ℕ, zero, suc, Bool, false, if◌then◌else◌, List, [], ◌∷◌, ◌++◌, codes, decimal, length, slice_index_or}
+-- Whose loads a program lets pass, and at which ports of a node.
+use Rattle.std.specs.Prelude.{◌≡◌, ◌+◌, ◌&&◌, ◌==◌, not, ℕ, zero, suc, Bool, if◌then◌else◌, List, [], ◌∷◌, ◌++◌, codes, decimal, length, slice_index_or}
 use Rattle.bver.specs.Justified.{AcceptedValue}
-use Rattle.job_config.specs.declared.own_node.TheConstants.{NODE_ADDRESS}
 use Rattle.job_rehearse.specs.Askers.{asker_text}
-use Rattle.job_rehearse.specs.Judging.{LetsLoad}
+use Rattle.job_rehearse.specs.Judging.{IsPassing}
 use Rattle.job_rehearse.specs.declared.askers.Asker.{Asker}
 use Rattle.job_rehearse.specs.declared.loaders.Loader.{Loader}
+use Rattle.job_rehearse.specs.declared.open_ports.LoadedNode.{LoadedNode}
+use Rattle.job_rehearse.specs.declared.passing.Passing.{Passing}
+use Rattle.job_rehearse.specs.declared.passing.Passing.TheVariants.{Always, UntilSpent, OnceSpent, Never}
 
--- the asker, at a port
-abbrev pub loader_at : Asker → (port : ℕ) → Loader
-loader_at asker port =
-    record { port = port; initiator = asker.initiator.byte; key = asker.key.byte; target = NODE_ADDRESS }
+-- the asker, at a port of the node
+abbrev pub loader_at : LoadedNode → Asker → (port : ℕ) → Loader
+loader_at node asker port =
+    record { port = port; initiator = asker.initiator.byte; key = asker.key.byte; target = node.target }
 
 -- the asker of a place
 abbrev pub IsAt : List Asker → (place : ℕ) → Asker → Type 0
 IsAt askers place asker = (other : Asker) → slice_index_or askers place other ≡ asker
 
+-- ---- answers
+
+-- the number of an answer
+abbrev pub number_of : Passing → ℕ
+number_of Always = 0
+number_of UntilSpent = 1
+number_of OnceSpent = 2
+number_of Never = 3
+
+-- an answer is that one
+abbrev pub is_kind : (kind passing : Passing) → Bool
+is_kind kind passing = number_of kind == number_of passing
+
+-- what a line says of when loads pass
+abbrev pub kind_words : Passing → List ℕ
+kind_words Always = []
+kind_words UntilSpent = codes " until quotas are spent"
+kind_words OnceSpent = codes " only after quotas are spent"
+kind_words Never = []
+
+-- the answer at a port; behind the last it is none of those that are printed
+abbrev pub answer_at : (answers : List Passing) → (port : ℕ) → Passing
+answer_at answers port = slice_index_or answers port Never
+
+-- the answer at a port is that one
+abbrev pub is_open : (answers : List Passing) → (kind : Passing) → (port : ℕ) → Bool
+is_open answers kind port = is_kind kind (answer_at answers port)
+
 -- ---- runs of ports
 
--- the port is the last of a run of open ports: the answer of it is yes, and that of the next is not
-abbrev pub ends_run : (answers : List Bool) → (port : ℕ) → Bool
-ends_run answers port = slice_index_or answers port false && not (slice_index_or answers (port + 1) false)
+-- the port is the last of a run of ports with that answer: it has it, and the next has not
+abbrev pub ends_run : (answers : List Passing) → (kind : Passing) → (port : ℕ) → Bool
+ends_run answers kind port = is_open answers kind port && not (is_open answers kind (port + 1))
 
--- the first of the open ports right before a port; if the one before it is closed, the port itself
-abbrev pub first_of_run : (answers : List Bool) → (port : ℕ) → ℕ
-first_of_run answers zero = zero
-first_of_run answers (suc port) = if slice_index_or answers port false then first_of_run answers port else suc port
+-- the first of the ports with that answer right before a port; if the one before it has another, the port itself
+abbrev pub first_of_run : (answers : List Passing) → (kind : Passing) → (port : ℕ) → ℕ
+first_of_run answers kind zero = zero
+first_of_run answers kind (suc port) = if is_open answers kind port then first_of_run answers kind port else suc port
 
 -- the line of a run of ports, with its line feed (10)
-abbrev pub run_line : (words : List ℕ) → (first last : ℕ) → List ℕ
-run_line words first last = codes "loads by port " ++ decimal first ++ codes "-" ++ decimal last ++ words ++ 10 ∷ []
+abbrev pub run_line : (lead words more : List ℕ) → (first last : ℕ) → List ℕ
+run_line lead words more first last =
+    lead ++ codes " by port " ++ decimal first ++ codes "-" ++ decimal last ++ words ++ more ++ 10 ∷ []
 
 -- behind a text the line of the run that ends at a port, if one does
-abbrev pub with_end : (front : List ℕ) → (answers : List Bool) → (words : List ℕ) → (first port : ℕ) → List ℕ
-with_end front answers words first port = if ends_run answers port then front ++ run_line words first port else front
+abbrev pub with_end : (front : List ℕ) → (answers : List Passing) → (kind : Passing) → (lead words : List ℕ)
+    → (first port : ℕ) → List ℕ
+with_end front answers kind lead words first port =
+    if ends_run answers kind port then front ++ run_line lead words (kind_words kind) first port else front
 
--- behind a text a line for each run of open ports that ends below a number
-abbrev pub with_runs : (front : List ℕ) → (answers : List Bool) → (words : List ℕ) → (count : ℕ) → List ℕ
-with_runs front answers words zero = front
-with_runs front answers words (suc port) =
-    with_end (with_runs front answers words port) answers words (first_of_run answers port) port
+-- behind a text a line for each run of ports with that answer that ends below a number
+abbrev pub with_runs : (front : List ℕ) → (answers : List Passing) → (kind : Passing) → (lead words : List ℕ)
+    → (count : ℕ) → List ℕ
+with_runs front answers kind lead words zero = front
+with_runs front answers kind lead words (suc port) =
+    with_end (with_runs front answers kind lead words port) answers kind lead words (first_of_run answers kind port) port
 
-module _ (judge : AcceptedValue) (image : List ℕ) where
-  -- whether the program lets each write of the asker's load of the image pass at a port
-  abbrev pub LetsAt : Asker → (port : ℕ) → (passes : Bool) → Type 0
-  LetsAt asker port passes = LetsLoad judge (loader_at asker port) image passes
+-- behind a text the runs of each answer but the last: of ports at which both loads pass, the first alone, and the second alone
+abbrev pub with_kinds : (front : List ℕ) → (answers : List Passing) → (lead words : List ℕ) → (count : ℕ) → List ℕ
+with_kinds front answers lead words count =
+    with_runs
+    (with_runs (with_runs front answers Always lead words count) answers UntilSpent lead words count)
+    answers OnceSpent lead words count
+
+module _ (judge : AcceptedValue) (image : List ℕ) (node : LoadedNode) where
+  -- whether the program lets the asker's load of the image pass at a port
+  abbrev pub PassesAt : Asker → (port : ℕ) → Passing → Type 0
+  PassesAt asker port passing = IsPassing judge (loader_at node asker port) image passing
 
   -- the same for each port below a number, in order
-  abbrev pub AreOpen : Asker → (count : ℕ) → (answers : List Bool) → Type 0
+  abbrev pub AreOpen : Asker → (count : ℕ) → (answers : List Passing) → Type 0
   AreOpen asker zero answers = answers ≡ []
   AreOpen asker (suc port) answers =
-      (front : List Bool) × (last : Bool) × AreOpen asker port front × LetsAt asker port last × (answers ≡ front ++ last ∷ [])
+      (front : List Passing) × (last : Passing) × AreOpen asker port front × PassesAt asker port last
+      × (answers ≡ front ++ last ∷ [])
 
-  -- behind a text a line for each run of the 32 ports at which the program lets the asker's load pass
+module _ (judge : AcceptedValue) (image : List ℕ) (node : LoadedNode) (lead : List ℕ) where
+  -- behind a text a line for each run of the node's ports at which the program lets the asker's load pass, in one way
   pub record TellsAsker (asker : Asker) (before after : List ℕ) : Type 0 where
-    pub answers : List Bool
-    pub are_open : AreOpen asker 32 answers
-    pub lines : after ≡ with_runs before answers (asker_text asker) 32
+    pub answers : List Passing
+    pub are_open : AreOpen judge image node asker node.ports answers
+    pub lines : after ≡ with_kinds before answers lead (asker_text asker) node.ports
 
   -- the same of the asker of a place
   pub record TellsPlace (askers : List Asker) (place : ℕ) (before after : List ℕ) : Type 0 where
@@ -70,6 +113,6 @@ module _ (judge : AcceptedValue) (image : List ℕ) where
   TellsFirst askers (suc place) before after =
       (between : List ℕ) × TellsFirst askers place before between × TellsPlace askers place between after
 
-  -- the text is the lines of all askers
+  -- the text is the lines of all askers: whose load is in none of them does not pass
   abbrev pub TellsAskers : List Asker → (text : List ℕ) → Type 0
   TellsAskers askers text = TellsFirst askers (length askers) [] text

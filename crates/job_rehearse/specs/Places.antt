@@ -1,15 +1,15 @@
 -- The node at which is rehearsed: one with some maps of which nothing else is said, or that of a file.
-use Rattle.std.specs.Prelude.{◌≡◌, ◌⊎◌, nat_lt, ℕ, Bool, true, false, List, [], Option, Some, None, codes, string_bytes}
+use Rattle.std.specs.Prelude.{◌≡◌, ◌⊎◌, nat_lt, min, ℕ, Bool, true, false, List, [], Option, Some, None, codes, string_bytes}
 use Rattle.bver.specs.Justified.{AcceptedValue}
 use Rattle.clap.specs.Walk.{Row, first_of}
 use Rattle.machine.specs.Sizes.{Maps}
 use Rattle.job_config.specs.OwnNodes.{OwnNodeValue}
 use Rattle.job_config.specs.Reads.{ReadsNoNode, ReadsNode}
+use Rattle.job_config.specs.declared.own_node.TheConstants.{NODE_ADDRESS}
 use Rattle.job_nodes.specs.JobNode.{JobNodeValue, alone}
 use Rattle.job_nodes.specs.Making.{IsNodeOf, IsUnmade}
 use Rattle.job_nodes.specs.Sources.{EndsUnmade}
 use Rattle.job_nodes.specs.declared.making.Unmade.{Unmade}
-use Rattle.job_parts.specs.Arguments.{is_set}
 use Rattle.job_parts.specs.Files.{Reads}
 use Rattle.job_parts.specs.Inputs.{InputValue, input}
 use Rattle.job_parts.specs.Options.{GivesSizes, IsBadList}
@@ -21,6 +21,7 @@ use Rattle.job_parts.specs.declared.usage.UsageFault.TheVariants.{Parse, BadOpti
 use Rattle.job_rehearse.specs.Loaders.{loader_in, ports_in}
 use Rattle.job_rehearse.specs.Steps.{IsBegun}
 use Rattle.job_rehearse.specs.declared.loaders.Loader.{Loader}
+use Rattle.job_rehearse.specs.declared.open_ports.LoadedNode.{LoadedNode}
 use Rattle.job_rehearse.specs.declared.places.Place.{Place}
 use Rattle.job_rehearse.specs.declared.places.Place.TheVariants.{Plain, Own}
 use Rattle.job_rehearse.specs.declared.places.PlaceWords.{PlaceWords}
@@ -44,11 +45,10 @@ abbrev pub second_read : PlaceWords → (new : List ℕ) → Option InputValue
 second_read (HasMaps sizes) new = Some (input new ImageOrText)
 second_read (File name) new = None
 
--- the file's name is the only option that says anything of the node: beside it are neither maps nor `--any`
+-- the file's name is the only option that says anything of the node: beside it are no maps
 pub record IsOnlyFile (rows : List Row) (name : List ℕ) : Type 0 where
   pub named : first_of (codes "node") rows ≡ Some name
   pub no_maps : first_of (codes "maps") rows ≡ None
-  pub no_any : is_set (codes "any") rows ≡ false
 
 -- what the options say of the node
 abbrev pub GivesPlace : List Row → PlaceWords → Type 0
@@ -91,6 +91,11 @@ pub record IsBegunOwn (own : OwnNodeValue) (program : AcceptedValue) (r : Rehear
   pub node : r.node ≡ alone made
   pub silent : r.reply ≡ []
   pub unrefused : r.refused ≡ false
+
+-- who is asked of its loads: of a node of which nothing else is said, logical address FE and 32 ports
+abbrev pub loaded_at : Place → LoadedNode
+loaded_at (Plain sizes) = record { target = NODE_ADDRESS; ports = 32 }
+loaded_at (Own own) = record { target = own.address; ports = min own.ports 32 }
 
 -- the node before the first load, where the program judges in all slots at first
 abbrev pub IsBegunAt : Place → AcceptedValue → (named : Option Loader) → Rehearsing → Type 0

@@ -12,7 +12,7 @@ use Rattle.job_parts.specs.declared.status.Status.TheVariants.{Done, Failed, Mis
 use Rattle.job_rehearse.specs.Loaders.{loader_text}
 use Rattle.job_rehearse.specs.Loads.{Loads, StopsLoad}
 use Rattle.job_rehearse.specs.OpenPorts.{TellsAskers}
-use Rattle.job_rehearse.specs.Places.{HoldsNoPlace, HoldsPlace, IsBegunAt, IsUnbegun, has_port, loader_on, sizes_at}
+use Rattle.job_rehearse.specs.Places.{HoldsNoPlace, HoldsPlace, IsBegunAt, IsUnbegun, has_port, loaded_at, loader_on, sizes_at}
 use Rattle.job_parts.specs.TwoFiles.{TellsNamedFault}
 use Rattle.job_rehearse.specs.Policies.{HoldsAsked, HoldsBoth, HoldsNotAsked, HoldsNotBoth}
 use Rattle.job_rehearse.specs.declared.loads.Ending.{Ending}
@@ -20,6 +20,7 @@ use Rattle.job_rehearse.specs.declared.loads.Ending.TheVariants.{InPart, Loaded,
 use Rattle.job_rehearse.specs.declared.loaders.Loader.{Loader}
 use Rattle.job_rehearse.specs.declared.loaders.Loaders.TheVariants.{Any, One}
 use Rattle.job_rehearse.specs.declared.loaders.Loaders.{Loaders}
+use Rattle.job_rehearse.specs.declared.open_ports.LoadedNode.{LoadedNode}
 use Rattle.job_rehearse.specs.declared.places.Place.{Place}
 use Rattle.job_rehearse.specs.declared.policies.Asked.{Asked}
 use Rattle.job_rehearse.specs.declared.policies.NoPolicy.{NoPolicy}
@@ -105,10 +106,10 @@ module _ (place : Place) (slots : List ℕ) (named : Option Loader) (policies : 
 
 -- ---- of the loads of any
 
--- the new policy was asked whose loads of the old one it lets pass, and that was printed
-pub record AsksAny (asked : Asked) (old new : Option (List ℕ)) (status : Status) : Type 0 where
+-- the new policy was asked whose loads of the old one it lets pass at that node, and that was printed
+pub record AsksAny (node : LoadedNode) (asked : Asked) (old new : Option (List ℕ)) (status : Status) : Type 0 where
   pub lines : List ℕ
-  pub tells : TellsAskers asked.judge asked.policies.old.items asked.askers.items lines
+  pub tells : TellsAskers asked.judge asked.policies.old.items node (codes "loads") asked.askers.items lines
   pub printed : Appends old new (any_end lines).0
   pub status_is : status ≡ (any_end lines).1
 
@@ -160,25 +161,25 @@ module _ {S : Type 0} (reads : Reads S) (words : RehearseWords) where
   DoesOne named before after old new status =
       DoesPlaced named before after old new status ⊎ RefusesPort named before after old new status
 
-  -- both policies were read, for a node with these maps, and the new one was asked
-  pub record AsksBoth (sizes : Maps) (before after : S) (old new : Option (List ℕ)) (status : Status) : Type 0 where
+  -- both policies were read, for that node, and the new one was asked
+  pub record AsksBoth (place : Place) (before after : S) (old new : Option (List ℕ)) (status : Status) : Type 0 where
     pub asked : Asked
-    pub held : HoldsAsked reads words sizes before after asked
-    pub asks : AsksAny asked old new status
+    pub held : HoldsAsked reads words (sizes_at place) before after asked
+    pub asks : AsksAny (loaded_at place) asked old new status
 
-  -- what was read and printed of the loads of any where no fault ended it, for a node with these maps: the new policy was asked;
-  -- or a table has a fault
-  abbrev pub AsksWith : Maps → (before after : S) → (old new : Option (List ℕ)) → Status → Type 0
-  AsksWith sizes before after old new status =
-      AsksBoth sizes before after old new status
-      ⊎ TellsBad (HoldsNotAsked reads words sizes before after) old new status
+  -- what was read and printed of the loads of any where no fault ended it, for that node: the new policy was asked; or a table has a
+  -- fault
+  abbrev pub AsksWith : Place → (before after : S) → (old new : Option (List ℕ)) → Status → Type 0
+  AsksWith place before after old new status =
+      AsksBoth place before after old new status
+      ⊎ TellsBad (HoldsNotAsked reads words (sizes_at place) before after) old new status
 
-  -- the same with the maps of the words
+  -- the same for the node of the words
   pub record DoesAny (before after : S) (old new : Option (List ℕ)) (status : Status) : Type 0 where
     pub place : Place
     pub between : S
     pub placed : HoldsPlace reads words.place before place between
-    pub does : AsksWith (sizes_at place) between after old new status
+    pub does : AsksWith place between after old new status
 
   -- of whose loads it is done
   abbrev pub Does : Loaders → (before after : S) → (old new : Option (List ℕ)) → Status → Type 0

@@ -1,8 +1,9 @@
 -- The packets of loads, which a node of one thread takes in turn.
-use Rattle.std.specs.Prelude.{◌≡◌, ◌≤◌, ◌⊎◌, ◌==◌, ◌||◌, not, ℕ, Bool, false, if◌then◌else◌, List, [], length, Option, Some, None}
+use Rattle.std.specs.Prelude.{◌≡◌, ◌≤◌, ◌⊎◌, ◌==◌, ◌&&◌, ◌||◌, not, ℕ, Bool, true, false, if◌then◌else◌, List, [], length, Option, Some, None}
 use Rattle.std.specs.Io.KnownBytes.{Appends}
 use Rattle.bver.specs.Justified.{AcceptedValue}
 use Rattle.node_parts.specs.declared.config.NodeConfig.{NodeConfig}
+use Rattle.node_parts.specs.declared.served.Served.{Served}
 use Rattle.rmap.specs.Command.{CommandValue, address_of, command_of, discard_of, writes}
 use Rattle.rmap.specs.declared.boot.TheConstants.{LOAD_REGISTER}
 use Rattle.rmap.specs.declared.discard.Discard.{Discard}
@@ -17,7 +18,7 @@ use Rattle.job_parts.specs.declared.bad_lines.BadLine.{BadLine}
 use Rattle.job_parts.specs.declared.bad_lines.BadLine.TheVariants.{Line, NoEvent, NoPort, NoRoom}
 use Rattle.job_parts.specs.declared.stops.LineEnd.{LineEnd}
 use Rattle.job_parts.specs.declared.stops.LineEnd.TheVariants.{Bad, NoMemory}
-use Rattle.job_rehearse.specs.Words.{step_line}
+use Rattle.job_rehearse.specs.Words.{is_success, status_in, step_line}
 use Rattle.job_rehearse.specs.declared.steps.Rehearsing.{Rehearsing}
 use Rattle.job_rehearse.specs.declared.steps.Step.{Step}
 use Rattle.job_rehearse.specs.declared.steps.Step.TheVariants.{Control, Part, Result}
@@ -32,11 +33,19 @@ abbrev pub step_of : Cargo → Option Discard → Step
 step_of p (Some discard) = Part
 step_of p None = step_at (command_of p)
 
--- the verdict does not let a packet of a load be done; what reads the load result does nothing
+-- it is a write; what reads the load result does nothing
+abbrev pub is_write : Step → Bool
+is_write Part = true
+is_write Control = true
+is_write Result = false
+
+-- the verdict does not let a write of a load be done
 abbrev pub is_refused : Step → (verdict : ℕ) → Bool
-is_refused Part verdict = not (verdict == 0)
-is_refused Control verdict = not (verdict == 0)
-is_refused Result verdict = false
+is_refused step verdict = is_write step && not (verdict == 0)
+
+-- a write of a load was not answered with status 0
+abbrev pub is_failed : Step → Served → Bool
+is_failed step served = is_write step && not (is_success (status_in served))
 
 -- a fresh node of so many ports, at which the program judges all, and which has served nothing
 pub record IsBegun (program : AcceptedValue) (ports : ℕ) (r : Rehearsing) : Type 0 where
@@ -45,6 +54,7 @@ pub record IsBegun (program : AcceptedValue) (ports : ℕ) (r : Rehearsing) : Ty
   pub fresh : IsFresh config program r.node
   pub silent : r.reply ≡ []
   pub unrefused : r.refused ≡ false
+  pub unfailed : r.failed ≡ false
 
 -- the line is a packet line, of a port that is none of so many
 pub record HasOtherPort (line : List ℕ) (ports : ℕ) : Type 0 where
@@ -69,6 +79,7 @@ pub record TakesStep (line : List ℕ) (before after : Rehearsing) (old new : Op
   pub served : ServesTold told port packet before.node after.node after.reply
   pub refused : after.refused
       ≡ (before.refused || is_refused (step_of packet (discard_of packet.bytes)) told.verdict)
+  pub failed : after.failed ≡ (before.failed || is_failed (step_of packet (discard_of packet.bytes)) told.served)
   pub printed : Appends old new (step_line (step_of packet (discard_of packet.bytes)) told.served after.reply)
 
 -- the node did not take the line, with which this is wrong, and nothing was printed

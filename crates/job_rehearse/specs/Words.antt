@@ -1,5 +1,5 @@
 -- The words for what becomes of a load.
-use Rattle.std.specs.Prelude.{ℕ, ◌+◌, ◌==◌, if◌then◌else◌, List, [], ◌∷◌, ◌++◌, Option, Some, None, codes, decimal, drop, length, take}
+use Rattle.std.specs.Prelude.{ℕ, ◌+◌, ◌==◌, Bool, false, if◌then◌else◌, List, [], ◌∷◌, ◌++◌, Option, Some, None, codes, decimal, drop, length, take}
 use Rattle.node_parts.specs.declared.served.Served.{Served}
 use Rattle.node_parts.specs.declared.served.Served.TheVariants.{Stopped, Unread, Done, Window}
 use Rattle.node_parts.specs.declared.stop.Stop.TheVariants.{Answered, Discarded}
@@ -43,6 +43,11 @@ status_in (Stopped (Answered status)) = Some status
 status_in Unread = None
 status_in (Done applied) = Some applied.status
 status_in (Window status) = Some status
+
+-- a packet ended with status 0
+abbrev pub is_success : Option Status → Bool
+is_success None = false
+is_success (Some status) = status_code status == 0
 
 -- how a packet ended
 abbrev pub outcome_text : Option Status → List ℕ

@@ -1,11 +1,13 @@
 //! Whether the packets of a load are denied after that load.
 
-ghost use Rattle.std.specs.Prelude.{IfOk};
-ghost use Rattle.job_rehearse.specs.Again.{IsDeniedAgain, IsDeniedSomewhere, IsNewNode, TakesAll};
+ghost use Rattle.std.specs.Prelude.{◌≡◌, Decides, IfOk};
+ghost use Rattle.bver.specs.Justified.{IsJustified};
+ghost use Rattle.machine.specs.Sizes.{counter_maps};
+ghost use Rattle.job_rehearse.specs.Again.{IsAcceptable, IsDeniedAgain, IsDeniedSomewhere, IsNewNode, IsTriedOn, TakesAll, lacks_memory};
 
 use crate::steps::Rehearsing;
-use bpf::Image;
-use bver::verify;
+use bpf::{Image, ImageFault};
+use bver::{Refusal, verify};
 use job_nodes::node::node_config;
 use job_parts::factory::factory_program;
 use job_parts::turns::take_lines;
@@ -15,9 +17,6 @@ use single_node::SingleNode;
 use spw::PORTS;
 use std::alloc::{AllocError, Global};
 use std::io;
-
-/// The maps of the nodes on which an image is tried: none, one of all cells, and eight.
-const TRIED: [&[u16]; 3] = [&[], &[256], &[32; 8]];
 
 /// A fresh node of that logical address, with 32 ports and these maps, at which the factory program judges all.
 fn new_node(alloc: Global, address: u8, sizes: MapSizes) -> Result<Rehearsing, AllocError>
@@ -36,6 +35,7 @@ fn new_node(alloc: Global, address: u8, sizes: MapSizes) -> Result<Rehearsing, A
         node,
         reply: ReplyBuf::new(),
         refused: false,
+        failed: false,
     })
 }
 
@@ -44,6 +44,7 @@ fn take_all(alloc: Global, rehearsing: &mut Rehearsing, lines: &str) -> Result<b
     ensures { IfOk result (TakesAll lines.now rehearsing.old rehearsing.new) }
 {
     rehearsing.refused = false;
+    rehearsing.failed = false;
     match take_lines(alloc, rehearsing, lines, &mut io::sink()) {
         Ok(()) => Ok(rehearsing.refused),
         Err(_) => Err(AllocError),
@@ -64,16 +65,75 @@ fn is_denied_again(
     take_all(alloc, &mut rehearsing, lines)
 }
 
-/// The maps of the first of the nodes that accepts an image; `None` where none does.
-fn sizes_for(alloc: Global, image: &[u8]) -> Option<MapSizes> {
-    for maps in TRIED {
-        let image = Image::read(alloc, image).ok()?;
-        let sizes = MapSizes::new(maps).ok()?;
-        if verify(alloc, image, &sizes).is_ok() {
-            return Some(sizes);
-        }
+/// Whether a program is accepted for a node with these maps.
+#[tactic(auto, using(crate::proofs::Trying::justified_is, crate::proofs::Trying::unjustified_is))]
+fn is_accepted(alloc: Global, image: Image, sizes: &MapSizes) -> Result<bool, AllocError>
+    ensures { IfOk result (λ is. Decides is (IsJustified image sizes.now)) }
+{
+    match verify(alloc, image, sizes) {
+        Ok(_) => Ok(true),
+        Err(refused) if refused.code == Refusal::Memory => Err(AllocError),
+        Err(_refused) => Ok(false),
     }
-    None
+}
+
+/// Whether memory was refused to what reads an image.
+fn lacks_memory(fault: ImageFault) -> bool
+    ensures { result ≡ lacks_memory fault }
+{
+    match fault {
+        ImageFault::Memory => true,
+        ImageFault::Magic
+        | ImageFault::Version
+        | ImageFault::Length
+        | ImageFault::Count
+        | ImageFault::Budget
+        | ImageFault::Loop
+        | ImageFault::Insn { .. } => false,
+    }
+}
+
+/// Whether bytes are an image of a program that is accepted for a node with these maps.
+#[tactic(auto, using(crate::proofs::Trying::unread_is))]
+fn is_acceptable(alloc: Global, bytes: &[u8], sizes: &MapSizes) -> Result<bool, AllocError>
+    ensures { IfOk result (λ is. Decides is (IsAcceptable bytes.now sizes.now)) }
+{
+    match Image::read(alloc, bytes) {
+        Ok(image) => is_accepted(alloc, image, sizes),
+        Err(fault) if lacks_memory(fault) => Err(AllocError),
+        Err(_fault) => Ok(false),
+    }
+}
+
+/// Counter maps of these sizes, which are some that a node may have.
+fn counter_maps(cells: &[u16]) -> Result<MapSizes, AllocError>
+    ensures { IfOk result (λ sizes. sizes ≡ counter_maps cells.now) }
+{
+    match MapSizes::new(cells) {
+        Ok(sizes) => Ok(sizes),
+        Err(_) => Err(AllocError),
+    }
+}
+
+/// The maps on which an image is tried: the first of none, one of 256 cells and eight of 32 for which it is accepted. `None` if it
+/// is accepted for none of them.
+#[tactic(auto, using(crate::proofs::Trying::first_of_none, crate::proofs::Trying::first_of_one, crate::proofs::Trying::first_of_eight, crate::proofs::Trying::first_of_all))]
+fn sizes_for(alloc: Global, image: &[u8]) -> Result<Option<MapSizes>, AllocError>
+    ensures { IfOk result (IsTriedOn image.now) }
+{
+    let none = counter_maps(&[])?;
+    if is_acceptable(alloc, image, &none)? {
+        return Ok(Some(none));
+    }
+    let one = counter_maps(&[256])?;
+    if is_acceptable(alloc, image, &one)? {
+        return Ok(Some(one));
+    }
+    let eight = counter_maps(&[32; 8])?;
+    if is_acceptable(alloc, image, &eight)? {
+        return Ok(Some(eight));
+    }
+    Ok(None)
 }
 
 /// Whether the packets of a load of this image are denied after that load: at a fresh node of that logical address which took
@@ -89,9 +149,9 @@ pub fn denies_again(
     image: &[u8],
     lines: &str,
 ) -> Result<bool, AllocError>
-    ensures { IfOk result (IsDeniedSomewhere address lines.now) }
+    ensures { IfOk result (IsDeniedSomewhere address image.now lines.now) }
 {
-    match sizes_for(alloc, image) {
+    match sizes_for(alloc, image)? {
         Some(sizes) => is_denied_again(alloc, address, sizes, lines),
         None => Ok(false),
     }

@@ -130,7 +130,7 @@ fn add_pairs(
 }
 
 /// Of whose loads the program of a table is asked.
-fn table_askers(alloc: Global, rules: &[PortRule]) -> Result<Vec<Asker>, AllocError>
+pub(crate) fn table_askers(alloc: Global, rules: &[PortRule]) -> Result<Vec<Asker>, AllocError>
     ensures { IfOk result (λ askers. askers.items ≡ table_askers rules.now) }
 {
     let initiators = values_of(alloc, rules, Field::Initiator)?;

@@ -148,14 +148,11 @@ fn named_text(alloc: Global, loader: Loader) -> Result<String, AllocError>
     named_words(alloc, loader.port, initiator.as_str(), key.as_str())
 }
 
-/// What the last line says of who was named; nothing where nobody was.
+/// What the last line says of who loads: the one that is named, or port 0, initiator 67 and key 00.
 pub fn loader_text(alloc: Global, named: Option<Loader>) -> Result<String, AllocError>
     ensures { IfOk result (λ text. string_bytes text ≡ loader_text named) }
 {
-    match named {
-        Some(loader) => named_text(alloc, loader),
-        None => Ok(String::new(alloc)),
-    }
+    named_text(alloc, loader_in(named))
 }
 
 /// The words of the headers of a loader: but for its port, initiator, key and target as `packet` has them without an option.

@@ -1,28 +1,30 @@
 //! The load of an image at the node of a rehearsal.
 
-ghost use Rattle.std.specs.Prelude.{◌≡◌, ◌≤◌, ◌+◌, IfErr, IfOk, OnOk, length};
+ghost use Rattle.std.specs.Prelude.{◌≡◌, ◌≤◌, ◌+◌, Decides, IfErr, IfOk, OnOk, length};
+ghost use Rattle.std.specs.List.{list_all, list_any};
 ghost use Rattle.rmap.specs.declared.boot.TheConstants.{STAGING_SIZE};
 ghost use Rattle.job_parts.specs.Stops.{StopsBy};
-ghost use Rattle.job_rehearse.specs.Loads.{Loads, StopsLoad, StopsTaking, TakesLoad, ending_of};
+ghost use Rattle.job_rehearse.specs.Loads.{AreLoaded, IsLoaded, Loads, StopsLoad, StopsTaking, TakesLoad, ending_of};
 
 use crate::loaders::{Loader, header_of};
 use crate::steps::Rehearsing;
 use job_packets::loads::add_loads;
 use job_parts::stops::Halt;
 use job_parts::turns::take_lines;
-use std::alloc::Global;
+use single_node::SingleNode;
+use std::alloc::{AllocError, Global};
 use std::io::Write;
 
 /// How the loads of an image ended.
 #[derive(Clone, Copy, Debug, PartialEq, Eq)]
 pub enum Ending {
-    /// The image was loaded into each slot.
+    /// Each write was answered with status 0, and the program of each slot is the image's.
     Loaded,
-    /// It was loaded into some slot and not into each, and a program did not let a packet be done.
+    /// A program did not let a write be done, and the program of some slot is the image's.
     InPart,
-    /// It was loaded into no slot, and a program did not let a packet be done.
+    /// A program did not let a write be done, and the program of no slot is the image's.
     LockedOut,
-    /// It was not, though each packet was let pass.
+    /// It was not loaded into each slot, though each write was let pass.
     NotLoaded,
 }
 
@@ -58,21 +60,76 @@ fn take_load<'a, W: Write>(
     take_lines(alloc, rehearsing, text.as_str(), out)
 }
 
-/// How loads into so many slots ended, by how many programs were loaded before and after, and whether one of their packets
-/// was refused.
-fn ending_of(slots: &[u8], before: u32, after: u32, is_refused: bool) -> Ending
-    ensures { result ≡ ending_of (length slots.now) (before + 1) (after + 1) is_refused }
+/// Whether bytes are those of an image.
+fn are_bytes(bytes: &[u8], image: &[u8]) -> bool
+    ensures { Decides result (bytes.now ≡ image.now) }
 {
-    if after.saturating_sub(before) as usize == slots.len() {
-        return Ending::Loaded;
+    bytes == image
+}
+
+/// Whether an image is loaded into a slot: the last program that was published for it is that of the image, and its generation is
+/// above that one.
+fn is_loaded(node: &SingleNode, image: &[u8], generation: u32, slot: u8) -> Result<bool, AllocError>
+    ensures { IfOk result (λ is.
+        Decides is (IsLoaded image.now (generation + 1) node.now.programs slot)) }
+{
+    if slot > 3 {
+        return Ok(false);
     }
-    if !is_refused {
-        return Ending::NotLoaded;
+    if node.generation(slot) <= generation {
+        return Ok(false);
     }
-    if after > before {
-        Ending::InPart
+    let bytes = node.program(slot).image().write()?;
+    Ok(are_bytes(bytes.as_slice(), image))
+}
+
+/// Whether an image is loaded into each of these slots, in turn.
+fn are_loaded(
+    alloc: Global,
+    node: &SingleNode,
+    image: &[u8],
+    generation: u32,
+    slots: &[u8],
+) -> Result<Vec<bool>, AllocError>
+    ensures { IfOk result (λ loaded.
+        AreLoaded image.now (generation + 1) node.now.programs slots.now loaded.items) }
+{
+    let mut loaded = Vec::new(alloc);
+    for slot in slots {
+        loaded.push(is_loaded(node, image, generation, *slot)?)?;
+    }
+    Ok(loaded)
+}
+
+/// Whether an image is loaded into some slot.
+fn is_any(loaded: &[bool]) -> bool
+    ensures { result ≡ list_any (λ is. is) loaded.now }
+{
+    loaded.iter().any(|is| *is)
+}
+
+/// Whether an image is loaded into each slot.
+fn is_each(loaded: &[bool]) -> bool
+    ensures { result ≡ list_all (λ is. is) loaded.now }
+{
+    loaded.iter().all(|is| *is)
+}
+
+/// How loads of an image into slots ended, by whether it is loaded into each, whether a program did not let a write of them be done,
+/// and whether one was not answered with status 0.
+fn ending_of(loaded: &[bool], is_refused: bool, is_failed: bool) -> Ending
+    ensures { result ≡ ending_of loaded.now is_refused is_failed }
+{
+    if is_refused {
+        if is_any(loaded) {
+            return Ending::InPart;
+        }
+        return Ending::LockedOut;
+    }
+    if is_each(loaded) && !is_failed {
+        Ending::Loaded
     } else {
-        Ending::LockedOut
+        Ending::NotLoaded
     }
 }
 
@@ -93,8 +150,9 @@ pub fn load<'a, W: Write>(
     let name = load.name;
     writeln!(out, "{name}")?;
     rehearsing.refused = false;
+    rehearsing.failed = false;
     let before = rehearsing.node.loaded();
     take_load(alloc, rehearsing, load, out)?;
-    let after = rehearsing.node.loaded();
-    Ok(ending_of(load.slots, before, after, rehearsing.refused))
+    let loaded = are_loaded(alloc, &rehearsing.node, load.image, before, load.slots)?;
+    Ok(ending_of(loaded.as_slice(), rehearsing.refused, rehearsing.failed))
 }

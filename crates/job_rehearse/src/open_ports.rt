@@ -1,134 +1,188 @@
-//! At which ports a program lets loads pass.
+//! Whose loads a program lets pass, and at which ports of a node.
 
-ghost use Rattle.std.specs.Prelude.{◌≡◌, ◌≤◌, ◌<◌, ◌+◌, ◌++◌, IfOk, OnOk, false, if◌then◌else◌, length, slice_index_or, string_bytes};
+ghost use Rattle.std.specs.Prelude.{◌≡◌, ◌≤◌, ◌<◌, ◌+◌, ◌++◌, IfOk, OnOk, if◌then◌else◌, length, string_bytes};
 ghost use Rattle.rmap.specs.declared.boot.TheConstants.{STAGING_SIZE};
-ghost use Rattle.job_rehearse.specs.OpenPorts.{AreOpen, IsAt, LetsAt, TellsAsker, TellsAskers, TellsFirst, TellsPlace, ends_run, run_line, with_end, with_runs};
+ghost use Rattle.job_rehearse.specs.OpenPorts.{AreOpen, IsAt, PassesAt, TellsAsker, TellsAskers, TellsFirst, TellsPlace, answer_at, ends_run, is_open, run_line, with_end, with_kinds, with_runs};
 
 use crate::askers::{Asker, asker_text};
-use crate::judging::lets_load;
 use crate::loaders::Loader;
+use crate::passing::{Passing, is_kind, kind_words, loader_passing};
 use bver::Accepted;
-use job_config::own_node::NODE_ADDRESS;
-use spw::PORTS;
 use std::alloc::{AllocError, Global};
 
-/// Whether a program lets each write of a load of an image pass, where the asker loads it at a port.
-fn lets_at(
+/// The node that would be loaded.
+#[derive(Clone, Copy, Debug, PartialEq, Eq)]
+pub struct LoadedNode {
+    /// Its logical address.
+    pub target: u8,
+    /// How many ports it has, 1 to 32.
+    pub ports: u8,
+}
+
+/// Whether a program lets the load of an image pass, where the asker loads it at a port of the node.
+fn passing_at(
     alloc: Global,
     judge: &Accepted,
     image: &[u8],
+    node: LoadedNode,
     asker: Asker,
     port: u8,
-) -> Result<bool, AllocError>
+) -> Result<Passing, AllocError>
     requires port { port < 32 }
     requires short { length image.now ≤ STAGING_SIZE }
-    ensures { IfOk result (LetsAt judge.now image.now asker port) }
+    ensures { IfOk result (PassesAt judge.now image.now node asker port) }
 {
     let loader = Loader {
         port,
         initiator: asker.initiator.byte,
         key: asker.key.byte,
-        target: NODE_ADDRESS,
+        target: node.target,
     };
-    lets_load(alloc, judge, loader, image)
+    loader_passing(alloc, judge, loader, image)
 }
 
-/// At which of the ports, from 0 on, a program lets the load of an asker pass.
+/// Whether a program lets the load of an asker pass at each port of the node, from 0 on.
 fn port_answers(
     alloc: Global,
     judge: &Accepted,
     image: &[u8],
+    node: LoadedNode,
     asker: Asker,
-) -> Result<Vec<bool>, AllocError>
-    requires { length image.now ≤ STAGING_SIZE }
-    ensures { IfOk result (λ answers. AreOpen judge.now image.now asker 32 answers.items) }
+) -> Result<Vec<Passing>, AllocError>
+    requires ports { node.ports ≤ 32 }
+    requires short { length image.now ≤ STAGING_SIZE }
+    ensures { IfOk result (λ answers. AreOpen judge.now image.now node asker node.ports answers.items) }
 {
     let mut answers = Vec::new(alloc);
-    for port in 0..PORTS {
-        answers.push(lets_at(alloc, judge, image, asker, port)?)?;
+    for port in 0..node.ports {
+        answers.push(passing_at(alloc, judge, image, node, asker, port)?)?;
     }
     Ok(answers)
 }
 
-/// Whether a port is open; behind the last none is.
-fn is_open(answers: &[bool], port: usize) -> bool
-    ensures { result ≡ slice_index_or answers.now port false }
+/// The answer at a port; after the last it is none of those that are printed.
+fn answer_at(answers: &[Passing], port: usize) -> Passing
+    ensures { result ≡ answer_at answers.now port }
 {
-    answers.get(port).copied().unwrap_or(false)
+    answers.get(port).copied().unwrap_or(Passing::Never)
 }
 
-/// Whether a port is the last of a run of open ports.
-fn ends_run(answers: &[bool], port: u8) -> bool
-    ensures { result ≡ ends_run answers.now port }
+/// Whether the answer at a port is that one.
+fn is_open(answers: &[Passing], kind: Passing, port: usize) -> bool
+    ensures { result ≡ is_open answers.now kind port }
 {
-    is_open(answers, usize::from(port)) && !is_open(answers, usize::from(port) + 1)
+    is_kind(kind, answer_at(answers, port))
+}
+
+/// Whether a port is the last of a run of ports with that answer.
+fn ends_run(answers: &[Passing], kind: Passing, port: u8) -> bool
+    ensures { result ≡ ends_run answers.now kind port }
+{
+    is_open(answers, kind, usize::from(port)) && !is_open(answers, kind, usize::from(port) + 1)
 }
 
 /// Adds the line of a run of ports.
-fn add_run(text: &mut String, words: &str, first: u8, last: u8) -> Result<(), AllocError>
+fn add_run(
+    text: &mut String,
+    lead: &str,
+    words: &str,
+    more: &str,
+    first: u8,
+    last: u8,
+) -> Result<(), AllocError>
     ensures { OnOk result (string_bytes text.new
-        ≡ string_bytes text.old ++ run_line words.now first last) }
+        ≡ string_bytes text.old ++ run_line lead.now words.now more.now first last) }
 {
-    writeln!(text, "loads by port {first}-{last}{words}")
+    writeln!(text, "{lead} by port {first}-{last}{words}{more}")
 }
 
 /// Adds the line of the run that ends at a port, if one does.
 fn add_end(
     text: &mut String,
-    answers: &[bool],
+    answers: &[Passing],
+    kind: Passing,
+    lead: &str,
     words: &str,
     first: u8,
     port: u8,
 ) -> Result<(), AllocError>
     ensures { OnOk result (string_bytes text.new
-        ≡ with_end (string_bytes text.old) answers.now words.now first port) }
+        ≡ with_end (string_bytes text.old) answers.now kind lead.now words.now first port) }
 {
-    if ends_run(answers, port) {
-        add_run(text, words, first, port)?;
+    if ends_run(answers, kind, port) {
+        add_run(text, lead, words, kind_words(kind), first, port)?;
     }
     Ok(())
 }
 
-/// The first port of the run behind this port, by that of the run in which this one is.
-fn first_behind(answers: &[bool], first: u8, port: u8) -> u8
+/// The first port of the run after this port, by that of the run in which this one is.
+fn first_after(answers: &[Passing], kind: Passing, first: u8, port: u8) -> u8
     requires { port < 32 }
-    ensures { result ≡ if slice_index_or answers.now port false then first else port + 1 }
+    ensures { result ≡ if is_open answers.now kind port then first else port + 1 }
 {
-    if is_open(answers, usize::from(port)) {
+    if is_open(answers, kind, usize::from(port)) {
         first
     } else {
         port + 1
     }
 }
 
-/// Adds a line for each run of open ports.
-fn add_runs(text: &mut String, answers: &[bool], words: &str) -> Result<(), AllocError>
+/// Adds a line for each run of ports with that answer, of so many ports.
+fn add_runs(
+    text: &mut String,
+    answers: &[Passing],
+    kind: Passing,
+    lead: &str,
+    words: &str,
+    ports: u8,
+) -> Result<(), AllocError>
+    requires { ports ≤ 32 }
     ensures { OnOk result (string_bytes text.new
-        ≡ with_runs (string_bytes text.old) answers.now words.now 32) }
+        ≡ with_runs (string_bytes text.old) answers.now kind lead.now words.now ports) }
 {
     let mut first = 0;
-    for port in 0..PORTS {
-        add_end(text, answers, words, first, port)?;
-        first = first_behind(answers, first, port);
+    for port in 0..ports {
+        add_end(text, answers, kind, lead, words, first, port)?;
+        first = first_after(answers, kind, first, port);
     }
     Ok(())
 }
 
-/// Adds a line for each run of ports at which a program lets the load of an asker pass.
+/// Adds the runs of each answer except the last.
+fn add_kinds(
+    text: &mut String,
+    answers: &[Passing],
+    lead: &str,
+    words: &str,
+    ports: u8,
+) -> Result<(), AllocError>
+    requires { ports ≤ 32 }
+    ensures { OnOk result (string_bytes text.new
+        ≡ with_kinds (string_bytes text.old) answers.now lead.now words.now ports) }
+{
+    add_runs(text, answers, Passing::Always, lead, words, ports)?;
+    add_runs(text, answers, Passing::UntilSpent, lead, words, ports)?;
+    add_runs(text, answers, Passing::OnceSpent, lead, words, ports)
+}
+
+/// Adds a line for each run of the node's ports at which a program lets the load of an asker pass, in one way.
 fn add_asker(
     text: &mut String,
     alloc: Global,
     judge: &Accepted,
     image: &[u8],
+    node: LoadedNode,
+    lead: &str,
     asker: Asker,
 ) -> Result<(), AllocError>
-    requires { length image.now ≤ STAGING_SIZE }
-    ensures { OnOk result (TellsAsker judge.now image.now asker
+    requires ports { node.ports ≤ 32 }
+    requires short { length image.now ≤ STAGING_SIZE }
+    ensures { OnOk result (TellsAsker judge.now image.now node lead.now asker
         (string_bytes text.old) (string_bytes text.new)) }
 {
-    let answers = port_answers(alloc, judge, image, asker)?;
+    let answers = port_answers(alloc, judge, image, node, asker)?;
     let words = asker_text(alloc, asker)?;
-    add_runs(text, answers.as_slice(), words.as_str())
+    add_kinds(text, answers.as_slice(), lead, words.as_str(), node.ports)
 }
 
 /// The asker of a place, from 0 on.
@@ -139,22 +193,25 @@ fn asker_at(askers: &[Asker], place: usize) -> Asker
     askers[place]
 }
 
-/// Adds a line for each run of ports at which a program lets the load of the asker of a place pass.
+/// Adds a line for each run of the node's ports at which a program lets the load of the asker of a place pass.
 fn add_asker_at(
     text: &mut String,
     alloc: Global,
     judge: &Accepted,
     image: &[u8],
+    node: LoadedNode,
+    lead: &str,
     askers: &[Asker],
     place: usize,
 ) -> Result<(), AllocError>
+    requires ports { node.ports ≤ 32 }
     requires short { length image.now ≤ STAGING_SIZE }
     requires place { place < length askers.now }
-    ensures { OnOk result (TellsPlace judge.now image.now askers.now place
+    ensures { OnOk result (TellsPlace judge.now image.now node lead.now askers.now place
         (string_bytes text.old) (string_bytes text.new)) }
 {
     let asker = asker_at(askers, place);
-    add_asker(text, alloc, judge, image, asker)
+    add_asker(text, alloc, judge, image, node, lead, asker)
 }
 
 /// Adds the lines of each asker.
@@ -163,30 +220,38 @@ fn add_askers(
     alloc: Global,
     judge: &Accepted,
     image: &[u8],
+    node: LoadedNode,
+    lead: &str,
     askers: &[Asker],
 ) -> Result<(), AllocError>
-    requires { length image.now ≤ STAGING_SIZE }
-    ensures { OnOk result (TellsFirst judge.now image.now askers.now (length askers.now)
+    requires ports { node.ports ≤ 32 }
+    requires short { length image.now ≤ STAGING_SIZE }
+    ensures { OnOk result (TellsFirst judge.now image.now node lead.now askers.now (length askers.now)
         (string_bytes text.old) (string_bytes text.new)) }
 {
     for place in 0..askers.len() {
-        add_asker_at(text, alloc, judge, image, askers, place)?;
+        add_asker_at(text, alloc, judge, image, node, lead, askers, place)?;
     }
     Ok(())
 }
 
-/// The lines of all askers: one for each run of ports at which the program lets a load of the image pass.
-pub fn askers_text(
+/// Whose loads of an image a program in slot 3 lets pass, of these askers. There is a line for each run of the node's ports at which
+/// it lets two loads pass, or only the first, or only the second. The first comes on cells that nobody asked, and the second on cells
+/// that are past every quota. Each line begins with `lead`; who is in none of them cannot load.
+pub fn loaders(
     alloc: Global,
     judge: &Accepted,
     image: &[u8],
+    node: LoadedNode,
+    lead: &str,
     askers: &[Asker],
 ) -> Result<String, AllocError>
-    requires { length image.now ≤ STAGING_SIZE }
+    requires ports { node.ports ≤ 32 }
+    requires short { length image.now ≤ STAGING_SIZE }
     ensures { IfOk result (λ text.
-        TellsAskers judge.now image.now askers.now (string_bytes text)) }
+        TellsAskers judge.now image.now node lead.now askers.now (string_bytes text)) }
 {
     let mut text = String::new(alloc);
-    add_askers(&mut text, alloc, judge, image, askers)?;
+    add_askers(&mut text, alloc, judge, image, node, lead, askers)?;
     Ok(text)
 }

@@ -1,24 +1,26 @@
 //! The node at which is rehearsed: one with some maps of which nothing else is said, or that of a file.
 
-ghost use Rattle.std.specs.Prelude.{◌≡◌, IfErr, IfOk};
+ghost use Rattle.std.specs.Prelude.{◌≡◌, ◌≤◌, IfErr, IfOk};
 ghost use Rattle.clap.specs.Walk.{rows_of};
 ghost use Rattle.clap.specs.Matches.{found_of};
-ghost use Rattle.job_rehearse.specs.Places.{GivesPlace, HoldsNoPlace, HoldsPlace, IsBegunAt, IsUnbegun, RefusesPlace, has_port, loader_on, sizes_at};
+ghost use Rattle.job_rehearse.specs.Places.{GivesPlace, HoldsNoPlace, HoldsPlace, IsBegunAt, IsUnbegun, RefusesPlace, has_port, loaded_at, loader_on, sizes_at};
 
 use crate::loaders::{Loader, loader_in, ports_in};
+use crate::open_ports::LoadedNode;
 use crate::steps::Rehearsing;
 use bver::Accepted;
 use clap::ArgMatches;
-use job_config::own_node::OwnNode;
+use job_config::own_node::{NODE_ADDRESS, OwnNode};
 use job_config::reading::node_in;
 use job_nodes::node::JobNode;
 use job_nodes::sources::unmade;
-use job_parts::arguments::{is_set, text_of};
+use job_parts::arguments::text_of;
 use job_parts::faults::Fault;
 use job_parts::options::sizes_of;
 use job_parts::storage::Files;
 use job_parts::usage::UsageFault;
 use machine::MapSizes;
+use spw::PORTS;
 use std::alloc::Global;
 
 /// What the words say of the node.
@@ -39,7 +41,7 @@ pub enum Place {
     Own(OwnNode),
 }
 
-/// The node by the options. `BadOption` where `--node` stands beside `--maps` or `--any`, and where the maps are none.
+/// The node by the options. `BadOption` if `--node` is beside `--maps`, and if the maps are none.
 pub(crate) fn place_of(alloc: Global, found: &ArgMatches) -> Result<PlaceWords, UsageFault>
     ensures ok { IfOk result (GivesPlace (rows_of (found_of found.now))) }
     ensures err { IfErr result (RefusesPlace (rows_of (found_of found.now))) }
@@ -47,7 +49,7 @@ pub(crate) fn place_of(alloc: Global, found: &ArgMatches) -> Result<PlaceWords, 
     let Some(name) = text_of(found, "node") else {
         return Ok(PlaceWords::Maps(sizes_of(alloc, found)?));
     };
-    if text_of(found, "maps").is_some() || is_set(found, "any") {
+    if text_of(found, "maps").is_some() {
         return Err(UsageFault::BadOption);
     }
     Ok(PlaceWords::File(String::from_str(alloc, name)?))
@@ -101,6 +103,26 @@ impl Place {
             loader.target = own.address();
         }
         loader
+    }
+}
+
+impl Place {
+    /// The node of whose loads a program is asked: of one of which nothing else is said, logical address FE and 32 ports. No file
+    /// says more ports.
+    pub fn loaded(&self) -> LoadedNode
+        ensures value { result ≡ loaded_at self.now }
+        ensures ports { result.ports ≤ 32 }
+    {
+        match self {
+            Place::Plain(_) => LoadedNode {
+                target: NODE_ADDRESS,
+                ports: PORTS,
+            },
+            Place::Own(own) => LoadedNode {
+                target: own.address(),
+                ports: own.ports().min(PORTS),
+            },
+        }
     }
 }
 

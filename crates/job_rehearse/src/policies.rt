@@ -171,7 +171,7 @@ fn accepted<'a>(alloc: Global, image: &Image, sizes: &MapSizes) -> Result<Accept
 }
 
 /// The bytes of an image, at most as many as the staging has.
-fn bytes_of<'a>(image: &Image) -> Result<Vec<u8>, Fault<'a>>
+pub(crate) fn bytes_of<'a>(image: &Image) -> Result<Vec<u8>, Fault<'a>>
     ensures bytes { IfOk result (λ bytes. bytes.items ≡ image_bytes image.now) }
     ensures short { IfOk result (λ bytes. length bytes.items ≤ STAGING_SIZE) }
     ensures refused { IfErr result (IsTooLong image.now) }

@@ -18,7 +18,7 @@ ghost use Rattle.job_rehearse.specs.Rehearsed.{AsksAny, DoesAny, DoesAt, DoesOne
 
 use crate::loaders::{Loader, Loaders, loader_text, loaders_of};
 use crate::loads::{Ending, LoadOf, load};
-use crate::open_ports::askers_text;
+use crate::open_ports::{LoadedNode, loaders};
 use crate::places::{Place, PlaceWords, begun_at, place_in, place_of};
 use crate::policies::{Asked, NoPolicy, Policies, asked_in, policies_in};
 use clap::{ArgMatches, Command};
@@ -100,7 +100,7 @@ pub fn rehearse_command<'a>(alloc: Global) -> Result<Command<'a>, AllocError>
     let initiator = option(alloc, "initiator", "HH", help);
     let help = "The key of the loads; without it 00";
     let key = option(alloc, "key", "HH", help);
-    let help = "Loads nothing, and prints whose loads of OLD a fresh NEW in slot 3 lets pass";
+    let help = "Loads nothing, and prints whose loads of OLD pass under NEW in slot 3";
     let any = flag(alloc, "any", help);
     Command::new(alloc, "rehearse")
         .about("Loads a new policy at a node under the old one, and then the old one again")
@@ -295,21 +295,28 @@ fn any_end(lines: &str) -> (&str, Status)
 }
 
 /// Asks the new policy whose loads of the old one it lets pass, and prints that. Nothing is printed before all is asked.
-fn ask_any<'a, W: Write>(alloc: Global, asked: &Asked, out: &mut W) -> Result<Status, Halt<'a>>
-    requires { length asked.now.policies.old.items ≤ STAGING_SIZE }
+fn ask_any<'a, W: Write>(
+    alloc: Global,
+    node: LoadedNode,
+    asked: &Asked,
+    out: &mut W,
+) -> Result<Status, Halt<'a>>
+    requires ports { node.ports ≤ 32 }
+    requires short { length asked.now.policies.old.items ≤ STAGING_SIZE }
     ensures done { IfOk result
-        (AsksAny asked.now (W.contents out.old) (W.contents out.new)) }
+        (AsksAny node asked.now (W.contents out.old) (W.contents out.new)) }
     ensures stops { IfErr result (StopsBy (λ fault.
         (fault ≡ NoMemory) × (W.contents out.new ≡ W.contents out.old))) }
 {
     let image = asked.policies.old.as_slice();
-    let lines = askers_text(alloc, &asked.judge, image, asked.askers.as_slice())?;
+    let askers = asked.askers.as_slice();
+    let lines = loaders(alloc, &asked.judge, image, node, "loads", askers)?;
     let (text, status) = any_end(lines.as_str());
     print_text(out, text)?;
     Ok(status)
 }
 
-/// Asks the new policy whose loads of the old one it lets pass, at a node with the maps of the words.
+/// Asks the new policy whose loads of the old one it lets pass, at the node of the words.
 fn rehearse_any<'a, F: Files, W: Write>(
     alloc: Global,
     words: &'a RehearseWords,
@@ -323,7 +330,7 @@ fn rehearse_any<'a, F: Files, W: Write>(
 {
     let place = place_in(alloc, &words.place, files)?;
     match asked_in(alloc, words, &place.sizes(), files) {
-        Ok(asked) => ask_any(alloc, &asked, out),
+        Ok(asked) => ask_any(alloc, place.loaded(), &asked, out),
         Err(none) => tell_none(none, out),
     }
 }

@@ -4,14 +4,15 @@ ghost use Rattle.std.specs.Prelude.{◌≡◌, ◌<◌, [], IfErr, IfOk, false};
 ghost use Rattle.job_nodes.specs.JobNode.{alone};
 ghost use Rattle.rmap.specs.Command.{discard_of};
 ghost use Rattle.spw.specs.Line.{IsPacketLine};
-ghost use Rattle.job_rehearse.specs.Steps.{IsBegun, IsNoPacket, IsNoStep, TakesStep, is_refused, step_at, step_of};
+ghost use Rattle.job_rehearse.specs.Steps.{IsBegun, IsNoPacket, IsNoStep, TakesStep, is_failed, is_refused, is_write, step_at, step_of};
 
-use crate::words::print_step;
+use crate::words::{print_step, succeeds};
 use bver::Accepted;
 use job_nodes::node::{JobNode, node_config};
 use job_parts::bad_lines::BadLine;
 use job_parts::stops::LineHalt;
 use job_parts::turns::TakesLines;
+use node_parts::Served;
 use rmap::{Command, LOAD_REGISTER, ReplyBuf};
 use single_node::SingleNode;
 use spw::{Packet, read_line};
@@ -53,15 +54,28 @@ fn step_of(packet: &Packet) -> Step
     }
 }
 
-/// Whether the program that judged a packet of a load does not let it be done: its verdict is not 0. What reads the load
-/// result does nothing.
+/// Whether a packet of a load writes. What reads the load result does nothing.
+fn is_write(step: Step) -> bool
+    ensures { result ≡ is_write step }
+{
+    match step {
+        Step::Part | Step::Control => true,
+        Step::Result => false,
+    }
+}
+
+/// Whether the program that judged a packet of a load does not let it write: its verdict is not 0.
 fn is_refused(step: Step, verdict: u64) -> bool
     ensures { result ≡ is_refused step verdict }
 {
-    match step {
-        Step::Part | Step::Control => verdict != 0,
-        Step::Result => false,
-    }
+    is_write(step) && verdict != 0
+}
+
+/// Whether a packet of a load that writes was not answered with status 0.
+fn is_failed(step: Step, served: Served) -> bool
+    ensures { result ≡ is_failed step served }
+{
+    is_write(step) && !succeeds(served)
 }
 
 /// The port and the packet that a line writes, for a node with so many ports.
@@ -77,7 +91,8 @@ fn packet_at(alloc: Global, line: &str, ports: u8) -> Result<(u8, Packet), BadLi
     Ok((port, packet))
 }
 
-/// A node of one thread that takes packets of loads, the reply to the last, and whether a program did not let one be done.
+/// A node of one thread that takes packets of loads, the reply to the last, whether a program did not let one be done, and whether a
+/// write was not answered with status 0.
 #[derive(Drop)]
 pub struct Rehearsing {
     /// The node.
@@ -86,6 +101,8 @@ pub struct Rehearsing {
     pub reply: ReplyBuf,
     /// Whether the verdict on a packet that was to do something was another than 0.
     pub refused: bool,
+    /// Whether a write of a load had another status than 0, or no reply.
+    pub failed: bool,
 }
 
 impl Rehearsing {
@@ -106,11 +123,13 @@ impl Rehearsing {
         ensures node { result.node ≡ node }
         ensures silent { result.reply ≡ [] }
         ensures unrefused { result.refused ≡ false }
+        ensures unfailed { result.failed ≡ false }
     {
         Rehearsing {
             node,
             reply: ReplyBuf::new(),
             refused: false,
+            failed: false,
         }
     }
 
@@ -119,6 +138,7 @@ impl Rehearsing {
         ensures node { result.node ≡ alone node }
         ensures silent { result.reply ≡ [] }
         ensures unrefused { result.refused ≡ false }
+        ensures unfailed { result.failed ≡ false }
     {
         let (single, _feeds) = node.into_parts();
         Rehearsing::of(single)
@@ -136,6 +156,7 @@ impl TakesLines for Rehearsing {
         let step = step_of(&packet);
         let told = self.node.serve_told(alloc, port, packet, &mut self.reply);
         self.refused = self.refused || is_refused(step, told.verdict);
+        self.failed = self.failed || is_failed(step, told.served);
         Ok(print_step(out, step, told.served, self.reply.bytes())?)
     }
 }

@@ -2,7 +2,7 @@
 
 ghost use Rattle.std.specs.Prelude.{◌≡◌, OnOk};
 ghost use Rattle.job_parts.specs.Printed.{Prints};
-ghost use Rattle.job_rehearse.specs.Words.{load_result_in, outcome_text, result_text, result_words, status_in, status_words, step_line, step_words};
+ghost use Rattle.job_rehearse.specs.Words.{is_success, load_result_in, outcome_text, result_text, result_words, status_in, status_words, step_line, step_words};
 
 use crate::steps::Step;
 use node_parts::{Served, Stop};
@@ -55,6 +55,23 @@ fn status_in(served: Served) -> Option<Status>
         Served::Stopped(Stop::Answered(status)) | Served::Window(status) => Some(status),
         Served::Done(applied) => Some(applied.status),
     }
+}
+
+/// Whether a packet ended with status 0.
+fn is_success(status: Option<Status>) -> bool
+    ensures { result ≡ is_success status }
+{
+    match status {
+        Some(status) => status.code() == 0,
+        None => false,
+    }
+}
+
+/// Whether a packet was answered with status 0.
+pub fn succeeds(served: Served) -> bool
+    ensures { result ≡ is_success (status_in served) }
+{
+    is_success(status_in(served))
 }
 
 /// Prints how a packet ended.

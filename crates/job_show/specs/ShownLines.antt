@@ -8,9 +8,13 @@ use Rattle.spw.specs.declared.faults.LineFault.TheVariants.{Memory}
 abbrev pub EndsLine : (text : List ℕ) → Type 0
 EndsLine text = (words : List ℕ) × (text ≡ words ++ 10 ∷ [])
 
--- the first word is `journal`, which is no port
+-- the first word is this
+abbrev pub BeginsWith : (word : List ℕ) → List (List ℕ) → Type 0
+BeginsWith word words = (rest : List (List ℕ)) × (words ≡ word ∷ rest)
+
+-- the first word is `journal` or `entry`, which are no ports
 abbrev pub IsEntry : List (List ℕ) → Type 0
-IsEntry words = (rest : List (List ℕ)) × (words ≡ codes "journal" ∷ rest)
+IsEntry words = BeginsWith (codes "journal") words ⊎ BeginsWith (codes "entry") words
 
 -- a line of these words is not told: memory was refused; it has that fault of a packet line; or it is an entry of a journal, of
 -- whose fault nothing is said. So a packet line is refused for want of memory alone

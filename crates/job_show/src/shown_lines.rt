@@ -5,8 +5,10 @@ ghost use Rattle.job_show.specs.ShownLines.{EndsLine, IsLineFault};
 ghost use Rattle.spw.specs.Line.{HasFault, marker_word, words_of as words_in};
 ghost use Rattle.spw.specs.declared.faults.LineFault.TheVariants.{Memory};
 
+use crate::other_lines::{add_begin, add_count, add_other, decimal, is_time, reason_written};
 use crate::paths::{add_path, path_in_front};
 use bpf::ImageFault;
+use hex::FromHex;
 use initiator::{NoReply, Reply, Seen};
 use job_parts::bad_lines::BadLine;
 use node_parts::LoadRefusal;
@@ -344,22 +346,6 @@ fn add_packet(text: &mut String, alloc: Global, packet: &Packet) -> Result<(), A
     }
 }
 
-/// The number that a word writes in decimal digits, if it does.
-fn decimal(word: &str) -> Option<u64> {
-    if word.starts_with('+') {
-        return None;
-    }
-    word.parse().ok()
-}
-
-/// The reason to discard a packet whose number a word is, in one digit.
-fn reason_written(word: &str) -> Option<Discard> {
-    match word.as_bytes() {
-        [digit @ b'0'..=b'9'] => Discard::from_code(*digit - b'0'),
-        _ => None,
-    }
-}
-
 /// Adds what `judge` prints of a packet without a reply: none was asked for, or the packet is discarded. Tells whether the
 /// words are such.
 fn add_answer(text: &mut String, port: &str, words: &[&str]) -> Result<bool, AllocError> {
@@ -391,16 +377,6 @@ fn add_bad_line(text: &mut String, number: &str, code: &str) -> Result<bool, All
         return Ok(false);
     };
     write!(text, "line {number} fault {code} {why}")?;
-    Ok(true)
-}
-
-/// Adds how many bytes an instrument set, or how many entries of a journal were handed out. Tells whether the word is a
-/// number.
-fn add_count(text: &mut String, count: &str, what: &str) -> Result<bool, AllocError> {
-    let Some(count) = decimal(count) else {
-        return Ok(false);
-    };
-    write!(text, "{what} {count}")?;
     Ok(true)
 }
 
@@ -438,17 +414,41 @@ fn add_cells(text: &mut String, map: &str, words: &[&str]) -> Result<bool, Alloc
     Ok(true)
 }
 
+/// The extended address of a bank that two hexadecimal digits write, if they do.
+fn bank_written(word: &str) -> Option<u8> {
+    match <[u8; 1] as FromHex>::from_hex(word) {
+        Ok(bytes) => Some(bytes[0]),
+        Err(_) => None,
+    }
+}
+
+/// Adds that an entry of a bank is not as it was made. Tells whether the word is that of a bank.
+fn add_damaged(text: &mut String, bank: &str) -> Result<bool, AllocError> {
+    let Some(bank) = bank_written(bank) else {
+        return Ok(false);
+    };
+    write!(text, "bank {bank:02X}: entry that is damaged in memory")?;
+    Ok(true)
+}
+
 /// Adds what a line of these words is in words, but for its packet, if it is none of a packet alone: what `judge` prints of
 /// a packet without a reply, what `live` prints, or the last line of `serve`. Tells whether it is.
 fn add_told(text: &mut String, words: &[&str]) -> Result<bool, AllocError> {
     match words {
         ["journal", count, "entries"] => add_count(text, count, "entries of the journal:"),
+        ["entry", bank, "damaged"] => add_damaged(text, bank),
         ["cells", count, "maps"] => add_count(text, count, "maps of cells:"),
         ["cells", map, words @ ..] => add_cells(text, map, words),
         ["set", count] => add_count(text, count, "bytes set by the instrument:"),
         ["line", number, "fault", code] => add_bad_line(text, number, code),
         ["discarded", discarded, "lost", lost] => add_report(text, discarded, lost),
-        [port, rest @ ..] => add_answer(text, port, rest),
+        [port, rest @ ..] => {
+            if add_answer(text, port, rest)? {
+                Ok(true)
+            } else {
+                add_other(text, words)
+            }
+        }
         [] => Ok(false),
     }
 }
@@ -512,6 +512,108 @@ fn add_entry(text: &mut String, alloc: Global, words: &[&str]) -> Result<(), Lin
     Ok(add_packet(text, alloc, &packet)?)
 }
 
+/// Adds an entry that is handed out at once, of which these are the words after the first: its bank, its
+/// numbers, and its packet.
+fn add_left(text: &mut String, alloc: Global, words: &[&str]) -> Result<(), LineFault> {
+    let [bank, entry @ ..] = words else {
+        return Err(LineFault::NoPort);
+    };
+    let Some(bank) = bank_written(bank) else {
+        return Err(LineFault::NoPort);
+    };
+    write!(text, "bank {bank:02X}: ")?;
+    add_entry(text, alloc, entry)
+}
+
+/// Adds how an event of `sim` ended: its status, and its reply, of which these are the digits, or `-`. Reports whether the words are such.
+fn add_ended(text: &mut String, alloc: Global, status: &str, reply: &str) -> Result<bool, LineFault>
+    ensures { IfErr result (λ fault. fault ≡ Memory) }
+{
+    let Some(status) = decimal(status) else {
+        return Ok(false);
+    };
+    let Ok(code) = u8::try_from(status) else {
+        return Ok(false);
+    };
+    add_status(text, code)?;
+    if reply == "-" {
+        text.push_str(" (no reply was asked for)")?;
+        return Ok(true);
+    }
+    let line = format!(in alloc; "0 {reply} EOP")?;
+    match read_line(alloc, line.as_str()) {
+        Ok((_, packet)) => {
+            text.push_str(": ")?;
+            add_packet(text, alloc, &packet)?;
+            Ok(true)
+        }
+        Err(LineFault::Memory) => Err(LineFault::Memory),
+        Err(_) => Ok(false),
+    }
+}
+
+/// Adds how an event of `sim` ended that has a reply. Reports whether the words are such.
+fn add_end(text: &mut String, alloc: Global, words: &[&str]) -> Result<bool, LineFault>
+    ensures { IfErr result (λ fault. fault ≡ Memory) }
+{
+    let [first, status, reply] = words else {
+        return Ok(false);
+    };
+    let first = match *first {
+        "done" => "done",
+        "answered" => "answered",
+        _ => return Ok(false),
+    };
+    let mut ended = String::new(alloc);
+    if !add_ended(&mut ended, alloc, status, reply)? {
+        return Ok(false);
+    }
+    let ended = ended.as_str();
+    write!(text, "{first}{ended}")?;
+    Ok(true)
+}
+
+/// Adds an entry of a journal, or one that was handed out at once, of which these are the words.
+fn add_any_entry(text: &mut String, alloc: Global, words: &[&str]) -> Result<(), LineFault> {
+    match words {
+        ["journal", rest @ ..] => add_entry(text, alloc, rest),
+        ["entry", rest @ ..] => add_left(text, alloc, rest),
+        _ => Err(LineFault::NoPort),
+    }
+}
+
+/// Adds an entry, if the words are those of one. Reports whether they are.
+fn add_whole_entry(text: &mut String, alloc: Global, words: &[&str]) -> Result<bool, LineFault>
+    ensures { IfErr result (λ fault. fault ≡ Memory) }
+{
+    match add_any_entry(text, alloc, words) {
+        Ok(()) => Ok(true),
+        Err(LineFault::Memory) => Err(LineFault::Memory),
+        Err(_) => Ok(false),
+    }
+}
+
+/// Adds a line of a journal's file: a time, and then what `live` printed, or that a node began. Reports whether the words are such.
+fn add_filed(text: &mut String, alloc: Global, words: &[&str]) -> Result<bool, LineFault>
+    ensures { IfErr result (λ fault. fault ≡ Memory) }
+{
+    let [time, rest @ ..] = words else {
+        return Ok(false);
+    };
+    if !is_time(time) {
+        return Ok(false);
+    }
+    let mut shown = String::new(alloc);
+    if !add_told(&mut shown, rest)? && !add_begin(&mut shown, rest)? {
+        if !add_whole_entry(&mut shown, alloc, rest)? {
+            return Ok(false);
+        }
+    }
+    let shown = shown.as_str();
+    write!(text, "{time} {shown}")?;
+    Ok(true)
+}
+
 /// Adds a packet line.
 fn add_line(text: &mut String, alloc: Global, line: &str) -> Result<(), LineFault>
     ensures { IfErr result (λ fault. (fault ≡ Memory) ⊎ HasFault marker_word line.now fault) }
@@ -534,6 +636,7 @@ fn add_by_first(
 {
     match first {
         "journal" if rest.len() > 5 => add_entry(text, alloc, rest),
+        "entry" if rest.len() > 6 => add_left(text, alloc, rest),
         _ => add_line(text, alloc, line),
     }
 }
@@ -553,9 +656,22 @@ fn add_packet_line(
     add_by_first(text, alloc, line, first, rest)
 }
 
-/// A line in words, with its line feed: a packet line, what `judge` prints of a packet without a reply, or what `live`
-/// prints: an entry of the journal, how many there are, the words of a map's cells, how many bytes were set, or that a line
-/// was bad; or the last line of `serve`.
+/// Adds a line that has a packet, and is no packet line and no entry: of a journal's file, or of an event. Reports whether the words are such.
+fn add_beside(text: &mut String, alloc: Global, words: &[&str]) -> Result<bool, LineFault>
+    ensures { IfErr result (λ fault. fault ≡ Memory) }
+{
+    if add_filed(text, alloc, words)? {
+        return Ok(true);
+    }
+    add_end(text, alloc, words)
+}
+
+/// A line in words, with its line feed.
+///
+/// It is a packet line, what `judge` prints of a packet without a reply, the last line of `serve`, or what an
+/// event of `sim` came to. Or it is what `live` prints: an entry of the journal, how many there are, the words
+/// of a map's cells, how many bytes were set, or that a line was bad. Or it is a line of a journal's file, with
+/// its time.
 ///
 /// A line that is none of these has the fault of a packet line, and an entry that of its packet. `Memory` where memory was
 /// refused: of a packet line that is the only one.
@@ -565,7 +681,7 @@ pub fn shown_line(alloc: Global, line: &str) -> Result<String, LineFault>
 {
     let words = words_of(alloc, line)?;
     let mut text = String::new(alloc);
-    if !add_told(&mut text, words.as_slice())? {
+    if !add_told(&mut text, words.as_slice())? && !add_beside(&mut text, alloc, words.as_slice())? {
         add_packet_line(&mut text, alloc, line, words.as_slice())?;
     }
     text.push_str("\n")?;

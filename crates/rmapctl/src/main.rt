@@ -2,7 +2,7 @@
 //! standard streams of this machine. docs/COMMANDS.md says what it does.
 #![tactic(auto)]
 
-ghost use Rattle.std.specs.Prelude.{◌≡◌, IfErr, IfOk, true};
+ghost use Rattle.std.specs.Prelude.{◌≡◌, IfErr, IfOk, IfSome, true};
 ghost use Rattle.commands.specs.Losses.{end_if_written, end_of};
 ghost use Rattle.commands.specs.Refusals.{AreUnknown};
 ghost use Rattle.job_parts.specs.Statuses.{status_code, usage_status};
@@ -12,10 +12,10 @@ ghost use Rattle.node_parts.specs.Nodes.{are_within};
 
 use commands::{
     Asked, Configuration, Course, DumpTalk, Fault, HostLink, HostTalk, Job, JobEnd, LiveWords,
-    NodeJob, OWN_SOURCE, Refusal, ShowWords, Status, Stream, ToldFiles, ToldTalk, Untold,
-    UsageFault, Waits, Work, WriteFault, argument_fault, asked_of, configuration_in, live,
-    live_frames, node_inputs, own_source, perform_told, show_talk, stream_of, told_end, told_fault,
-    told_loss, told_node, told_wait, usage_end, words_or_judge,
+    NodeJob, OWN_CONTENTS, OWN_SOURCE, Refusal, ShowWords, Status, Stream, ToldFiles, ToldTalk,
+    Untold, UsageFault, Waits, Work, WriteFault, argument_fault, asked_of, configuration_in, live,
+    live_frames, node_inputs, own_contents, own_source, perform_told, show_talk, stream_of,
+    told_end, told_fault, told_loss, told_node, told_wait, usage_end, words_or_judge,
 };
 use std::alloc::{AllocError, Global};
 use std::io::{BufReader, BufWriter, IsTerminal, Stderr, Write};
@@ -69,30 +69,31 @@ fn fail<R: Print + Eprint>(rt: &R, fault: &Fault<'_>) -> Status
     end_output(rt, rt.println(fault), Status::Failed)
 }
 
-/// Refuses a job that would write over what it reads, and gives how it ends.
-fn refuse_output<R: Print + Eprint>(rt: &R, name: &str) -> Status
+/// Refuses a job that would write over what it reads, or over what its node begins with, which the text says. Gives how it ends.
+fn refuse_output<R: Print + Eprint>(rt: &R, name: &str, text: &str) -> Status
     ensures { result ≡ Failed }
 {
     let status = fail(rt, &Fault::CannotWrite(name));
-    let _ = rt.eprint(&OWN_SOURCE);
+    let _ = rt.eprint(&text);
     status
 }
 
-/// Does a job over this machine's files and standard output, and gives how it ends. A node's file may say its maps.
+/// Does a job over this machine's files and standard output, and gives how it ends. If a node's file says its maps, that node has so
+/// many ports.
 fn do_job<R: rt::Files + Input + Print + Eprint + Threads + Wait + Sync>(
     rt: &R,
     alloc: Global,
     job: &Job,
-    is_on_node: bool,
+    ports: Option<u8>,
 ) -> Status {
     if let Some(name) = own_source(rt, &job.inputs()) {
-        return refuse_output(rt, name);
+        return refuse_output(rt, name, OWN_SOURCE);
     }
     let mut out = match BufWriter::new(alloc, io::writer(rt)) {
         Ok(out) => out,
         Err(refused) => return lose(rt, Err(refused)),
     };
-    let mut files = ToldFiles::of_job(rt, alloc, job, is_on_node);
+    let mut files = ToldFiles::of_job(rt, alloc, job, ports);
     let done = perform_told(rt, alloc, job, &mut files, &mut out);
     // What was held back fails again where it failed before, with the reason.
     match (done, out.flush()) {
@@ -104,24 +105,44 @@ fn do_job<R: rt::Files + Input + Print + Eprint + Threads + Wait + Sync>(
     }
 }
 
-/// The configuration of the node's file of this name, of which the job is told, or how it ends if that has a fault. Its banks
-/// are some that a node may have.
+/// How a job ends that would write over what a bank of its node's file begins with, or for which memory was refused; `None` of any other.
+fn own_end<R: rt::Files + Print + Eprint>(
+    rt: &R,
+    found: Result<Option<&str>, AllocError>,
+) -> Option<Status>
+    ensures { IfSome result (λ status. status ≡ Failed) }
+{
+    match found {
+        Ok(Some(name)) => Some(refuse_output(rt, name, OWN_CONTENTS)),
+        Ok(None) => None,
+        Err(_) => Some(fail(rt, &Fault::NoMemory)),
+    }
+}
+
+/// The configuration that the node's file of a job says, or how it ends if that has a fault, or if the job would write over what a bank
+/// begins with. Its banks are some that a node may have.
 fn read_node<R: rt::Files + Input + Print + Eprint>(
     rt: &R,
     alloc: Global,
-    job: &Job,
-    node: &str,
+    own: &NodeJob,
 ) -> Result<Configuration, Status>
     ensures banks { IfOk result (λ own. are_within own.banks.items ≡ true) }
     ensures failed { IfErr result (λ status. status ≡ Failed) }
 {
+    let node = own.node.as_str();
     let mut files = ToldFiles::new(rt, alloc, node_inputs(node));
     match configuration_in(alloc, &mut files, node) {
-        Ok(configuration) => Ok(configuration),
+        Ok(configuration) => {
+            let found = own_contents(rt, alloc, &own.inputs(), node, files.noted());
+            match own_end(rt, found) {
+                Some(status) => Err(status),
+                None => Ok(configuration),
+            }
+        }
         Err(fault) => {
             let status = fail(rt, &fault);
             let end = JobEnd::refused(fault);
-            tell(rt, told_end(alloc, job, &end, files.noted()));
+            tell(rt, told_end(alloc, &own.job, &end, files.noted()));
             Err(status)
         }
     }
@@ -134,13 +155,15 @@ fn do_on_node<R: rt::Files + Input + Print + Eprint + Threads + Wait + Sync>(
     own: NodeJob,
 ) -> Status {
     if let Some(name) = own_source(rt, &own.inputs()) {
-        return refuse_output(rt, name);
+        return refuse_output(rt, name, OWN_SOURCE);
     }
-    let NodeJob { job, node } = own;
-    match read_node(rt, alloc, &job, node.as_str()) {
-        Ok(configuration) => do_job(rt, alloc, &job.placed(&configuration), true),
-        Err(status) => status,
-    }
+    let configuration = match read_node(rt, alloc, &own) {
+        Ok(configuration) => configuration,
+        Err(status) => return status,
+    };
+    let NodeJob { job, .. } = own;
+    let ports = Some(configuration.ports);
+    do_job(rt, alloc, &job.placed(&configuration), ports)
 }
 
 /// Holds a talk in lines over standard input and standard output, and gives how it ends. It does not begin if memory is refused.
@@ -154,7 +177,7 @@ fn talk_lines<R: rt::Files + Input + Print + Eprint>(
     // Over a buffer a pipe gives what there is, and not a byte at a time.
     let input = BufReader::new(alloc, rt.reader()).map_err(|_| UsageFault::Memory)?;
     let mut talk = ToldTalk::new(rt, alloc, HostTalk::new(input, io::writer(rt)));
-    let mut files = ToldFiles::new(rt, alloc, words.node.inputs());
+    let mut files = ToldFiles::of_node(rt, alloc, &words.node);
     let mut place = None;
     let done = live(alloc, words, &mut files, &mut talk, &mut place);
     tell(
@@ -189,7 +212,7 @@ fn talk_frames<R: rt::Files + Input + Print + Eprint>(
     words: &LiveWords,
 ) -> Status {
     let mut link = HostLink::new(rt.reader(), io::writer(rt), io::writer(errors));
-    let mut files = ToldFiles::new(rt, alloc, words.node.inputs());
+    let mut files = ToldFiles::of_node(rt, alloc, &words.node);
     let mut place = None;
     let done = live_frames(alloc, words, &mut files, &mut link, &mut place);
     tell(
@@ -212,7 +235,7 @@ fn do_work<R: rt::Files + Input + Print + Eprint + Threads + Wait + Sync>(
     ensures { IfErr result (λ fault. fault ≡ Memory) }
 {
     match work.course() {
-        Course::Perform(job) => Ok(do_job(rt, alloc, &job, false)),
+        Course::Perform(job) => Ok(do_job(rt, alloc, &job, None)),
         Course::OnNode(own) => Ok(do_on_node(rt, alloc, own)),
         Course::Show(words) => show_input(rt, alloc, &words),
         Course::Lines(words) => talk_lines(rt, alloc, &words),

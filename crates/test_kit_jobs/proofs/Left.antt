@@ -34,7 +34,7 @@ use Rattle.commands.specs.declared.jobs.Job.TheVariants.{Decide, Compare, Map, R
 use Rattle.test_kit_jobs.proofs.ChartsLeft.{compares_file, maps_file, uncompared, unmapped}
 use Rattle.test_kit_jobs.proofs.DecidesLeft.{decides_file, undecided}
 use Rattle.test_kit_jobs.proofs.RehearsesLeft.{rehearses_file, unrehearsed}
-use Rattle.test_kit_jobs.proofs.NodesLeft.{no_node, some_read, unread, untold}
+use Rattle.test_kit_jobs.proofs.NodesLeft.{asked, no_node, some_read, unread, untold}
 use Rattle.test_kit_jobs.proofs.PacketsLeft.{made_file, unmade, unshown}
 use Rattle.folders.specs.Folders.{FolderReads, FolderValue, FolderWrites, Sets}
 use Rattle.test_kit_jobs.specs.Jobs.{AssemblesIn, CompilesIn, Leaves}
@@ -224,7 +224,8 @@ done_leaves (Simulate args) before after old new status done = simulated args be
 done_leaves (Explain words) before after old new status done = done.0
 done_leaves (Why args) before after old new status done = done.read.0
 done_leaves (Weigh words) before after old new status done = done.1.image.read.0
-done_leaves (Node words) before after old new status done = some_read before after done.1.read.only_reads
+done_leaves (Node words) before after old new status done =
+    some_read done.1.between after done.1.read.only_reads ∙ asked _ before done.1.table done.1.between done.1.asked
 done_leaves (Packet words) before after old new status done = made_file words before after old new status done
 done_leaves (Show words) before after old new status done = done.1.read.0
 done_leaves (Decide words) before after old new status done = decides_file words before after old new status done

@@ -2,6 +2,7 @@
 use Rattle.std.proofs.Common.{◌≡◌, ◌∙◌, inl, inr, ℕ, List, [], ◌∷◌, Option, Some, None}
 use Rattle.job_config.specs.Reads.{AreRead, ReadsNoNode, SomeRead}
 use Rattle.job_node_file.specs.Printed.{IsNotTold}
+use Rattle.job_node_file.specs.Quotas.{ReadsAsked, ReadsNotAsked}
 use Rattle.job_node_file.specs.declared.node_file.NodeFileWords.{NodeFileWords}
 use Rattle.job_parts.specs.declared.faults.Fault.{Fault}
 use Rattle.folders.specs.Folders.{FolderReads, FolderValue}
@@ -27,8 +28,24 @@ pub no_node : (file : List ℕ) (before after : FolderValue) (fault : Fault) →
 no_node file before after fault (inl is) = unread before file is.no_text.given after is.no_text.read
 no_node file before after fault (inr bad) = some_read before after bad.only_reads
 
--- a node, but no memory for what is printed of it
+-- the text of a table, if one is named
+pub asked : (name : Option (List ℕ)) (before : FolderValue) (text : Option (List ℕ)) (after : FolderValue)
+    → ReadsAsked FolderReads name before text after → after ≡ before
+asked None before text after read = read.1
+asked (Some name) before None after read = absurd read
+asked (Some name) before (Some text) after read = read.read.0
+
+-- why there is none
+asked_none : (name : Option (List ℕ)) (before : FolderValue) (fault : Fault) (after : FolderValue)
+    → ReadsNotAsked FolderReads name before fault after → after ≡ before
+asked_none None before fault after none = absurd none
+asked_none (Some name) before fault after none = unread before name none.no_text.given after none.no_text.read
+
+-- no table or no node, or a node and no quotas of it or no memory for what is printed of it
 pub untold : (words : NodeFileWords) (before after : FolderValue) (fault : Fault) → IsNotTold FolderReads words before after fault
     → after ≡ before
-untold words before after fault (inl none) = no_node _ before after fault none
-untold words before after fault (inr (own, program, read, is)) = some_read before after read.only_reads
+untold words before after fault (inl none) = asked_none _ before fault after none
+untold words before after fault (inr (between, text, read, inl none)) =
+    no_node _ between after fault none ∙ asked _ before text between read
+untold words before after fault (inr (between, text, read, inr (own, program, made, is))) =
+    some_read between after made.only_reads ∙ asked _ before text between read

@@ -65,17 +65,17 @@ done_at : (words : RehearseWords) (place : Place) (named : _) (before after : Fo
 done_at words place named before after old new status (inl is) = images words (sizes_at place) before is.held.images after is.held.are_images
 done_at words place named before after old new status (inr is) = not_both words (sizes_at place) before after (BadTable is.file is.fault) is.bad
 
-asks_with : (words : RehearseWords) (sizes : Maps) (before after : FolderValue) (old new : Option (List ℕ)) (status : Status)
-    → AsksWith FolderReads words sizes before after old new status → after ≡ before
-asks_with words sizes before after old new status (inl is) = images words sizes before is.held.images after is.held.are_images
-asks_with words sizes before after old new status (inr is) = not_asked words sizes before after (BadTable is.file is.fault) is.bad
+asks_with : (words : RehearseWords) (place : Place) (before after : FolderValue) (old new : Option (List ℕ)) (status : Status)
+    → AsksWith FolderReads words place before after old new status → after ≡ before
+asks_with words place before after old new status (inl is) = images words (sizes_at place) before is.held.images after is.held.are_images
+asks_with words place before after old new status (inr is) = not_asked words (sizes_at place) before after (BadTable is.file is.fault) is.bad
 
 -- a rehearsal that no fault ended, of whose loads it is done
 done : (words : RehearseWords) (loaders : Loaders) (before after : FolderValue) (old new : Option (List ℕ)) (status : Status)
     → Does FolderReads words loaders before after old new status → after ≡ before
 done words (One named) before after old new status (inl is) = done_at words is.place named is.between after old new status is.does ∙ placed words.place before is.place is.between is.placed
 done words (One named) before after old new status (inr is) = placed words.place before is.place after is.placed
-done words Any before after old new status is = asks_with words (sizes_at is.place) is.between after old new status is.does ∙ placed words.place before is.place is.between is.placed
+done words Any before after old new status is = asks_with words is.place is.between after old new status is.does ∙ placed words.place before is.place is.between is.placed
 
 -- a rehearsal that a fault ended
 undone_at : (words : RehearseWords) (place : Place) (named : _) (before after : FolderValue) (old new : Option (List ℕ)) (fault : Fault)

@@ -159,6 +159,10 @@ static int print(const char *format, va_list list) {
     int width = 0, wide = 0;
     for (format += 1; *format >= '0' && *format <= '9'; format += 1) width = width * 10 + *format - '0';
     for (; *format == 'l' || *format == 'z'; format += 1) wide += 1;
+    if (*format == '%') {
+      put('%');
+      continue;
+    }
     if (*format == 's') {
       for (const char *s = va_arg(list, const char *); *s != 0; s += 1) put(*s);
       continue;

@@ -11,7 +11,7 @@ returns-then-line-gt-MAX_LINE-clause-answers c =
     let long : nat_lt MAX_LINE (length c.args.line.now) ≡ true = search rules in
     let same = ap (λ (words : List (Bor (List ℕ))). map (λ (word : Bor (List ℕ)). word.now) words) c.as_slice.ensures.value ∙ c.in_ok-words.ensures in
     let other = ap (λ (words : List (Bor (List ℕ))). map (λ (word : Bor (List ℕ)). word.now) words) c.as_slice-then-line-gt-MAX_LINE.ensures.value ∙ c.in_ok-words.ensures in
-    long_answered _ _ _ _ _ _ _ _ _ same c.asked-asks.ensures other long c.long_fault.ensures c.in_ok-print_fault.ensures
+    long_answered _ _ _ _ _ _ _ _ _ _ same c.asked-asks.ensures other long c.long_fault.ensures c.in_ok-print_fault.ensures
 
 pub returns-clause-answers : goal.returns-clause-answers
 returns-clause-answers c =
@@ -19,5 +19,5 @@ returns-clause-answers c =
     let same = ap (λ (words : List (Bor (List ℕ))). map (λ (word : Bor (List ℕ)). word.now) words) c.as_slice.ensures.value ∙ c.in_ok-words.ensures in
     let other = ap (λ (words : List (Bor (List ℕ))). map (λ (word : Bor (List ℕ)). word.now) words) c.as_slice-in-Set.ensures.value ∙ c.in_ok-words.ensures in
     IfOk-weaker c.answer_setting.result _ _
-    (λ is_bad set. setting_answered _ _ _ _ _ _ _ _ _ is_bad same c.asked-asks.ensures c.in-Set.is other short set)
+    (λ is_bad set. setting_answered _ _ _ _ _ _ _ _ _ _ is_bad same c.asked-asks.ensures c.in-Set.is other short set)
     c.answer_setting.ensures.answers

@@ -7,4 +7,5 @@ pub returns-clause-shape : goal.returns-clause-shape
 returns-clause-shape c =
     let named : app_of c.about.result ≡ new_app (codes "node") = ap app_of_fields c.about.ensures ∙ c.new.ensures.app in
     let first = c.in_ok-arg.ensures.shape c.file-node.ensures.local ∙ ap₂ with_rule named c.file-node.ensures.rule in
-    IfOk-weaker c.arg-2.result _ _ (λ m h. h.shape c.flag-header.ensures.local ∙ ap₂ with_rule first c.flag-header.ensures.rule) c.arg-2.ensures
+    let second = c.in_ok-arg-2.ensures.shape c.flag-header.ensures.local ∙ ap₂ with_rule first c.flag-header.ensures.rule in
+    IfOk-weaker c.arg-3.result _ _ (λ m h. h.shape c.option-table.ensures.local ∙ ap₂ with_rule second c.option-table.ensures.rule) c.arg-3.ensures

@@ -30,6 +30,17 @@ returns-clause-done g c =
       },
     )
 
+pub returns-clause-lost : goal.returns-clause-lost
+returns-clause-lost g c =
+    let old = g.W.Write.contents c.args.out.now in
+    let mid = g.W.Write.contents c.print_ports.new.out in
+    let new = g.W.Write.contents c.print_report.new.out in record {
+      replies = _;
+      report = c.in_ok-sinks.report;
+      printed = Appends-trans old mid new _ _ c.in_ok-print_ports.ensures c.in_ok-print_report.ensures;
+      is = refl;
+    }
+
 pub returns-in_err-sinks-clause-stops : goal.returns-in_err-sinks-clause-stops
 returns-in_err-sinks-clause-stops g c =
     let gone = err_from_is_err_and c.from_residual.result c.from_residual.ensures.1 in

@@ -3,4 +3,4 @@ use Rattle.job_rehearse.specs.OpenPorts.{TellsFirst}
 use Rattle.job_rehearse.proofs.open_ports.add_askers.Given as goal
 
 abbrev pub invariant-loop-place : goal.invariant-loop-place
-invariant-loop-place l = TellsFirst l.judge l.image l.askers l.place (string_bytes l.fn.text) (string_bytes l.text)
+invariant-loop-place l = TellsFirst l.judge l.image l.node l.lead l.askers l.place (string_bytes l.fn.text) (string_bytes l.text)

@@ -4,5 +4,5 @@ use Rattle.job_rehearse.proofs.open_ports.add_runs.Given as goal
 
 abbrev pub invariant-loop-port : goal.invariant-loop-port
 invariant-loop-port l =
-    (string_bytes l.text ≡ with_runs (string_bytes l.initial.text) l.answers l.words l.port)
-    × (l.first ≡ first_of_run l.answers l.port)
+    (string_bytes l.text ≡ with_runs (string_bytes l.initial.text) l.answers l.kind l.lead l.words l.port)
+    × (l.first ≡ first_of_run l.answers l.kind l.port)

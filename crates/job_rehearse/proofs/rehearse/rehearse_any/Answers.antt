@@ -1,7 +1,7 @@
 use Rattle.std.proofs.Common.{inl, inr, subst}
 use Rattle.std.proofs.lemmas.Result.{IfErr-weaker, IfOk-weaker}
 use Rattle.machine.specs.Sizes.{Maps}
-use Rattle.job_rehearse.proofs.Stopping.{stops_more, tells_none}
+use Rattle.job_rehearse.proofs.Stopping.{asks_at, stops_more, tells_none}
 use Rattle.job_rehearse.specs.Places.{sizes_at}
 use Rattle.job_rehearse.specs.Policies.{HoldsAsked, HoldsNotAsked}
 use Rattle.job_rehearse.specs.declared.policies.NoPolicy.{NoPolicy}
@@ -15,7 +15,7 @@ returns-in-Ok-clause-done g c =
       place = c.in_ok-place.place;
       between = c.place_in.new.files;
       placed = c.in_ok-place.ensures.place;
-      does = inl (record { asked = c.in-Ok.asked; held = held; asks = done });
+      does = inl (record { asked = c.in-Ok.asked; held = held; asks = asks_at _ _ _ _ _ _ c.loaded.ensures.value done });
     })
     c.ask_any.ensures.done
 
