@@ -11,6 +11,7 @@ returns c = record {
   status = c.in-Ok.status;
   begun = c.new-desk.ensures.folder;
   dump = search rules;
+  maps = search rules;
   silent = c.new-speech.ensures;
   lives = c.in-Ok.ensures.lives;
   printed = search rules;
