@@ -1,0 +1,24 @@
+use Rattle.std.proofs.Common.{ℕ, List, ◌++◌, ◌/◌, length, ap, ap₂, ◌∙◌, arith, length-append}
+use Rattle.std.specs.List.{concat}
+use Rattle.std.proofs.lemmas.List.{take_all}
+use Rattle.hex.specs.Hex.{encode_upper}
+use Rattle.job_parts.proofs.HexText.{text_long}
+use Rattle.job_parts.proofs.Joined.{all_printed, chunks_and_rest, none_printed, one_printed}
+use Rattle.job_parts.proofs.pending.print_joined.Goals as goal
+
+pub loop-chunk-init : goal.loop-chunk-init
+loop-chunk-init g c = (none_printed c.args.front.items c.as_chunks.result.0.now _, c.requires.front)
+
+pub loop-chunk-preserved : goal.loop-chunk-preserved
+loop-chunk-preserved g c = (
+  one_printed c.args.front.items c.loop-chunk.chunk-index c.as_chunks.result.0.now _ _ _ _ _ _ c.loop-chunk-test.true c.loop-chunk.invariant.0 c.push_hex.ensures c.in_ok-write_all.ensures.bytes c.clear.ensures,
+  omega (arith, ap (λ (l : List ℕ). length l) c.clear.ensures),
+)
+
+pub returns : goal.returns
+returns g c =
+    let chunks = c.as_chunks.result.0.now in
+    let parts = ap₂ (λ (bs : List (List ℕ)) (r : List ℕ). concat bs ++ r) c.as_chunks.ensures.front c.as_chunks.ensures.back
+        ∙ chunks_and_rest (length c.args.bytes.now / 64) c.args.bytes.now (omega arith) in
+    all_printed c.args.front.items c.args.bytes.now c.as_chunks.result.1.now c.args.behind.now _ _ _ c.loop-chunk.chunk-index chunks _ _ _ _ parts
+    (take_all c.loop-chunk.chunk-index chunks c.loop-chunk-test.false) c.loop-chunk.invariant.0 c.push_hex-2.ensures c.unwrap.ensures c.write_all.ensures.bytes

@@ -1,0 +1,6 @@
+use Rattle.std.proofs.Common.{ℕ, List, [], ◌∷◌, ◌++◌, ◌+◌, ◌/◌, ◌%◌, ap, sym, ◌∙◌, arith}
+use Rattle.job_parts.proofs.Decimals.{one_digit}
+use Rattle.job_parts.proofs.pending.push_one.Goals as goal
+
+pub returns-clause-text : goal.returns-clause-text
+returns-clause-text c = rw one_digit c.args.number c.requires.small (search rules)
