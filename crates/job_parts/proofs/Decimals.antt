@@ -25,5 +25,12 @@ pub three_digits : (n : ℕ) → 100 ≤ n → n < 256 → decimal n ≡ (48 + n
 unfolding digits
 three_digits n large small =
     let first : n / 10 / 10 % 10 ≡ n / 100 = omega arith in
-    rw (ne_eqb (n / 10) 0 (λ e. absurd (omega (arith, e))), ne_eqb (n / 10 / 10) 0 (λ e. absurd (omega (arith, e))), is_zero (n / 10 / 10 / 10) (omega arith),
-        glyph (n % 10) (omega arith), glyph (n / 10 % 10) (omega arith), first, glyph (n / 100) (omega arith)) refl
+    rw (
+      ne_eqb (n / 10) 0 (λ e. absurd (omega (arith, e))),
+      ne_eqb (n / 10 / 10) 0 (λ e. absurd (omega (arith, e))),
+      is_zero (n / 10 / 10 / 10) (omega arith),
+      glyph (n % 10) (omega arith),
+      glyph (n / 10 % 10) (omega arith),
+      first,
+      glyph (n / 100) (omega arith),
+    ) refl

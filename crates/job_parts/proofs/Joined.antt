@@ -114,7 +114,7 @@ pub all_printed : {E : Type 0} (front bytes rest behind waits text whole : List 
 all_printed front bytes rest behind waits text whole i chunks old mid new (Err fault) parts all was is end last = tt
 all_printed front bytes rest behind waits text whole i chunks old mid new (Ok x) parts all was is end last =
     let joined = all_joined bytes rest chunks parts (take i chunks) all front (was.printed ++ waits) (was.printed ++ text) was.joined
-        (ap (λ (t : List ℕ). was.printed ++ t) is ∙ sym (append_assoc was.printed waits (encode_upper rest))) in
+    (ap (λ (t : List ℕ). was.printed ++ t) is ∙ sym (append_assoc was.printed waits (encode_upper rest))) in
     subst (λ (t : List ℕ). Appends old new t)
     (ap (λ (w : List ℕ). was.printed ++ w) end ∙ sym (append_assoc was.printed text behind) ∙ ap (λ (t : List ℕ). t ++ behind) joined)
     (Appends-trans old mid new was.printed whole was.appends last)

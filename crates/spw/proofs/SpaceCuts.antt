@@ -38,7 +38,7 @@ module _ (text bytes : List ℕ) (place : ℕ) (same : bytes ≡ text) (found : 
       let whole : place - 0 ≡ place = omega arith in
       sym (take-append-drop place text)
       ∙ ap₂ (λ (xs ys : List ℕ). xs ++ ys) (sym (front ∙ ap (λ n. take n text) whole))
-        (drop_more text place 0 at.0 ∙ ap₂ (λ (c : ℕ) (xs : List ℕ). c ∷ xs) is (sym back))
+      (drop_more text place 0 at.0 ∙ ap₂ (λ (c : ℕ) (xs : List ℕ). c ∷ xs) is (sym back))
 
 -- the first space is found there: none stands before it
 pub no_space_before : (text bytes : List ℕ) (place : ℕ) → bytes ≡ text → NoneBefore (Passes (is_byte 32) bytes) 0 (length bytes) place
@@ -47,8 +47,8 @@ no_space_before text bytes place same found before front =
     let none = subst (λ (t : List ℕ). NoneBefore (Passes (is_byte 32) t) 0 (length t) place) same found in
     let whole : place - 0 ≡ place = omega arith in
     subst HasNoSpace (sym (front ∙ ap (λ n. take n text) whole)) (λ i below is.
-        let less : i < place = omega (arith, below, length-take-le place text (omega (arith, none.high))) in
-        none.before i (omega arith) less (rw (sym (get_or-take place text i 0 less) ∙ is) refl))
+    let less : i < place = omega (arith, below, length-take-le place text (omega (arith, none.high))) in
+    none.before i (omega arith) less (rw (sym (get_or-take place text i 0 less) ∙ is) refl))
 
 -- the last space is found there: none stands behind it
 pub no_space_behind : (text bytes : List ℕ) (place : ℕ) → bytes ≡ text → NoneAfter (Passes (is_byte 32) bytes) 0 (length bytes) place
@@ -56,5 +56,5 @@ pub no_space_behind : (text bytes : List ℕ) (place : ℕ) → bytes ≡ text �
 no_space_behind text bytes place same found behind back =
     let none = subst (λ (t : List ℕ). NoneAfter (Passes (is_byte 32) t) 0 (length t) place) same found in
     subst HasNoSpace (sym back) (λ i below is.
-        let less : place + 1 + i < length text = omega (arith, below, length-drop (place + 1) text) in
-        none.after (place + 1 + i) (omega arith) less (rw (sym (get_or-drop (place + 1) text i 0) ∙ is) refl))
+    let less : place + 1 + i < length text = omega (arith, below, length-drop (place + 1) text) in
+    none.after (place + 1 + i) (omega arith) less (rw (sym (get_or-drop (place + 1) text i 0) ∙ is) refl))

@@ -19,6 +19,6 @@ pub returns : goal.returns
 returns g c =
     let chunks = c.as_chunks.result.0.now in
     let parts = ap₂ (λ (bs : List (List ℕ)) (r : List ℕ). concat bs ++ r) c.as_chunks.ensures.front c.as_chunks.ensures.back
-        ∙ chunks_and_rest (length c.args.bytes.now / 64) c.args.bytes.now (omega arith) in
+    ∙ chunks_and_rest (length c.args.bytes.now / 64) c.args.bytes.now (omega arith) in
     all_printed c.args.front.items c.args.bytes.now c.as_chunks.result.1.now c.args.behind.now _ _ _ c.loop-chunk.chunk-index chunks _ _ _ _ parts
     (take_all c.loop-chunk.chunk-index chunks c.loop-chunk-test.false) c.loop-chunk.invariant.0 c.push_hex-2.ensures c.unwrap.ensures c.write_all.ensures.bytes

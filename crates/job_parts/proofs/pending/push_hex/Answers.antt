@@ -11,7 +11,7 @@ loop-block-init c = none_joined c.as_chunks.result.0.now _
 pub push_block-requires : goal.push_block-requires
 push_block-requires c =
     let parts = ap₂ (λ (bs : List (List ℕ)) (r : List ℕ). concat bs ++ r) c.as_chunks.ensures.front c.as_chunks.ensures.back
-        ∙ blocks_and_rest (length c.args.bytes.now / 16) c.args.bytes.now (omega arith) in
+    ∙ blocks_and_rest (length c.args.bytes.now / 16) c.args.bytes.now (omega arith) in
     room_for c.args.bytes.now c.as_chunks.result.1.now c.as_chunks.result.0.now parts c.loop-block.block-index c.args.text.now.items c.loop-block.text.items
     c.loop-block-test.true c.loop-block.invariant c.requires (c.as_chunks.told-0 c.loop-block.block-index c.loop-block-test.true)
 
@@ -22,13 +22,13 @@ loop-block-preserved c =
 pub push_few-requires-clause-room : goal.push_few-requires-clause-room
 push_few-requires-clause-room c =
     let parts = ap₂ (λ (bs : List (List ℕ)) (r : List ℕ). concat bs ++ r) c.as_chunks.ensures.front c.as_chunks.ensures.back
-        ∙ blocks_and_rest (length c.args.bytes.now / 16) c.args.bytes.now (omega arith) in
+    ∙ blocks_and_rest (length c.args.bytes.now / 16) c.args.bytes.now (omega arith) in
     room_behind c.args.bytes.now c.as_chunks.result.1.now c.as_chunks.result.0.now parts (take c.loop-block.block-index c.as_chunks.result.0.now)
     (take_all c.loop-block.block-index c.as_chunks.result.0.now c.loop-block-test.false) c.args.text.now.items c.loop-block.text.items c.loop-block.invariant c.requires
 
 pub returns : goal.returns
 returns c =
     let parts = ap₂ (λ (bs : List (List ℕ)) (r : List ℕ). concat bs ++ r) c.as_chunks.ensures.front c.as_chunks.ensures.back
-        ∙ blocks_and_rest (length c.args.bytes.now / 16) c.args.bytes.now (omega arith) in
+    ∙ blocks_and_rest (length c.args.bytes.now / 16) c.args.bytes.now (omega arith) in
     all_joined c.args.bytes.now c.as_chunks.result.1.now c.as_chunks.result.0.now parts (take c.loop-block.block-index c.as_chunks.result.0.now)
     (take_all c.loop-block.block-index c.as_chunks.result.0.now c.loop-block-test.false) c.args.text.now.items c.loop-block.text.items _ c.loop-block.invariant c.push_few.ensures

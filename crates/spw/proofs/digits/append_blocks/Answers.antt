@@ -18,7 +18,7 @@ loop-block-preserved c =
     let below = c.loop-block-test.true in
     let inv = c.loop-block.invariant in (
       one_more c.loop-block.block-index c.args.blocks.now c.args.bytes.now.items c.loop-block.bytes.items c.in-Some.written c.push_block.new.bytes.items
-        below (c.told-blocks c.loop-block.block-index below) inv.0 c.in-Some.ensures.0 c.in-Some.ensures.1 c.push_block.ensures.items,
+          below (c.told-blocks c.loop-block.block-index below) inv.0 c.in-Some.ensures.0 c.in-Some.ensures.1 c.push_block.ensures.items,
       omega (arith, inv.1, c.push_block.ensures.len),
       c.push_block.ensures.capacity ∙ inv.2,
     )

@@ -42,5 +42,5 @@ returns-clause-bytes c =
     let even : length c.args.word.now % 2 ≡ 0 = omega (arith, none, rest.back_len, c.as_chunks-2.ensures.back_len) in
     let pairs : concat c.as_chunks-2.result.0.now ≡ c.as_chunks.result.1.now = word_of_pairs _ _ _ refl c.as_chunks-2.ensures.front (omega (arith, none, c.as_chunks-2.ensures.back_len)) in
     λ is. both_written _ _ _ c.as_chunks-2.result.0.now rest.front rest.back pairs even _ _ _
-        (c.append_blocks.ensures.bytes c.if-not-append_blocks.false ∙ ap (λ (b : List ℕ). b ++ bytes_written (concat c.as_chunks.result.0.now)) c.in_ok-reserve.ensures.items)
-        (c.append_pairs.ensures.bytes is)
+    (c.append_blocks.ensures.bytes c.if-not-append_blocks.false ∙ ap (λ (b : List ℕ). b ++ bytes_written (concat c.as_chunks.result.0.now)) c.in_ok-reserve.ensures.items)
+    (c.append_pairs.ensures.bytes is)

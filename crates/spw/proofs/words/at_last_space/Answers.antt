@@ -10,7 +10,7 @@ range_from-requires c = behind_space c.args.text.now c.as_bytes.result.now c.in-
 pub returns-in-Some : goal.returns-in-Some
 returns-in-Some c = (
   space_cut c.args.text.now c.as_bytes.result.now c.in-Some.place c.as_bytes.ensures.value (c.in-Some.ensures.0.high, c.in-Some.ensures.1)
-    c.range.result.now c.range_from.result.now c.range.ensures.value c.range_from.ensures.value,
+      c.range.result.now c.range_from.result.now c.range.ensures.value c.range_from.ensures.value,
   no_space_behind c.args.text.now c.as_bytes.result.now c.in-Some.place c.as_bytes.ensures.value c.in-Some.ensures.0 c.range_from.result.now c.range_from.ensures.value,
 )
 
