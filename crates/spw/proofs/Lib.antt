@@ -9,3 +9,4 @@ pub mod BlockLanes
 pub mod DigitBlocks
 pub mod WordCuts
 pub mod SpaceCuts
+pub mod Ports

@@ -38,6 +38,7 @@ fn digit(character: u8) -> u8
 }
 
 /// Puts the bytes of a block behind others. The condition is that there is room for them.
+#[inline(always)]
 fn push_block(bytes: &mut Vec<u8>, block: &[u8; WRITTEN])
     requires { vec_len bytes.old + WRITTEN ≤ vec_capacity bytes.old }
     ensures items { bytes.new.items ≡ bytes.old.items ++ block.now }

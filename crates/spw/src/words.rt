@@ -50,6 +50,7 @@ pub fn first_word(text: &str) -> Option<(&str, &str)>
 }
 
 /// What stands before the last word of a text, and that word, or `None` where there is no word.
+#[inline(always)]
 pub(crate) fn last_word(text: &str) -> Option<(&str, &str)>
     ensures { MatchOption result (words_of text.now ≡ [])
         (λ r. words_of text.now ≡ words_of r.0.now ++ r.1.now ∷ []) }
