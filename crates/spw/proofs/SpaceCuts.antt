@@ -3,7 +3,7 @@ use Rattle.std.proofs.Common.{◌≡◌, ◌<◌, ℕ, ◌+◌, ◌-◌, true, L
 use Rattle.std.specs.Prelude.{◌==◌, slice_range}
 use Rattle.std.specs.Str.{IsUtf8, IsCharBoundary}
 use Rattle.std.proofs.lemmas.List.{drop_more, get_or-drop, get_or-take, length-drop, length-take-le, take-append-drop}
-use Rattle.std.proofs.lemmas.Str.{IsCharBoundary-after_ascii, IsCharBoundary-before_ascii}
+use Rattle.std.proofs.lemmas.Str.{IsCharBoundary-after_ascii}
 use Rattle.memchr.specs.Find.{Nowhere, NoneBefore, NoneAfter, Passes, is_byte}
 use Rattle.spw.specs.Spaces.{HasNoSpace, IsCut}
 
@@ -19,18 +19,15 @@ none_found text bytes same nowhere =
     λ i below is. none i (omega arith) below (rw is refl)
 
 module _ (text bytes : List ℕ) (place : ℕ) (same : bytes ≡ text) (found : IsAtSpace bytes place) where
-  at : IsAtSpace text place
-  at = subst (λ (t : List ℕ). IsAtSpace t place) same found
+  placed : IsAtSpace text place
+  placed = subst (λ (t : List ℕ). IsAtSpace t place) same found
 
-  is : get_or text place 0 ≡ 32
-  is = eqb-true (get_or text place 0) 32 at.1
+  code : get_or text place 0 ≡ 32
+  code = eqb-true (get_or text place 0) 32 placed.1
 
-  -- the text can be cut before the space, and behind it
-  pub before_space : IsCharBoundary text place
-  before_space = IsCharBoundary-before_ascii text place at.0 (omega (arith, is))
-
+  -- the text can be cut behind the space
   pub behind_space : IsUtf8 text → IsCharBoundary text (place + 1)
-  behind_space utf8 = IsCharBoundary-after_ascii text place utf8 at.0 (omega (arith, is))
+  behind_space utf8 = IsCharBoundary-after_ascii text place utf8 placed.0 (omega (arith, code))
 
   -- it is cut there
   pub space_cut : (before behind : List ℕ) → before ≡ slice_range text 0 place → behind ≡ drop (place + 1) text → IsCut text before behind
@@ -38,7 +35,7 @@ module _ (text bytes : List ℕ) (place : ℕ) (same : bytes ≡ text) (found : 
       let whole : place - 0 ≡ place = omega arith in
       sym (take-append-drop place text)
       ∙ ap₂ (λ (xs ys : List ℕ). xs ++ ys) (sym (front ∙ ap (λ n. take n text) whole))
-      (drop_more text place 0 at.0 ∙ ap₂ (λ (c : ℕ) (xs : List ℕ). c ∷ xs) is (sym back))
+      (drop_more text place 0 placed.0 ∙ ap₂ (λ (c : ℕ) (xs : List ℕ). c ∷ xs) code (sym back))
 
 -- the first space is found there: none stands before it
 pub no_space_before : (text bytes : List ℕ) (place : ℕ) → bytes ≡ text → NoneBefore (Passes (is_byte 32) bytes) 0 (length bytes) place

@@ -1,11 +1,8 @@
-use Rattle.spw.proofs.SpaceCuts.{before_space, behind_space, no_space_behind, none_found, space_cut}
+use Rattle.spw.proofs.SpaceCuts.{behind_space, no_space_behind, none_found, space_cut}
 use Rattle.spw.proofs.words.at_last_space.Goals as goal
 
-pub range-requires : goal.range-requires
-range-requires c = before_space c.args.text.now c.as_bytes.result.now c.in-Some.place c.as_bytes.ensures.value (c.in-Some.ensures.0.high, c.in-Some.ensures.1)
-
 pub range_from-requires : goal.range_from-requires
-range_from-requires c = behind_space c.args.text.now c.as_bytes.result.now c.in-Some.place c.as_bytes.ensures.value (c.in-Some.ensures.0.high, c.in-Some.ensures.1) c.utf8.text
+range_from-requires c = λ some. behind_space c.args.text.now c.as_bytes.result.now c.in-Some.place c.as_bytes.ensures.value (c.in-Some.ensures.0.high, c.in-Some.ensures.1) c.utf8.text
 
 pub returns-in-Some : goal.returns-in-Some
 returns-in-Some c = (
