@@ -6,7 +6,7 @@ use Rattle.std.specs.List.{concat}
 use Rattle.std.specs.Simd.{first_chunks}
 use Rattle.std.proofs.KnownBytes.{Appends-nil, Appends-trans}
 use Rattle.std.proofs.Math.Seq.{take-suc}
-use Rattle.std.proofs.lemmas.List.{drop-drop, length-append, length-drop, take-append-drop}
+use Rattle.std.proofs.lemmas.List.{drop-drop, length-append, length-drop, length-take-le, take-append-drop}
 use Rattle.std.proofs.lemmas.List.Folds.{concat-append}
 use Rattle.hex.specs.Hex.{encode_upper}
 use Rattle.job_parts.proofs.HexText.{digits_both, no_digits, text_long}
@@ -73,7 +73,35 @@ module _ (bytes rest : List ℕ) (blocks : List (List ℕ)) (parts : concat bloc
         is ∙ ap (λ (m : List ℕ). m ++ encode_upper rest) was ∙ append_assoc before (encode_upper (concat done)) (encode_upper rest)
         ∙ ap (λ (t : List ℕ). before ++ t) (sym (digits_both (concat done) rest) ∙ ap encode_upper all_parts)
 
+-- how long each block is
+each_block : (k i : ℕ) (bytes : List ℕ) → k * 16 ≤ length bytes → i < k → length (get_or (first_chunks 16 k bytes) i []) ≡ 16
+each_block zero i bytes fits below = absurd (omega (arith, below))
+each_block (suc k) zero bytes fits below = length-take-le 16 bytes (omega (arith, fits))
+each_block (suc k) (suc i) bytes fits below = each_block k i (drop 16 bytes) (omega (arith, fits, length-drop 16 bytes)) (omega (arith, below))
+
+pub block_long : (bytes : List ℕ) (blocks : List (List ℕ)) (i : ℕ) → blocks ≡ first_chunks 16 (length bytes / 16) bytes → length blocks ≡ length bytes / 16
+    → i < length blocks → length (get_or blocks i []) ≡ 16
+block_long bytes blocks i cut many below =
+    ap (λ (bs : List (List ℕ)). length (get_or bs i [])) cut ∙ each_block (length bytes / 16) i bytes (omega arith) (omega (arith, many, below))
+
 -- ---- chunks that are printed in turn
+
+each_chunk : (k i : ℕ) (bytes : List ℕ) → k * 64 ≤ length bytes → i < k → length (get_or (first_chunks 64 k bytes) i []) ≡ 64
+each_chunk zero i bytes fits below = absurd (omega (arith, below))
+each_chunk (suc k) zero bytes fits below = length-take-le 64 bytes (omega (arith, fits))
+each_chunk (suc k) (suc i) bytes fits below = each_chunk k i (drop 64 bytes) (omega (arith, fits, length-drop 64 bytes)) (omega (arith, below))
+
+pub chunk_long : (bytes : List ℕ) (chunks : List (List ℕ)) (i : ℕ) → chunks ≡ first_chunks 64 (length bytes / 64) bytes → length chunks ≡ length bytes / 64
+    → i < length chunks → length (get_or chunks i []) ≡ 64
+chunk_long bytes chunks i cut many below =
+    ap (λ (bs : List (List ℕ)). length (get_or bs i [])) cut ∙ each_chunk (length bytes / 64) i bytes (omega arith) (omega (arith, many, below))
+
+-- the end of the text fits behind what is left
+pub end_fits : (waits text rest behind : List ℕ) → length waits ≤ 4 → length rest < 64 → length behind ≤ 5 → text ≡ waits ++ encode_upper rest
+    → length text + length behind ≤ 144
+end_fits waits text rest behind few short end is =
+    let long : length text ≡ length (waits ++ encode_upper rest) = ap (λ (l : List ℕ). length l) is in
+    omega (arith, long, few, short, end, text_long rest, length-append waits (encode_upper rest))
 
 pub chunks_and_rest : (k : ℕ) (bytes : List ℕ) → k * 64 ≤ length bytes → concat (first_chunks 64 k bytes) ++ drop (k * 64) bytes ≡ bytes
 chunks_and_rest zero bytes fits = refl

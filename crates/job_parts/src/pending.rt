@@ -20,6 +20,15 @@ pub(crate) const ROOM: usize = 144;
 /// Text that waits to be printed.
 pub(crate) type Pending = ArrayVec<u8, ROOM>;
 
+/// Adds characters. The condition is that there is room for them.
+#[inline(always)]
+fn push_text(text: &mut Pending, more: &[u8])
+    requires { length text.old.items + length more.now ≤ ROOM }
+    ensures { text.new.items ≡ text.old.items ++ more.now }
+{
+    text.try_extend_from_slice(more).unwrap();
+}
+
 /// Adds the digits of a block of bytes. The condition is that there is room for them.
 #[inline(always)]
 fn push_block(text: &mut Pending, block: &[u8; BLOCK])
@@ -27,7 +36,7 @@ fn push_block(text: &mut Pending, block: &[u8; BLOCK])
     ensures { text.new.items ≡ text.old.items ++ encode_upper block.now }
 {
     let digits = block_digits(block);
-    text.try_extend_from_slice(&digits).unwrap();
+    push_text(text, &digits);
 }
 
 /// Adds the digits of bytes that are no more than a block. The condition is that there is room for them.
@@ -40,8 +49,7 @@ fn push_few(text: &mut Pending, bytes: &[u8])
     let mut block = [0; BLOCK];
     put_front(&mut block, bytes);
     let digits = block_digits(&block);
-    text.try_extend_from_slice(&digits[..2 * bytes.len()])
-        .unwrap();
+    push_text(text, &digits[..2 * bytes.len()]);
 }
 
 /// Adds the digits of bytes, in upper case. The condition is that there is room for them.
@@ -144,6 +152,6 @@ pub(crate) fn print_joined<W: Write>(
         text.clear();
     }
     push_hex(&mut text, rest);
-    text.try_extend_from_slice(behind).unwrap();
+    push_text(&mut text, behind);
     out.write_all(text.as_slice())
 }

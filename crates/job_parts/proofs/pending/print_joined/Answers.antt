@@ -1,13 +1,23 @@
-use Rattle.std.proofs.Common.{ℕ, List, ◌++◌, ◌/◌, length, ap, ap₂, ◌∙◌, arith, length-append}
+use Rattle.std.proofs.Common.{ℕ, List, ◌++◌, ◌/◌, length, ap, ap₂, ◌∙◌, arith}
 use Rattle.std.specs.List.{concat}
 use Rattle.std.proofs.lemmas.List.{take_all}
-use Rattle.hex.specs.Hex.{encode_upper}
-use Rattle.job_parts.proofs.HexText.{text_long}
-use Rattle.job_parts.proofs.Joined.{all_printed, chunks_and_rest, none_printed, one_printed}
+use Rattle.job_parts.proofs.Joined.{all_printed, chunk_long, chunks_and_rest, end_fits, none_printed, one_printed}
 use Rattle.job_parts.proofs.pending.print_joined.Goals as goal
 
 pub loop-chunk-init : goal.loop-chunk-init
 loop-chunk-init g c = (none_printed c.args.front.items c.as_chunks.result.0.now _, c.requires.front)
+
+pub push_hex-requires : goal.push_hex-requires
+push_hex-requires g c =
+    let long = chunk_long c.args.bytes.now c.as_chunks.result.0.now c.loop-chunk.chunk-index c.as_chunks.ensures.front c.as_chunks.ensures.front_len c.loop-chunk-test.true in
+    omega (arith, long, c.loop-chunk.invariant.1)
+
+pub push_hex-2-requires : goal.push_hex-2-requires
+push_hex-2-requires g c = omega (arith, c.loop-chunk.invariant.1, c.as_chunks.ensures.back_len)
+
+pub push_text-requires : goal.push_text-requires
+push_text-requires g c =
+    end_fits _ _ _ _ c.loop-chunk.invariant.1 (omega (arith, c.as_chunks.ensures.back_len)) c.requires.behind c.push_hex-2.ensures
 
 pub loop-chunk-preserved : goal.loop-chunk-preserved
 loop-chunk-preserved g c = (
@@ -21,4 +31,4 @@ returns g c =
     let parts = ap₂ (λ (bs : List (List ℕ)) (r : List ℕ). concat bs ++ r) c.as_chunks.ensures.front c.as_chunks.ensures.back
     ∙ chunks_and_rest (length c.args.bytes.now / 64) c.args.bytes.now (omega arith) in
     all_printed c.args.front.items c.args.bytes.now c.as_chunks.result.1.now c.args.behind.now _ _ _ c.loop-chunk.chunk-index chunks _ _ _ _ parts
-    (take_all c.loop-chunk.chunk-index chunks c.loop-chunk-test.false) c.loop-chunk.invariant.0 c.push_hex-2.ensures c.unwrap.ensures c.write_all.ensures.bytes
+    (take_all c.loop-chunk.chunk-index chunks c.loop-chunk-test.false) c.loop-chunk.invariant.0 c.push_hex-2.ensures c.push_text.ensures c.write_all.ensures.bytes
