@@ -6,3 +6,4 @@ pub mod HexText
 mod InTurn
 mod Joined
 pub mod MapLists
+mod ReplyLines
