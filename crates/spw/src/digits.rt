@@ -43,11 +43,9 @@ fn push_block(bytes: &mut Vec<u8>, block: &[u8; WRITTEN])
     requires { vec_len bytes.old + WRITTEN ≤ vec_capacity bytes.old }
     ensures items { bytes.new.items ≡ bytes.old.items ++ block.now }
     ensures len { vec_len bytes.new ≡ vec_len bytes.old + WRITTEN }
-    ensures capacity { vec_capacity bytes.new ≡ vec_capacity bytes.old }
+    ensures room { vec_capacity bytes.old ≤ vec_capacity bytes.new }
 {
-    for byte in block {
-        bytes.push_reserved(*byte);
-    }
+    bytes.extend_from_slice(block).unwrap();
 }
 
 /// Puts the bytes that blocks of digits write behind others, as far as all characters of a block are digits, and tells
@@ -58,7 +56,7 @@ fn append_blocks(bytes: &mut Vec<u8>, blocks: &[[u8; BLOCK]]) -> bool
     ensures bytes { result ≡ true
         → bytes.new.items ≡ bytes.old.items ++ bytes_written (concat blocks.now) }
     ensures len { result ≡ true → vec_len bytes.new ≡ vec_len bytes.old + length blocks.now * WRITTEN }
-    ensures capacity { vec_capacity bytes.new ≡ vec_capacity bytes.old }
+    ensures room { vec_capacity bytes.old ≤ vec_capacity bytes.new }
 {
     for block in blocks {
         let Some(written) = block_bytes(block) else {

@@ -1,4 +1,4 @@
-use Rattle.std.proofs.Common.{arith, ◌∙◌}
+use Rattle.std.proofs.Common.{arith}
 use Rattle.spw.proofs.DigitBlocks.{block_digits, one_more}
 use Rattle.spw.proofs.digits.append_blocks.Goals as goal
 
@@ -20,5 +20,5 @@ loop-block-preserved c =
       one_more c.loop-block.block-index c.args.blocks.now c.args.bytes.now.items c.loop-block.bytes.items c.in-Some.written c.push_block.new.bytes.items
           below (c.told-blocks c.loop-block.block-index below) inv.0 c.in-Some.ensures.0 c.in-Some.ensures.1 c.push_block.ensures.items,
       omega (arith, inv.1, c.push_block.ensures.len),
-      c.push_block.ensures.capacity ∙ inv.2,
+      omega (arith, inv.2, c.push_block.ensures.room),
     )

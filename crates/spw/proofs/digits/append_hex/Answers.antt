@@ -22,7 +22,7 @@ append_blocks-requires c = omega (arith, c.in_ok-reserve.ensures.ok, c.as_chunks
 pub append_pairs-requires : goal.append_pairs-requires
 append_pairs-requires c =
     let len = c.append_blocks.ensures.len c.if-not-append_blocks.false in
-    omega (arith, c.in_ok-reserve.ensures.ok, c.as_chunks.ensures.front_len, c.as_chunks.ensures.back_len, c.as_chunks-2.ensures.front_len, len, c.append_blocks.ensures.capacity)
+    omega (arith, c.in_ok-reserve.ensures.ok, c.as_chunks.ensures.front_len, c.as_chunks.ensures.back_len, c.as_chunks-2.ensures.front_len, len, c.append_blocks.ensures.room)
 
 pub returns-clause-hex : goal.returns-clause-hex
 returns-clause-hex c =
