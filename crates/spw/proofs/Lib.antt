@@ -9,4 +9,3 @@ pub mod BlockLanes
 pub mod DigitBlocks
 pub mod WordCuts
 pub mod SpaceCuts
-pub mod Ports
