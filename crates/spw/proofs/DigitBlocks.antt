@@ -1,5 +1,6 @@
 -- Blocks of digits, and what is behind them.
-use Rattle.std.proofs.Common.{◌≡◌, ℕ, zero, suc, ◌+◌, ◌*◌, ◌/◌, ◌%◌, ◌<◌, ◌≤◌, List, [], ◌∷◌, ◌++◌, length, take, drop, get_or, refl, sym, ap, ◌∙◌, subst, arith, append_assoc, append-nil}
+use Rattle.std.proofs.Common.{◌≡◌, ℕ, zero, suc, ◌+◌, ◌*◌, ◌/◌, ◌%◌, ◌<◌, ◌≤◌, List, [], ◌∷◌, ◌++◌, length, take, drop, get_or, refl, sym, ap, ◌∙◌, subst, arith, append_assoc, append-nil, Ok, Err}
+use Rattle.std.specs.Prelude.{Result, IfOk}
 use Rattle.std.specs.Char.{digit_value}
 use Rattle.std.specs.List.{concat}
 use Rattle.std.specs.Simd.{first_chunks}
@@ -102,3 +103,8 @@ module _ (word rest : List ℕ) (blocks pairs : List (List ℕ)) (cut : blocks �
   both_written before middle after first second =
       second ∙ ap (λ (m : List ℕ). m ++ bytes_written (concat pairs)) first ∙ append_assoc before (bytes_written (concat blocks)) (bytes_written (concat pairs))
       ∙ ap (λ (w : List ℕ). before ++ w) (sym (written_both (concat blocks) (concat pairs) even_front) ∙ ap bytes_written parts)
+
+-- what follows of each value follows of what is answered
+pub for_ok : {X E : Type 0} {P Q : X → Type 0} (answer : Result X E) → ((x : X) → P x → Q x) → IfOk answer P → IfOk answer Q
+for_ok (Ok x) more is = more x is
+for_ok (Err fault) more is = tt
