@@ -12,8 +12,8 @@ push_hex-requires g c =
     let long = chunk_long c.args.bytes.now c.as_chunks.result.0.now c.loop-chunk.chunk-index c.as_chunks.ensures.front c.as_chunks.ensures.front_len c.loop-chunk-test.true in
     omega (arith, long, c.loop-chunk.invariant.1)
 
-pub push_hex-2-requires : goal.push_hex-2-requires
-push_hex-2-requires g c = omega (arith, c.loop-chunk.invariant.1, c.as_chunks.ensures.back_len)
+pub push_hex-requires-2 : goal.push_hex-requires-2
+push_hex-requires-2 g c = omega (arith, c.loop-chunk.invariant.1, c.as_chunks.ensures.back_len)
 
 pub push_text-requires : goal.push_text-requires
 push_text-requires g c =

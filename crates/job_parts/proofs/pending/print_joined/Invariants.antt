@@ -4,4 +4,4 @@ use Rattle.job_parts.proofs.pending.print_joined.Given as goal
 
 abbrev pub invariant-loop-chunk : goal.invariant-loop-chunk
 invariant-loop-chunk g l =
-    IsUnderWay l.front.items l.chunk-index l.chunks (g.W.Write.contents l.fn.out) (g.W.Write.contents l.out) l.text.items × (length l.text.items ≤ 4)
+    IsUnderWay l.fn.front.items l.chunk-index l.chunks (g.W.Write.contents l.fn.out) (g.W.Write.contents l.out) l.text.items × (length l.text.items ≤ 4)
