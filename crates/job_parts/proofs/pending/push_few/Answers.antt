@@ -1,4 +1,4 @@
-use Rattle.std.proofs.Common.{ℕ, List, ◌++◌, ap, ◌∙◌, arith}
+use Rattle.std.proofs.Common.{ℕ, List, ◌++◌, ap, ◌∙◌}
 use Rattle.hex.specs.Hex.{encode_upper}
 use Rattle.job_parts.proofs.HexText.{text_of_front}
 use Rattle.job_parts.proofs.pending.push_few.Goals as goal
