@@ -10,6 +10,7 @@ mod hex_blocks;
 pub mod inputs;
 pub mod node_codes;
 pub mod options;
+mod pending;
 pub mod printing;
 pub mod programs;
 pub mod replies;
