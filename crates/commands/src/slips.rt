@@ -34,8 +34,35 @@ const ONE_PORT: &str = "1 if frames come";
 /// What may not be there beside `--any`.
 const ANY_ALONE: &str = "    --any is there: without --port, --initiator, --key and --slot\n";
 
-/// What NEW may be where OLD is standard input.
-const ONE_INPUT: &str = "the name of a file if OLD is - too";
+/// The name of standard input.
+const STANDARD_INPUT: &str = "-";
+
+/// What names a file that is read: the name among the matches, and the user's word.
+type Named = (&'static str, &'static str);
+
+/// What `verify`, `why` and `weigh` read, in this order.
+const OF_IMAGE: [Named; 2] = [("image", "FILE"), ("node", "--node")];
+
+/// What the jobs that take lines on a node read.
+const OF_LINES: [Named; 3] = [("lines", "LINES"), ("image", "--image"), ("node", "--node")];
+
+/// What `policy` reads.
+const OF_POLICY: [Named; 2] = [("table", "FILE"), ("node", "--node")];
+
+/// What `decide` reads.
+const OF_DECIDE: [Named; 3] = [("lines", "LINES"), ("table", "TABLE"), ("node", "--node")];
+
+/// What `compare` and `rehearse` read.
+const OF_TWO: [Named; 3] = [("old", "OLD"), ("new", "NEW"), ("node", "--node")];
+
+/// What `map` reads.
+const OF_MAP: [Named; 2] = [("table", "TABLE"), ("node", "--node")];
+
+/// What `node` reads.
+const OF_NODE: [Named; 2] = [("node", "FILE"), ("table", "--table")];
+
+/// What the node's file of `packet` is beside its data or its image.
+const OWN_FILE: &str = "    --node is -: the name of a file if the data or the image are - too\n";
 
 /// What `--ns` may be.
 const TIMES: &str =
@@ -89,19 +116,46 @@ fn slip_line(alloc: Global, found: &ArgMatches, slip: Slip) -> Result<String, Al
     line_of(alloc, name, text_of(found, word.id()), wanted)
 }
 
+/// What the word of this name names of the files that are read. `packet` names one more after KIND.
+fn read_by(name: &str) -> &'static [Named] {
+    match name {
+        "verify" | "why" | "weigh" => &OF_IMAGE,
+        "judge" | "serve" | "sim" | "trace" => &OF_LINES,
+        "policy" => &OF_POLICY,
+        "decide" => &OF_DECIDE,
+        "compare" | "rehearse" => &OF_TWO,
+        "map" => &OF_MAP,
+        "node" => &OF_NODE,
+        _ => &[],
+    }
+}
+
+/// The line of two files that are standard input, which one read ends.
+fn input_line(alloc: Global, name: &str, found: &ArgMatches) -> Result<String, AllocError> {
+    let mut first: Option<&str> = None;
+    for named in read_by(name) {
+        let (id, title) = *named;
+        if text_of(found, id) != Some(STANDARD_INPUT) {
+            continue;
+        }
+        if let Some(first) = first {
+            return format!(in alloc; "    {title} is -: the name of a file if {first} is - too\n");
+        }
+        first = Some(title);
+    }
+    Ok(String::new(alloc))
+}
+
 /// The line of words of which each is one that it may be, but not beside the other: `--frames` and `--ports`, `--any` and options
-/// of loads that are done or the file of a node, or OLD and NEW.
-fn pair_line(alloc: Global, found: &ArgMatches) -> Result<String, AllocError> {
+/// of loads that are done or the file of a node, or two files that are standard input.
+fn pair_line(alloc: Global, name: &str, found: &ArgMatches) -> Result<String, AllocError> {
     if is_set(found, "frames") {
         return line_of(alloc, "--ports", text_of(found, "ports"), ONE_PORT);
     }
     if is_any_beside(found) {
         return String::from_str(alloc, ANY_ALONE);
     }
-    match text_of(found, "new") {
-        Some(new) => line_of(alloc, "NEW", Some(new), ONE_INPUT),
-        None => Ok(String::new(alloc)),
-    }
+    input_line(alloc, name, found)
 }
 
 /// The codes that have this number, with commas between them.
@@ -147,12 +201,13 @@ fn beside(name: &str, found: &ArgMatches) -> Option<&'static str> {
 fn packet_line(alloc: Global, found: &ArgMatches) -> Result<String, AllocError> {
     match packet_words(alloc, found) {
         Err(PacketFault::Words(slip)) => slip_line(alloc, found, slip),
+        Ok(_) if text_of(found, "node") == Some(STANDARD_INPUT) => String::from_str(alloc, OWN_FILE),
         Err(PacketFault::Memory) | Ok(_) => Ok(String::new(alloc)),
     }
 }
 
 /// The line of an option that words of any other job have.
-fn option_line(alloc: Global, found: &ArgMatches) -> Result<String, AllocError> {
+fn option_line(alloc: Global, name: &str, found: &ArgMatches) -> Result<String, AllocError> {
     if let Err(UsageFault::BadOption) = sizes_of(alloc, found) {
         return line_of(alloc, "--maps", text_of(found, "maps"), MAPS);
     }
@@ -174,7 +229,7 @@ fn option_line(alloc: Global, found: &ArgMatches) -> Result<String, AllocError> 
     }
     match text_of(found, "code") {
         Some(code) => code_line(alloc, code),
-        None => pair_line(alloc, found),
+        None => pair_line(alloc, name, found),
     }
 }
 
@@ -195,7 +250,7 @@ pub fn told_option(alloc: Global, words: &[&str]) -> Result<String, AllocError> 
     }
     match name {
         "packet" => packet_line(alloc, found),
-        _ => option_line(alloc, found),
+        _ => option_line(alloc, name, found),
     }
 }
 
