@@ -84,10 +84,11 @@ const CODE: &str = "one of the codes that explain lists without CODE, as V5 or l
 
 /// What is told of a node's file whose banks do not begin with zeros, of a job that steps through a schedule.
 const CONTENTS: &str =
-    "    contents is there in the node's file: the banks of a schedule begin with zeros\n";
+    "bad option\n    contents is there in the node's file: the banks of a schedule begin with zeros\n";
 
 /// What is told of a loader at a port that the node of a file does not have.
-const FEW_PORTS: &str = "    --port is there: the node of the file has fewer ports\n";
+const FEW_PORTS: &str =
+    "bad option\n    --port is there: the node of the file has fewer ports\n";
 
 /// The line that tells what a word stands for, how it was written, and what is wanted.
 fn line_of(
@@ -254,15 +255,15 @@ pub fn told_option(alloc: Global, words: &[&str]) -> Result<String, AllocError> 
     }
 }
 
-/// The line behind `bad option` of a job that was begun: what of a packet is too long, or what the node's file may not say.
+/// `bad option` of a job that was begun, and the line behind it: what of a packet is too long, or what the node's file may not say.
 pub(crate) fn advice(job: &Job) -> &'static str {
     match job {
         Job::Simulate(_) | Job::Trace(_) => CONTENTS,
         Job::Rehearse(_) => FEW_PORTS,
         Job::Packet(words) => match &words.order {
-            Order::Load { .. } => "    IMAGE is too long: the staging has 16,384 bytes\n",
+            Order::Load { .. } => "bad option\n    IMAGE is too long: the staging has 16,384 bytes\n",
             Order::Read { .. } | Order::Write { .. } | Order::Rmw { .. } => {
-                "    DATA is too long: a packet has at most 4,200 bytes\n"
+                "bad option\n    DATA is too long: a packet has at most 4,200 bytes\n"
             }
         },
         _ => "",
