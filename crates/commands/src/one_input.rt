@@ -117,8 +117,9 @@ fn names_of_job(job: &Job) -> ReadNames<'_>
         Job::Compare(words) => ReadNames::of(Some(words.old.as_str()), Some(words.new.as_str())),
         Job::Map(words) => ReadNames::of(Some(words.table.as_str()), None),
         Job::Rehearse(words) => {
-            ReadNames::of(Some(words.old.as_str()), Some(words.new.as_str()))
-                .and(place_name(&words.place))
+            ReadNames::of(Some(words.old.as_str()), Some(words.new.as_str())).and(place_name(
+                &words.place,
+            ))
         }
     }
 }

@@ -87,8 +87,7 @@ const CONTENTS: &str =
     "bad option\n    contents is there in the node's file: the banks of a schedule begin with zeros\n";
 
 /// What is told of a loader at a port that the node of a file does not have.
-const FEW_PORTS: &str =
-    "bad option\n    --port is there: the node of the file has fewer ports\n";
+const FEW_PORTS: &str = "bad option\n    --port is there: the node of the file has fewer ports\n";
 
 /// The line that tells what a word stands for, how it was written, and what is wanted.
 fn line_of(
@@ -202,7 +201,9 @@ fn beside(name: &str, found: &ArgMatches) -> Option<&'static str> {
 fn packet_line(alloc: Global, found: &ArgMatches) -> Result<String, AllocError> {
     match packet_words(alloc, found) {
         Err(PacketFault::Words(slip)) => slip_line(alloc, found, slip),
-        Ok(_) if text_of(found, "node") == Some(STANDARD_INPUT) => String::from_str(alloc, OWN_FILE),
+        Ok(_) if text_of(found, "node") == Some(STANDARD_INPUT) => String::from_str(
+            alloc, OWN_FILE,
+        ),
         Err(PacketFault::Memory) | Ok(_) => Ok(String::new(alloc)),
     }
 }
@@ -261,7 +262,8 @@ pub(crate) fn advice(job: &Job) -> &'static str {
         Job::Simulate(_) | Job::Trace(_) => CONTENTS,
         Job::Rehearse(_) => FEW_PORTS,
         Job::Packet(words) => match &words.order {
-            Order::Load { .. } => "bad option\n    IMAGE is too long: the staging has 16,384 bytes\n",
+            Order::Load { .. } =>
+                "bad option\n    IMAGE is too long: the staging has 16,384 bytes\n",
             Order::Read { .. } | Order::Write { .. } | Order::Rmw { .. } => {
                 "bad option\n    DATA is too long: a packet has at most 4,200 bytes\n"
             }
