@@ -3,7 +3,7 @@
 ghost use Rattle.std.specs.Prelude.{◌≡◌, None, option_map, string_bytes};
 ghost use Rattle.job_parts.specs.Arguments.{name_in};
 ghost use Rattle.job_packets.specs.MadePackets.{file_of};
-ghost use Rattle.commands.specs.OneInput.{are_both_input, are_twice_input, names_of_job, names_of_work, place_name, reads_input_twice, source_name};
+ghost use Rattle.commands.specs.OneInput.{are_both_input, names_of_job, names_of_work, place_name, reads_input_twice, source_name};
 
 use crate::jobs::Job;
 use crate::work::Work;
@@ -23,8 +23,8 @@ struct ReadNames<'a> {
 impl<'a> ReadNames<'a> {
     /// The one file, and the other if there is one.
     fn of(first: Option<&'a str>, second: Option<&'a str>) -> ReadNames<'a>
-        ensures first { result.first ≡ first }
-        ensures second { result.second ≡ second }
+        ensures first { result.first ≡ first.entry }
+        ensures second { result.second ≡ second.entry }
         ensures third { name_in result.third ≡ None }
     {
         ReadNames {
@@ -35,10 +35,10 @@ impl<'a> ReadNames<'a> {
     }
 
     /// The same, and one more file.
-    fn and(self, third: Option<&'a str>) -> ReadNames<'a>
-        ensures first { result.first ≡ self.first }
-        ensures second { result.second ≡ self.second }
-        ensures third { result.third ≡ third }
+    fn with(self, third: Option<&'a str>) -> ReadNames<'a>
+        ensures first { result.first ≡ self.entry.first }
+        ensures second { result.second ≡ self.entry.second }
+        ensures third { result.third ≡ third.entry }
     {
         ReadNames {
             first: self.first,
@@ -117,7 +117,7 @@ fn names_of_job(job: &Job) -> ReadNames<'_>
         Job::Compare(words) => ReadNames::of(Some(words.old.as_str()), Some(words.new.as_str())),
         Job::Map(words) => ReadNames::of(Some(words.table.as_str()), None),
         Job::Rehearse(words) => {
-            ReadNames::of(Some(words.old.as_str()), Some(words.new.as_str())).and(place_name(
+            ReadNames::of(Some(words.old.as_str()), Some(words.new.as_str())).with(place_name(
                 &words.place,
             ))
         }
@@ -132,18 +132,21 @@ fn names_of_work(work: &Work) -> ReadNames<'_>
 {
     match work {
         Work::Once(job) => names_of_job(job),
-        Work::OnNode(own) => names_of_job(&own.job).and(Some(own.node.as_str())),
+        Work::OnNode(own) => names_of_job(&own.job).with(Some(own.node.as_str())),
         Work::Live(_) => ReadNames::of(None, None),
     }
 }
 
 /// Whether both files have a name, and it is that of standard input.
 fn are_both_input(one: Option<&str>, other: Option<&str>) -> bool
-    ensures { result ≡ are_both_input (name_in one) (name_in other) }
+    ensures { result ≡ are_both_input (name_in one.entry) (name_in other.entry) }
 {
-    match (one, other) {
-        (Some(one), Some(other)) => are_one_input(one, other),
-        (None, _) | (Some(_), None) => false,
+    match one {
+        Some(one) => match other {
+            Some(other) => are_one_input(one, other),
+            None => false,
+        },
+        None => false,
     }
 }
 

@@ -37,29 +37,110 @@ const ANY_ALONE: &str = "    --any is there: without --port, --initiator, --key 
 /// The name of standard input.
 const STANDARD_INPUT: &str = "-";
 
-/// What names a file that is read: the name among the matches, and the user's word.
-type Named = (&'static str, &'static str);
+/// What names a file that is read.
+#[derive(Clone, Copy, Debug)]
+struct Named {
+    /// Its name among the matches.
+    id: &'static str,
+    /// The user's word for it.
+    title: &'static str,
+}
 
 /// What `verify`, `why` and `weigh` read, in this order.
-const OF_IMAGE: [Named; 2] = [("image", "FILE"), ("node", "--node")];
+const OF_IMAGE: [Named; 2] = [
+    Named {
+        id: "image",
+        title: "FILE",
+    },
+    Named {
+        id: "node",
+        title: "--node",
+    },
+];
 
 /// What the jobs that take lines on a node read.
-const OF_LINES: [Named; 3] = [("lines", "LINES"), ("image", "--image"), ("node", "--node")];
+const OF_LINES: [Named; 3] = [
+    Named {
+        id: "lines",
+        title: "LINES",
+    },
+    Named {
+        id: "image",
+        title: "--image",
+    },
+    Named {
+        id: "node",
+        title: "--node",
+    },
+];
 
 /// What `policy` reads.
-const OF_POLICY: [Named; 2] = [("table", "FILE"), ("node", "--node")];
+const OF_POLICY: [Named; 2] = [
+    Named {
+        id: "table",
+        title: "FILE",
+    },
+    Named {
+        id: "node",
+        title: "--node",
+    },
+];
 
 /// What `decide` reads.
-const OF_DECIDE: [Named; 3] = [("lines", "LINES"), ("table", "TABLE"), ("node", "--node")];
+const OF_DECIDE: [Named; 3] = [
+    Named {
+        id: "lines",
+        title: "LINES",
+    },
+    Named {
+        id: "table",
+        title: "TABLE",
+    },
+    Named {
+        id: "node",
+        title: "--node",
+    },
+];
 
 /// What `compare` and `rehearse` read.
-const OF_TWO: [Named; 3] = [("old", "OLD"), ("new", "NEW"), ("node", "--node")];
+const OF_TWO: [Named; 3] = [
+    Named {
+        id: "old",
+        title: "OLD",
+    },
+    Named {
+        id: "new",
+        title: "NEW",
+    },
+    Named {
+        id: "node",
+        title: "--node",
+    },
+];
 
 /// What `map` reads.
-const OF_MAP: [Named; 2] = [("table", "TABLE"), ("node", "--node")];
+const OF_MAP: [Named; 2] = [
+    Named {
+        id: "table",
+        title: "TABLE",
+    },
+    Named {
+        id: "node",
+        title: "--node",
+    },
+];
 
 /// What `node` reads.
-const OF_NODE: [Named; 2] = [("node", "FILE"), ("table", "--table")];
+const OF_NODE: [Named; 2] = [
+    Named {
+        id: "node",
+        title: "FILE",
+    },
+    Named {
+        id: "table",
+        title: "--table",
+    },
+];
 
 /// What the node's file of `packet` is beside its data or its image.
 const OWN_FILE: &str = "    --node is -: the name of a file if the data or the image are - too\n";
@@ -134,10 +215,10 @@ fn read_by(name: &str) -> &'static [Named] {
 fn input_line(alloc: Global, name: &str, found: &ArgMatches) -> Result<String, AllocError> {
     let mut first: Option<&str> = None;
     for named in read_by(name) {
-        let (id, title) = *named;
-        if text_of(found, id) != Some(STANDARD_INPUT) {
+        if text_of(found, named.id) != Some(STANDARD_INPUT) {
             continue;
         }
+        let title = named.title;
         if let Some(first) = first {
             return format!(in alloc; "    {title} is -: the name of a file if {first} is - too\n");
         }

@@ -120,9 +120,14 @@ fn tell<L: Link>(alloc: Global, fault: &Fault<'_>, link: &mut L) -> Result<(), W
 fn status_of(is_whole: bool, has_lost: bool) -> Status
     ensures { result ≡ status_of is_whole has_lost }
 {
-    match (is_whole, has_lost) {
-        (true, false) => Status::Done,
-        (true, true) | (false, _) => Status::Failed,
+    if is_whole {
+        if has_lost {
+            Status::Failed
+        } else {
+            Status::Done
+        }
+    } else {
+        Status::Failed
     }
 }
 
