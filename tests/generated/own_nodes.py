@@ -14,8 +14,7 @@ sys.path.insert(0, str(Path(__file__).resolve().parent.parent))
 from generator import main, same_lines
 from models.images import Image, assembled
 from models.machine import Map
-from models.nodes import Bank, OwnNode, Refused, yes_image
-from models.world import Packet
+from models.nodes import Bank, OwnNode, Packet, Refused, yes_image
 from packets import crc, header
 from rmapctl import Differs, Room
 

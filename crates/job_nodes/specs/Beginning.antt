@@ -16,10 +16,8 @@ use Rattle.std.specs.Prelude.{
   None,
   Some,
   MatchOption,
-  codes,
   string_bytes,
 }
-use Rattle.std.specs.Io.KnownBytes.{Appends}
 use Rattle.std.specs.List.{All}
 use Rattle.std.specs.Str.{IsUtf8}
 use Rattle.bver.specs.Justified.{AcceptedValue, IsJustified}
@@ -266,11 +264,11 @@ module _ {S : Type 0} (reads : Reads S) (args : NodeLines) where
     pub utf8 : IsUtf8 text
     pub begins : BeginsAt reads args.node between n begun after
 
-  -- lines and node were read, and a bank begins with bytes, which was refused
+  -- lines and node were read, and a bank begins with bytes, which was refused: nothing was printed
   pub record RefusesContents (before after : S) (old new : Option (List ℕ)) : Type 0 where
     pub text : List ℕ
     pub between : S
     pub read : reads before (string_bytes args.lines) (Some text) between
     pub utf8 : IsUtf8 text
     pub contents : HasContents reads args.node between after
-    pub printed : Appends old new (codes "bad option" ++ 10 ∷ [])
+    pub silent : new ≡ old

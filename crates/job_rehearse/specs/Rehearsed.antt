@@ -147,13 +147,13 @@ module _ {S : Type 0} (reads : Reads S) (words : RehearseWords) where
       pub port : has_port place named ≡ true
       pub does : DoesAt place named between after old new status
 
-  -- the node of the words was read, and does not have the port of the one that is named, which was refused
+  -- the node of the words was read, and does not have the port of the one that is named, which was refused: nothing was printed
   pub record RefusesPort (named : Option Loader) (before after : S) (old new : Option (List ℕ)) (status : Status) : Type 0
     where
       pub place : Place
       pub placed : HoldsPlace reads words.place before place after
       pub no_port : has_port place named ≡ false
-      pub told : Appends old new (codes "bad option" ++ 10 ∷ [])
+      pub silent : new ≡ old
       pub misused : status ≡ Misused
 
   -- what was read and printed of the loads of one where no fault ended it
