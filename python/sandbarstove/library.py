@@ -85,6 +85,7 @@ _IMAGE = [c_char_p, c_size_t, POINTER(Why)]
 _CALLS = {
     "verify": [*_MAPS, *_IMAGE],
     "open": [_NODE, c_uint8, c_uint8, POINTER(BankConfig), c_size_t, *_MAPS, *_IMAGE],
+    "publish": [_NODE, c_uint8, *_IMAGE],
     "close": [_NODE],
     "serve": [_NODE, c_uint8, c_char_p, c_size_t, c_uint8, _BYTES, c_size_t, POINTER(ServedRecord)],
     "journal_of": [_NODE, c_uint8, POINTER(JournalRecord)],

@@ -7,10 +7,6 @@ from dataclasses import dataclass, field
 from models.images import Image, parsed
 from models.machine import Machine, Map
 from models.world import CONTROL, INCREMENT, MODIFY, STAGING, VERIFY, WRITE, Packet, done
-from packets import crc, header
-
-# How many bytes a part of an image has at most.
-PART = 4096
 
 
 @dataclass
@@ -26,10 +22,6 @@ class Bank:
     @property
     def is_full(self) -> bool:
         return len(self.entries) >= self.room
-
-
-class Refused(Exception):
-    """A load was not carried out: its number, from 1, the first status that is not 0, and the code of the load result."""
 
 
 def yes_image() -> Image:
@@ -141,14 +133,11 @@ class OwnNode:
         self.results[port] = bytes([code, 0, 0, 0]) + (0 if code else self.published).to_bytes(4, "big")
         return int(code != 0), b""
 
-    def load(self, number: int, slot: int, image: bytes) -> None:
-        """Loads an image before the first packet; Refused if it is not carried out."""
-        before, refused = self.published, 0
-        for packet in packets_of_load(self.address, slot, image):
-            status, _ = self.served(0, packet)
-            refused = refused or status
-        if self.published == before:
-            raise Refused(number, refused, self.results[0][0])
+    def publish(self, slot: int, image: bytes) -> None:
+        """Publishes a program before the first packet: what judges in a slot is the image of its last publish, with the number of that
+        among all publishes as its generation. No packet comes in: stagings, load results, cells and journals stay."""
+        self.published += 1
+        self.slots[slot] = (parsed(image), self.published)
 
     def set(self, extended: int, address: int, data: bytes) -> list[str] | None:
         """What `live` prints of the write of an instrument; None if the bytes do not lie in a bank."""
@@ -177,16 +166,3 @@ class OwnNode:
         """The words of the cells, as `live` prints them."""
         lines = [" ".join(map(str, ["cells", index, *cells])) for index, cells in enumerate(self.cells)]
         return lines + [f"cells {len(lines)} maps"]
-
-
-def packets_of_load(address: int, slot: int, image: bytes) -> list[Packet]:
-    """The packets of a load of key 00 and initiator 67: writes of the parts, the control write, and the read of the load result."""
-    parts = [image[begin:begin + PART] for begin in range(0, len(image), PART)]
-    asked = bytes([slot, 0]) + len(image).to_bytes(2, "big")
-    wanted = [(0x6C, PART * number, len(part), part) for number, part in enumerate(parts)]
-    wanted += [(0x6C, CONTROL, 4, asked), (0x4C, CONTROL, 8, b"")]
-    packets = []
-    for transaction, (instruction, place, length, data) in enumerate(wanted):
-        head = header(instruction, place, length, transaction=transaction, extended=0xFF, target=address)
-        packets.append(Packet(head + bytes([crc(head)]) + (data + bytes([crc(data)]) if data else b"")))
-    return packets
