@@ -31,6 +31,8 @@ TEXTS = {
     14: "the node has no such map or cell",
     15: "what memory holds is not what was written there: a bit of it flipped",
     16: "the number is no part of a node that is scrubbed",
+    17: "there is no such slot: a slot is 0 to 3",
+    18: "no generation is left: 4,294,967,295 programs were published",
 }
 
 
