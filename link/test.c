@@ -467,7 +467,7 @@ static void publishes(void) {
   answers(sandbar_publish(&node, 4, yes, 31, &why), SANDBAR_NO_NODE, "publish");
   holds(why.code == 9 && why.slot == 9, "nothing is written");
   node = opened(&bank, 1, yes, sizeof yes);
-  answers(sandbar_publish(&node, 4, yes, 31, &why), SANDBAR_NO_SLOT, "slot 4");
+  answers(sandbar_publish(&node, 4, yes, 31, &why), SANDBAR_BAD_SLOT, "slot 4");
   holds(why.code == 0 && why.slot == 0, "nothing to tell");
   answers(sandbar_publish(&node, 3, yes, 31, &why), SANDBAR_BAD_IMAGE, "a cut image");
   holds(why.code == 3 && why.slot == 0, "the image has another length");

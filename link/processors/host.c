@@ -208,7 +208,7 @@ uint32_t sandbar_publish(sandbar_node *node, uint8_t slot, const uint8_t *image,
   uint32_t code = SANDBAR_NO_MEMORY;
   size_t length = at_most(image_length, IMAGE_ROOM);
   why->code = why->slot = 0;
-  if (slot > 3) return SANDBAR_NO_SLOT;
+  if (slot > 3) return SANDBAR_BAD_SLOT;
   uint64_t block = lend(it, NULL, 0, image, length);
   if (block != 0) {
     code = Z_sandbarZ_sandbar_publish(it, inside->node, slot, block + IMAGE, length, block + WHY);

@@ -6,7 +6,7 @@ use Rattle.node_programs.specs.declared.faults.PublishFault.{PublishFault}
 use Rattle.node_programs.specs.declared.faults.PublishFault.TheVariants.{Memory as NoRoom, Slot as NoSuchSlot, GenerationsFull}
 use Rattle.scrub.specs.Guarded.{GuardedValue, Installs}
 use Rattle.single_node_c.specs.Opening.{IsAccepted, IsImageUnfit, code_of, no_why, why_of}
-use Rattle.single_node_c.specs.declared.codes.TheConstants.{NO_GENERATION, NO_SLOT, OK}
+use Rattle.single_node_c.specs.declared.codes.TheConstants.{BAD_SLOT, NO_GENERATION, OK}
 use Rattle.single_node_c.specs.declared.numbers.Why.{Why}
 use Rattle.single_node_c.specs.declared.publishing.Unpublished.{Unpublished}
 use Rattle.single_node_c.specs.declared.publishing.Unpublished.TheVariants.{Slot, Unfit, Full}
@@ -39,7 +39,7 @@ fault_of GenerationsFull = Full
 -- the code of it
 abbrev pub publish_code : Option Unpublished → ℕ
 publish_code None = OK
-publish_code (Some Slot) = NO_SLOT
+publish_code (Some Slot) = BAD_SLOT
 publish_code (Some (Unfit fault)) = code_of fault
 publish_code (Some Full) = NO_GENERATION
 

@@ -52,7 +52,7 @@ pub const DAMAGED: u32 = 15;
 pub const NO_PART: u32 = 16;
 
 /// There is no such slot: a slot is 0 to 3.
-pub const NO_SLOT: u32 = 17;
+pub const BAD_SLOT: u32 = 17;
 
 /// No generation is left: 4,294,967,295 programs were published.
 pub const NO_GENERATION: u32 = 18;

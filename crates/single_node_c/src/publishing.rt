@@ -6,7 +6,7 @@ ghost use Rattle.single_node_c.specs.Held.{BecomesGuarded};
 ghost use Rattle.single_node_c.specs.Publishing.{AnswersPublish, IsUnpublished, Publishes, publish_code, publish_why};
 ghost use Rattle.single_node_c.specs.declared.codes.TheConstants.{NO_NODE};
 
-use crate::codes::{NO_GENERATION, NO_NODE, NO_SLOT, OK};
+use crate::codes::{BAD_SLOT, NO_GENERATION, NO_NODE, OK};
 use crate::handle::Handle;
 use crate::held::{put, take};
 use crate::numbers::Why;
@@ -70,7 +70,7 @@ fn publish_code(fault: Option<Unpublished>) -> u32
 {
     match fault {
         None => OK,
-        Some(Unpublished::Slot) => NO_SLOT,
+        Some(Unpublished::Slot) => BAD_SLOT,
         Some(Unpublished::Unfit(unfit)) => unfit.code(),
         Some(Unpublished::Full) => NO_GENERATION,
     }
