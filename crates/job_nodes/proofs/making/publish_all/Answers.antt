@@ -12,7 +12,7 @@ pub publish-requires-clause-publish : goal.publish-requires-clause-publish
 publish-requires-clause-publish c =
     let publishes = c.args.publishes.now in
     let index = c.loop-index.index in
-    let first = c.index-publish.result.now in
+    let first = c.index-publishes-index.result in
     let at_first : first ≡ get_or publishes index first = grind (arith, common_steps) in
     let own = All-get_or (IsPublish (sizes_of c.args.node.now.programs)) publishes index first c.loop-index-test.true c.requires.each in
     let same : sizes_of c.loop-index.node.programs ≡ sizes_of c.args.node.now.programs =
@@ -31,6 +31,6 @@ pub loop-index-preserved : goal.loop-index-preserved
 loop-index-preserved c =
     let publishes = c.args.publishes.now in
     let index = c.loop-index.index in
-    let first = c.index-publish.result.now in
+    let first = c.index-publishes-index.result in
     let at_first : first ≡ get_or publishes index first = grind (arith, common_steps) in
     publish_next c.args.node.now publishes index first first _ _ c.loop-index-test.true at_first c.loop-index.invariant c.in_ok-publish.ensures

@@ -6,12 +6,12 @@ use Rattle.sched.proofs.world.World.with_programs.Goals as goal
 pub loop-index-preserved : goal.loop-index-preserved
 loop-index-preserved c =
     let before = c.loop-index.invariant in
-    let first = c.index-first.result in
-    let at_first : first.now ≡ get_or c.args.firsts.now c.loop-index.index first.now = grind (arith, common_steps) in
+    let first = c.index-firsts-index.result in
+    let at_first : first ≡ get_or c.args.firsts.now c.loop-index.index first = grind (arith, common_steps) in
     let adds = c.in_ok-publish_first.ensures in
     record {
-      world = firsts_world c.args.config.now _ c.args.firsts.now c.loop-index.index _ first.now _ _ c.loop-index-test.true at_first adds before.world;
-      node = firsts_node c.args.config.now _ c.args.firsts.now c.loop-index.index _ first.now _ _ c.loop-index-test.true at_first adds (sym before.sizes) before.node;
+      world = firsts_world c.args.config.now _ c.args.firsts.now c.loop-index.index _ first _ _ c.loop-index-test.true at_first adds before.world;
+      node = firsts_node c.args.config.now _ c.args.firsts.now c.loop-index.index _ first _ _ c.loop-index-test.true at_first adds (sym before.sizes) before.node;
       sizes = adds.sizes ∙ before.sizes;
       count = adds.count ∙ omega (arith, before.count);
     }
