@@ -10,14 +10,16 @@ use Rattle.lemmas.proofs.Places.{at_other}
 use Rattle.bpf.specs.Program.{Program}
 use Rattle.bver.specs.Justified.{AcceptedValue, IsJustified}
 use Rattle.machine.specs.Sizes.{Maps}
-use Rattle.bank.specs.Records.{EntryValue}
+use Rattle.bank.specs.Effect.{Memory}
+use Rattle.bank.specs.Records.{BankValue, EntryValue}
+use Rattle.node_parts.specs.declared.config.BankConfig.{BankConfig}
 use Rattle.node_parts.specs.declared.config.NodeConfig.{NodeConfig}
 use Rattle.node_programs.specs.Staged.{Staged}
 use Rattle.sched.specs.Firsts.{AddsFirst, IsFirst, slot_with_program, with_first}
 use Rattle.sched.specs.Headline.{IsNode}
 use Rattle.sched.specs.History.{Start}
-use Rattle.sched.specs.Looking.{Node, entries, published, published_after, published_behind, publishes}
-use Rattle.sched.specs.Worlds.{AreAcceptedFor, AreProgramsOf, ArePortsOf, IsFor, IsJudging, IsPortOf, IsShownAs, IsWorld, IsWorldOf, PortValue, RunValue, WorldValue, node_with}
+use Rattle.sched.specs.Looking.{Node, entries, first_memory, published, published_after, published_behind, publishes, room_of}
+use Rattle.sched.specs.Worlds.{AreAcceptedFor, AreProgramsOf, ArePortsOf, IsBankOf, IsFor, IsJudging, IsPortOf, IsShownAs, IsWorld, IsWorldOf, PortValue, RunValue, WorldValue, node_with}
 
 -- one more behind several
 pub published_more : (firsts : List (ℕ × Program)) (made : ℕ × Program) (count slot : ℕ) (before : Program × ℕ)
@@ -70,6 +72,18 @@ port_again n m port staged entries_of p banks is = record {
   shares = is.shares;
 }
 
+-- and so is a bank
+bank_again : (n m : Node) (k : ℕ) (es : List EntryValue) (memory : Memory) (b : BankValue) → n.banks ≡ m.banks → n.ports ≡ m.ports
+    → IsBankOf n k es memory b → IsBankOf m k es memory b
+bank_again n m k es memory b banks ports is = record {
+  base_is = is.base_is ∙ ap (λ (l : List BankConfig). first_memory (slice_get l k)) banks;
+  memory_is = is.memory_is;
+  entries_are = is.entries_are;
+  room = is.room ∙ ap (λ (l : List BankConfig). room_of (slice_get l k)) banks;
+  ports = is.ports ∙ ports;
+  counts = λ port there. is.counts port (subst (λ (many : ℕ). port < many) (sym ports) there);
+}
+
 -- the world with the program in its slot, as the next that was published
 abbrev pub first_world : WorldValue → ℕ → AcceptedValue → WorldValue
 first_world w slot a = record w { programs = set w.programs slot (a, w.count + 1); count = w.count + 1 }
@@ -88,7 +102,7 @@ world_more n w slot a first justified old =
     record {
       windows_are = old.windows_are;
       sizes_are = old.sizes_are;
-      banks_are = record { count = old.banks_are.count; each = λ k b at. old.banks_are.each k b at };
+      banks_are = record { count = old.banks_are.count; each = λ k b at. bank_again n m k _ _ b refl refl (old.banks_are.each k b at) };
       words_are = old.words_are;
       programs_are = λ s x found.
           let here = shown s x found in
