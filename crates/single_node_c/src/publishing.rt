@@ -42,7 +42,7 @@ impl From<PublishFault> for Unpublished {
 }
 
 /// Publishes the program of an image for a slot of a node.
-fn publish(
+fn try_publish(
     alloc: Global,
     guarded: &mut GuardedNode,
     slot: u8,
@@ -62,6 +62,16 @@ fn publish(
     };
     guarded.install(alloc, slot, program)?;
     Ok(())
+}
+
+/// Publishes the program of an image for a slot of a node: why not, if it was not published.
+fn publish(alloc: Global, guarded: &mut GuardedNode, slot: u8, image: &[u8]) -> Option<Unpublished>
+    ensures { Publishes slot image.now result guarded.old guarded.new }
+{
+    match try_publish(alloc, guarded, slot, image) {
+        Ok(()) => None,
+        Err(fault) => Some(fault),
+    }
 }
 
 /// The code of a publish, by why it did nothing, if it did nothing.
@@ -106,7 +116,7 @@ pub extern "C" fn sandbar_publish(
     let Some(mut guarded) = take(alloc, handle) else {
         return NO_NODE;
     };
-    let fault = publish(alloc, &mut guarded, slot, image).err();
+    let fault = publish(alloc, &mut guarded, slot, image);
     put(alloc, handle, guarded);
     *why = publish_why(fault);
     publish_code(fault)
