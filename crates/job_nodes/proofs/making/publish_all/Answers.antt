@@ -3,7 +3,6 @@ use Rattle.std.proofs.lemmas.Grind.{common_steps}
 use Rattle.std.proofs.lemmas.List.{length-take}
 use Rattle.std.proofs.lemmas.List.Elements.{All-get_or}
 use Rattle.bver.specs.Justified.{AcceptedValue}
-use Rattle.machine.specs.Sizes.{Maps}
 use Rattle.node_programs.specs.Published.{sizes_of}
 use Rattle.job_config.specs.OwnNodes.{IsPublish}
 use Rattle.job_nodes.specs.JobNode.{with_publish}
