@@ -10,7 +10,7 @@ pub invariant_of-self : goal.invariant_of-self
 invariant_of-self c =
     let w = the_view c.self.inside in
     let first = subst (λ (v : WorldValue). IsFirst v.sizes (c.args.slot, c.args.program)) (sym c.self.view_is) c.requires.first in
-    subst (λ (a : AcceptedValue). IsWorld (first_world w c.from.result a)) (sym c.in_ok-new.ensures)
+    subst (λ (a : AcceptedValue). IsWorld (first_world w c.from.result a)) (sym c.in_ok-new.ensures.ok)
     (subst (λ (k : ℕ). IsWorld (first_world w k c.args.program)) (sym c.from.ensures)
     (first_fits w c.args.slot c.args.program first c.self.invariant))
 
@@ -18,6 +18,6 @@ pub returns : goal.returns
 returns c =
     let w = the_view c.self.inside in
     let first = subst (λ (v : WorldValue). IsFirst v.sizes (c.args.slot, c.args.program)) (sym c.self.view_is) c.requires.first in
-    rw (← c.self.view_is) (subst (λ (a : AcceptedValue). AddsFirst (c.args.slot, c.args.program) w (first_world w c.from.result a)) (sym c.in_ok-new.ensures)
+    rw (← c.self.view_is) (subst (λ (a : AcceptedValue). AddsFirst (c.args.slot, c.args.program) w (first_world w c.from.result a)) (sym c.in_ok-new.ensures.ok)
     (subst (λ (k : ℕ). AddsFirst (c.args.slot, c.args.program) w (first_world w k c.args.program)) (sym c.from.ensures)
     (adds_first w c.args.slot c.args.program first c.image-justified.ensures.justified)))
