@@ -10,7 +10,7 @@ from dataclasses import dataclass, field
 
 from models.images import BadImage, Image, assembled, parsed
 from models.machine import Machine, Map
-from packets import crc, header
+from packets import crc
 
 # The fields behind the reply address: where they begin in a header without one, and how many bytes they have.
 INITIATOR, TRANSACTION, EXTENDED, PLACE, LENGTH = (4, 1), (5, 2), (7, 1), (8, 4), (12, 3)
@@ -140,10 +140,6 @@ class Bank:
     @property
     def is_full(self) -> bool:
         return len(self.entries) == self.room
-
-
-class Refused(Exception):
-    """A load was not carried out: its number, from 1, the first status that is not 0, and the code of the load result."""
 
 
 def yes_image() -> Image:
@@ -300,13 +296,11 @@ class OwnNode:
 
     # ---- what is asked beside packets
 
-    def load(self, number: int, slot: int, image: bytes) -> None:
-        """Loads an image before the first packet. It is done if each write had status 0, and only if the program of the slot is then
-        that of the image; else Refused."""
-        statuses = [self.served(0, packet)[0] for packet in packets_of_load(self.address, slot, image)]
-        *writes, _read = statuses
-        if any(writes) or self.slots[slot][0].spelled() != image:
-            raise Refused(number, next(filter(None, statuses), 1), self.results[0][0])
+    def publish(self, slot: int, image: bytes) -> None:
+        """Publishes a program before the first packet: what judges in a slot is the image of its last publish, with the number of that
+        among all publishes as its generation. No packet comes in: stagings, load results, cells and journals stay."""
+        self.published += 1
+        self.slots[slot] = (parsed(image), self.published)
 
     def set(self, extended: int, address: int, data: bytes) -> list[str] | None:
         """What `live` prints of the write of an instrument; None if the bytes do not lie in a bank."""
@@ -338,16 +332,3 @@ class OwnNode:
         """The words of the cells, as `live` prints them."""
         lines = [f"cells {index} {' '.join(map(str, cells))}" for index, cells in enumerate(self.cells)]
         return [*lines, f"cells {len(self.cells)} maps"]
-
-
-def packets_of_load(address: int, slot: int, image: bytes) -> list[Packet]:
-    """The packets of a load of key 00 and initiator 67: writes of the parts, the control write, and the read of the load result."""
-    asked = bytes([slot, 0, *len(image).to_bytes(2, "big")])
-    writes = [(first, image[first:first + PART]) for first in range(0, len(image), PART)] + [(CONTROL, asked)]
-    commands = [(0x6C, place, len(data), data) for place, data in writes] + [(0x4C, CONTROL, 8, None)]
-    packets = []
-    for transaction, (instruction, place, length, data) in enumerate(commands):
-        head = header(instruction, place, length, transaction=transaction, extended=WINDOW, target=address)
-        body = b"" if data is None else data + bytes([crc(data)])
-        packets.append(Packet(head + bytes([crc(head)]) + body))
-    return packets

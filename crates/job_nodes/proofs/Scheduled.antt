@@ -14,8 +14,8 @@ module _ {S : Type 0} (reads : Reads S) (args : NodeLines) (before : S) (text : 
 
   -- the lines begin on it
   pub scheduled : (world : WorldValue) (gives : GivesSchedule reads args before text made after) (is : made ≡ Some world)
-      → IsScheduled reads args before text (world_in world gives is).node (world_in world gives is).begun after
-  scheduled world gives is = record { between = gives.between; read = gives.read; utf8 = gives.utf8; begins = (world_in world gives is).is_begun }
+      → IsScheduled reads args before text (world_in world gives is).node after
+  scheduled world gives is = record { between = gives.between; read = gives.read; utf8 = gives.utf8; begins = (world_in world gives is).begun }
 
   -- a bank begins with bytes
   pub refuses_contents : (old new : Option (List ℕ)) → GivesSchedule reads args before text made after → made ≡ None → new ≡ old

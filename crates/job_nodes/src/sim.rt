@@ -108,9 +108,9 @@ impl TakesLines for Simulating {
     }
 }
 
-/// Steps through the events of a file, in order, from the beginning of the node of these arguments, or behind what its file
-/// loads. What each event comes to is printed before the next line is read. `Misused`, and nothing is printed, where a bank begins
-/// with bytes, which no schedule does.
+/// Steps through the events of a file, in order, from the beginning of the node of these arguments, after what its file
+/// publishes. What each event comes to is printed before the next line is read. `Misused`, and nothing is printed, if a bank
+/// begins with bytes, which no schedule does.
 ///
 /// Faults are found in the order of [`lines_and_world`], and then each line.
 #[tactic(auto, using(crate::proofs::Scheduled::refuses_contents))]

@@ -6,6 +6,7 @@ pub mod arguments;
 pub mod bad_lines;
 pub mod factory;
 pub mod faults;
+pub mod forms;
 mod hex_blocks;
 pub mod inputs;
 pub mod node_codes;

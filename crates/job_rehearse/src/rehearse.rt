@@ -201,7 +201,7 @@ fn rehearse<'a, W: Write>(
         (W.contents out.old) (W.contents out.new))) }
 {
     let who = loader_text(alloc, named)?;
-    let mut rehearsing = begun_at(alloc, &words.place, place, policies.program, named)?;
+    let mut rehearsing = begun_at(alloc, place, policies.program, named)?;
     let loader = place.loader(named);
     let slots = words.slots.as_slice();
     let new = LoadOf {

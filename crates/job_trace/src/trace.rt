@@ -82,7 +82,7 @@ fn tracing_on(alloc: Global, world: World) -> Result<Tracing, AllocError>
     Ok(Tracing { world, feeds })
 }
 
-/// Judges the packet lines of a file, in order, on the node of these arguments, at its beginning or behind what its file loads.
+/// Judges the packet lines of a file, in order, on the node of these arguments, after what its file publishes.
 /// Of each packet that a program judges it prints the steps of the run, and then the reply; of any other its line alone.
 /// `Misused`, and nothing is printed, where a bank begins with bytes, which no schedule does.
 ///
