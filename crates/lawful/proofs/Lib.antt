@@ -9,10 +9,10 @@ mod Taking
 mod Loading
 mod Entering
 mod Alone
-pub mod Links
-pub mod Accounts
-pub mod Sharing
-pub mod Worlds
-pub mod Settling
-pub mod Stepping
-pub mod Together
+mod Links
+mod Accounts
+mod Sharing
+mod Worlds
+mod Settling
+mod Stepping
+mod Together

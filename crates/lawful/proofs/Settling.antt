@@ -71,17 +71,17 @@ so_far_on q a p ps d ds before first rest so_far by later =
 
 -- a port that does not know less, as it was
 of_same : (n : Node) (q : ℕ) (s after : Standing) → after ≡ s → IsOf n q s → IsOf n q after
-of_same n q s after same of = subst (IsOf n q) (sym same) of
+of_same n q s after same was = subst (IsOf n q) (sym same) was
 
 -- a port behind a judged command
 pub of_after : Laws → (n : Node) (q : ℕ) (j : Judging) (p : Cargo) (s after : Standing) → IsJudged j p s after → IsOf n q s → IsOf n q after
-of_after laws n q j p s after is of =
+of_after laws n q j p s after is was =
     let count = one_counted laws.counts (Judged j) p s after is in
     let more = dealt_grown (Judged j) p s after is in
-    let some = of.some in
+    let some = was.some in
     record {
-      port_is = count.port ∙ of.port_is;
-      windows = count.windows ∙ of.windows;
+      port_is = count.port ∙ was.port_is;
+      windows = count.windows ∙ was.windows;
       some = omega (arith, more, some);
     }
 
@@ -111,7 +111,7 @@ passed_on n whole q a pre h s after p ps d ds idle it same worked full placed fr
   placed = placed;
   from = from;
   still_is = tt;
-  of = of_same n q s after same idle.of;
+  mine = of_same n q s after same idle.mine;
   happened = idle.happened ++ it.happened;
   here = record {
     command = it.closed;
@@ -210,7 +210,7 @@ quiet_end laws n whole q a pre now x there here common known some seen acts few 
       programs_same = refl;
       last_is = refl;
       few = omega (arith, no_more, made_none);
-      refused = λ place line none. refused_then j s first after staging_same (sizes_longer s.pass.programs is.between.programs (taken_longer j x.p s after is) x.of.some) (x.full_here.loads place line none);
+      refused = λ place line none. refused_then j s first after staging_same (sizes_longer s.pass.programs is.between.programs (taken_longer j x.p s after is) x.mine.some) (x.full_here.loads place line none);
     } in
     let end = window_thus n q now o j is.between at_end laws.images laws.next j.judged.place refl is.between.port s.asked after.asked first after after.pass it.old it.new it.result j.reply around it.begins it.asks_for it.ended in
     let done = Done end.status j.reply end.loaded in
@@ -233,7 +233,7 @@ quiet_end laws n whole q a pre now x there here common known some seen acts few 
         placed = x.placed;
         from = from_front (length pre) after a.last x.ps x.ds x.worked (let size = ap length it.front in omega (arith, few, size));
         still_is = tt;
-        of = of_after laws n q j x.p s after is x.of;
+        mine = of_after laws n q j x.p s after is x.mine;
         happened = x.happened ++ happening e done ∷ [];
         here = record {
           command = opened_here now e done q own;
@@ -264,7 +264,7 @@ still_port n whole q a pre h s ps ds idle from still = record {
       placed = idle.placed;
       from = from;
       still_is = still;
-      of = idle.of;
+      mine = idle.mine;
       happened = idle.happened;
       here = idle.here;
       acts = idle.acts;
@@ -296,11 +296,11 @@ judged_next laws n whole q a pre h s after p j ps ds there listed stands front i
         let count = seen_count pre (listed pre stands) in
         let size = ap length seen in
         let longer = prefix_length s.pass.programs is.between.programs (taken_longer j p s after is) in
-        let of_some = idle.of.some in
+        let of_some = idle.mine.some in
         let some : 0 < shown_in pre = omega (arith, count, size, longer, of_some) in
         let known : IsKnown n h is.between.programs = subst (λ (xs : List Publish). IsKnown n h xs) seen (common.known some) in
         let now = tell q j.calls (Then h (Take q p) (Taken j.judged.generation)) in
-        let verdict = taken laws.front n q p j h s after there common.lawful idle.here.command idle.of.windows idle.of.port_is is known in
+        let verdict = taken laws.front n q p j h s after there common.lawful idle.here.command idle.mine.windows idle.mine.port_is is known in
         let first = happening (Take q p) (Taken j.judged.generation) ∷ told_calls q j.calls in
         let x : IsOpen n whole q a = record {
           s = s;
@@ -314,7 +314,7 @@ judged_next laws n whole q a pre h s after p j ps ds there listed stands front i
           worked = worked;
           full = full;
           placed = placed;
-          of = idle.of;
+          mine = idle.mine;
           before = h;
           stands = verdict.stands;
           lies = verdict.lies;
@@ -361,7 +361,7 @@ settle laws n whole q a pre there listed stands begins (p ∷ ps) (Dropped ∷ d
     (settle laws n whole q a pre there listed stands begins ps ds it.after w.0 idle_on (common_kept n q pre h it.after there it.keeps it.lawful common))
 settle laws n whole q a pre there listed stands begins (p ∷ ps) (Replied reply ∷ ds) h s idle common =
     let w = idle.worked in
-    let it = replied_thus n q p reply h s w.0 there common.lawful idle.here.command idle.of.windows idle.full.0 w.1 in
+    let it = replied_thus n q p reply h s w.0 there common.lawful idle.here.command idle.mine.windows idle.full.0 w.1 in
     let idle_on = passed_on n whole q a pre h s w.0 p ps (Replied reply) ds idle it w.1.same w.2 idle.full.1 idle.placed idle.from in
     settled_on n whole q a pre h it.after it.keeps.elsewhere
     (settle laws n whole q a pre there listed stands begins ps ds it.after w.0 idle_on (common_kept n q pre h it.after there it.keeps it.lawful common))

@@ -111,17 +111,15 @@ begun k place next bank before whole e is begins none =
     let chain : IsChainOf bank (l ∷ q.0) = subst (IsChainOf bank) (sym q.1 ∙ ap (λ (ls : List Link). ls ++ q.0) first) is.chain in
     not_begun e (bank.base, bank.size, bank.room) chain.0
 
+one_number : (port : ℕ) (e : EntryValue) (es : List EntryValue) (b : Bool) → length (numbers_of port es) ≤ length es
+    → length (map (λ (x : EntryValue). x.number) (cond b (e ∷ filter (λ (x : EntryValue). x.port == port) es) (filter (λ (x : EntryValue). x.port == port) es))) ≤ length (e ∷ es)
+one_number port e es true rest = omega (arith, rest)
+one_number port e es false rest = omega (arith, rest)
+
 -- a port has no more entries than all have
 few_numbers : (port : ℕ) (es : List EntryValue) → length (numbers_of port es) ≤ length es
 few_numbers port [] = omega arith
-few_numbers port (e ∷ es) = by (e.port == port)
-  where
-    rest : length (numbers_of port es) ≤ length es
-    rest = few_numbers port es
-
-    by : (b : Bool) → length (map (λ (x : EntryValue). x.number) (cond b (e ∷ filter (λ (x : EntryValue). x.port == port) es) (filter (λ (x : EntryValue). x.port == port) es))) ≤ length (e ∷ es)
-    by true = omega (arith, rest)
-    by false = omega (arith, rest)
+few_numbers port (e ∷ es) = one_number port e es (e.port == port) (few_numbers port es)
 
 -- ---- the end of a command
 

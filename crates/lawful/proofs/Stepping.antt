@@ -87,7 +87,7 @@ module _ (laws : Laws) (n : Node) (whole : List Link) (q : ℕ) (a : Account) (p
   pub idle_not : (h : History) (act : Act) → l.deed ≡ Does act → owner_of act ≡ q → IsIdleAt n whole q a true pre h → ⊥
   idle_not h act is own x =
       let y = pre ++ l ∷ [] in
-      let few = acts_few laws n q whole y x.s a.last x.ps x.ds x.idle.worked listed begins did x.idle.of.port_is x.idle.full x.idle.placed stands (from_less (length pre + 1) (length y) x.s a.last x.ps x.ds x.idle.worked (omega (arith, size_here)) x.idle.from) in
+      let few = acts_few laws n q whole y x.s a.last x.ps x.ds x.idle.worked listed begins did x.idle.mine.port_is x.idle.full x.idle.placed stands (from_less (length pre + 1) (length y) x.s a.last x.ps x.ds x.idle.worked (omega (arith, size_here)) x.idle.from) in
       let one = done_one q pre l act is own in
       let acts = x.idle.acts in
       absurd (omega (arith, few, one, acts))
@@ -98,7 +98,7 @@ module _ (laws : Laws) (n : Node) (whole : List Link) (q : ℕ) (a : Account) (p
   later_not x act is own acts it from less =
       let y = it.before ++ it.item ∷ [] in
       let size : length y ≡ length it.before + 1 = size_more it.before it.item in
-      let few = acts_few laws n q whole y x.after a.last x.ps x.ds x.worked listed begins did (of_after laws n q x.j x.p x.s x.after x.is x.of).port_is x.full x.placed it.stands
+      let few = acts_few laws n q whole y x.after a.last x.ps x.ds x.worked listed begins did (of_after laws n q x.j x.p x.s x.after x.is x.mine).port_is x.full x.placed it.stands
       (from_less (length it.before + 1) (length y) x.after a.last x.ps x.ds x.worked (omega (arith, size)) from) in
       let one = done_one q it.before it.item it.act it.deed it.own in
       let here = done_one q pre l act is own in
@@ -111,7 +111,7 @@ module _ (laws : Laws) (n : Node) (whole : List Link) (q : ℕ) (a : Account) (p
   shown_not h act is own x =
       let o = x.open_at in
       let y = pre ++ l ∷ [] in
-      let few = acts_few laws n q whole y o.after a.last o.ps o.ds o.worked listed begins did (of_after laws n q o.j o.p o.s o.after o.is o.of).port_is o.full o.placed stands
+      let few = acts_few laws n q whole y o.after a.last o.ps o.ds o.worked listed begins did (of_after laws n q o.j o.p o.s o.after o.is o.mine).port_is o.full o.placed stands
       (from_less (length pre + 1) (length y) o.after a.last o.ps o.ds o.worked (omega (arith, size_here)) (from_unseen o x.one x.unseen)) in
       let one = done_one q pre l act is own in
       let asked = (load_acted q whole o.j o.p o.s o.after o.is x.one).asked in
@@ -155,7 +155,7 @@ module _ (laws : Laws) (n : Node) (whole : List Link) (q : ℕ) (a : Account) (p
             placed = x.idle.placed;
             from = from_less (length pre + 1) (length (pre ++ l ∷ [])) x.s a.last x.ps x.ds x.idle.worked (omega (arith, size_here)) x.idle.from;
             still_is = tt;
-            of = x.idle.of;
+            mine = x.idle.mine;
             happened = x.idle.happened;
             here = x.idle.here;
             acts = ap length acts ∙ x.idle.acts;
@@ -215,8 +215,8 @@ module _ (laws : Laws) (n : Node) (whole : List Link) (q : ℕ) (a : Account) (p
       let that = at_place it.before pre whole it.item l it.stands stands same in
       let all : after.front ≡ pre ++ l ∷ [] = done.log ∙ (ap (λ (ls : List Link). ls ++ it.item ∷ []) that.front ∙ ap (λ (i : Link). pre ++ i ∷ []) that.item) in
       let placed = is.judgement.judged_for.placed.inside k entry.banked.place in
-      let bank = there_at n.banks k (subst (λ (w : WindowsValue). k < length w.banks) o.of.windows placed.below) in
-      let port_is : j.judged.port ≡ q = is.judgement.judged_for.port_of ∙ o.of.port_is in
+      let bank = there_at n.banks k (subst (λ (w : WindowsValue). k < length w.banks) o.mine.windows placed.below) in
+      let port_is : j.judged.port ≡ q = is.judgement.judged_for.port_of ∙ o.mine.port_is in
       let staging_same : is.between.staging ≡ s.pass.staging = ap (λ (y : PassValue). y.staging) is.judgement.asked in
       let end = entry_thus n q k bank.bank whole h c j middle after bank.is (banks k bank.bank bank.is) x.here.command o.stands o.lies is.judgement.judged_for.packet refl port_is entry.banked.place done (front_open n whole q a o begins)
       (common.banks k bank.bank bank.is ∙ ap (entries_of k) (sym that.front)) in
@@ -263,7 +263,7 @@ module _ (laws : Laws) (n : Node) (whole : List Link) (q : ℕ) (a : Account) (p
               placed = o.placed;
               from = from_front (length (pre ++ l ∷ [])) after a.last o.ps o.ds o.worked (omega (arith, size, size_here));
               still_is = tt;
-              of = of_after laws n q j o.p s after is o.of;
+              mine = of_after laws n q j o.p s after is o.mine;
               happened = o.happened ++ happening e outcome ∷ [];
               here = record {
                 command = opened_here h e outcome q refl;
@@ -331,7 +331,7 @@ module _ (laws : Laws) (n : Node) (whole : List Link) (q : ℕ) (a : Account) (p
       let seen_now : shown_of (pre ++ l ∷ []) ≡ old ++ one.publish ∷ [] = seen_is (pre ++ l ∷ []) (old ++ one.publish ∷ []) new_pre (omega (arith, size, here_now, more)) in
       let longer = prefix_length is.between.programs old it.begins in
       let knows = prefix_length s.pass.programs is.between.programs (taken_longer j o.p s after is) in
-      let of_some = o.of.some in
+      let of_some = o.mine.some in
       let some : 0 < shown_in pre = omega (arith, longer, knows, of_some, here_now) in
       let known : IsKnown n h old = subst (λ (ps : List Publish). IsKnown n h ps) seen (common.known some) in
       let staging_same : is.between.staging ≡ s.pass.staging = ap (λ (y : PassValue). y.staging) is.judgement.asked in
@@ -394,7 +394,7 @@ module _ (laws : Laws) (n : Node) (whole : List Link) (q : ℕ) (a : Account) (p
               placed = o.placed;
               from = from_less (length pre + 1) (length (pre ++ l ∷ [])) after a.last o.ps o.ds o.worked (omega (arith, size_here)) (from_unseen o one (omega (arith, here_now)));
               still_is = tt;
-              of = of_after laws n q j o.p s after is o.of;
+              mine = of_after laws n q j o.p s after is o.mine;
               happened = o.happened ++ happening e outcome ∷ [];
               here = record {
                 command = opened_here h e outcome q refl;

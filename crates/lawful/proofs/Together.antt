@@ -233,7 +233,7 @@ module _ (laws : Laws) (n : Node) (accounts : ℕ → Account) (whole : List Lin
               let o = x.open_at in
               let longer = prefix_length o.is.between.programs x.one.windowed.old x.one.windowed.begins in
               let knows = prefix_length o.s.pass.programs o.is.between.programs (taken_longer o.j o.p o.s o.after o.is) in
-              let some = o.of.some in
+              let some = o.mine.some in
               omega (arith, longer, knows, some)
 
       acted : HaveStepped n accounts whole served.factory pre l
@@ -364,21 +364,21 @@ module _ (laws : Laws) (n : Node) (accounts : ℕ → Account) (whole : List Lin
             }
       ]
         where
+          first_by : (r number : ℕ) → waits r ≡ Some number → shown_in (pre ++ l ∷ []) ≡ 1 → (at : IsPortAt n whole r (accounts r) true pre h) → waits_for n whole r (accounts r) true pre h at ≡ waits r → shown_in (pre ++ l ∷ []) ≤ number
+          first_by r number waits_is one (inl y) wait = absurd (none_some (waits r) number (sym wait) waits_is)
+          first_by r number waits_is one (inr (inl y)) wait = absurd (none_some (waits r) number (sym wait) waits_is)
+          first_by r number waits_is one (inr (inr (inl y))) wait = absurd (none_some (waits r) number (sym wait) waits_is)
+          first_by r number waits_is one (inr (inr (inr y))) wait =
+              let same = some_number (waits r) (length y.one.windowed.old) number (sym wait) waits_is in
+              let o = y.open_at in
+              let longer = prefix_length o.is.between.programs y.one.windowed.old y.one.windowed.begins in
+              let knows = prefix_length o.s.pass.programs o.is.between.programs (taken_longer o.j o.p o.s o.after o.is) in
+              let some = o.mine.some in
+              omega (arith, same, longer, knows, some, one)
+
           -- a port waits for no program that is the first
           some_number_waits : (r : ℕ) (there : r < n.ports) (number : ℕ) → waits r ≡ Some number → IsToShow n whole r (accounts r) pre h → shown_in (pre ++ l ∷ []) ≡ 1 → shown_in (pre ++ l ∷ []) ≤ number
-          some_number_waits r there number waits_is x one = by (world.ports r there).at (world.ports r there).wait_is
-            where
-              by : (at : IsPortAt n whole r (accounts r) true pre h) → waits_for n whole r (accounts r) true pre h at ≡ waits r → shown_in (pre ++ l ∷ []) ≤ number
-              by (inl y) wait = absurd (none_some (waits r) number (sym wait) waits_is)
-              by (inr (inl y)) wait = absurd (none_some (waits r) number (sym wait) waits_is)
-              by (inr (inr (inl y))) wait = absurd (none_some (waits r) number (sym wait) waits_is)
-              by (inr (inr (inr y))) wait =
-                  let same = some_number (waits r) (length y.one.windowed.old) number (sym wait) waits_is in
-                  let o = y.open_at in
-                  let longer = prefix_length o.is.between.programs y.one.windowed.old y.one.windowed.begins in
-                  let knows = prefix_length o.s.pass.programs o.is.between.programs (taken_longer o.j o.p o.s o.after o.is) in
-                  let some = o.of.some in
-                  omega (arith, same, longer, knows, some, one)
+          some_number_waits r there number waits_is x one = first_by r number waits_is one (world.ports r there).at (world.ports r there).wait_is
 
       -- two ports wait for two programs
       waits_apart : (q r : ℕ) (x : IsToShow n whole q (accounts q) pre h) (y : IsToShow n whole r (accounts r) pre h) → length x.one.windowed.old ≡ length y.one.windowed.old → r ≡ q
@@ -419,6 +419,19 @@ module _ (laws : Laws) (n : Node) (accounts : ℕ → Account) (whole : List Lin
           let waiting = world.pending (shown_in pre) (omega arith) (omega (arith, few, more, same)) some in
           by waiting.port waiting.there waiting.is (world.ports waiting.port waiting.there).at (world.ports waiting.port waiting.there).wait_is
         where
+          port_by : (q r : ℕ) (x : IsToShow n whole q (accounts q) pre h) → length x.one.windowed.old ≡ shown_in pre → (number : ℕ) → waits r ≡ Some number → number ≡ shown_in pre → (at : IsPortAt n whole r (accounts r) true pre h)
+              → waits_for n whole r (accounts r) true pre h at ≡ waits r → r ≡ q
+          port_by q r x number_is number is_r here (inl y) wait = absurd (none_some (waits r) number (sym wait) is_r)
+          port_by q r x number_is number is_r here (inr (inl y)) wait = absurd (none_some (waits r) number (sym wait) is_r)
+          port_by q r x number_is number is_r here (inr (inr (inl y))) wait = absurd (none_some (waits r) number (sym wait) is_r)
+          port_by q r x number_is number is_r here (inr (inr (inr y))) wait =
+              let same = some_number (waits r) (length y.one.windowed.old) number (sym wait) is_r in
+              waits_apart q r x y (omega (arith, same, number_is, here))
+
+          -- which port waits for that number
+          same_port : (q r : ℕ) (there : r < n.ports) (x : IsToShow n whole q (accounts q) pre h) → length x.one.windowed.old ≡ shown_in pre → (number : ℕ) → waits r ≡ Some number → number ≡ shown_in pre → r ≡ q
+          same_port q r there x number_is number is_r here = port_by q r x number_is number is_r here (world.ports r there).at (world.ports r there).wait_is
+
           by : (q : ℕ) (there : q < n.ports) → waits q ≡ Some (shown_in pre) → (at : IsPortAt n whole q (accounts q) true pre h) → waits_for n whole q (accounts q) true pre h at ≡ waits q → HaveStepped n accounts whole served.factory pre l
           by q there is_q (inl x) wait = absurd (none_some (waits q) (shown_in pre) (sym wait) is_q)
           by q there is_q (inr (inl x)) wait = absurd (none_some (waits q) (shown_in pre) (sym wait) is_q)
@@ -454,18 +467,6 @@ module _ (laws : Laws) (n : Node) (accounts : ℕ → Account) (whole : List Lin
                   opening = opening_same (none_does instrument) no_publish;
                 };
               }
-
-          -- which port waits for that number
-          same_port : (q r : ℕ) (there : r < n.ports) (x : IsToShow n whole q (accounts q) pre h) → length x.one.windowed.old ≡ shown_in pre → (number : ℕ) → waits r ≡ Some number → number ≡ shown_in pre → r ≡ q
-          same_port q r there x number_is number is_r here = at_port (world.ports r there).at (world.ports r there).wait_is
-            where
-              at_port : (at : IsPortAt n whole r (accounts r) true pre h) → waits_for n whole r (accounts r) true pre h at ≡ waits r → r ≡ q
-              at_port (inl y) wait = absurd (none_some (waits r) number (sym wait) is_r)
-              at_port (inr (inl y)) wait = absurd (none_some (waits r) number (sym wait) is_r)
-              at_port (inr (inr (inl y))) wait = absurd (none_some (waits r) number (sym wait) is_r)
-              at_port (inr (inr (inr y))) wait =
-                  let same = some_number (waits r) (length y.one.windowed.old) number (sym wait) is_r in
-                  waits_apart q r x y (omega (arith, same, number_is, here))
 
       shown_link : HaveStepped n accounts whole served.factory pre l
       shown_link = elim (cases_lt 0 (shown_in pre)) [
@@ -504,7 +505,7 @@ module _ (laws : Laws) (n : Node) (accounts : ℕ → Account) (whole : List Lin
   -- a port at the beginning
   fresh_port : (q : ℕ) → q < n.ports → IsPort n whole q (accounts q) false [] Start None
   fresh_port q there =
-      let mine = served.each q there in
+      let beside = served.each q there in
       let a = accounts q in
       record {
         at = inl (record {
@@ -512,19 +513,19 @@ module _ (laws : Laws) (n : Node) (accounts : ℕ → Account) (whole : List Lin
           ps = a.packets;
           ds = a.deeds;
           idle = record {
-            worked = mine.worked;
-            full = mine.in_full;
-            placed = mine.placed;
-            from = from_front 0 a.first a.last a.packets a.deeds mine.worked (omega arith);
+            worked = beside.worked;
+            full = beside.in_full;
+            placed = beside.placed;
+            from = from_front 0 a.first a.last a.packets a.deeds beside.worked (omega arith);
             still_is = tt;
-            of = record {
-              port_is = mine.port_is;
-              windows = mine.fresh.windows;
-              some = (let one = ap length mine.fresh.programs in omega (arith, one));
+            mine = record {
+              port_is = beside.port_is;
+              windows = beside.fresh.windows;
+              some = (let one = ap length beside.fresh.programs in omega (arith, one));
             };
             happened = [];
-            here = record { command = refl; staging_is = sym mine.fresh.staging_is; happened = refl };
-            acts = sym (ap length mine.asked);
+            here = record { command = refl; staging_is = sym beside.fresh.staging_is; happened = refl };
+            acts = sym (ap length beside.asked);
             so_far = λ rest by. by;
           };
         });

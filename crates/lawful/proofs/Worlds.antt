@@ -98,7 +98,7 @@ pub record IsIdleBy (n : Node) (whole : List Link) (q : ℕ) (a : Account) (stil
   pub placed : AreLoadsPlaced q whole s ps ds a.last worked
   pub from : IsFrom (place_from still pre) s a.last ps ds worked
   pub still_is : IsStillIf still ps ds
-  pub of : IsOf n q s
+  pub mine : IsOf n q s
   pub happened : List Happening
   pub here : IsSeenAt n q h None s.pass.staging happened
   pub acts : length (done_for q pre) ≡ length s.asked
@@ -123,7 +123,7 @@ pub record IsOpen (n : Node) (whole : List Link) (q : ℕ) (a : Account) : Type 
   pub worked : Worked after ps ds a.last
   pub full : AreDealtInFull n after ps ds a.last worked
   pub placed : AreLoadsPlaced q whole after ps ds a.last worked
-  pub of : IsOf n q s
+  pub mine : IsOf n q s
   pub before : History
   pub stands : turn_of n q (asking p j.judged.generation before (answers_of j.calls)) ≡ Some (turns.Verdict j.judged.verdict)
   pub lies : place_in n p ≡ Some j.judged.place
@@ -150,7 +150,7 @@ front_open n whole q a x begins = prefix_trans x.after.front a.last.front whole 
 -- the entry, as an act of the port
 abbrev pub enter_acted : (n : Node) (whole : List Link) (q : ℕ) (a : Account) (x : IsOpen n whole q a) → LeavesEntry x.j x.p x.s x.after x.is → IsPrefix x.after.front whole → HasActed q whole x.j x.p x.s x.after x.is
 enter_acted n whole q a x entry front =
-    entry_acted q entry.banked.number whole x.j x.p x.s x.after x.is (entry_at n whole q a x entry) x.of.port_is front (asks_one x.j (stand x.is.between x.s.asked x.is.reached) x.after entry.banked entry.left)
+    entry_acted q entry.banked.number whole x.j x.p x.s x.after x.is (entry_at n whole q a x entry) x.mine.port_is front (asks_one x.j (stand x.is.between x.s.asked x.is.reached) x.after entry.banked entry.left)
 
 -- its entry is to come
 pub record IsToEnter (n : Node) (whole : List Link) (q : ℕ) (a : Account) (pre : List Link) (h : History) : Type 0 where
@@ -211,7 +211,7 @@ port_moved n whole p q a still pre h after wait stays other port = by port.at po
           placed = x.idle.placed;
           from = x.idle.from;
           still_is = x.idle.still_is;
-          of = x.idle.of;
+          mine = x.idle.mine;
           happened = x.idle.happened;
           here = seen_moved n p q h after None x.s.pass.staging x.idle.happened stays other x.idle.here;
           acts = x.idle.acts;
