@@ -1,6 +1,6 @@
 -- A bank's chain that has entries of any ports, and how a judged command ends at such a bank.
 use Rattle.std.proofs.Common.{◌≡◌, ◌==◌, ◌+◌, ◌-◌, ◌<◌, ◌≤◌, ◌^◌, ℕ, suc, Bool, true, false, cond, List, [], ◌∷◌, ◌++◌, length, Option, Some, None, refl, sym, ap, subst, ◌∙◌, length-append, arith}
-use Rattle.std.specs.Prelude.{fold, filter, map, nat_lt, slice_get}
+use Rattle.std.specs.Prelude.{fold, filter, if◌then◌else◌, map, nat_lt, slice_get}
 use Rattle.std.specs.List.{range_with_len}
 use Rattle.std.proofs.lemmas.Bool.{and_from}
 use Rattle.std.proofs.lemmas.Bool.Decides.{nat_tests}
