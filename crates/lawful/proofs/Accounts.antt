@@ -205,7 +205,7 @@ entry_acted q k whole j p s after is done port begins asked = record {
 }
 
 -- of a load its port asked for one more
-load_asked : (q : ℕ) (whole : List Link) (j : Judging) (p : Cargo) (s after : Standing) (is : IsJudged j p s after) → PublishesOne q whole j p s after is → length after.asked ≡ length s.asked + 1
+pub load_asked : (q : ℕ) (whole : List Link) (j : Judging) (p : Cargo) (s after : Standing) (is : IsJudged j p s after) → PublishesOne q whole j p s after is → length after.asked ≡ length s.asked + 1
 load_asked q whole j p s after is one =
     let it = one.windowed in
     let asks = asks_some is.between.port j.loaded one.publish it.old it.new s.asked after.asked one.some it.asks_for in

@@ -24,7 +24,7 @@ use Rattle.annals.specs.declared.deed.Act.TheVariants.{Leaves}
 use Rattle.annals.specs.declared.deed.Deed.TheVariants.{Does}
 use Rattle.annals.specs.declared.deed.Link.{Link}
 use Rattle.annals.specs.Banks.{IsDone, answer_after, entries_of, memory_after, takes}
-use Rattle.annals.specs.Chains.{chain_of, link}
+use Rattle.annals.specs.Chains.{Due, chain_of, link}
 use Rattle.target.specs.Finished.{IsDoneBehind}
 use Rattle.ports.specs.Due.{IsBanked, Judging, Standing}
 use Rattle.ports.specs.Laws.{number_at}
@@ -59,7 +59,7 @@ asks_one j h after is left =
     let share = share_of h.pass j.judged.place in let before = is.ended.before in let end = is.ended.finished in
     let parts = and_parts (takes before share j.judged) (banks.has_room before.bank j.judged.port) (sym is.entered ∙ left) in
     let number = (end.applied parts.0).number ∙ left_some before.bank share j.judged parts.1 in
-    let due = (before.chain.number, Leaves (entry_of share j.judged is.ended.result.status)) in
+    let due : Due = (before.chain.number, Leaves (entry_of share j.judged is.ended.result.status)) in
     let more : after.asked ≡ h.asked ++ due ∷ [] =
     subst (λ (o : Option ℕ). IfSome o (λ n. after.asked ≡ h.asked ++ due ∷ [])) number is.ended.asks_for.entry in
     ap length more ∙ length-append h.asked (due ∷ [])

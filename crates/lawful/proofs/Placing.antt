@@ -1,5 +1,5 @@
 -- Where the publish of a load stands: between a moment and a later one, if only that was published and the port did only that.
-use Rattle.std.proofs.Common.{◌≡◌, ◌==◌, ◌+◌, ◌≤◌, ◌⊎◌, ℕ, List, [], ◌∷◌, ◌++◌, length, refl, sym, ap, subst, ◌∙◌, inl, inr, arith, append_assoc, eqb-true, length-append}
+use Rattle.std.proofs.Common.{◌≡◌, ◌==◌, ◌+◌, ◌≤◌, ◌⊎◌, ℕ, List, [], ◌∷◌, ◌++◌, length, Some, refl, sym, ap, subst, ◌∙◌, inl, inr, arith, append_assoc, eqb-true, length-append}
 use Rattle.std.proofs.lemmas.Bool.{cases_Bool}
 use Rattle.std.proofs.lemmas.Bool.Decides.{nat_tests}
 use mathlib.Core.List.{IsPrefix}
@@ -126,7 +126,7 @@ append_same (x ∷ xs) ys zs same = append_same xs ys zs (cc same)
 pub placed_by : (port : ℕ) (whole known met reached : List Link) (old new : List Publish) (asked asks : List Due) (publish : Publish) → IsPrefix known met → publishes_of met ≡ old → done_for port met ≡ asked → IsPrefix met reached
     → publishes_of reached ≡ new → done_for port reached ≡ asks → AsksForLoad port (Some publish) old new asked asks → IsPrefix reached whole → IsPlaced port whole known old publish
 placed_by port whole known met reached old new asked asks publish seen met_is did goes reached_is does_now load stands =
-    let due = (publishes_chain, Publishes (port, publish)) in
+    let due : Due = (publishes_chain, Publishes (port, publish)) in
     let all : done_for port met ++ done_for port goes.0 ≡ done_for port met ++ due ∷ [] =
     sym (done_append port met goes.0) ∙ (ap (done_for port) goes.1 ∙ (does_now ∙ (load.1 ∙ ap (λ (ds : List Due). ds ++ due ∷ []) (sym did)))) in
     let only = append_same (done_for port met) (done_for port goes.0) (due ∷ []) all in

@@ -51,6 +51,16 @@ none_some x k none some = cc (none, some)
 some_number : (x : Option ℕ) (j k : ℕ) → x ≡ Some j → x ≡ Some k → j ≡ k
 some_number x j k a b = cc (a, b)
 
+-- whose act a deed is
+abbrev deed_owner : LinkDeed → ℕ
+deed_owner (Opens x) = 0
+deed_owner (Does act) = owner_of act
+deed_owner (Asks x) = 0
+deed_owner Shows = 0
+
+same_owner : (q r : ℕ) (a b : Publish) → Does (Publishes (q, a)) ≡ Does (Publishes (r, b)) → r ≡ q
+same_owner q r a b eq = sym (ap deed_owner eq)
+
 -- ---- one link
 
 -- all ports behind that link
@@ -286,7 +296,7 @@ module _ (laws : Laws) (n : Node) (accounts : ℕ → Account) (whole : List Lin
         no_dues [] none = refl
         no_dues (d ∷ ds) none = absurd (omega (arith, none))
 
-        first_due : length (done_for instrument pre) ≡ 0 → (l.chain, act) ≡ (publishes_chain, Publishes (instrument, served.factory))
+        first_due : length (done_for instrument pre) ≡ 0 → ◌≡◌ {A = Due} (l.chain, act) (publishes_chain, Publishes (instrument, served.factory))
         first_due none =
             let only : done_for instrument (pre ++ l ∷ []) ≡ (l.chain, act) ∷ [] = acts ∙ ap (λ (ds : List Due). ds ++ (l.chain, act) ∷ []) (no_dues (done_for instrument pre) none) in
             let front : IsPrefix ((l.chain, act) ∷ []) ((publishes_chain, Publishes (instrument, served.factory)) ∷ []) = subst (λ (ds : List Due). IsPrefix ds ((publishes_chain, Publishes (instrument, served.factory)) ∷ [])) only in_whole in
@@ -385,9 +395,6 @@ module _ (laws : Laws) (n : Node) (accounts : ℕ → Account) (whole : List Lin
           let that = at_place ax.before ay.before whole ax.item ay.item ax.stands ay.stands (no_other ax.before ay.before q r x.one.publish y.one.publish ax.item ay.item x.one.placed.chain x.one.placed.deed y.one.placed.chain y.one.placed.deed ax.stands ay.stands (omega (arith, met_x, met_y, same))) in
           same_owner q r x.one.publish y.one.publish (sym x.one.placed.deed ∙ (ap (λ (i : Link). i.deed) that.item ∙ y.one.placed.deed))
         where
-          same_owner : (q r : ℕ) (a b : Publish) → Does (Publishes (q, a)) ≡ Does (Publishes (r, b)) → r ≡ q
-          same_owner q r a b eq = cc eq
-
           -- a publish of which as many stand before it as before another is that one
           not_before : (b c : List Link) (q : ℕ) (a : Publish) (i : Link) → i.chain ≡ publishes_chain → i.deed ≡ Does (Publishes (q, a)) → IsPrefix (b ++ i ∷ []) whole → IsPrefix c whole → length (publishes_of b) ≡ length (publishes_of c) → length c ≤ length b
           not_before b c q a i chain deed b_stands c_stands same_count = elim (cases_lt (length b) (length c)) [
