@@ -53,6 +53,10 @@ at_place {A} xs ys zs x y p q same =
 pub longer_has : {A : Type 0} (xs ys zs : List A) (x : A) → IsPrefix (xs ++ x ∷ []) zs → IsPrefix ys zs → length xs < length ys → IsPrefix (xs ++ x ∷ []) ys
 longer_has xs ys zs x p q more = let size = size_more xs x in prefix_shorter (xs ++ x ∷ []) ys zs p q (omega (arith, more, size))
 
+-- numbers that are tested as apart are not the same
+pub not_same : (m k : ℕ) → (m == k) ≡ false → m ≡ k → ⊥
+not_same m k apart same = absurd (grind (arith, nat_tests, apart, same))
+
 -- ---- who did what
 
 pub done_joined : (q c : ℕ) (d : Deed) (xs ys : List Due) → with_done q c d (xs ++ ys) ≡ with_done q c d xs ++ ys

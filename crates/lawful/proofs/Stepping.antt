@@ -39,7 +39,7 @@ use Rattle.lawful.proofs.Entering.{bank_staging}
 use Rattle.lawful.proofs.Growing.{taken_longer}
 use Rattle.lawful.proofs.Idling.{IsKnown}
 use Rattle.lawful.proofs.Keeping.{StaysElsewhere, happened_here, one_elsewhere, opened_here, staging_here}
-use Rattle.lawful.proofs.Links.{IsNoneOf, at_place, done_few, done_one, done_same, entries_elsewhere, entries_same, front_of, longer_has, none_not, none_shows, published_one, published_prefix, seen_is, seen_same, shown_few, shown_one, shown_same, size_more}
+use Rattle.lawful.proofs.Links.{IsNoneOf, at_place, done_few, done_one, done_same, entries_elsewhere, entries_same, front_of, longer_has, none_not, none_shows, not_same, published_one, published_prefix, seen_is, seen_same, shown_few, shown_one, shown_same, size_more}
 use Rattle.lawful.proofs.Loading.{IsNow, loaded_thus, quiet_known}
 use Rattle.lawful.proofs.Settling.{of_after}
 use Rattle.lawful.proofs.Sharing.{entry_thus}
@@ -236,7 +236,7 @@ module _ (laws : Laws) (n : Node) (whole : List Link) (q : ℕ) (a : Account) (p
             let same_bank : k ≡ m = sym (eqb-true m k here) in
             subst (λ (i : ℕ). entries n next i ≡ entries_of i (pre ++ l ∷ [])) same_bank (end.own ∙ ap (entries_of k) all)
         | inr elsewhere ↦
-            let other : m ≡ k → ⊥ = λ eq. absurd (grind (arith, nat_tests, elsewhere, eq)) in
+            let other : m ≡ k → ⊥ = λ eq. absurd (not_same m k elsewhere eq) in
             end.others m other ∙ (common.banks m config is_m ∙ sym (entries_elsewhere m pre l (λ eq. other (sym eq ∙ chain))))
       ] in
       record {
@@ -280,7 +280,7 @@ module _ (laws : Laws) (n : Node) (whole : List Link) (q : ℕ) (a : Account) (p
       }
 
   -- a program is published
-  pub publish_step : (h : History) (x : IsToPublish n whole q a pre h) → length x.one.placed.before ≡ length pre → IsToShow n whole q a (pre ++ l ∷ []) h
+  pub publish_step : (h : History) (x : IsToPublish n whole q a pre h) → length x.one.placed.before ≡ length pre → (y : IsToShow n whole q a (pre ++ l ∷ []) h) × (length y.one.windowed.old ≡ length x.one.windowed.old)
   publish_step h x same =
       let o = x.open_at in
       let it = load_acted q whole o.j o.p o.s o.after o.is x.one in
@@ -291,14 +291,14 @@ module _ (laws : Laws) (n : Node) (whole : List Link) (q : ℕ) (a : Account) (p
       let met : length (publishes_of pre) ≡ length x.one.windowed.old = ap (λ (ls : List Link). length (publishes_of ls)) (sym that.front) ∙ ap length x.one.placed.met in
       let quiet = shown_same pre l (ap shows deed) in
       let few = few_here in
-      record {
+      (record {
         open_at = o;
         here = x.here;
         acts = omega (arith, one, acts);
         one = x.one;
         place = omega (arith, same, size_here);
         unseen = omega (arith, met, quiet, few);
-      }
+      }, refl)
 
   -- readers see a program
   pub show_step : (h : History) (x : IsToShow n whole q a pre h) → q < n.ports → l.deed ≡ Shows → IsCommon n pre h → length x.one.windowed.old ≡ shown_in pre → HasStepped n whole q a pre l h None

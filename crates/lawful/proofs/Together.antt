@@ -27,7 +27,7 @@ use Rattle.lawful.proofs.Alone.{Laws, worked_front}
 use Rattle.lawful.proofs.Growing.{taken_longer}
 use Rattle.lawful.proofs.Idling.{IsKnown}
 use Rattle.lawful.proofs.Keeping.{StaysElsewhere, elsewhere_same}
-use Rattle.lawful.proofs.Links.{IsNoneOf, at_place, done_few, done_own, done_prefix, done_same, entries_same, front_of, longer_has, none_asks, none_opens, none_other, none_shows, published_few, published_one, published_same, seen_is, seen_same, shown_one, shown_same, size_more}
+use Rattle.lawful.proofs.Links.{not_same, IsNoneOf, at_place, done_few, done_own, done_prefix, done_same, entries_same, front_of, longer_has, none_asks, none_opens, none_other, none_shows, published_few, published_one, published_same, seen_is, seen_same, shown_one, shown_same, size_more}
 use Rattle.lawful.proofs.Settling.{all_settled}
 use Rattle.lawful.proofs.Stepping.{entry_step, from_entry, idle_not, later_not, port_further, publish_step, show_step, shown_not}
 use Rattle.lawful.proofs.Worlds.{IsBegun, IsCommon, IsIdleBy, IsPort, IsPortAt, IsToEnter, IsToPublish, IsToShow, IsUnbegun, IsWaiting, IsWorld, enter_acted, entry_at, front_open, port_moved, waits_for}
@@ -165,7 +165,7 @@ module _ (laws : Laws) (n : Node) (accounts : ℕ → Account) (whole : List Lin
               common = it.common;
               ports = λ r there_r. elim (cases_Bool (r == q)) [
                 | inl same ↦ subst (λ (i : ℕ). IsPort n whole i (accounts i) false (pre ++ l ∷ []) it.after (waits i)) (sym (eqb-true r q same)) (record { at = it.port.at; wait_is = it.port.wait_is ∙ none })
-                | inr apart ↦ others_on it.after it.elsewhere r there_r (λ eq. absurd (grind (arith, nat_tests, apart, eq)))
+                | inr apart ↦ others_on it.after it.elsewhere r there_r (not_same r q apart)
               ];
               pending = pending_same does_quiet no_publish;
               opening = opening_same (not_theirs instrument not_instrument) no_publish;
@@ -208,9 +208,9 @@ module _ (laws : Laws) (n : Node) (accounts : ℕ → Account) (whole : List Lin
             world = record {
               common = common_same does_quiet no_entry;
               ports = λ r there_r. elim (cases_Bool (r == q)) [
-                | inl here ↦ subst (λ (i : ℕ). IsPort n whole i (accounts i) false (pre ++ l ∷ []) h (next i)) (sym (eqb-true r q here)) (record { at = inr (inr (inr shown)); wait_is = sym (set_here q (Some number) waits) })
+                | inl here ↦ subst (λ (i : ℕ). IsPort n whole i (accounts i) false (pre ++ l ∷ []) h (next i)) (sym (eqb-true r q here)) (record { at = inr (inr (inr shown.0)); wait_is = ap (λ (i : ℕ). Some i) shown.1 ∙ sym (set_here q (Some number) waits) })
                 | inr apart ↦
-                    let other : r ≡ q → ⊥ = λ eq. absurd (grind (arith, nat_tests, apart, eq)) in
+                    let other : r ≡ q → ⊥ = not_same r q apart in
                     subst (λ (w : Option ℕ). IsPort n whole r (accounts r) false (pre ++ l ∷ []) h w) (sym (set_there q r (Some number) waits other)) (others_on h (elsewhere_same n q h) r there_r other)
               ];
               pending = λ m low below positive. elim (cases_lt m (length (publishes_of pre))) [
@@ -306,7 +306,7 @@ module _ (laws : Laws) (n : Node) (accounts : ℕ → Account) (whole : List Lin
     acted_elsewhere act is past = elim (cases_Bool (owner_of act == instrument)) [
       | inl same ↦ opened_by_instrument act is (eqb-true (owner_of act) instrument same)
       | inr apart ↦
-          let other : owner_of act ≡ instrument → ⊥ = λ eq. absurd (grind (arith, nat_tests, apart, eq)) in
+          let other : owner_of act ≡ instrument → ⊥ = not_same (owner_of act) instrument apart in
           let none = ap length (served.others (owner_of act) past other) in
           let few = done_few (owner_of act) (pre ++ l ∷ []) whole stands in
           let one = ap length (done_own (owner_of act) pre l act is refl) ∙ size_more (done_for (owner_of act) pre) (l.chain, act) in
@@ -456,7 +456,7 @@ module _ (laws : Laws) (n : Node) (accounts : ℕ → Account) (whole : List Lin
                   ports = λ r there_r. elim (cases_Bool (r == q)) [
                     | inl here ↦ subst (λ (i : ℕ). IsPort n whole i (accounts i) false (pre ++ l ∷ []) it.after (next i)) (sym (eqb-true r q here)) (record { at = it.port.at; wait_is = it.port.wait_is ∙ sym (set_here q None waits) })
                     | inr apart ↦
-                        let other : r ≡ q → ⊥ = λ eq. absurd (grind (arith, nat_tests, apart, eq)) in
+                        let other : r ≡ q → ⊥ = not_same r q apart in
                         subst (λ (w : Option ℕ). IsPort n whole r (accounts r) false (pre ++ l ∷ []) it.after w) (sym (set_there q r None waits other))
                         (port_moved n whole q r (accounts r) false (pre ++ l ∷ []) h it.after (waits r) it.elsewhere other (further r there_r (none_does r) (unseen r there_r other)))
                   ];
