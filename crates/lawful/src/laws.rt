@@ -2,6 +2,7 @@
 
 ghost use Rattle.lawful.specs.Alone.{OnePortIsLawful};
 ghost use Rattle.lawful.specs.ButTold.{LawfulIsButTold};
+ghost use Rattle.lawful.specs.Together.{ThreadsAreLawful};
 
 use bpf::image_laws;
 use machine::runs_from_the_front;
@@ -26,4 +27,16 @@ pub fn one_port_is_lawful()
     published_programs();
     workers_shares_count();
     published_agrees();
+}
+
+/// A law and no work: what threads did at the fresh ports of a node, which they served side by side, is a lawful history of the node,
+/// apart from what cells answered. At each port happened, in order, what became of its packets. The entries of each bank and the
+/// programs are those of the node's one list, in its order.
+pub fn threads_are_lawful()
+    ensures { ThreadsAreLawful }
+{
+    runs_from_the_front();
+    image_laws();
+    published_programs();
+    workers_shares_count();
 }
