@@ -51,7 +51,7 @@ one_at : (k : ℕ) (j : Judging) (b : Bool) → is_entry_at k j ≡ b → entrie
 one_at k j b is = ap (λ (t : Bool). length (cond t (j ∷ []) [])) is
 
 -- what the shares of a port count behind one command
-one_counted : WorkersSharesCount → (d : Deed) (p : Cargo) (s after : Standing) → IsDealt d p s after → SharesCount s.pass after.pass (d ∷ [])
+pub one_counted : WorkersSharesCount → (d : Deed) (p : Cargo) (s after : Standing) → IsDealt d p s after → SharesCount s.pass after.pass (d ∷ [])
 one_counted counts d p s after is = counts s after (p ∷ []) (d ∷ []) (after, is, refl)
 
 counted_one : (k : ℕ) (j : Judging) (s after : PassValue) → SharesCount s after (Judged j ∷ []) → k < length s.shares → is_entry_at k j ≡ true → number_at after k ≡ number_at s k + 1
@@ -70,22 +70,22 @@ no_entry : (k : ℕ) (j : Judging) → j.entered ≡ false → is_entry_at k j �
 no_entry k j none = ap (λ (b : Bool). b && is_bank_of k j.judged.place) none
 
 -- a bank of a number below the number of windows is there
-record IsThere (xs : List BankConfig) (k : ℕ) : Type 0 where
-  bank : BankConfig
-  is : slice_get xs k ≡ Some bank
+pub record IsThere (xs : List BankConfig) (k : ℕ) : Type 0 where
+  pub bank : BankConfig
+  pub is : slice_get xs k ≡ Some bank
 
-there_at : (xs : List BankConfig) (k : ℕ) → k < length (map range_of xs) → IsThere xs k
+pub there_at : (xs : List BankConfig) (k : ℕ) → k < length (map range_of xs) → IsThere xs k
 there_at [] k below = absurd (omega (arith, below))
 there_at (x ∷ xs) zero below = record { bank = x; is = refl }
 there_at (x ∷ xs) (suc k) below = let rest = there_at xs k (omega (arith, below)) in record { bank = rest.bank; is = rest.is }
 
-ending_port : (place : Place) (port : ℕ) → port_of (ending place port) ≡ port
+pub ending_port : (place : Place) (port : ℕ) → port_of (ending place port) ≡ port
 ending_port (places.Bank k) port = refl
 ending_port places.Staging port = refl
 ending_port places.LoadResult port = refl
 ending_port places.Control port = refl
 
-bank_is : (place : Place) (k : ℕ) → place ≡ places.Bank k → is_bank_place place ≡ true
+pub bank_is : (place : Place) (k : ℕ) → place ≡ places.Bank k → is_bank_place place ≡ true
 bank_is place k at = ap is_bank_place at
 
 -- ---- one command
@@ -191,13 +191,13 @@ judged_dealt laws n port start whole p j h s after there own idle is full few be
     sym (prefix_whole s.pass.programs is.between.programs (taken_longer j p s after is) (omega (arith, grown, few))) in
     let g = j.judged.generation in
     let now = tell port j.calls (Then h (Take port p) (Taken g)) in
-    let verdict = taken laws.front n port start p j h s after there idle is same in
+    let seen : IsKnown n h is.between.programs = subst (λ (xs : List Publish). IsKnown n h xs) (sym same) idle.known in
+    let verdict = taken laws.front n port p j h s after there idle.lawful idle.closed idle.windows idle.port_is is seen in
     let o = asking p g h (answers_of j.calls) in
     let middle = stand is.between s.asked is.reached in
     let count = one_counted laws.counts (Judged j) p s after is in
     let staging_same : is.between.staging ≡ s.pass.staging = ap (λ (x : PassValue). x.staging) is.judgement.asked in
-    let known : IsKnown n now is.between.programs =
-    subst (λ (xs : List Publish). IsKnown n now xs) (sym same) (known_kept n port h now s.pass.programs verdict.keeps idle.known) in
+    let known : IsKnown n now is.between.programs = known_kept n port h now is.between.programs verdict.keeps seen in
     let here : IsNow n port now o j is.between = record {
       is_open = verdict.is_open;
       stands = verdict.stands;
@@ -257,7 +257,7 @@ few_rest d p ps ds s last w few =
     omega (arith, few, here, first)
 
 -- what a port knows goes on
-dealt_front : (d : Deed) (p : Cargo) (s after : Standing) → IsDealt d p s after → IsPrefix s.front after.front
+pub dealt_front : (d : Deed) (p : Cargo) (s after : Standing) → IsDealt d p s after → IsPrefix s.front after.front
 dealt_front Dropped p s after is = prefix_same s.front after.front (ap (λ (x : Standing). x.front) is.same)
 dealt_front (Answered reply) p s after is = prefix_same s.front after.front (ap (λ (x : Standing). x.front) is.same)
 dealt_front (Judged j) p s after is =
@@ -269,7 +269,7 @@ dealt_front (Judged j) p s after is =
       | inr windowed ↦ prefix_same is.reached after.front windowed.front
     ])
 
-worked_front : (s last : Standing) (ps : List Cargo) (ds : List Deed) → Worked s ps ds last → IsPrefix s.front last.front
+pub worked_front : (s last : Standing) (ps : List Cargo) (ds : List Deed) → Worked s ps ds last → IsPrefix s.front last.front
 worked_front s last [] [] w = prefix_same s.front last.front (ap (λ (x : Standing). x.front) w)
 worked_front s last [] (d ∷ ds) w = absurd w
 worked_front s last (p ∷ ps) [] w = absurd w

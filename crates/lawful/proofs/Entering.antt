@@ -24,7 +24,7 @@ use Rattle.annals.specs.declared.deed.Act.TheVariants.{Leaves}
 use Rattle.annals.specs.declared.deed.Deed.TheVariants.{Does}
 use Rattle.annals.specs.declared.deed.Link.{Link}
 use Rattle.annals.specs.Banks.{IsDone, answer_after, entries_of, memory_after, takes}
-use Rattle.annals.specs.Chains.{chain_of, link}
+use Rattle.annals.specs.Chains.{Due, chain_of, link}
 use Rattle.target.specs.Finished.{IsDoneBehind}
 use Rattle.ports.specs.Due.{IsBanked, Judging, Standing}
 use Rattle.ports.specs.Laws.{number_at}
@@ -52,6 +52,17 @@ done_behind j h after is left =
     let parts = and_parts (takes before share j.judged) (banks.has_room before.bank j.judged.port) (sym is.entered ∙ left) in
     let number = (end.applied parts.0).number ∙ left_some before.bank share j.judged parts.1 in
     subst (λ (o : Option ℕ). IfSome o (λ n. IsDoneBehind h.pass.programs before.chain.number h.front after.front share j.judged is.ended.result j.reply)) number end.done
+
+-- and its port asked for that entry
+pub asks_one : (j : Judging) (h after : Standing) (is : IsBanked j h after) → j.entered ≡ true → length after.asked ≡ length h.asked + 1
+asks_one j h after is left =
+    let share = share_of h.pass j.judged.place in let before = is.ended.before in let end = is.ended.finished in
+    let parts = and_parts (takes before share j.judged) (banks.has_room before.bank j.judged.port) (sym is.entered ∙ left) in
+    let number = (end.applied parts.0).number ∙ left_some before.bank share j.judged parts.1 in
+    let due : Due = (before.chain.number, Leaves (entry_of share j.judged is.ended.result.status)) in
+    let more : after.asked ≡ h.asked ++ due ∷ [] =
+    subst (λ (o : Option ℕ). IfSome o (λ n. after.asked ≡ h.asked ++ due ∷ [])) number is.ended.asks_for.entry in
+    ap length more ∙ length-append h.asked (due ∷ [])
 
 same_bank : (place : Place) (m k : ℕ) → place ≡ places.Bank m → place ≡ places.Bank k → m ≡ k
 same_bank place m k a b = cc (a, b)
@@ -83,19 +94,19 @@ finished_front (Some x) programs k known reached share j result reply some none 
     prefix_trans known some.done.last.before reached some.done.last.seen (_, sym some.done.last.log)
 
 -- the command was done at the bank of that number
-record IsDoneAt (k : ℕ) (j : Judging) (h after : Standing) : Type 0 where
-  status : Status
-  share : ShareValue
-  share_is : share ≡ share_of h.pass j.judged.place
-  before : List Link
-  next : ℕ
-  log : after.front ≡ before ++ link k (length (chain_of k before)) (Does (Leaves (entry_of share j.judged status))) next ∷ []
-  seen : IsPrefix h.front before
-  status_is : status ≡ (answer_after k before j.judged).status
-  numbers : numbers_of j.judged.port (entries_of k before) ≡ range_with_len 0 share.number
-  reply_is : j.reply ≡ (answer_after k before j.judged).reply
+pub record IsDoneAt (k : ℕ) (j : Judging) (h after : Standing) : Type 0 where
+  pub status : Status
+  pub share : ShareValue
+  pub share_is : share ≡ share_of h.pass j.judged.place
+  pub before : List Link
+  pub next : ℕ
+  pub log : after.front ≡ before ++ link k (length (chain_of k before)) (Does (Leaves (entry_of share j.judged status))) next ∷ []
+  pub seen : IsPrefix h.front before
+  pub status_is : status ≡ (answer_after k before j.judged).status
+  pub numbers : numbers_of j.judged.port (entries_of k before) ≡ range_with_len 0 share.number
+  pub reply_is : j.reply ≡ (answer_after k before j.judged).reply
 
-done_at : (k : ℕ) (j : Judging) (h after : Standing) (is : IsBanked j h after) → j.judged.place ≡ places.Bank k → j.entered ≡ true → IsDoneAt k j h after
+pub done_at : (k : ℕ) (j : Judging) (h after : Standing) (is : IsBanked j h after) → j.judged.place ≡ places.Bank k → j.entered ≡ true → IsDoneAt k j h after
 done_at k j h after is place left =
     let behind = done_behind j h after is left in
     let m = is.ended.before.chain.number in

@@ -107,63 +107,87 @@ gone_on n port start d ds p ps h s last here rest = record {
 
 -- ---- packets that no program judges
 
+-- a packet that no program judged, as a history goes on by it
+pub record HasPassed (n : Node) (port : ℕ) (d : Deed) (p : Cargo) (h : History) : Type 0 where
+  pub after : History
+  pub lawful : IsLawfulButTold n after
+  pub closed : opened after port ≡ None
+  pub keeps : Keeps n port h after
+  pub happened : List Happening
+  pub is : happened_at port after ≡ happened_at port h ++ happened
+  pub by : HappensBy d port p happened
+
 -- a packet that is no command
-pub dropped : (n : Node) (port : ℕ) (start : List Link) (p : Cargo) (h : History) (s after : Standing) → port < n.ports → IsIdle n port start h s → IsDropped p s after → HasDealt n port start Dropped p h after
-dropped n port start p h s after there idle is =
+pub dropped_thus : (n : Node) (port : ℕ) (p : Cargo) (h : History) (s after : Standing) → port < n.ports → IsLawfulButTold n h → opened h port ≡ None → IsDropped p s after → HasPassed n port Dropped p h
+dropped_thus n port p h s after there lawful closed is =
     let o = Discarded is.discard in
-    let next = Then h (Take port p) o in
-    let told : o ≡ take_outcome n h p (opened h port) = sym (ap (take_outcome n h p) idle.closed ∙ ap (packet_outcome n h p) is.discarded) in
-    let keeps : Keeps n port h next = record {
-      programs = λ slot. refl;
-      count = refl;
-      banks = λ k. refl;
-      own = staging_here n h (Take port p) o port refl;
-      elsewhere = one_elsewhere n h (Take port p) o port refl;
-    } in
-    let closed : opened next port ≡ None = opened_here h (Take port p) o port refl ∙ idle.closed in
+    let told : o ≡ take_outcome n h p (opened h port) = sym (ap (take_outcome n h p) closed ∙ ap (packet_outcome n h p) is.discarded) in
     record {
-      after = next;
-      idle = subst (λ (x : Standing). IsIdle n port start next x) (sym is.same) (idle_kept n port start h next s keeps (idle.lawful, outcome_here n h (Take port p) o port refl there told) closed idle);
+      after = Then h (Take port p) o;
+      lawful = (lawful, outcome_here n h (Take port p) o port refl there told);
+      closed = opened_here h (Take port p) o port refl ∙ closed;
+      keeps = record {
+        programs = λ slot. refl;
+        count = refl;
+        banks = λ k. refl;
+        own = staging_here n h (Take port p) o port refl;
+        elsewhere = one_elsewhere n h (Take port p) o port refl;
+      };
       happened = happening (Take port p) o ∷ [];
       is = happened_here h (Take port p) o port refl;
       by = (is.discard, refl);
-      elsewhere = keeps.elsewhere;
     }
 
 -- a packet that a check of its header answers
-answered_by : (n : Node) (port : ℕ) (start : List Link) (p : Cargo) (reply : List ℕ) (status : Status) (h : History) (s after : Standing) → port < n.ports → IsIdle n port start h s
-    → IsStopped (stops.Answered status) p s.pass.windows reply → after ≡ s → HasDealt n port start (Replied reply) p h after
-answered_by n port start p reply status h s after there idle is same =
+answered_thus : (n : Node) (port : ℕ) (p : Cargo) (reply : List ℕ) (status : Status) (h : History) (s : Standing) → port < n.ports → IsLawfulButTold n h → opened h port ≡ None → s.pass.windows ≡ windows_in n
+    → IsStopped (stops.Answered status) p s.pass.windows reply → HasPassed n port (Replied reply) p h
+answered_thus n port p reply status h s there lawful closed windows is =
     let o = Answered status reply in
-    let next = Then h (Take port p) o in
-    let line : header_line (command_of p) (windows_in n) ≡ Some status = ap (header_line (command_of p)) (sym idle.windows) ∙ is.0.stopped in
+    let line : header_line (command_of p) (windows_in n) ≡ Some status = ap (header_line (command_of p)) (sym windows) ∙ is.0.stopped in
     let told : o ≡ take_outcome n h p (opened h port) =
-    ap (λ (bytes : List ℕ). Answered status bytes) is.1 ∙ sym (ap (take_outcome n h p) idle.closed ∙ (ap (packet_outcome n h p) is.0.command ∙ ap (header_outcome n h p) line)) in
-    let keeps : Keeps n port h next = record {
-      programs = λ slot. refl;
-      count = refl;
-      banks = λ k. refl;
-      own = staging_here n h (Take port p) o port refl;
-      elsewhere = one_elsewhere n h (Take port p) o port refl;
-    } in
-    let closed : opened next port ≡ None = opened_here h (Take port p) o port refl ∙ idle.closed in
+    ap (λ (bytes : List ℕ). Answered status bytes) is.1 ∙ sym (ap (take_outcome n h p) closed ∙ (ap (packet_outcome n h p) is.0.command ∙ ap (header_outcome n h p) line)) in
     record {
-      after = next;
-      idle = subst (λ (x : Standing). IsIdle n port start next x) (sym same) (idle_kept n port start h next s keeps (idle.lawful, outcome_here n h (Take port p) o port refl there told) closed idle);
+      after = Then h (Take port p) o;
+      lawful = (lawful, outcome_here n h (Take port p) o port refl there told);
+      closed = opened_here h (Take port p) o port refl ∙ closed;
+      keeps = record {
+        programs = λ slot. refl;
+        count = refl;
+        banks = λ k. refl;
+        own = staging_here n h (Take port p) o port refl;
+        elsewhere = one_elsewhere n h (Take port p) o port refl;
+      };
       happened = happening (Take port p) o ∷ [];
       is = happened_here h (Take port p) o port refl;
       by = (status, refl);
-      elsewhere = keeps.elsewhere;
     }
 
 none_some : (a : Option Status) (status : Status) → a ≡ None → a ≡ Some status → ⊥
 none_some a status none some = cc (none, some)
 
+pub replied_thus : (n : Node) (port : ℕ) (p : Cargo) (reply : List ℕ) (h : History) (s after : Standing) → port < n.ports → IsLawfulButTold n h → opened h port ≡ None → s.pass.windows ≡ windows_in n
+    → (status : Status) × (header_line (command_of p) (windows_in n) ≡ Some status) → IsUnjudged reply p s after → HasPassed n port (Replied reply) p h
+replied_thus n port p reply h s after there lawful closed windows full is =
+    elim is.answered [
+      | inl stopped ↦ answered_thus n port p reply stopped.0 h s there lawful closed windows stopped.1
+      | inr unread ↦
+          absurd (none_some (header_line (command_of p) (windows_in n)) full.0 (ap (header_line (command_of p)) (sym windows) ∙ unread.allowed.allowed) full.1)
+    ]
+
+-- a port that knows what it knew
+passed : (n : Node) (port : ℕ) (start : List Link) (d : Deed) (p : Cargo) (h : History) (s after : Standing) → IsIdle n port start h s → after ≡ s → HasPassed n port d p h → HasDealt n port start d p h after
+passed n port start d p h s after idle same it = record {
+  after = it.after;
+  idle = subst (λ (x : Standing). IsIdle n port start it.after x) (sym same) (idle_kept n port start h it.after s it.keeps it.lawful it.closed idle);
+  happened = it.happened;
+  is = it.is;
+  by = it.by;
+  elsewhere = it.keeps.elsewhere;
+}
+
+pub dropped : (n : Node) (port : ℕ) (start : List Link) (p : Cargo) (h : History) (s after : Standing) → port < n.ports → IsIdle n port start h s → IsDropped p s after → HasDealt n port start Dropped p h after
+dropped n port start p h s after there idle is = passed n port start Dropped p h s after idle is.same (dropped_thus n port p h s after there idle.lawful idle.closed is)
+
 pub replied : (n : Node) (port : ℕ) (start : List Link) (p : Cargo) (reply : List ℕ) (h : History) (s after : Standing) → port < n.ports → IsIdle n port start h s
     → (status : Status) × (header_line (command_of p) (windows_in n) ≡ Some status) → IsUnjudged reply p s after → HasDealt n port start (Replied reply) p h after
-replied n port start p reply h s after there idle full is =
-    elim is.answered [
-      | inl stopped ↦ answered_by n port start p reply stopped.0 h s after there idle stopped.1 is.same
-      | inr unread ↦
-          absurd (none_some (header_line (command_of p) (windows_in n)) full.0 (ap (header_line (command_of p)) (sym idle.windows) ∙ unread.allowed.allowed) full.1)
-    ]
+replied n port start p reply h s after there idle full is = passed n port start (Replied reply) p h s after idle is.same (replied_thus n port p reply h s after there idle.lawful idle.closed idle.windows full is)

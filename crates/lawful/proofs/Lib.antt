@@ -9,3 +9,11 @@ mod Taking
 mod Loading
 mod Entering
 mod Alone
+mod Links
+mod Placing
+mod Accounts
+mod Sharing
+mod Worlds
+mod Settling
+mod Stepping
+mod Together

@@ -188,7 +188,7 @@ module _ (n : Node) (port : ℕ) (now : History) (o : Open) (j : Judging) (old :
       }
 
   -- a load that published its program, the next behind those that the port knew
-  loaded_thus : ImagesAreRead → IsSetByNext → j.judged.place ≡ places.Control → judged_line (command_of o.packet) j.judged.verdict ≡ None → (after : PassValue) (before new : List Publish) (result : Status) (reply : List ℕ)
+  pub loaded_thus : ImagesAreRead → IsSetByNext → j.judged.place ≡ places.Control → judged_line (command_of o.packet) j.judged.verdict ≡ None → (after : PassValue) (before new : List Publish) (result : Status) (reply : List ℕ)
       → before ≡ old.programs → HasLoaded old after before new j.judged result → reply ≡ reply_of (command_of o.packet) result [] → EndsThus n port now o (Publishes port) reply old after
   loaded_thus images next at line after before new result reply same end reply_is =
       let lies : place_in n o.packet ≡ Some places.Control = is.lies ∙ ap (λ (x : Place). Some x) at in

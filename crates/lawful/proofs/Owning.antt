@@ -56,7 +56,7 @@ pub entry_last : (k place next : ℕ) (before : List Link) (e : EntryValue) → 
 entry_last k place next before e =
     ap entries_in (chain_last k place next before e) ∙ entries_append (chain_of k before) (link k place (Does (Leaves e)) next ∷ [])
 
-not_begun : (e : EntryValue) (opening : ℕ × ℕ × ℕ) → Does (Leaves e) ≡ Opens opening → ⊥
+pub not_begun : (e : EntryValue) (opening : ℕ × ℕ × ℕ) → Does (Leaves e) ≡ Opens opening → ⊥
 not_begun e opening same = cc (same)
 
 -- ---- entries of one port

@@ -16,7 +16,6 @@ use Rattle.node_programs.specs.declared.publishes.Publish.{Publish}
 use Rattle.node_programs.specs.Published.{judging_program}
 use Rattle.node_parts.specs.Passes.{PassValue}
 use Rattle.node_parts.specs.Slots.{slot_of}
-use Rattle.annals.specs.declared.deed.Link.{Link}
 use Rattle.ports.specs.Due.{IsJudged, Judging, Standing}
 use Rattle.sched.specs.Agreement.{program_and_generation}
 use Rattle.sched.specs.declared.event.Event.TheVariants.{Take}
@@ -27,7 +26,7 @@ use Rattle.sched.specs.Looking.{Node, header_in, place_in, program_of, published
 use Rattle.sched.specs.Turns.{answers_of}
 use Rattle.lawful.specs.ButTold.{IsLawfulButTold}
 use Rattle.lawful.specs.Happenings.{Happening, happened_at, happening, told_calls}
-use Rattle.lawful.proofs.Idling.{IsIdle}
+use Rattle.lawful.proofs.Idling.{IsKnown}
 use Rattle.lawful.proofs.Keeping.{Keeps, happened_here, keeps_on, one_elsewhere, opened_here, staging_here}
 use Rattle.lawful.proofs.Telling.{asking, outcome_here, tell, told}
 use Rattle.lawful.proofs.Turning.{StandsAlong, along_run, small_run}
@@ -49,28 +48,29 @@ shown_by n h programs slot g a known shown =
     let named : option_map program_and_generation (judging_program programs slot) ≡ Some (a.program, g) = ap (option_map program_and_generation) shown in
     some_same (published n h slot) (a.program, g) (sym known ∙ named)
 
-pub taken : RunsFromTheFront → (n : Node) (port : ℕ) (start : List Link) (p : Cargo) (j : Judging) (h : History) (s after : Standing) → port < n.ports → IsIdle n port start h s
-    → (is : IsJudged j p s after) → is.between.programs ≡ s.pass.programs → HasVerdict n port h (tell port j.calls (Then h (Take port p) (Taken j.judged.generation))) p j
-taken front n port start p j h s after there idle is same =
+-- a command is taken whose program is the one that looking back finds, by what its port then knows
+pub taken : RunsFromTheFront → (n : Node) (port : ℕ) (p : Cargo) (j : Judging) (h : History) (s after : Standing) → port < n.ports → IsLawfulButTold n h → opened h port ≡ None → s.pass.windows ≡ windows_in n → s.pass.port ≡ port
+    → (is : IsJudged j p s after) → IsKnown n h is.between.programs → HasVerdict n port h (tell port j.calls (Then h (Take port p) (Taken j.judged.generation))) p j
+taken front n port p j h s after there lawful closed windows port_is is known =
     let g = j.judged.generation in
     let v = j.judged.verdict in
     let run = is.judgement in
     let placed = run.judged_for.placed in
     let o = asking p g h [] in
-    let lies : place_in n p ≡ Some j.judged.place = ap (place_of (command_of p)) (sym idle.windows) ∙ placed.lies in
+    let lies : place_in n p ≡ Some j.judged.place = ap (place_of (command_of p)) (sym windows) ∙ placed.lies in
     let slot = slot_of (command_kind (command_of p)) j.judged.place in
     let slot_is : slot_of_packet n p ≡ slot = ap (slot_at (command_of p)) lies in
-    let saw : run.seen ≡ s.pass.programs = sym (ap (λ (x : PassValue). x.programs) run.asked) ∙ same in
-    let shown : judging_program s.pass.programs slot ≡ Some (run.program, g) =
+    let saw : run.seen ≡ is.between.programs = sym (ap (λ (x : PassValue). x.programs) run.asked) in
+    let shown : judging_program is.between.programs slot ≡ Some (run.program, g) =
     subst (λ (xs : List Publish). judging_program xs slot ≡ Some (run.program, g)) saw run.taken.shown in
     let is_published : published n h (slot_of_packet n p) ≡ (run.program.program, g) =
-    ap (published n h) slot_is ∙ shown_by n h s.pass.programs slot g run.program (idle.known.shown slot) shown in
-    let allowed : header_line (command_of p) (windows_in n) ≡ None = ap (header_line (command_of p)) (sym idle.windows) ∙ placed.allowed in
+    ap (published n h) slot_is ∙ shown_by n h is.between.programs slot g run.program (known.shown slot) shown in
+    let allowed : header_line (command_of p) (windows_in n) ≡ None = ap (header_line (command_of p)) (sym windows) ∙ placed.allowed in
     let take_is : Taken g ≡ take_outcome n h p (opened h port) =
-    sym (ap (take_outcome n h p) idle.closed ∙ (ap (packet_outcome n h p) placed.command ∙ (ap (header_outcome n h p) allowed ∙ ap (λ (x : Program × ℕ). Taken x.1) is_published))) in
+    sym (ap (take_outcome n h p) closed ∙ (ap (packet_outcome n h p) placed.command ∙ (ap (header_outcome n h p) allowed ∙ ap (λ (x : Program × ℕ). Taken x.1) is_published))) in
     let program_is : program_of n o ≡ run.program.program = ap (λ (x : Program × ℕ). x.0) is_published in
     let calls_run = subst (λ (cs : List Call). RunsWithin run.program.program (header_in p) s.pass.port cs v) (sym is.calls) run.judged_for.verdict in
-    let port_run = subst (λ (q : ℕ). RunsWithin run.program.program (header_in p) q j.calls v) idle.port_is calls_run in
+    let port_run = subst (λ (q : ℕ). RunsWithin run.program.program (header_in p) q j.calls v) port_is calls_run in
     let whole_run = subst (λ (x : Program). RunsWithin x (header_in p) port j.calls v) (sym program_is) port_run in
     let along : StandsAlong (program_of n o) (header_in p) port j.calls v = along_run front (program_of n o) (header_in p) port j.calls v whole_run in
     let begun = Then h (Take port p) (Taken g) in
@@ -82,7 +82,7 @@ taken front n port start p j h s after there idle is same =
       elsewhere = one_elsewhere n h (Take port p) (Taken g) port refl;
     } in
     let answered = told n port there p g h j.calls v along begun [] j.calls refl (small_run front (program_of n o) (header_in p) port j.calls v whole_run)
-    (idle.lawful, outcome_here n h (Take port p) (Taken g) port refl there take_is) (opened_here h (Take port p) (Taken g) port refl) in
+    (lawful, outcome_here n h (Take port p) (Taken g) port refl there take_is) (opened_here h (Take port p) (Taken g) port refl) in
     record {
       lawful = answered.lawful;
       is_open = answered.is_open;

@@ -1,3 +1,4 @@
 pub mod ButTold
 pub mod Happenings
 pub mod Alone
+pub mod Together

@@ -2,6 +2,7 @@
 
 ghost use Rattle.lawful.specs.Alone.{OnePortIsLawful};
 ghost use Rattle.lawful.specs.ButTold.{LawfulIsButTold};
+ghost use Rattle.lawful.specs.Together.{ThreadsAreLawful};
 
 use bpf::image_laws;
 use machine::runs_from_the_front;
@@ -19,6 +20,18 @@ pub fn told_apart()
 /// asked was answered, and it was done with the reply that was due. The entries of each bank are those of the node's one list.
 pub fn one_port_is_lawful()
     ensures { OnePortIsLawful }
+{
+    runs_from_the_front();
+    image_laws();
+    published_programs();
+    workers_shares_count();
+}
+
+/// A law and no work: what threads did at the fresh ports of a node, which they served side by side, is a lawful history of the node,
+/// apart from what cells answered. At each port happened, in order, what became of its packets. The entries of each bank and the
+/// programs are those of the node's one list, in its order.
+pub fn threads_are_lawful()
+    ensures { ThreadsAreLawful }
 {
     runs_from_the_front();
     image_laws();

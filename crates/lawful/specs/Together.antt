@@ -1,0 +1,134 @@
+-- The law of all ports: what threads did at the ports of a node, side by side, is a lawful history of the node but for what cells
+-- told. A command is taken at the moment at which readers saw the programs by which it was judged. A command of a bank is done where
+-- its entry stands in the one list of the node, and a load where readers see its program.
+use Rattle.std.specs.Prelude.{◌≡◌, ◌<◌, ◌≤◌, ◌+◌, ◌++◌, ◌^◌, ℕ, List, [], ◌∷◌, length, slice_get, Some, None, option_map}
+use mathlib.Core.List.{IsPrefix}
+use Rattle.spw.specs.Cargo.{Cargo}
+use Rattle.annals.specs.declared.deed.Act.TheVariants.{Leaves, Sets, Rotates, Publishes}
+use Rattle.annals.specs.declared.deed.Deed.{Deed as LinkDeed}
+use Rattle.annals.specs.declared.deed.Deed.TheVariants.{Opens, Does, Asks, Shows}
+use Rattle.annals.specs.declared.deed.Link.{Link}
+use Rattle.annals.specs.Banks.{entries_of}
+use Rattle.annals.specs.Chains.{chain_of, done_for, instrument}
+use Rattle.annals.specs.Publishes.{publishes_chain, publishes_of}
+use Rattle.annals.specs.Shown.{AreListed, shown_in}
+use Rattle.node_programs.specs.declared.publishes.Publish.{Publish}
+use Rattle.node_programs.specs.Published.{judging_program}
+use Rattle.node_parts.specs.declared.config.BankConfig.{BankConfig}
+use Rattle.ports.specs.Due.{Deed, IsJudged, IsWindowed, Judging, Standing, Worked, stand}
+use Rattle.ports.specs.Due.Deed.{Dropped, Answered, Judged}
+use Rattle.sched.specs.Agreement.{program_and_generation}
+use Rattle.sched.specs.History.{History, opened}
+use Rattle.sched.specs.Looking.{Node, entries, published, publishes, staging}
+use Rattle.lawful.specs.Alone.{AreDealtInFull, IsFreshPort}
+use Rattle.lawful.specs.ButTold.{IsLawfulButTold}
+use Rattle.lawful.specs.Happenings.{HappenBy, happened_at}
+
+-- ---- premises
+
+-- what was done at a port: what it had at first, the packets that it served, what became of them, and what it has then
+pub record Account : Type 0 where
+  pub first : Standing
+  pub last : Standing
+  pub packets : List Cargo
+  pub deeds : List Deed
+
+-- the publish of that port stands in the list right behind those that the load met, and behind all that the port knew then
+pub record IsPlaced (port : ℕ) (whole known : List Link) (old : List Publish) (publish : Publish) : Type 0 where
+  pub before : List Link
+  pub item : Link
+  pub chain : item.chain ≡ publishes_chain
+  pub deed : item.deed ≡ Does (Publishes (port, publish))
+  pub stands : IsPrefix (before ++ item ∷ []) whole
+  pub seen : IsPrefix known before
+  pub met : publishes_of before ≡ old
+
+-- what a command published, if it did, stands at its place in the list
+abbrev pub IsLoadPlaced : (port : ℕ) (whole : List Link) (j : Judging) (p : Cargo) (h after : Standing) → IsJudged j p h after → Type 0
+IsLoadPlaced port whole j p h after is =
+    (publish : Publish) (windowed : IsWindowed j (stand is.between h.asked is.reached) after)
+    → j.loaded ≡ Some publish → IsPlaced port whole is.reached windowed.old publish
+
+-- the same of what became of some packets
+abbrev pub AreLoadsPlaced : (port : ℕ) (whole : List Link) (h : Standing) (ps : List Cargo) (ds : List Deed) (after : Standing)
+    → Worked h ps ds after → Type 0
+AreLoadsPlaced port whole h [] [] after worked = Unit {0}
+AreLoadsPlaced port whole h [] (d ∷ ds) after worked = Unit {0}
+AreLoadsPlaced port whole h (p ∷ ps) [] after worked = Unit {0}
+AreLoadsPlaced port whole h (p ∷ ps) (Dropped ∷ ds) after worked = AreLoadsPlaced port whole worked.0 ps ds after worked.2
+AreLoadsPlaced port whole h (p ∷ ps) (Answered reply ∷ ds) after worked = AreLoadsPlaced port whole worked.0 ps ds after worked.2
+AreLoadsPlaced port whole h (p ∷ ps) (Judged j ∷ ds) after worked =
+    IsLoadPlaced port whole j p h worked.0 worked.1 × AreLoadsPlaced port whole worked.0 ps ds after worked.2
+
+-- a fresh port of the node was served beside others: in the list of the node stands all that it knows, and of the port what it
+-- asked for, and nothing else; and nothing was wanting
+pub record IsServedBeside (n : Node) (whole : List Link) (port : ℕ) (account : Account) : Type 0 where
+  pub worked : Worked account.first account.packets account.deeds account.last
+  pub fresh : IsFreshPort n account.first
+  pub port_is : account.first.pass.port ≡ port
+  pub asked : account.first.asked ≡ []
+  pub begins : IsPrefix account.last.front whole
+  pub did : done_for port whole ≡ account.last.asked
+  pub in_full : AreDealtInFull n account.first account.packets account.deeds account.last worked
+  pub placed : AreLoadsPlaced port whole account.first account.packets account.deeds account.last worked
+
+-- a deed at a bank is an entry
+abbrev pub IsSomeEntry : LinkDeed → Type 0
+IsSomeEntry (Opens opening) = ⊥
+IsSomeEntry (Does (Leaves entry)) = Unit {0}
+IsSomeEntry (Does (Sets setting)) = ⊥
+IsSomeEntry (Does (Rotates room)) = ⊥
+IsSomeEntry (Does (Publishes publish)) = ⊥
+IsSomeEntry (Asks due) = ⊥
+IsSomeEntry Shows = ⊥
+
+-- each deed is an entry
+abbrev pub AreSomeEntries : List Link → Type 0
+AreSomeEntries [] = Unit {0}
+AreSomeEntries (l ∷ ls) = IsSomeEntry l.deed × AreSomeEntries ls
+
+-- what the list has of a bank, if anything: first it began, as the node's configuration says, then come entries alone, for which
+-- its journal has room
+abbrev pub IsChainOf : BankConfig → List Link → Type 0
+IsChainOf bank [] = Unit {0}
+IsChainOf bank (l ∷ ls) = (l.deed ≡ Opens (bank.base, bank.size, bank.room)) × AreSomeEntries ls × (length ls ≤ bank.room)
+
+-- the list has of the bank of that number what ports left, and the numbers of its entries are below 2^64
+pub record IsBankOf (k : ℕ) (bank : BankConfig) (whole : List Link) : Type 0 where
+  pub chain : IsChainOf bank (chain_of k whole)
+  pub few : bank.room < 2 ^ 64
+
+-- all ports of the node were served side by side, each fresh at first: the list of the node has what they did, and of others only
+-- that the instrument published the factory program; readers saw no program before it was published, and in the end all
+pub record AreServedTogether (n : Node) (accounts : ℕ → Account) (whole : List Link) : Type 0 where
+  pub few : n.ports ≤ instrument
+  pub each : (port : ℕ) → port < n.ports → IsServedBeside n whole port (accounts port)
+  pub banks : (k : ℕ) (bank : BankConfig) → slice_get n.banks k ≡ Some bank → IsBankOf k bank whole
+  pub factory : Publish
+  pub program : factory.program.program ≡ n.factory
+  pub sizes : factory.program.sizes ≡ n.sizes
+  pub opening : done_for instrument whole ≡ (publishes_chain, Publishes (instrument, factory)) ∷ []
+  pub others : (owner : ℕ) → n.ports ≤ owner → (owner ≡ instrument → ⊥) → done_for owner whole ≡ []
+  pub listed : AreListed whole
+  pub shown : length (publishes_of whole) ≤ shown_in whole
+
+-- ---- the law
+
+-- there is a history of the node, lawful but for what cells told, in which at each port happened what became of its packets, and
+-- elsewhere nothing; its entries at each bank and its programs are those of the list, and each port's staging is its own
+pub record HaveLawfulHistory (n : Node) (accounts : ℕ → Account) (whole : List Link) : Type 0 where
+  pub history : History
+  pub lawful : IsLawfulButTold n history
+  pub happened : (port : ℕ) → port < n.ports → HappenBy port (accounts port).packets (accounts port).deeds (happened_at port history)
+  pub elsewhere : (port : ℕ) → n.ports ≤ port → happened_at port history ≡ []
+  pub closed : (port : ℕ) → opened history port ≡ None
+  pub entries_are : (k : ℕ) (bank : BankConfig) → slice_get n.banks k ≡ Some bank → entries n history k ≡ entries_of k whole
+  pub programs : (slot : ℕ) → option_map program_and_generation (judging_program (publishes_of whole) slot) ≡ Some (published n history slot)
+  pub count : length (publishes_of whole) ≡ publishes n history + 1
+  pub stagings : (port : ℕ) → port < n.ports → staging n history port ≡ (accounts port).last.pass.staging
+
+-- what threads did at the fresh ports of a node that they served side by side is a lawful history but for what cells told
+abbrev pub ThreadsAreLawful : Type 0
+ThreadsAreLawful =
+    (n : Node) (accounts : ℕ → Account) (whole : List Link) → AreServedTogether n accounts whole
+    → HaveLawfulHistory n accounts whole
