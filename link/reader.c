@@ -107,15 +107,14 @@ enum fate {
   OTHER,   /* no code, and a packet did not come or came otherwise; later ones came */
   SILENT,  /* no code, and none of the last 20 packets came */
   WILD,    /* an access where nothing is, or a byte that is nobody's was written */
+  STOPPED, /* a check at run time stopped it, of a library that has them */
   FATES
 };
 
 enum { LAST = 20 };
 
-static _Noreturn void wild(int signal) {
-  (void)signal;
-  _exit(WILD);
-}
+/* The library calls nothing by a pointer: so an instruction that stops the program is a check's, and no wild jump's. */
+static _Noreturn void stop(int signal) { _exit(signal == SIGSEGV || signal == SIGBUS ? WILD : STOPPED); }
 
 /* A connection that begins with the first frame from that place on. */
 static size_t connect_again(size_t at) {
@@ -189,7 +188,7 @@ static enum fate trial(uint64_t seed, struct flip *flip) {
   if (child < 0) exit(2);
   if (child == 0) {
     const int signals[] = {SIGSEGV, SIGBUS, SIGILL, SIGFPE, SIGABRT, SIGTRAP};
-    for (size_t k = 0; k < sizeof signals / sizeof *signals; k += 1) (void)signal(signals[k], wild);
+    for (size_t k = 0; k < sizeof signals / sizeof *signals; k += 1) (void)signal(signals[k], stop);
     state = seed;
     make_stream();
     open_arena();
@@ -206,7 +205,8 @@ static enum fate trial(uint64_t seed, struct flip *flip) {
 enum { MOST_WORDS = 64 };
 
 static void print_row(const char *what, const unsigned long *row) {
-  printf("%s: %lu, %lu, %lu, %lu, %lu, %lu\n", what, row[NOTHING], row[REFUSED], row[DAMAGED], row[OTHER], row[SILENT], row[WILD]);
+  printf("%s: %lu, %lu, %lu, %lu, %lu, %lu, %lu\n", what, row[NOTHING], row[REFUSED], row[DAMAGED], row[OTHER], row[SILENT], row[WILD],
+         row[STOPPED]);
 }
 
 int main(int count, char **words) {
@@ -224,7 +224,7 @@ int main(int count, char **words) {
     has_pointer[word] = flip->in_pointer;
     elsewhere += fate == WILD && !flip->in_pointer;
   }
-  printf("word: no effect, no reader, damaged, another packet, silence, a wild access\n");
+  printf("word: no effect, no reader, damaged, another packet, silence, a wild access, stopped by a check\n");
   for (size_t k = 0; k < MOST_WORDS; k += 1) {
     char name[40];
     unsigned long row_sum = 0;

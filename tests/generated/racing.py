@@ -28,8 +28,9 @@ STATUSES = {0: 0, 3: 3, 12: 12, 10: 10}
 # A program that says yes to the first commands, whatever their port.
 QUOTA_TEXT = f".budget 8\nldmap r1, 0\nmov r2, 0\ncall 2\njlt r0, {QUOTA}, +2\nmov r0, 10\nexit\nmov r0, 0\nexit\n"
 
-# What the replies have to come to.
-KINDS = {"loads": RACES * PORTS * LOADS, "writes by another port's program": 5, "quotas": RACES // 2}
+# What the replies have to come to. How often a write is judged by the program of another port depends on how threads overlap, so it is
+# counted and not asked for.
+KINDS = {"loads": RACES * PORTS * LOADS, "quotas": RACES // 2}
 
 
 class Step(NamedTuple):

@@ -228,17 +228,17 @@ pub from_publish : (q : ℕ) (whole : List Link) (j : Judging) (p : Cargo) (s af
     → AreListed whole → IsPrefix last.front whole → IsFrom (length one.placed.before + 1) after last ps ds w
 from_publish q whole j p s after last is one ps ds w listed begins =
     from_seen (length one.placed.before + 1) whole after last ps ds w listed begins (λ at stands many.
-        let load = one_loaded q whole j p s after is one in
-        let size = ap length load.programs ∙ longer one.windowed.old one.publish in
-        let met = ap length one.placed.met in
-        let low = listed at stands in
-        elim (cases_lt (length one.placed.before) (length at)) [
-          | inl more ↦ omega (arith, more)
-          | inr few ↦
-              let here = prefix_shorter at one.placed.before whole stands (front_of one.placed.before whole one.placed.item one.placed.stands) few in
-              let less = published_few at one.placed.before here in
-              absurd (omega (arith, size, met, low, less, many))
-        ])
+    let load = one_loaded q whole j p s after is one in
+    let size = ap length load.programs ∙ longer one.windowed.old one.publish in
+    let met = ap length one.placed.met in
+    let low = listed at stands in
+    elim (cases_lt (length one.placed.before) (length at)) [
+      | inl more ↦ omega (arith, more)
+      | inr few ↦
+          let here = prefix_shorter at one.placed.before whole stands (front_of one.placed.before whole one.placed.item one.placed.stands) few in
+          let less = published_few at one.placed.before here in
+          absurd (omega (arith, size, met, low, less, many))
+    ])
 
 -- before the moment at which a command is taken its port did no more than it asked for before that command, if behind it the same is so
 judged_few : (q : ℕ) (whole x : List Link) (s last after : Standing) (j : Judging) (p : Cargo) (ps : List Cargo) (ds : List Deed) (is : IsJudged j p s after) (w : Worked after ps ds last) → AreListed whole → IsPrefix last.front whole

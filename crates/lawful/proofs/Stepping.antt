@@ -290,15 +290,17 @@ module _ (laws : Laws) (n : Node) (whole : List Link) (q : ℕ) (a : Account) (p
       let acts = x.acts in
       let met : length (publishes_of pre) ≡ length x.one.windowed.old = ap (λ (ls : List Link). length (publishes_of ls)) (sym that.front) ∙ ap length x.one.placed.met in
       let quiet = shown_same pre l (ap shows deed) in
-      let few = few_here in
-      (record {
-        open_at = o;
-        here = x.here;
-        acts = omega (arith, one, acts);
-        one = x.one;
-        place = omega (arith, same, size_here);
-        unseen = omega (arith, met, quiet, few);
-      }, refl)
+      let few = few_here in (
+        record {
+          open_at = o;
+          here = x.here;
+          acts = omega (arith, one, acts);
+          one = x.one;
+          place = omega (arith, same, size_here);
+          unseen = omega (arith, met, quiet, few);
+        },
+        refl,
+      )
 
   -- readers see a program
   pub show_step : (h : History) (x : IsToShow n whole q a pre h) → q < n.ports → l.deed ≡ Shows → IsCommon n pre h → length x.one.windowed.old ≡ shown_in pre → HasStepped n whole q a pre l h None

@@ -463,8 +463,8 @@ module _ (laws : Laws) (n : Node) (accounts : ℕ → Account) (whole : List Lin
                   pending = λ m low below positive.
                       let waiting = waits_later m low below positive in
                       let other : waiting.port ≡ q → ⊥ = λ eq. (
-                        let same = some_number (waits q) (shown_in pre) m is_q (subst (λ (i : ℕ). waits i ≡ Some m) eq waiting.is) in
-                        absurd (omega (arith, same, low, more))) in
+                      let same = some_number (waits q) (shown_in pre) m is_q (subst (λ (i : ℕ). waits i ≡ Some m) eq waiting.is) in
+                      absurd (omega (arith, same, low, more))) in
                       record { port = waiting.port; there = waiting.there; is = set_there q waiting.port None waits other ∙ waiting.is };
                   opening = opening_same (none_does instrument) no_publish;
                 };

@@ -76,7 +76,7 @@ pub record IsOwnBank (port k : ℕ) (bank : BankConfig) (whole : List Link) : Ty
   pub chain : IsOwnChain port bank (chain_of k whole)
   pub few : bank.room < 2 ^ 64
 
--- the load of a control write was refused for what the port had staged, which its load result tells
+-- the load of a control write was refused for what the port had staged, as its load result says
 pub record IsRefusedForStaged (h after : Standing) (j : Judging) : Type 0 where
   pub refusal : LoadRefusal
   pub unprepared : IsUnprepared (control_of (command_of j.judged.packet).body) h.pass.staging.bytes (sizes_of h.pass.programs) refusal
@@ -89,7 +89,7 @@ pub record IsJudgedInFull (h after : Standing) (j : Judging) : Type 0 where
   pub loads : j.judged.place ≡ places.Control → judged_line (command_of j.judged.packet) j.judged.verdict ≡ None
       → j.loaded ≡ None → IsRefusedForStaged h after j
 
--- nothing was wanting to what became of a packet: where no verdict answered it, a check of its header did
+-- nothing was wanting to what became of a packet: if no verdict answered it, a check of its header did
 abbrev pub IsDealtInFull : Node → Deed → Cargo → (h after : Standing) → Type 0
 IsDealtInFull n Dropped p h after = Unit {0}
 IsDealtInFull n (Answered reply) p h after = (status : Status) × (header_line (command_of p) (windows_in n) ≡ Some status)

@@ -13,12 +13,12 @@ use Rattle.sched.specs.Looking.{Node, argument_asked, cell_asked, turn_at}
 
 -- ---- lawful but for what cells told
 
--- what the event of a helper comes to, where a program asks it for that cell: some word is told; else it is refused
+-- what the event of a helper comes to, if a program asks it for that cell: some word is the answer; else it is refused
 abbrev pub IsSomeTold : Option (ℕ × ℕ) → Outcome → Type 0
 IsSomeTold None outcome = outcome ≡ Refused
 IsSomeTold (Some cell) outcome = (answer : ℕ) × (answer < 2 ^ 64) × (outcome ≡ Told answer)
 
--- what an event comes to at a port of the node, but for what a cell tells
+-- what an event comes to at a port of the node, apart from what a cell answers
 abbrev pub IsOutcomeAtButTold : Node → History → Event → Outcome → Type 0
 IsOutcomeAtButTold n h (Take port p) outcome = outcome ≡ take_outcome n h p (opened h port)
 IsOutcomeAtButTold n h (Count port) outcome = IsSomeTold (cell_asked helpers.Count (turn_at n h port)) outcome
@@ -27,12 +27,12 @@ IsOutcomeAtButTold n h (Peak port) outcome = IsSomeTold (cell_asked helpers.Peak
 IsOutcomeAtButTold n h (Effect port) outcome = outcome ≡ effect_outcome n h port (opened h port)
 IsOutcomeAtButTold n h (Publish port) outcome = IsPublishOutcome n h port (opened h port) outcome
 
--- what an event comes to, but for what a cell tells: at a port that the node does not have it is refused
+-- what an event comes to, apart from what a cell answers: at a port that the node does not have it is refused
 pub record IsOutcomeButTold (n : Node) (h : History) (event : Event) (outcome : Outcome) : Type 0 where
   pub here : port_of event < n.ports → IsOutcomeAtButTold n h event outcome
   pub nowhere : n.ports ≤ port_of event → outcome ≡ Refused
 
--- each outcome is the one that looking back from its place gives, but for what cells told
+-- each outcome is the one that looking back from its place gives, apart from what cells answered
 abbrev pub IsLawfulButTold : Node → History → Type 0
 IsLawfulButTold n Start = Unit {0}
 IsLawfulButTold n (Then h event outcome) = IsLawfulButTold n h × IsOutcomeButTold n h event outcome

@@ -33,7 +33,7 @@ pub record Account : Type 0 where
   pub packets : List Cargo
   pub deeds : List Deed
 
--- the publish of that port stands in the list right behind those that the load met, and behind all that the port knew then
+-- the publish of that port is in the list right after those that the load met, and after all that the port knew then
 pub record IsPlaced (port : ℕ) (whole known : List Link) (old : List Publish) (publish : Publish) : Type 0 where
   pub before : List Link
   pub item : Link
@@ -43,7 +43,7 @@ pub record IsPlaced (port : ℕ) (whole known : List Link) (old : List Publish) 
   pub seen : IsPrefix known before
   pub met : publishes_of before ≡ old
 
--- what a command published, if it did, stands at its place in the list
+-- what a command published, if it did, is at its place in the list
 abbrev pub IsLoadPlaced : (port : ℕ) (whole : List Link) (j : Judging) (p : Cargo) (h after : Standing) → IsJudged j p h after → Type 0
 IsLoadPlaced port whole j p h after is =
     (publish : Publish) (windowed : IsWindowed j (stand is.between h.asked is.reached) after)
@@ -60,8 +60,8 @@ AreLoadsPlaced port whole h (p ∷ ps) (Answered reply ∷ ds) after worked = Ar
 AreLoadsPlaced port whole h (p ∷ ps) (Judged j ∷ ds) after worked =
     IsLoadPlaced port whole j p h worked.0 worked.1 × AreLoadsPlaced port whole worked.0 ps ds after worked.2
 
--- a fresh port of the node was served beside others: in the list of the node stands all that it knows, and of the port what it
--- asked for, and nothing else; and nothing was wanting
+-- a fresh port of the node was served beside others: the list of the node has all that it knows, and of the port what it asked for,
+-- and nothing else; and nothing was wanting
 pub record IsServedBeside (n : Node) (whole : List Link) (port : ℕ) (account : Account) : Type 0 where
   pub worked : Worked account.first account.packets account.deeds account.last
   pub fresh : IsFreshPort n account.first
@@ -87,7 +87,7 @@ abbrev pub AreSomeEntries : List Link → Type 0
 AreSomeEntries [] = Unit {0}
 AreSomeEntries (l ∷ ls) = IsSomeEntry l.deed × AreSomeEntries ls
 
--- what the list has of a bank, if anything: first it began, as the node's configuration says, then come entries alone, for which
+-- what the list has of a bank, if anything: first it began, as the node's configuration says, then come only entries, for which
 -- its journal has room
 abbrev pub IsChainOf : BankConfig → List Link → Type 0
 IsChainOf bank [] = Unit {0}
@@ -114,7 +114,7 @@ pub record AreServedTogether (n : Node) (accounts : ℕ → Account) (whole : Li
 
 -- ---- the law
 
--- there is a history of the node, lawful but for what cells told, in which at each port happened what became of its packets, and
+-- there is a history of the node, lawful apart from what cells answered, in which at each port happened what became of its packets, and
 -- elsewhere nothing; its entries at each bank and its programs are those of the list, and each port's staging is its own
 pub record HaveLawfulHistory (n : Node) (accounts : ℕ → Account) (whole : List Link) : Type 0 where
   pub history : History
@@ -127,7 +127,7 @@ pub record HaveLawfulHistory (n : Node) (accounts : ℕ → Account) (whole : Li
   pub count : length (publishes_of whole) ≡ publishes n history + 1
   pub stagings : (port : ℕ) → port < n.ports → staging n history port ≡ (accounts port).last.pass.staging
 
--- what threads did at the fresh ports of a node that they served side by side is a lawful history but for what cells told
+-- what threads did at the fresh ports of a node that they served side by side is a lawful history, apart from what cells answered
 abbrev pub ThreadsAreLawful : Type 0
 ThreadsAreLawful =
     (n : Node) (accounts : ℕ → Account) (whole : List Link) → AreServedTogether n accounts whole
