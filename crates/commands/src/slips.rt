@@ -15,6 +15,7 @@ use job_parts::options::{ports_of, sizes_of};
 use job_parts::usage::UsageFault;
 use job_rehearse::loaders::{is_any_beside, loader_of};
 use job_rehearse::rehearse::slots_of;
+use job_suite::words::{seed_of, within_of};
 use job_weigh::times::times_of;
 use std::alloc::{AllocError, Global};
 
@@ -40,6 +41,13 @@ const ONE_INPUT: &str = "the name of a file if OLD is - too";
 /// What `--ns` may be.
 const TIMES: &str =
     "four decimal numbers of nanoseconds with commas between them, as 13.5,14,6,2: of a division, a call, a jump and the rest";
+
+/// What `--seed` may be.
+const SEED: &str = "a decimal number from 0 to 4294967295";
+
+/// What `--within` may be.
+const WITHIN: &str =
+    "ranges of addresses in hexadecimal digits with commas between them, as 00:A0000000-A000FFFF";
 
 /// What is told of an OUT that is the file that is read.
 pub const OWN_SOURCE: &str = "    this is the file that is read\n";
@@ -151,6 +159,17 @@ fn packet_line(alloc: Global, found: &ArgMatches) -> Result<String, AllocError> 
     }
 }
 
+/// The line of an option of `suite`.
+fn suite_line(alloc: Global, found: &ArgMatches) -> Result<String, AllocError> {
+    if let Err(UsageFault::BadOption) = seed_of(found) {
+        return line_of(alloc, "--seed", text_of(found, "seed"), SEED);
+    }
+    if let Err(UsageFault::BadOption) = within_of(alloc, found) {
+        return line_of(alloc, "--within", text_of(found, "within"), WITHIN);
+    }
+    Ok(String::new(alloc))
+}
+
 /// The line of an option that words of any other job have.
 fn option_line(alloc: Global, found: &ArgMatches) -> Result<String, AllocError> {
     if let Err(UsageFault::BadOption) = sizes_of(alloc, found) {
@@ -195,6 +214,7 @@ pub fn told_option(alloc: Global, words: &[&str]) -> Result<String, AllocError> 
     }
     match name {
         "packet" => packet_line(alloc, found),
+        "suite" => suite_line(alloc, found),
         _ => option_line(alloc, found),
     }
 }

@@ -1,0 +1,5 @@
+mod BankLimits
+mod Loads
+mod Meeting
+mod RangeLists
+mod TrialLists

@@ -1,0 +1,157 @@
+//! The index of a suite: for each line its number, its row, and what it tries.
+
+use crate::drafts::{COMMAND, Shape};
+use crate::rows::{Row, name_of};
+use crate::search::Findings;
+use crate::trials::Trial;
+use rmap::{Instruction, Kind, PROTOCOL};
+use spw::End;
+use std::alloc::{AllocError, Global};
+
+/// What the command code of a shape is.
+fn kind_words(shape: &Shape) -> &'static str {
+    match Instruction(COMMAND * 64 + (shape.code % 16) * 4).kind() {
+        Kind::Read => "read",
+        Kind::Write => "write",
+        Kind::Rmw => "read-modify-write",
+        Kind::Unused => "unused code",
+    }
+}
+
+/// Adds the options of a command.
+fn add_code(text: &mut String, shape: &Shape) -> Result<(), AllocError> {
+    let code = shape.code % 16;
+    if code >= 8 && code & 4 != 0 {
+        write!(text, ", verified")?;
+    }
+    if code >= 8 && code & 2 == 0 {
+        write!(text, ", no reply")?;
+    }
+    if code & 1 == 0 {
+        write!(text, ", no increment")?;
+    }
+    Ok(())
+}
+
+/// Adds what is spoilt in the header.
+fn add_header_flaws(text: &mut String, shape: &Shape) -> Result<(), AllocError> {
+    let (protocol, kind, flaw) = (shape.protocol, shape.kind, shape.header_flaw);
+    if protocol != PROTOCOL {
+        write!(text, ", protocol {protocol:02X}")?;
+    }
+    if kind != COMMAND {
+        write!(text, ", packet type {kind}")?;
+    }
+    if flaw != 0 {
+        write!(text, ", wrong header CRC")?;
+    }
+    let words = shape.words;
+    let count = u32::from(words % 4) * 4;
+    if words != 0 {
+        write!(text, ", reply address of {count} bytes")?;
+    }
+    Ok(())
+}
+
+/// Adds what is spoilt after the header.
+fn add_body_flaws(text: &mut String, shape: &Shape) -> Result<(), AllocError> {
+    let (keep, extra) = (shape.keep, shape.extra);
+    if shape.data_flaw != 0 {
+        write!(text, ", wrong data CRC")?;
+    }
+    if keep < 4200 {
+        write!(text, ", cut after {keep} bytes")?;
+    }
+    if extra != 0 {
+        write!(text, ", {extra} bytes more")?;
+    }
+    if shape.end == End::Eep {
+        write!(text, ", EEP")?;
+    }
+    Ok(())
+}
+
+/// Adds to whom a command goes that is not to the node of this address, and of a row of the program who asks.
+fn add_addresses(
+    text: &mut String,
+    address: u8,
+    row: Row,
+    shape: &Shape,
+) -> Result<(), AllocError> {
+    let (target, initiator, key) = (shape.target, shape.initiator, shape.key);
+    if target != address {
+        write!(text, ", target {target:02X}")?;
+    }
+    match row {
+        Row::Program(_) | Row::ProgramBeforeEep(_) => {
+            write!(text, ", initiator {initiator:02X}, key {key:02X}")
+        }
+        _ => Ok(()),
+    }
+}
+
+/// Adds the line of a packet, for a node of that logical address.
+fn add_trial(
+    alloc: Global,
+    text: &mut String,
+    address: u8,
+    number: usize,
+    trial: &Trial,
+) -> Result<(), AllocError> {
+    let shape = &trial.shape;
+    let name = name_of(alloc, trial.row)?;
+    let (row, kind) = (name.as_str(), kind_words(shape));
+    let (extended, first, length) = (shape.extended, shape.address, shape.length);
+    write!(
+        text,
+        "{number} {row} {kind} of {length} bytes at {extended:02X}:{first:08X}"
+    )?;
+    add_code(text, shape)?;
+    add_addresses(text, address, trial.row, shape)?;
+    add_header_flaws(text, shape)?;
+    add_body_flaws(text, shape)?;
+    writeln!(text)
+}
+
+/// Adds a line for each verdict of a slot that no packet was found to have.
+fn add_missing(text: &mut String, findings: &Findings, slot: u8) -> Result<(), AllocError> {
+    for verdict in [0_u64, 3, 10, 12] {
+        if !findings.has(slot, verdict) {
+            writeln!(
+                text,
+                "- program-{verdict} no packet was found for slot {slot}"
+            )?;
+        }
+    }
+    Ok(())
+}
+
+/// Adds the index of these packets.
+fn add_trials(
+    alloc: Global,
+    text: &mut String,
+    address: u8,
+    trials: &[Trial],
+) -> Result<(), AllocError> {
+    let mut number: usize = 0;
+    for trial in trials {
+        number = number.saturating_add(1);
+        add_trial(alloc, text, address, number, trial)?;
+    }
+    Ok(())
+}
+
+/// The index of these packets, for a node of that logical address, and then what was not found.
+pub fn index_of(
+    alloc: Global,
+    address: u8,
+    trials: &[Trial],
+    findings: &Findings,
+) -> Result<String, AllocError> {
+    let mut text = String::new(alloc);
+    add_trials(alloc, &mut text, address, trials)?;
+    for slot in 0..4_u8 {
+        add_missing(&mut text, findings, slot)?;
+    }
+    Ok(text)
+}

@@ -1,0 +1,334 @@
+//! What the job `suite` does.
+
+ghost use Rattle.std.specs.Prelude.{◌≡◌, ◌++◌, IfErr, IfOk, OnOk, Some, false, option_map, string_bytes};
+ghost use Rattle.job_config.specs.Reads.{ReadsNode};
+ghost use Rattle.job_nodes.specs.Making.{IsUnmade};
+ghost use Rattle.job_parts.specs.Statuses.{IsDoneWith};
+ghost use Rattle.job_parts.specs.Stops.{StopsBy};
+ghost use Rattle.node_parts.specs.Nodes.{windows_of};
+ghost use Rattle.job_suite.specs.SuiteFile.{HoldsNoNode, HoldsNode, IsBench, IsNoSuite, IsPlain, IsSuite, PrintsSuite};
+ghost use Rattle.job_suite.specs.Trials.{AreTrials, lines_of, trial_line, with_lines};
+
+use crate::bodies::body_rows;
+use crate::drafts::Draft;
+use crate::effects::effect_rows;
+use crate::headers::header_rows;
+use crate::index::index_of;
+use crate::judges::Judges;
+use crate::maker::{Area, Maker};
+use crate::pairs::{body_pairs, header_pairs};
+use crate::places::{beside_bank, no_bank, no_window};
+use crate::rows::name_of;
+use crate::search::{Findings, program_rows, search_bank, search_window};
+use crate::trials::{Bench, Trial};
+use crate::window_rows::{load_rows, window_rows};
+use crate::words::SuiteWords;
+use bver::Accepted;
+use job_config::own_node::OwnNode;
+use job_config::reading::{ReadNode, node_in};
+use job_nodes::making::Unmade;
+use job_nodes::node::JobNode;
+use job_nodes::sources::unmade;
+use job_parts::factory::factory_program;
+use job_parts::faults::Fault;
+use job_parts::options::no_maps;
+use job_parts::printing::print_text;
+use job_parts::status::Status;
+use job_parts::stops::Halt;
+use job_parts::storage::Files;
+use node_parts::NodeConfig;
+use rmap::Windows;
+use spw::End;
+use std::alloc::{AllocError, Global};
+use std::io::Write;
+
+/// The node of which no file says anything, and the factory program.
+fn plain_node(alloc: Global) -> Result<ReadNode, AllocError>
+    ensures { IfOk result (λ made. IsPlain made.node made.program) }
+{
+    let node = OwnNode::plain(alloc, 1, no_maps())?;
+    // Memory alone can be refused to it.
+    let program = factory_program(alloc, no_maps()).map_err(|_| AllocError)?;
+    Ok(ReadNode { node, program })
+}
+
+/// The node of the node's file of this name, where each of its loads is carried out.
+fn file_node<'a, F: Files>(
+    alloc: Global,
+    name: &'a str,
+    files: &mut F,
+) -> Result<ReadNode, Fault<'a>>
+    ensures held { IfOk result (λ made.
+        ReadsNode F.reads name.now files.old made.node made.program files.new) }
+    ensures none { IfErr result (HoldsNoNode F.reads (Some name.now) files.old files.new) }
+{
+    let read = node_in(alloc, files, name)?;
+    match loaded_node(alloc, &read) {
+        Ok(()) => Ok(read),
+        Err(why) => Err(unmade(alloc, name, why)),
+    }
+}
+
+/// Whether a node can be made, or why not.
+fn loaded_node(alloc: Global, read: &ReadNode) -> Result<(), Unmade>
+    requires { read.now.program.sizes ≡ read.now.node.sizes }
+    ensures { IfErr result (IsUnmade read.now.node read.now.program) }
+{
+    let program = read.program.copy()?;
+    JobNode::of(alloc, &read.node, program)?;
+    Ok(())
+}
+
+/// The node of these words, and the program that judges in all slots at first.
+fn node_of<'a, F: Files>(
+    alloc: Global,
+    words: &'a SuiteWords,
+    files: &mut F,
+) -> Result<ReadNode, Fault<'a>>
+    ensures held { IfOk result (λ made. HoldsNode F.reads (option_map string_bytes words.now.node)
+        files.old made.node made.program files.new) }
+    ensures none { IfErr result (HoldsNoNode F.reads (option_map string_bytes words.now.node)
+        files.old files.new) }
+{
+    match &words.node {
+        Some(name) => file_node(alloc, name.as_str(), files),
+        None => Ok(plain_node(alloc)?),
+    }
+}
+
+/// The drafts of all rows before the program.
+fn before_program(
+    alloc: Global,
+    maker: &mut Maker,
+    own: &OwnNode,
+    area: Area,
+) -> Result<(), AllocError> {
+    let banks = own.banks().len().min(255) as u8;
+    header_rows(alloc, maker, area)?;
+    let mut extended: u8 = 0;
+    for bank in own.banks() {
+        beside_bank(alloc, maker, Area::of(extended, *bank))?;
+        extended = extended.wrapping_add(1);
+    }
+    no_bank(alloc, maker, area, banks)?;
+    no_window(alloc, maker)?;
+    header_pairs(alloc, maker, area, banks)
+}
+
+/// The drafts of all rows after the program.
+fn behind_program(
+    alloc: Global,
+    maker: &mut Maker,
+    own: &OwnNode,
+    area: Area,
+) -> Result<(), AllocError> {
+    body_rows(alloc, maker, area)?;
+    body_pairs(alloc, maker, area)?;
+    let mut extended: u8 = 0;
+    for bank in own.banks() {
+        effect_rows(alloc, maker, Area::of(extended, *bank))?;
+        extended = extended.wrapping_add(1);
+    }
+    Ok(())
+}
+
+/// Which verdicts the programs give.
+fn findings_of(
+    alloc: Global,
+    bench: &Bench,
+    maker: &Maker,
+    own: &OwnNode,
+) -> Result<Findings, AllocError> {
+    let mut findings = Findings::none(alloc);
+    let mut extended: u8 = 0;
+    for bank in own.banks() {
+        let area = Area::of(extended, *bank);
+        search_bank(alloc, bench, maker, &mut findings, area)?;
+        extended = extended.wrapping_add(1);
+    }
+    search_window(alloc, bench, maker, &mut findings)?;
+    Ok(findings)
+}
+
+/// The first bank of a node.
+fn first_area(own: &OwnNode) -> Area {
+    match own.banks().first() {
+        Some(bank) => Area::of(0, *bank),
+        None => Area {
+            extended: 0,
+            base: 0,
+            size: 0,
+        },
+    }
+}
+
+/// The drafts of all rows, in order, and which verdicts the programs give.
+fn drafts_of(
+    alloc: Global,
+    words: &SuiteWords,
+    own: &OwnNode,
+    bench: &Bench,
+) -> Result<(Vec<Draft>, Findings), AllocError> {
+    let mut maker = Maker::new(alloc, own.address(), words.seed);
+    let area = first_area(own);
+    let findings = findings_of(alloc, bench, &maker, own)?;
+    before_program(alloc, &mut maker, own, area)?;
+    behind_program(alloc, &mut maker, own, area)?;
+    program_rows(alloc, &mut maker, &findings)?;
+    window_rows(alloc, &mut maker, &bench.judges)?;
+    load_rows(alloc, &mut maker, &bench.judges)?;
+    Ok((maker.into_drafts(), findings))
+}
+
+/// Whether a row is one of those that the words name.
+fn is_wanted(alloc: Global, words: &SuiteWords, draft: &Draft) -> Result<bool, AllocError> {
+    let name = name_of(alloc, draft.row)?;
+    let (rows, without) = (words.rows.as_str(), words.without.as_str());
+    Ok(name.starts_with(rows) && (without.is_empty() || !name.starts_with(without)))
+}
+
+/// Those drafts whose rows the words name.
+fn wanted_drafts(
+    alloc: Global,
+    words: &SuiteWords,
+    drafts: Vec<Draft>,
+) -> Result<Vec<Draft>, AllocError> {
+    let mut wanted = Vec::new(alloc);
+    for draft in drafts {
+        if is_wanted(alloc, words, &draft)? {
+            wanted.push(draft)?;
+        }
+    }
+    Ok(wanted)
+}
+
+/// Adds the packet line of a packet at port 0.
+fn add_line(text: &mut String, alloc: Global, trial: &Trial) -> Result<(), AllocError>
+    ensures { OnOk result (string_bytes text.new ≡ string_bytes text.old ++ trial_line trial.now) }
+{
+    let digits = hex::encode_upper(alloc, trial.packet.bytes())?;
+    let digits = digits.as_str();
+    match trial.packet.end() {
+        End::Eop => writeln!(text, "0 {digits} EOP"),
+        End::Eep => writeln!(text, "0 {digits} EEP"),
+    }
+}
+
+/// Adds the packet lines of these packets.
+fn add_lines(text: &mut String, alloc: Global, trials: &[Trial]) -> Result<(), AllocError>
+    ensures { OnOk result (string_bytes text.new ≡ with_lines (string_bytes text.old) trials.now) }
+{
+    for trial in trials {
+        add_line(text, alloc, trial)?;
+    }
+    Ok(())
+}
+
+/// The packet lines of these packets.
+fn lines_of(alloc: Global, trials: &[Trial]) -> Result<String, AllocError>
+    ensures { IfOk result (λ text. string_bytes text ≡ lines_of trials.now) }
+{
+    let mut text = String::new(alloc);
+    add_lines(&mut text, alloc, trials)?;
+    Ok(text)
+}
+
+/// The address of a node, and where its banks lie.
+#[tactic(auto, using(crate::proofs::BankLimits::at_most_eight))]
+fn windows_of(own: &OwnNode) -> Windows
+    ensures { result ≡ windows_of own.now.address own.now.banks }
+{
+    let config = NodeConfig {
+        address: own.address(),
+        ports: own.ports(),
+        banks: own.banks(),
+        sizes: own.sizes(),
+    };
+    config.windows()
+}
+
+/// What the suite is for.
+fn bench_of(
+    alloc: Global,
+    words: &SuiteWords,
+    own: &OwnNode,
+    first: Accepted,
+) -> Result<Bench, AllocError>
+    ensures { IfOk result (IsBench words.now own.now first) }
+{
+    let ranges = Vec::from_slice(alloc, words.within.as_slice())?;
+    Ok(Bench {
+        windows: windows_of(own),
+        judges: Judges::of(alloc, own, first)?,
+        ranges,
+        loads: words.loads,
+    })
+}
+
+/// The text of a suite for a node of that logical address: its lines, or its index.
+fn text_of(
+    alloc: Global,
+    index: bool,
+    address: u8,
+    trials: &[Trial],
+    findings: &Findings,
+) -> Result<String, AllocError>
+    ensures { IfOk result (λ text. index ≡ false → string_bytes text ≡ lines_of trials.now) }
+{
+    if index {
+        index_of(alloc, address, trials, findings)
+    } else {
+        lines_of(alloc, trials)
+    }
+}
+
+/// The packets of a suite, and which verdicts the programs give.
+fn trials_of(
+    alloc: Global,
+    words: &SuiteWords,
+    own: &OwnNode,
+    bench: &Bench,
+) -> Result<(Vec<Trial>, Findings), AllocError>
+    ensures { IfOk result (λ made. AreTrials bench.now made.0.items) }
+{
+    let (drafts, findings) = drafts_of(alloc, words, own, bench)?;
+    let drafts = wanted_drafts(alloc, words, drafts)?;
+    let askers = findings.askers(alloc)?;
+    let trials = bench.trials(alloc, drafts.as_slice(), askers.as_slice())?;
+    Ok((trials, findings))
+}
+
+/// The text of a suite for that node.
+fn suite_text(
+    alloc: Global,
+    words: &SuiteWords,
+    own: &OwnNode,
+    first: Accepted,
+) -> Result<String, AllocError>
+    ensures { IfOk result (λ text. IsSuite words.now own.now first (string_bytes text)) }
+{
+    let bench = bench_of(alloc, words, own, first)?;
+    let (trials, findings) = trials_of(alloc, words, own, &bench)?;
+    let address = own.address();
+    text_of(alloc, words.index, address, trials.as_slice(), &findings)
+}
+
+/// Prints the packet lines of a suite, or its index.
+///
+/// Faults are those of the node's file, also where a load of it was not carried out, and `NoMemory`.
+pub fn suite_file<'a, F: Files, W: Write>(
+    alloc: Global,
+    words: &'a SuiteWords,
+    files: &mut F,
+    out: &mut W,
+) -> Result<Status, Halt<'a>>
+    ensures done { IfOk result (IsDoneWith (PrintsSuite F.reads words.now files.old files.new
+        (W.contents out.old) (W.contents out.new))) }
+    ensures stops { IfErr result (StopsBy (IsNoSuite F.reads words.now files.old files.new)) }
+    ensures quiet { IfErr result (StopsBy (λ _. W.contents out.new ≡ W.contents out.old)) }
+{
+    let ReadNode { node, program } = node_of(alloc, words, files)?;
+    let text = suite_text(alloc, words, &node, program)?;
+    print_text(out, text.as_str())?;
+    Ok(Status::Done)
+}
