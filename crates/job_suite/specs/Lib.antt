@@ -5,4 +5,5 @@ pub mod Ranges
 pub mod Judges
 pub mod Trials
 pub mod SuiteJob
+pub mod Tables
 pub mod SuiteFile

@@ -1,5 +1,5 @@
 -- The places of memory that a suite may change, as its words name them.
-use Rattle.std.specs.Prelude.{◌≡◌, ◌==◌, ℕ, Bool, List, [], ◌∷◌}
+use Rattle.std.specs.Prelude.{◌≡◌, ◌≤◌, ◌==◌, ℕ, Bool, List, [], ◌∷◌}
 use Rattle.std.specs.List.{after_first, before_first}
 use Rattle.job_packets.specs.HexWords.{Has, WritesHex}
 use Rattle.job_suite.specs.declared.ranges.Range.{Range}
@@ -12,11 +12,12 @@ is_colon code = code == 58
 abbrev pub is_dash : ℕ → Bool
 is_dash code = code == 45
 
--- a part of a list writes the range: `HH:LOW-HIGH`, each in hexadecimal digits
+-- a part of a list writes the range: `HH:LOW-HIGH`, each in hexadecimal digits, LOW not above HIGH
 pub record WritesRange (part : List ℕ) (range : Range) : Type 0 where
   pub extended : WritesHex 2 (before_first is_colon part) range.extended
   pub low : WritesHex 8 (before_first is_dash (after_first is_colon part)) range.low
   pub high : WritesHex 8 (after_first is_dash (after_first is_colon part)) range.high
+  pub ordered : range.low ≤ range.high
 
 -- it writes some range
 abbrev pub IsRange : List ℕ → Type 0

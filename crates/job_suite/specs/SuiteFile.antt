@@ -12,6 +12,8 @@ use Rattle.job_parts.specs.Files.{Reads}
 use Rattle.job_parts.specs.declared.faults.Fault.{Fault}
 use Rattle.job_parts.specs.declared.faults.Fault.TheVariants.{NoMemory}
 use Rattle.job_suite.specs.Judges.{AreJudges}
+use Rattle.job_suite.specs.SuiteJob.{name_of_table}
+use Rattle.job_suite.specs.Tables.{AreTableOf, IsNoChart, ReadsAsked, ReadsNotAsked}
 use Rattle.job_suite.specs.Trials.{AreTrials, lines_of}
 use Rattle.job_suite.specs.declared.trials.Bench.{Bench}
 use Rattle.job_suite.specs.declared.trials.Trial.{Trial}
@@ -30,9 +32,7 @@ pub record IsBench (words : SuiteWords) (own : OwnNodeValue) (first : AcceptedVa
   pub loads : b.loads ≡ words.loads
 
 -- the text has the packet lines of packets each of which meets its row; or it is that of an index
-pub record IsSuite (words : SuiteWords) (own : OwnNodeValue) (first : AcceptedValue) (text : List ℕ) : Type 0 where
-  pub bench : Bench
-  pub is_bench : IsBench words own first bench
+pub record IsText (words : SuiteWords) (bench : Bench) (text : List ℕ) : Type 0 where
   pub trials : List Trial
   pub are_trials : AreTrials bench trials
   pub lines : words.index ≡ false → text ≡ lines_of trials
@@ -49,23 +49,54 @@ module _ {S : Type 0} (reads : Reads S) where
   HoldsNoNode (Some name) before after fault =
       ReadsNoNode reads name before fault after ⊎ IsFileUnmade reads name before after fault
 
-  -- the node was read, and memory was refused behind that
-  pub record IsUntold (node : Option (List ℕ)) (before after : S) (fault : Fault) : Type 0 where
-    pub own : OwnNodeValue
-    pub first : AcceptedValue
-    pub held : HoldsNode node before own first after
-    pub no_memory : fault ≡ NoMemory
+  -- the table was read, if one is named, and then the node
+  pub record HoldsAll (words : SuiteWords) (before : S) (table : Option (List ℕ)) (own : OwnNodeValue) (first : AcceptedValue)
+      (bench : Bench) (after : S) : Type 0 where
+    pub middle : S
+    pub read : ReadsAsked reads (name_of_table words.table) before table middle
+    pub held : HoldsNode (option_map string_bytes words.node) middle own first after
+    pub is_bench : IsBench words own first bench
 
   -- the suite of the node was printed
   pub record PrintsSuite (words : SuiteWords) (before after : S) (old new : Option (List ℕ)) : Type 0 where
     pub own : OwnNodeValue
     pub first : AcceptedValue
+    pub bench : Bench
+    pub table : Option (List ℕ)
+    pub held : HoldsAll words before table own first bench after
+    pub of_table : AreTableOf bench.judges own.sizes words.table table
     pub text : List ℕ
-    pub held : HoldsNode (option_map string_bytes words.node) before own first after
-    pub is_suite : IsSuite words own first text
+    pub is_text : IsText words bench text
     pub printed : Appends old new text
 
-  -- there is no suite: there is no node, or memory was refused
+  -- the table's file was read, if one is named, and there is no node
+  pub record HasNoNode (words : SuiteWords) (before after : S) (fault : Fault) : Type 0 where
+    pub table : Option (List ℕ)
+    pub middle : S
+    pub read : ReadsAsked reads (name_of_table words.table) before table middle
+    pub none : HoldsNoNode (option_map string_bytes words.node) middle after fault
+
+  -- the node was read, and the table is none of its programs
+  pub record HasNoTable (words : SuiteWords) (before after : S) (fault : Fault) : Type 0 where
+    pub own : OwnNodeValue
+    pub first : AcceptedValue
+    pub bench : Bench
+    pub table : Option (List ℕ)
+    pub held : HoldsAll words before table own first bench after
+    pub none : IsNoChart bench.judges own.sizes words.table table fault
+
+  -- both were read, and memory was refused behind that
+  pub record IsUntold (words : SuiteWords) (before after : S) (fault : Fault) : Type 0 where
+    pub own : OwnNodeValue
+    pub first : AcceptedValue
+    pub table : Option (List ℕ)
+    pub middle : S
+    pub read : ReadsAsked reads (name_of_table words.table) before table middle
+    pub held : HoldsNode (option_map string_bytes words.node) middle own first after
+    pub no_memory : fault ≡ NoMemory
+
+  -- there is no suite: the table's file gives no text, there is no node, the table is none of its programs, or memory was refused
   abbrev pub IsNoSuite : SuiteWords → (before after : S) → Fault → Type 0
-  IsNoSuite words before after fault = HoldsNoNode (option_map string_bytes words.node) before after fault
-      ⊎ IsUntold (option_map string_bytes words.node) before after fault
+  IsNoSuite words before after fault =
+      ReadsNotAsked reads (name_of_table words.table) before fault after ⊎ HasNoNode words before after fault
+      ⊎ HasNoTable words before after fault ⊎ IsUntold words before after fault

@@ -14,7 +14,7 @@ use Rattle.job_suite.specs.Reach.{is_printed}
 use Rattle.job_suite.specs.Rows.{wanted_of}
 use Rattle.job_suite.specs.declared.judges.Judges.{Judges}
 use Rattle.job_suite.specs.declared.rows.Wanted.{Wanted}
-use Rattle.job_suite.specs.declared.rows.Wanted.TheVariants.{Stopped, Judged, Spoilt, Whole}
+use Rattle.job_suite.specs.declared.rows.Wanted.TheVariants.{Stopped, Brought, Judged, Spoilt, Whole}
 use Rattle.job_suite.specs.declared.trials.Bench.{Bench}
 use Rattle.job_suite.specs.declared.trials.Trial.{Trial}
 
@@ -25,10 +25,16 @@ pub record IsVerdict (b : Bench) (p : Cargo) (verdict : ℕ) : Type 0 where
   pub goes_on : GoesOn b.windows p place
   pub answered : HasAnswered (judge_of b.judges (slot_of (command_kind (command_of p)) place)) (command_of p) verdict
 
--- the packet meets what is wanted: the first line of the order of checks that holds is this one; or the program gives this verdict; or it
--- lets the packet pass, and the first check of its body that holds has this status, or none holds
+-- the packet comes to the program of its slot
+pub record IsBrought (b : Bench) (p : Cargo) : Type 0 where
+  pub verdict : ℕ
+  pub is : IsVerdict b p verdict
+
+-- the packet meets what is wanted: the first line of the order of checks that holds is this one; or it comes to its program; or the program
+-- gives this verdict; or it lets the packet pass, and the first check of its body that holds has this status, or none holds
 abbrev pub IsMet : Bench → Cargo → Wanted → Type 0
 IsMet b p (Stopped check) = Meets b.windows p check
+IsMet b p Brought = IsBrought b p
 IsMet b p (Judged verdict) = IsVerdict b p verdict
 IsMet b p (Spoilt status) = IsVerdict b p 0 × (body_line (command_of p) ≡ Some status)
 IsMet b p Whole = IsVerdict b p 0 × (body_line (command_of p) ≡ None)
@@ -36,6 +42,7 @@ IsMet b p Whole = IsVerdict b p 0 × (body_line (command_of p) ≡ None)
 -- the command, on which a program gave the verdict, meets what is wanted of it behind that
 abbrev pub IsMetByRun : CommandValue → (verdict : ℕ) → Wanted → Type 0
 IsMetByRun c verdict (Stopped check) = ⊥
+IsMetByRun c verdict Brought = Unit {0}
 IsMetByRun c verdict (Judged number) = verdict ≡ number
 IsMetByRun c verdict (Spoilt status) = (verdict ≡ 0) × (body_line c ≡ Some status)
 IsMetByRun c verdict Whole = (verdict ≡ 0) × (body_line c ≡ None)

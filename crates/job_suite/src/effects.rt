@@ -3,11 +3,15 @@
 use crate::maker::{
     Area, Maker, READ, READ_ONE, RMW, WRITE, WRITE_ONE, WRITE_SILENT, WRITE_VERIFIED,
 };
+use crate::bodies::look;
+use crate::headers::plain_length;
 use crate::rows::Row;
 use std::alloc::{AllocError, Global};
 
 /// The lengths that are tried, as far as a bank goes.
-const LENGTHS: [u32; 12] = [0, 1, 2, 3, 4, 8, 16, 64, 256, 1024, 4095, 4096];
+const LENGTHS: [u32; 16] = [
+    0, 1, 2, 3, 4, 8, 16, 32, 64, 128, 256, 512, 1024, 2048, 4095, 4096,
+];
 
 /// Reads from the first byte and up to the last, and of one address.
 fn reads(maker: &mut Maker, area: Area) -> Result<(), AllocError> {
@@ -87,6 +91,19 @@ fn no_reply(alloc: Global, maker: &mut Maker, area: Area) -> Result<(), AllocErr
     Ok(())
 }
 
+/// Commands with other keys.
+fn key(alloc: Global, maker: &mut Maker, area: Area) -> Result<(), AllocError> {
+    for flaw in [1_u8, 0x80] {
+        for code in [READ, WRITE, RMW] {
+            let mut shape = maker.shape(code, area.extended, area.base, plain_length(code));
+            shape.key ^= flaw;
+            maker.put(alloc, Row::Key, shape)?;
+        }
+        look(maker, area)?;
+    }
+    Ok(())
+}
+
 /// Reads and writes with reply addresses of each length, with zeros in front of the last byte, and of zeros alone.
 fn reply_address(alloc: Global, maker: &mut Maker, area: Area) -> Result<(), AllocError> {
     for code in [READ, WRITE, RMW] {
@@ -109,5 +126,6 @@ pub fn effect_rows(alloc: Global, maker: &mut Maker, area: Area) -> Result<(), A
     verified_writes(alloc, maker, area)?;
     rmws(alloc, maker, area)?;
     no_reply(alloc, maker, area)?;
+    key(alloc, maker, area)?;
     reply_address(alloc, maker, area)
 }

@@ -155,3 +155,23 @@ pub fn index_of(
     }
     Ok(text)
 }
+
+/// Whether a packet is of a row.
+pub fn is_there(row: Row, trials: &[Trial]) -> bool {
+    for trial in trials {
+        if trial.row == row {
+            return true;
+        }
+    }
+    false
+}
+
+/// Adds the line of a row of which there is no packet; none for a row of the program, of which each slot has its lines.
+pub fn add_missing_row(alloc: Global, text: &mut String, row: Row) -> Result<(), AllocError> {
+    if let Row::Program(_) = row {
+        return Ok(());
+    }
+    let name = name_of(alloc, row)?;
+    let name = name.as_str();
+    writeln!(text, "- {name} no packet may be printed or meets the row")
+}

@@ -2,6 +2,7 @@
 #![tactic(auto)]
 
 mod bodies;
+mod charted;
 pub mod checks;
 pub mod drafts;
 mod effects;
@@ -15,7 +16,9 @@ pub mod ranges;
 pub mod reach;
 pub mod rows;
 mod search;
+mod seen;
 pub mod suite;
+mod tables;
 pub mod trials;
 mod window_rows;
 pub mod words;

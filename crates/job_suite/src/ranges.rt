@@ -21,8 +21,8 @@ pub struct Range {
     pub high: u32,
 }
 
-/// What stands before the colon of a part, and behind it.
-fn at_colon(part: &str) -> (&str, &str)
+/// What stands before the colon of a word, and behind it.
+pub fn at_colon(part: &str) -> (&str, &str)
     ensures before { result.0.now ≡ before_first is_colon part.now }
     ensures behind { result.1.now ≡ after_first is_colon part.now }
 {
@@ -43,7 +43,7 @@ fn at_dash(part: &str) -> (&str, &str)
     }
 }
 
-/// The range that a part of a list writes: `HH:LOW-HIGH`, all in hexadecimal digits.
+/// The range that a part of a list writes: `HH:LOW-HIGH`, all in hexadecimal digits, LOW not above HIGH.
 fn range_written(part: &str) -> Option<Range>
     ensures { MatchOption result (¬ IsRange part.now) (WritesRange part.now) }
 {
@@ -52,6 +52,9 @@ fn range_written(part: &str) -> Option<Range>
     let extended = hex_written(before, 2)?;
     let low = hex_written(first, 8)?;
     let high = hex_written(last, 8)?;
+    if low > high {
+        return None;
+    }
     Some(Range {
         extended: extended as u8,
         low,

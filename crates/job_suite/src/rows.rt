@@ -1,7 +1,7 @@
 //! The rows of a suite: what a packet tries, and what it must meet.
 
 ghost use Rattle.std.specs.Prelude.{◌≡◌};
-ghost use Rattle.job_suite.specs.Rows.{wanted_of};
+ghost use Rattle.job_suite.specs.Rows.{begins_program, is_beginning, is_beginning_among, wanted_of, word_of};
 
 use crate::checks::Check;
 use rmap::Status;
@@ -12,6 +12,8 @@ use std::alloc::{AllocError, Global};
 pub enum Wanted {
     /// This line of the order of checks is the first that holds.
     Stopped(Check),
+    /// No line before the program holds.
+    Brought,
     /// No line before the program holds, and the program gives this verdict.
     Judged(u64),
     /// The program lets it pass, and the first check of its body that holds has this status.
@@ -71,6 +73,8 @@ pub enum Row {
     Program(u64),
     /// The program gives this verdict, and the packet ends in EEP.
     ProgramBeforeEep(u64),
+    /// Another key.
+    Key,
     /// An error end of packet.
     Eep,
     /// An error end of packet, and too few bytes.
@@ -103,6 +107,49 @@ pub enum Row {
     Load,
 }
 
+/// All rows, each verdict of a program as one.
+pub const ROWS: [Row; 39] = [
+    Row::Short,
+    Row::ShortBeforeProtocol,
+    Row::Protocol,
+    Row::ProtocolBeforeReplyType,
+    Row::ProtocolBeforeShort,
+    Row::ReplyType,
+    Row::ReplyTypeBeforeShort,
+    Row::ReplyTypeBeforeHeaderCrc,
+    Row::HeaderCrc,
+    Row::HeaderCrcBeforeUnusedCode,
+    Row::ReservedType,
+    Row::UnusedCode,
+    Row::UnusedCodeBeforeTargetAddress,
+    Row::TargetAddress,
+    Row::TargetAddressBeforeRmwLength,
+    Row::RmwLength,
+    Row::RmwLengthBeforeVerifyBuffer,
+    Row::VerifyBuffer,
+    Row::VerifyBufferBeforeLength,
+    Row::Length,
+    Row::LengthBeforePlace,
+    Row::Place,
+    Row::Program(0),
+    Row::Key,
+    Row::Eep,
+    Row::EepBeforeEarlyEop,
+    Row::EarlyEop,
+    Row::TooMuchData,
+    Row::TooMuchDataBeforeDataCrc,
+    Row::DataCrc,
+    Row::ReplyAddress,
+    Row::NoReply,
+    Row::Read,
+    Row::Write,
+    Row::VerifiedWrite,
+    Row::Rmw,
+    Row::Memory,
+    Row::BootWindow,
+    Row::Load,
+];
+
 impl Row {
     /// What a packet of the row must meet.
     pub fn wanted(self) -> Wanted
@@ -130,6 +177,7 @@ impl Row {
             Row::Length | Row::LengthBeforePlace => Wanted::Stopped(Check::Length),
             Row::Place => Wanted::Stopped(Check::Place),
             Row::Program(verdict) | Row::ProgramBeforeEep(verdict) => Wanted::Judged(verdict),
+            Row::Key => Wanted::Brought,
             Row::Eep | Row::EepBeforeEarlyEop => Wanted::Spoilt(Status::ErrorEndOfPacket),
             Row::EarlyEop => Wanted::Spoilt(Status::EarlyEndOfPacket),
             Row::TooMuchData | Row::TooMuchDataBeforeDataCrc => Wanted::Spoilt(Status::TooMuchData),
@@ -147,7 +195,9 @@ impl Row {
     }
 
     /// The name of the row, without the verdict of a row of the program.
-    fn word(self) -> &'static str {
+    fn word(self) -> &'static str
+        ensures { result.now ≡ word_of self }
+    {
         match self {
             Row::Short => "short",
             Row::ShortBeforeProtocol => "short+protocol",
@@ -171,8 +221,8 @@ impl Row {
             Row::Length => "length",
             Row::LengthBeforePlace => "length+place",
             Row::Place => "place",
-            Row::Program(_) => "program",
-            Row::ProgramBeforeEep(_) => "program+eep",
+            Row::Program(_) | Row::ProgramBeforeEep(_) => "program",
+            Row::Key => "key",
             Row::Eep => "eep",
             Row::EepBeforeEarlyEop => "eep+early-eop",
             Row::EarlyEop => "early-eop",
@@ -199,4 +249,23 @@ pub fn name_of(alloc: Global, row: Row) -> Result<String, AllocError> {
         Row::ProgramBeforeEep(verdict) => format!(in alloc; "program-{verdict}+eep"),
         _ => String::from_str(alloc, row.word()),
     }
+}
+
+/// Whether the names of some of these rows begin so, without the verdicts of programs.
+fn is_beginning_among(rows: &[Row], word: &str) -> bool
+    ensures { result ≡ is_beginning_among rows.now word.now }
+{
+    for row in rows {
+        if row.word().as_bytes().starts_with(word.as_bytes()) {
+            return true;
+        }
+    }
+    false
+}
+
+/// Whether the names of some rows may begin so.
+pub fn is_beginning(word: &str) -> bool
+    ensures { result ≡ is_beginning word.now }
+{
+    word.as_bytes().starts_with(b"program-") || is_beginning_among(&ROWS, word)
 }

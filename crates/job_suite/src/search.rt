@@ -1,21 +1,26 @@
 //! Which verdicts the programs of a node give, and to whom: a search over the fields that a program reads.
 
+use crate::charted::Chart;
 use crate::drafts::{Asker, Shape};
 use crate::maker::{Area, Maker, READ, READ_ONE, RMW, WRITE, WRITE_ONE, WRITE_VERIFIED};
 use crate::rows::Row;
+use crate::seen::{Seen, numbers_in};
 use crate::trials::Bench;
 use rmap::{BOOT_WINDOW, LOAD_REGISTER, STAGING_SIZE};
 use spw::{End, Packet};
 use std::alloc::{AllocError, Global};
 
-/// How many packets are tried at most, at each bank for each slot.
-const TRIES: usize = 8192;
+/// How many packets are tried at most, at each bank for each slot: for eight banks and the boot window fewer than 2²⁰.
+const TRIES: usize = 32_768;
+
+/// How many of these are tried at most for who asks, before places and lengths.
+const ASKED: usize = 8192;
 
 /// By how many places of the space one goes on from packet to packet.
 const STEP: usize = 2_654_435_761;
 
 /// How many values of a field are tried at most.
-const VALUES: usize = 48;
+const VALUES: usize = 256;
 
 /// How many who pass are kept at most, at each bank for each slot.
 const ASKERS: usize = 2;
@@ -51,9 +56,10 @@ pub struct Findings {
     pub passers: Vec<Passer>,
 }
 
-/// The values that are tried of each field.
+/// The values that are tried of each field that a program reads; of any other one.
 #[derive(Debug, Drop)]
 struct Space {
+    seen: Seen,
     slot: u8,
     extended: u8,
     codes: Vec<u32>,
@@ -79,28 +85,57 @@ fn note_within(values: &mut Vec<u32>, value: u32, low: u32, high: u32) -> Result
     Ok(())
 }
 
-/// A list of these values.
-fn list(alloc: Global, values: &[u32]) -> Result<Vec<u32>, AllocError> {
-    Vec::from_slice(alloc, values)
-}
-
 impl Space {
-    /// Adds what a word of a program may be compared with.
-    fn note(&mut self, word: u32, low: u32, high: u32) -> Result<(), AllocError> {
-        for value in [word, word.wrapping_add(1), word.wrapping_sub(1)] {
-            note_within(&mut self.keys, value, 0, 255)?;
-            note_within(&mut self.initiators, value, 0, 255)?;
-            note_within(&mut self.addresses, value, low, high)?;
-            note_within(&mut self.lengths, value, 0, 4096)?;
+    /// Adds a byte that a field may have.
+    fn note_byte(&mut self, byte: u32) -> Result<(), AllocError> {
+        if self.seen.key() {
+            note(&mut self.keys, byte)?;
+        }
+        if self.seen.initiator() {
+            note(&mut self.initiators, byte)?;
         }
         Ok(())
     }
 
-    /// Adds what each word of an image may be compared with.
-    fn note_image(&mut self, image: &[u8], low: u32, high: u32) -> Result<(), AllocError> {
-        let (words, _rest) = image.as_chunks::<4>();
-        for word in words {
-            self.note(u32::from_le_bytes(*word), low, high)?;
+    /// Adds an address or a length.
+    fn note_word(&mut self, word: u32, low: u32, high: u32) -> Result<(), AllocError> {
+        if self.seen.address() {
+            note_within(&mut self.addresses, word, low, high)?;
+        }
+        if self.seen.length() {
+            note_within(&mut self.lengths, word, 0, 4096)?;
+        }
+        Ok(())
+    }
+
+    /// Adds a word, and those beside it.
+    fn note_near(&mut self, word: u32, low: u32, high: u32) -> Result<(), AllocError> {
+        for value in [word, word.wrapping_add(1), word.wrapping_sub(1)] {
+            if value < 256 {
+                self.note_byte(value)?;
+            }
+            self.note_word(value, low, high)?;
+        }
+        Ok(())
+    }
+
+    /// Adds what a word of a program may be compared with: as it is, with its bytes in the other order, and each byte of it.
+    fn note(&mut self, word: u32, low: u32, high: u32) -> Result<(), AllocError> {
+        self.note_near(word, low, high)?;
+        self.note_near(word.swap_bytes(), low, high)?;
+        for byte in word.to_le_bytes() {
+            self.note_byte(u32::from(byte))?;
+        }
+        Ok(())
+    }
+
+    /// Adds what the numbers of a program may be compared with.
+    fn note_numbers(&mut self, numbers: &[u64], low: u32, high: u32) -> Result<(), AllocError> {
+        for number in numbers {
+            self.note((*number % 4_294_967_296) as u32, low, high)?;
+            if *number > 4_294_967_295 {
+                self.note((*number / 4_294_967_296) as u32, low, high)?;
+            }
         }
         Ok(())
     }
@@ -149,9 +184,9 @@ fn pick(values: &[u32], number: &mut usize) -> u32 {
     values[place]
 }
 
-/// The place of the packet of that number in a space of so many, of which so many come first.
+/// The place of the packet of that number in a space of so many, of which so many come first. If all are tried, each is.
 fn place_of(number: usize, plain: usize, count: usize) -> usize {
-    if number < plain || count == 0 {
+    if number < plain || count <= TRIES {
         return number;
     }
     number.wrapping_mul(STEP) % count
@@ -243,7 +278,7 @@ impl Findings {
         maker: &Maker,
         space: &Space,
     ) -> Result<(), AllocError> {
-        let (plain, count) = (space.askers(), space.count());
+        let (plain, count) = (space.askers().min(ASKED), space.count());
         for number in 0..count.min(TRIES) {
             let shape = space.command(maker, place_of(number, plain, count));
             self.judge(alloc, bench, space.slot, shape)?;
@@ -252,7 +287,7 @@ impl Findings {
     }
 
     /// Tries a command, if it is a packet.
-    fn judge(
+    pub fn judge(
         &mut self,
         alloc: Global,
         bench: &Bench,
@@ -270,26 +305,39 @@ impl Findings {
     }
 }
 
-/// The space of a slot at a bank or at the boot window, from that address to the other, for commands of these codes.
+/// The value that is plain, and the other too if the field is read.
+fn list(alloc: Global, read: bool, plain: u32, other: u32) -> Result<Vec<u32>, AllocError> {
+    let mut values = Vec::new(alloc);
+    values.push(plain)?;
+    if read {
+        note(&mut values, other)?;
+    }
+    Ok(values)
+}
+
+/// The space of a slot at a bank or at the boot window, for commands of these codes, of which a program reads so much.
 fn space_of(
     alloc: Global,
     maker: &Maker,
     slot: u8,
     codes: &[u32],
     area: Area,
+    seen: Seen,
 ) -> Result<Space, AllocError> {
+    let (key, initiator) = (u32::from(maker.asker.key), u32::from(maker.asker.initiator));
     Ok(Space {
+        seen,
         slot,
         extended: area.extended,
-        codes: list(alloc, codes)?,
-        keys: list(alloc, &[u32::from(maker.asker.key), 0])?,
-        initiators: list(alloc, &[u32::from(maker.asker.initiator), 0x67])?,
-        addresses: list(alloc, &[area.base, area.last(8)])?,
-        lengths: list(alloc, &[4, 8, 1])?,
+        codes: Vec::from_slice(alloc, codes)?,
+        keys: list(alloc, seen.key(), key, 0)?,
+        initiators: list(alloc, seen.initiator(), initiator, 0x67)?,
+        addresses: list(alloc, seen.address(), area.base, area.last(8))?,
+        lengths: list(alloc, true, 4, 8)?,
     })
 }
 
-/// Searches a slot at a bank or at the boot window.
+/// Searches a slot at a bank or at the boot window, from that address to the other.
 fn search_slot(
     alloc: Global,
     bench: &Bench,
@@ -299,48 +347,81 @@ fn search_slot(
     codes: &[u32],
     area: Area,
 ) -> Result<(), AllocError> {
-    let image = bench.judges.judge(slot).image().write()?;
-    let mut space = space_of(alloc, maker, slot, codes, area)?;
-    space.note_image(image.as_slice(), area.base, area.last(1))?;
+    let program = bench.judges.judge(slot);
+    let mut space = space_of(alloc, maker, slot, codes, area, Seen::of(program))?;
+    let numbers = numbers_in(alloc, program.image())?;
+    space.note_numbers(numbers.as_slice(), area.base, area.last(1))?;
     if slot == 3 {
         note(&mut space.addresses, LOAD_REGISTER)?;
     }
     findings.search(alloc, bench, maker, &space)
 }
 
-/// Searches the slots of banks at a bank.
-pub fn search_bank(
-    alloc: Global,
-    bench: &Bench,
-    maker: &Maker,
-    findings: &mut Findings,
-    area: Area,
-) -> Result<(), AllocError> {
-    let reads = [u32::from(READ), u32::from(READ_ONE)];
-    let writes = [
-        u32::from(WRITE),
-        u32::from(WRITE_ONE),
-        u32::from(WRITE_VERIFIED),
-    ];
-    search_slot(alloc, bench, maker, findings, 0, &reads, area)?;
-    search_slot(alloc, bench, maker, findings, 1, &writes, area)?;
-    search_slot(alloc, bench, maker, findings, 2, &[u32::from(RMW)], area)
+/// The codes of the commands of a slot that are tried.
+fn codes_of(alloc: Global, slot: u8) -> Result<Vec<u32>, AllocError> {
+    let (read, write, rmw) = (u32::from(READ), u32::from(WRITE), u32::from(RMW));
+    match slot {
+        0 => Vec::from_slice(alloc, &[read, u32::from(READ_ONE)]),
+        1 => Vec::from_slice(alloc, &[write, u32::from(WRITE_ONE), u32::from(WRITE_VERIFIED)]),
+        2 => Vec::from_slice(alloc, &[rmw]),
+        _ => Vec::from_slice(alloc, &[read, write, rmw]),
+    }
 }
 
-/// Searches the slot of the boot window.
-pub fn search_window(
+/// Looks for verdicts of a slot at a bank: by the chart, if there is one of the slot, else by a search.
+fn look_in_bank(
     alloc: Global,
     bench: &Bench,
     maker: &Maker,
     findings: &mut Findings,
+    chart: &Option<Chart>,
+    slot: u8,
+    area: Area,
 ) -> Result<(), AllocError> {
+    if let Some(chart) = chart {
+        if chart.has(slot) {
+            return chart.search_bank(alloc, bench, maker, findings, slot, area);
+        }
+    }
+    let codes = codes_of(alloc, slot)?;
+    search_slot(alloc, bench, maker, findings, slot, codes.as_slice(), area)
+}
+
+/// Looks for verdicts of the slots of banks at a bank.
+pub fn look_at_bank(
+    alloc: Global,
+    bench: &Bench,
+    maker: &Maker,
+    findings: &mut Findings,
+    chart: &Option<Chart>,
+    area: Area,
+) -> Result<(), AllocError> {
+    for slot in [0_u8, 1, 2] {
+        look_in_bank(alloc, bench, maker, findings, chart, slot, area)?;
+    }
+    Ok(())
+}
+
+/// Looks for verdicts of the slot of the boot window.
+pub fn look_at_window(
+    alloc: Global,
+    bench: &Bench,
+    maker: &Maker,
+    findings: &mut Findings,
+    chart: &Option<Chart>,
+) -> Result<(), AllocError> {
+    if let Some(chart) = chart {
+        if chart.has(3) {
+            return chart.search_window(alloc, bench, maker, findings);
+        }
+    }
     let area = Area {
         extended: BOOT_WINDOW,
         base: 0,
         size: STAGING_SIZE,
     };
-    let codes = [u32::from(READ), u32::from(WRITE), u32::from(RMW)];
-    search_slot(alloc, bench, maker, findings, 3, &codes, area)
+    let codes = codes_of(alloc, 3)?;
+    search_slot(alloc, bench, maker, findings, 3, codes.as_slice(), area)
 }
 
 /// The rows of the program: a command for each verdict that was found, whole and with an error end.

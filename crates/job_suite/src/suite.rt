@@ -6,23 +6,26 @@ ghost use Rattle.job_nodes.specs.Making.{IsUnmade};
 ghost use Rattle.job_parts.specs.Statuses.{IsDoneWith};
 ghost use Rattle.job_parts.specs.Stops.{StopsBy};
 ghost use Rattle.node_parts.specs.Nodes.{windows_of};
-ghost use Rattle.job_suite.specs.SuiteFile.{HoldsNoNode, HoldsNode, IsBench, IsNoSuite, IsPlain, IsSuite, PrintsSuite};
+ghost use Rattle.job_suite.specs.SuiteFile.{HoldsNoNode, HoldsNode, IsBench, IsNoSuite, IsPlain, IsText, PrintsSuite};
+ghost use Rattle.job_suite.specs.Tables.{AreTableOf, IsNoChart};
 ghost use Rattle.job_suite.specs.Trials.{AreTrials, lines_of, trial_line, with_lines};
 
 use crate::bodies::body_rows;
+use crate::charted::Chart;
 use crate::drafts::Draft;
 use crate::effects::effect_rows;
 use crate::headers::header_rows;
-use crate::index::index_of;
+use crate::index::{add_missing_row, index_of, is_there};
 use crate::judges::Judges;
 use crate::maker::{Area, Maker};
 use crate::pairs::{body_pairs, header_pairs};
 use crate::places::{beside_bank, no_bank, no_window};
-use crate::rows::name_of;
-use crate::search::{Findings, program_rows, search_bank, search_window};
+use crate::rows::{ROWS, Row, name_of};
+use crate::search::{Findings, look_at_bank, look_at_window, program_rows};
+use crate::tables::{asked_text, table_of};
 use crate::trials::{Bench, Trial};
 use crate::window_rows::{load_rows, window_rows};
-use crate::words::SuiteWords;
+use crate::words::{SuiteWords, TableWord};
 use bver::Accepted;
 use job_config::own_node::OwnNode;
 use job_config::reading::{ReadNode, node_in};
@@ -36,6 +39,7 @@ use job_parts::printing::print_text;
 use job_parts::status::Status;
 use job_parts::stops::Halt;
 use job_parts::storage::Files;
+use machine::MapSizes;
 use node_parts::NodeConfig;
 use rmap::Windows;
 use spw::End;
@@ -138,15 +142,16 @@ fn findings_of(
     bench: &Bench,
     maker: &Maker,
     own: &OwnNode,
+    chart: &Option<Chart>,
 ) -> Result<Findings, AllocError> {
     let mut findings = Findings::none(alloc);
     let mut extended: u8 = 0;
     for bank in own.banks() {
         let area = Area::of(extended, *bank);
-        search_bank(alloc, bench, maker, &mut findings, area)?;
+        look_at_bank(alloc, bench, maker, &mut findings, chart, area)?;
         extended = extended.wrapping_add(1);
     }
-    search_window(alloc, bench, maker, &mut findings)?;
+    look_at_window(alloc, bench, maker, &mut findings, chart)?;
     Ok(findings)
 }
 
@@ -168,10 +173,11 @@ fn drafts_of(
     words: &SuiteWords,
     own: &OwnNode,
     bench: &Bench,
+    chart: &Option<Chart>,
 ) -> Result<(Vec<Draft>, Findings), AllocError> {
     let mut maker = Maker::new(alloc, own.address(), words.seed);
     let area = first_area(own);
-    let findings = findings_of(alloc, bench, &maker, own)?;
+    let findings = findings_of(alloc, bench, &maker, own, chart)?;
     before_program(alloc, &mut maker, own, area)?;
     behind_program(alloc, &mut maker, own, area)?;
     program_rows(alloc, &mut maker, &findings)?;
@@ -180,11 +186,39 @@ fn drafts_of(
     Ok((maker.into_drafts(), findings))
 }
 
+/// Whether a name begins with a part of a list, which is none if it is empty.
+fn is_left_out(name: &str, list: &str) -> bool {
+    if list.is_empty() {
+        return false;
+    }
+    for part in list.split(',') {
+        if name.starts_with(part) {
+            return true;
+        }
+    }
+    false
+}
+
 /// Whether a row is one of those that the words name.
-fn is_wanted(alloc: Global, words: &SuiteWords, draft: &Draft) -> Result<bool, AllocError> {
-    let name = name_of(alloc, draft.row)?;
-    let (rows, without) = (words.rows.as_str(), words.without.as_str());
-    Ok(name.starts_with(rows) && (without.is_empty() || !name.starts_with(without)))
+fn is_wanted(alloc: Global, words: &SuiteWords, row: Row) -> Result<bool, AllocError> {
+    let name = name_of(alloc, row)?;
+    let name = name.as_str();
+    Ok(name.starts_with(words.rows.as_str()) && !is_left_out(name, words.without.as_str()))
+}
+
+/// Adds a line for each row that the words name and of which there is no packet.
+fn add_missing_rows(
+    text: &mut String,
+    alloc: Global,
+    words: &SuiteWords,
+    trials: &[Trial],
+) -> Result<(), AllocError> {
+    for row in ROWS {
+        if is_wanted(alloc, words, row)? && !is_there(row, trials) {
+            add_missing_row(alloc, text, row)?;
+        }
+    }
+    Ok(())
 }
 
 /// Those drafts whose rows the words name.
@@ -195,7 +229,7 @@ fn wanted_drafts(
 ) -> Result<Vec<Draft>, AllocError> {
     let mut wanted = Vec::new(alloc);
     for draft in drafts {
-        if is_wanted(alloc, words, &draft)? {
+        if is_wanted(alloc, words, draft.row)? {
             wanted.push(draft)?;
         }
     }
@@ -268,15 +302,18 @@ fn bench_of(
 /// The text of a suite for a node of that logical address: its lines, or its index.
 fn text_of(
     alloc: Global,
-    index: bool,
+    words: &SuiteWords,
     address: u8,
     trials: &[Trial],
     findings: &Findings,
 ) -> Result<String, AllocError>
-    ensures { IfOk result (λ text. index ≡ false → string_bytes text ≡ lines_of trials.now) }
+    ensures { IfOk result (λ text. words.now.index ≡ false
+        → string_bytes text ≡ lines_of trials.now) }
 {
-    if index {
-        index_of(alloc, address, trials, findings)
+    if words.index {
+        let mut text = index_of(alloc, address, trials, findings)?;
+        add_missing_rows(&mut text, alloc, words, trials)?;
+        Ok(text)
     } else {
         lines_of(alloc, trials)
     }
@@ -288,10 +325,11 @@ fn trials_of(
     words: &SuiteWords,
     own: &OwnNode,
     bench: &Bench,
+    chart: &Option<Chart>,
 ) -> Result<(Vec<Trial>, Findings), AllocError>
     ensures { IfOk result (λ made. AreTrials bench.now made.0.items) }
 {
-    let (drafts, findings) = drafts_of(alloc, words, own, bench)?;
+    let (drafts, findings) = drafts_of(alloc, words, own, bench, chart)?;
     let drafts = wanted_drafts(alloc, words, drafts)?;
     let askers = findings.askers(alloc)?;
     let trials = bench.trials(alloc, drafts.as_slice(), askers.as_slice())?;
@@ -303,19 +341,41 @@ fn suite_text(
     alloc: Global,
     words: &SuiteWords,
     own: &OwnNode,
-    first: Accepted,
+    bench: &Bench,
+    chart: &Option<Chart>,
 ) -> Result<String, AllocError>
-    ensures { IfOk result (λ text. IsSuite words.now own.now first (string_bytes text)) }
+    ensures { IfOk result (IsText words.now bench.now) }
 {
-    let bench = bench_of(alloc, words, own, first)?;
-    let (trials, findings) = trials_of(alloc, words, own, &bench)?;
+    let (trials, findings) = trials_of(alloc, words, own, bench, chart)?;
     let address = own.address();
-    text_of(alloc, words.index, address, trials.as_slice(), &findings)
+    text_of(alloc, words, address, trials.as_slice(), &findings)
+}
+
+/// The chart of the table whose text is there, if a table is named.
+fn chart_of<'a>(
+    alloc: Global,
+    table: &Option<TableWord>,
+    text: &Option<String>,
+    bench: &Bench,
+    sizes: &MapSizes,
+) -> Result<Option<Chart>, Fault<'a>>
+    ensures ok { IfOk result (λ _. AreTableOf bench.now.judges sizes.now table.now
+        (option_map string_bytes text.now)) }
+    ensures err { IfErr result (IsNoChart bench.now.judges sizes.now table.now
+        (option_map string_bytes text.now)) }
+{
+    let (Some(table), Some(text)) = (table, text) else {
+        return Ok(None);
+    };
+    let slots = table.slots.as_slice();
+    let policy = table_of(alloc, text.as_str(), slots, &bench.judges, sizes)?;
+    Ok(Some(Chart::of(alloc, &policy, slots)?))
 }
 
 /// Prints the packet lines of a suite, or its index.
 ///
-/// Faults are those of the node's file, also where a load of it was not carried out, and `NoMemory`.
+/// Faults are those of the table's file, of the node's file, also where a load of it was not carried out, and of the table; then
+/// `NoMemory`.
 pub fn suite_file<'a, F: Files, W: Write>(
     alloc: Global,
     words: &'a SuiteWords,
@@ -327,8 +387,11 @@ pub fn suite_file<'a, F: Files, W: Write>(
     ensures stops { IfErr result (StopsBy (IsNoSuite F.reads words.now files.old files.new)) }
     ensures quiet { IfErr result (StopsBy (λ _. W.contents out.new ≡ W.contents out.old)) }
 {
+    let table = asked_text(alloc, files, words.table_name())?;
     let ReadNode { node, program } = node_of(alloc, words, files)?;
-    let text = suite_text(alloc, words, &node, program)?;
+    let bench = bench_of(alloc, words, &node, program)?;
+    let chart = chart_of(alloc, &words.table, &table, &bench, &node.sizes())?;
+    let text = suite_text(alloc, words, &node, &bench, &chart)?;
     print_text(out, text.as_str())?;
     Ok(Status::Done)
 }

@@ -56,6 +56,7 @@ fn is_met_by_run(command: &Command, verdict: u64, wanted: Wanted) -> bool
 {
     match wanted {
         Wanted::Stopped(_) => false,
+        Wanted::Brought => true,
         Wanted::Judged(number) => verdict == number,
         Wanted::Spoilt(status) => verdict == 0 && is_status(body_fault(command), status),
         Wanted::Whole => verdict == 0 && body_fault(command).is_none(),
@@ -68,7 +69,7 @@ fn is_met_by_check(check: Check, wanted: Wanted) -> bool
 {
     match wanted {
         Wanted::Stopped(line) => line == check,
-        Wanted::Judged(_) | Wanted::Spoilt(_) | Wanted::Whole => false,
+        Wanted::Brought | Wanted::Judged(_) | Wanted::Spoilt(_) | Wanted::Whole => false,
     }
 }
 
