@@ -71,7 +71,7 @@ fn add_body_flaws(text: &mut String, shape: &Shape) -> Result<(), AllocError> {
     Ok(())
 }
 
-/// Adds to whom a command goes that is not to the node of this address, and of a row of the program who asks.
+/// Adds to whom a command goes that is not to the node of this address, and of a row of the program or of keys who asks.
 fn add_addresses(
     text: &mut String,
     address: u8,
@@ -83,7 +83,7 @@ fn add_addresses(
         write!(text, ", target {target:02X}")?;
     }
     match row {
-        Row::Program(_) | Row::ProgramBeforeEep(_) => {
+        Row::Program(_) | Row::ProgramBeforeEep(_) | Row::Key => {
             write!(text, ", initiator {initiator:02X}, key {key:02X}")
         }
         _ => Ok(()),
