@@ -1,6 +1,7 @@
 #!/usr/bin/env python3
 """Suites of random nodes of a file: each packet meets its row by a node that was written from the pages alone, each row before the program
-is there, nothing may change where it is not allowed, the index has a line for each packet, and the same words print the same."""
+is there, nothing may change where it is not allowed, the index has a line for each packet, and the same words print the same. One node in
+four has a policy table: by `--table` each verdict is there that some of many commands gets, and the packets meet their rows."""
 from __future__ import annotations
 
 import sys
@@ -12,8 +13,12 @@ sys.dont_write_bytecode = True
 sys.path.insert(0, str(Path(__file__).resolve().parent.parent))
 from generated.own_nodes import File
 from generator import main
-from models.nodes import OwnNode, Refused
-from models.world import MODIFY, Packet
+from models.images import parsed
+from models.nodes import Bank, OwnNode, Refused
+from models.policies import ADDRESSES, BYTES, CELLS, ENDS, MAPS, rule
+from models.tables import Rule, decide
+from models.world import BASE, CONTROL, MODIFY, SIZE, STAGING, WRITE, Packet
+from packets import header
 from rmapctl import Differs, Room
 
 # How many nodes the gate makes.
@@ -31,7 +36,11 @@ HEADERS = {"reserved-type": 2, "unused-code": 2, "target-address": 12, "rmw-leng
 BODIES = {"eep": 7, "early-eop": 5, "too-much-data": 6, "data-crc": 4}
 
 # What the runs have to come to, and how often.
-KINDS = {"packets": 5000, "program-3": 3, "program-10": 3, "program-12": 1, "eep": 20, "write": 100, "load": 50, "reads only": 20}
+KINDS = {"packets": 5000, "program-3": 3, "program-10": 3, "program-12": 1, "eep": 20, "write": 100, "load": 50, "key": 50, "reads only": 15,
+         "tables": 5, "verdicts by tables": 30}
+
+# Commands of each slot of which a table decides: the instruction, and the lengths.
+COMMANDS = [([0x4C, 0x48], [1, 4, 16, 4096]), ([0x6C, 0x68], [1, 4, 16, 4096]), ([0x5C], [0, 2, 4, 8])]
 
 
 def packet_of(line: str) -> Packet:
@@ -55,6 +64,8 @@ def look(node: OwnNode, row: str, packet: Packet) -> str | None:
         is_long = packet.length > 4096
         met = status == HEADERS.get(first) and (first not in ("length", "place") or is_long == (first == "length"))
         return None if met else f"status {status} of the header"
+    if first == "key":
+        return None
     came = verdict(node, packet)
     if first.startswith("program-"):
         return None if came == int(first.removeprefix("program-")) else f"verdict {came}"
@@ -80,7 +91,53 @@ def same_suite(room: Room, *words: str) -> tuple[list[str], list[str]]:
     return lines, [row for _, row, _ in items]
 
 
+def slot_of(packet: Packet) -> int:
+    """The slot whose program judges a command."""
+    return 3 if packet.extended == 0xFF else 1 if packet.has(WRITE) else 2 if packet.code == MODIFY else 0
+
+
+def commands() -> list[Packet]:
+    """Commands of each slot, with keys, initiators and places that a rule may name."""
+    places = [(instruction, 0, address, length) for instructions, lengths in COMMANDS for instruction in instructions for length in lengths
+              for address in (*ADDRESSES, *ENDS, BASE + SIZE - 1)]
+    places += [(instruction, 0xFF, address, length) for instructions, lengths in COMMANDS for instruction in instructions for length in lengths
+               for address in (0, 0x10, STAGING - 4)]
+    places += [(0x4C, 0xFF, CONTROL, 8), (0x6C, 0xFF, CONTROL, 4)]
+    return [Packet(header(instruction, address, length, key=key, initiator=initiator, extended=extended) + b"\0")
+            for instruction, extended, address, length in places for key in (*BYTES, 0x11) for initiator in (*BYTES, 0x67)]
+
+
+def verdicts_of(node: OwnNode, rules: list[Rule]) -> set[tuple[int, int]]:
+    """The slots and verdicts that commands get on cells that nobody asked, as far as they come to a program."""
+    return {(slot_of(packet), decide(rules, packet, lambda *_: 0)) for packet in commands() if node.header_status(packet) is None}
+
+
+def tabled(random: Random, room: Room, seen: Counter[str]) -> None:
+    """The suite of a node whose programs are the image of a table."""
+    rules = [rule(random) for _ in range(random.randrange(7))]
+    room.put("own.policy", "".join(own.text() for own in rules))
+    room.printed("policy", "own.policy", "image", "--final", "--maps", ",".join(map(str, CELLS)))
+    room.put("node.toml", 'program = "image"\n' + "".join(f"[[map]]\ncells = {cells}\n" for cells in CELLS))
+    node = OwnNode(0xFE, 1, [Bank(BASE, SIZE, 1024, bytearray(SIZE))], MAPS, parsed(room.content("image") or b""))
+    lines, rows = same_suite(room, "--table", "all:own.policy", "--loads", "--within", "0:0-FFFFFFFF", "--seed", str(random.randrange(100)))
+    came = set()
+    for line, row in zip(lines, rows):
+        packet = packet_of(line)
+        why = look(node, row, packet)
+        if why:
+            raise Differs(f"{row}: {why}: {line}")
+        if row.startswith("program-") and "+" not in row:
+            came.add((slot_of(packet), int(row.removeprefix("program-"))))
+    missing = verdicts_of(node, rules) - came
+    if missing:
+        raise Differs(f"no packet of these slots and verdicts: {sorted(missing)}")
+    seen["tables"] += 1
+    seen["verdicts by tables"] += len(came)
+
+
 def check(random: Random, room: Room, seen: Counter[str]) -> None:
+    if random.randrange(4) == 0:
+        return tabled(random, room, seen)
     file = File(random, room, Counter())
     room.put("node.toml", file.text())
     try:
