@@ -14,7 +14,7 @@ use Rattle.job_suite.specs.Judges.{HasAnswered, judge_of}
 use Rattle.job_suite.specs.Trials.{IsMet, IsMetByRun, IsVerdict}
 use Rattle.job_suite.specs.declared.checks.Check.{Check}
 use Rattle.job_suite.specs.declared.rows.Wanted.{Wanted}
-use Rattle.job_suite.specs.declared.rows.Wanted.TheVariants.{Stopped, Judged, Spoilt, Whole}
+use Rattle.job_suite.specs.declared.rows.Wanted.TheVariants.{Stopped, Brought, Judged, Spoilt, Whole}
 use Rattle.job_suite.specs.declared.trials.Bench.{Bench}
 
 -- a packet that is discarded meets the line of the reason
@@ -46,6 +46,7 @@ verdict_of b p c place verdict goes same answered = record {
 of_command : (b : Bench) (p : Cargo) (verdict : ℕ) (wanted : Wanted) → IsVerdict b p verdict → IsMetByRun (command_of p) verdict wanted
     → IsMet b p wanted
 of_command b p verdict (Stopped check) is met = absurd met
+of_command b p verdict Brought is met = record { verdict = verdict; is = is }
 of_command b p verdict (Judged number) is met = subst (λ (v : ℕ). IsVerdict b p v) met is
 of_command b p verdict (Spoilt status) is met = (subst (λ (v : ℕ). IsVerdict b p v) met.0 is, met.1)
 of_command b p verdict Whole is met = (subst (λ (v : ℕ). IsVerdict b p v) met.0 is, met.1)

@@ -62,8 +62,9 @@ impl Seen {
 
     /// Notes the register that leads to a load.
     fn note_base(&mut self, register: u8) {
-        if let Some(base) = self.bases.get_mut(usize::from(register)) {
-            *base = true;
+        let place = usize::from(register);
+        if place < REGISTERS {
+            self.bases[place] = true;
         }
     }
 
@@ -83,8 +84,8 @@ impl Seen {
     /// Notes all bytes, if an instruction moves a register that leads to a load.
     fn note_move(&mut self, insn: Insn) {
         if let Insn::Alu { op, dst, .. } = insn {
-            let is_base = self.bases.get(usize::from(dst.number())).copied();
-            if op != AluOp::Mov && is_base == Some(true) {
+            let place = usize::from(dst.number());
+            if op != AluOp::Mov && place < REGISTERS && self.bases[place] {
                 self.bytes = [true; BYTES];
             }
         }

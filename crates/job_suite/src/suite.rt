@@ -364,12 +364,14 @@ fn chart_of<'a>(
     ensures err { IfErr result (IsNoChart bench.now.judges sizes.now table.now
         (option_map string_bytes text.now)) }
 {
-    let (Some(table), Some(text)) = (table, text) else {
-        return Ok(None);
-    };
-    let slots = table.slots.as_slice();
-    let policy = table_of(alloc, text.as_str(), slots, &bench.judges, sizes)?;
-    Ok(Some(Chart::of(alloc, &policy, slots)?))
+    match (table, text) {
+        (Some(table), Some(text)) => {
+            let slots = table.slots.as_slice();
+            let policy = table_of(alloc, text.as_str(), slots, &bench.judges, sizes)?;
+            Ok(Some(Chart::of(alloc, &policy, slots)?))
+        }
+        (None, _) | (Some(_), None) => Ok(None),
+    }
 }
 
 /// Prints the packet lines of a suite, or its index.

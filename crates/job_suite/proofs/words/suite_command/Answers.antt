@@ -12,9 +12,10 @@ returns-clause-shape c =
     let second = c.in_ok-arg-2.ensures.shape c.option-seed.ensures.local ∙ ap₂ with_rule first c.option-seed.ensures.rule in
     let third = c.in_ok-arg-3.ensures.shape c.option-rows.ensures.local ∙ ap₂ with_rule second c.option-rows.ensures.rule in
     let fourth = c.in_ok-arg-4.ensures.shape c.option-without.ensures.local ∙ ap₂ with_rule third c.option-without.ensures.rule in
-    let fifth = c.in_ok-arg-5.ensures.shape c.option-within.ensures.local ∙ ap₂ with_rule fourth c.option-within.ensures.rule in
-    let sixth = c.in_ok-arg-6.ensures.shape c.flag-loads.ensures.local ∙ ap₂ with_rule fifth c.flag-loads.ensures.rule in
-    IfOk-weaker c.arg-7.result _ _ (λ m h. h.shape c.flag-index.ensures.local ∙ ap₂ with_rule sixth c.flag-index.ensures.rule) c.arg-7.ensures
+    let fifth = c.in_ok-arg-5.ensures.shape c.option-table.ensures.local ∙ ap₂ with_rule fourth c.option-table.ensures.rule in
+    let sixth = c.in_ok-arg-6.ensures.shape c.option-within.ensures.local ∙ ap₂ with_rule fifth c.option-within.ensures.rule in
+    let seventh = c.in_ok-arg-7.ensures.shape c.flag-loads.ensures.local ∙ ap₂ with_rule sixth c.flag-loads.ensures.rule in
+    IfOk-weaker c.arg-8.result _ _ (λ m h. h.shape c.flag-index.ensures.local ∙ ap₂ with_rule seventh c.flag-index.ensures.rule) c.arg-8.ensures
 
 pub returns-clause-local : goal.returns-clause-local
 returns-clause-local c =
@@ -23,6 +24,7 @@ returns-clause-local c =
     let second = c.in_ok-arg-2.ensures.globals ∙ or_from _ _ first c.option-seed.ensures.local in
     let third = c.in_ok-arg-3.ensures.globals ∙ or_from _ _ second c.option-rows.ensures.local in
     let fourth = c.in_ok-arg-4.ensures.globals ∙ or_from _ _ third c.option-without.ensures.local in
-    let fifth = c.in_ok-arg-5.ensures.globals ∙ or_from _ _ fourth c.option-within.ensures.local in
-    let sixth = c.in_ok-arg-6.ensures.globals ∙ or_from _ _ fifth c.flag-loads.ensures.local in
-    IfOk-weaker c.arg-7.result _ _ (λ m h. h.globals ∙ or_from _ _ sixth c.flag-index.ensures.local) c.arg-7.ensures
+    let fifth = c.in_ok-arg-5.ensures.globals ∙ or_from _ _ fourth c.option-table.ensures.local in
+    let sixth = c.in_ok-arg-6.ensures.globals ∙ or_from _ _ fifth c.option-within.ensures.local in
+    let seventh = c.in_ok-arg-7.ensures.globals ∙ or_from _ _ sixth c.flag-loads.ensures.local in
+    IfOk-weaker c.arg-8.result _ _ (λ m h. h.globals ∙ or_from _ _ seventh c.flag-index.ensures.local) c.arg-8.ensures
