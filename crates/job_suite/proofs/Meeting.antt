@@ -6,10 +6,9 @@ use Rattle.rmap.specs.Checks.{HasPlace, header_check}
 use Rattle.rmap.specs.Command.{CommandValue, command_kind, command_of, discard_of}
 use Rattle.rmap.specs.Windows.{WindowsValue}
 use Rattle.rmap.specs.declared.discard.Discard.{Discard}
-use Rattle.rmap.specs.declared.header_faults.HeaderFault.{HeaderFault}
 use Rattle.rmap.specs.declared.places.Place.{Place}
 use Rattle.spw.specs.Cargo.{Cargo}
-use Rattle.job_suite.specs.Checks.{GoesOn, Meets, check_behind, check_of_discard, check_of_fault}
+use Rattle.job_suite.specs.Checks.{GoesOn, IsStoppedBy, Meets, check_behind, check_of_discard, check_of_fault, first_check}
 use Rattle.job_suite.specs.Judges.{HasAnswered, judge_of}
 use Rattle.job_suite.specs.Trials.{IsMet, IsMetByRun, IsVerdict}
 use Rattle.job_suite.specs.declared.checks.Check.{Check}
@@ -18,15 +17,16 @@ use Rattle.job_suite.specs.declared.rows.Wanted.TheVariants.{Stopped, Brought, J
 use Rattle.job_suite.specs.declared.trials.Bench.{Bench}
 
 -- a packet that is discarded meets the line of the reason
-pub discarded : (w : WindowsValue) (p : Cargo) (reason : Discard) → discard_of p.bytes ≡ Some reason → Meets w p (check_of_discard reason)
+pub discarded : (w : WindowsValue) (p : Cargo) (reason : Discard) → discard_of p.bytes ≡ Some reason
+    → first_check w p ≡ Some (check_of_discard reason)
 discarded w p reason is = ap (λ (d : Option Discard). check_behind d w p) is
 
--- a command whose header has a fault meets the line of the fault
-pub faulty : (w : WindowsValue) (p : Cargo) (c : CommandValue) (fault : HeaderFault) → discard_of p.bytes ≡ None → c ≡ command_of p
-    → header_check c w ≡ Some fault → Meets w p (check_of_fault fault)
-faulty w p c fault kept same is =
+-- a command meets the line that is the first of its header
+pub stopped : (w : WindowsValue) (p : Cargo) (c : CommandValue) (check : Check) → discard_of p.bytes ≡ None → c ≡ command_of p
+    → IsStoppedBy w c check → first_check w p ≡ Some check
+stopped w p c check kept same is =
     ap (λ (d : Option Discard). check_behind d w p) kept
-    ∙ ap (λ (f : Option HeaderFault). option_map check_of_fault f) (ap (λ (k : CommandValue). header_check k w) (sym same) ∙ is)
+    ∙ ap (λ (k : CommandValue). option_map check_of_fault (header_check k w)) (sym same) ∙ is
 
 -- a command whose bytes have a place goes on
 pub going_on : (w : WindowsValue) (p : Cargo) (c : CommandValue) (place : Place) → discard_of p.bytes ≡ None → c ≡ command_of p

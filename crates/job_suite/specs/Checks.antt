@@ -1,7 +1,7 @@
 -- The lines of the order of checks before the program.
 use Rattle.std.specs.Prelude.{◌≡◌, Option, Some, None, option_map}
 use Rattle.rmap.specs.Checks.{HasPlace, header_check}
-use Rattle.rmap.specs.Command.{command_of, discard_of}
+use Rattle.rmap.specs.Command.{CommandValue, command_of, discard_of}
 use Rattle.rmap.specs.Windows.{WindowsValue}
 use Rattle.rmap.specs.declared.discard.Discard.{Discard}
 use Rattle.rmap.specs.declared.discard.Discard.TheVariants as discards
@@ -27,6 +27,10 @@ check_of_fault (faults.WrongRmwLength count) = checks.RmwLength
 check_of_fault (faults.TooManyToVerify count) = checks.VerifyBuffer
 check_of_fault (faults.TooManyBytes count) = checks.Length
 check_of_fault (faults.NoPlace miss) = checks.Place
+
+-- the line is the first that holds of the header of the command, at a node with these windows
+abbrev pub IsStoppedBy : WindowsValue → CommandValue → Check → Type 0
+IsStoppedBy w c check = option_map check_of_fault (header_check c w) ≡ Some check
 
 -- the line that holds first, if the packet is discarded for this reason, or is a command
 abbrev pub check_behind : Option Discard → WindowsValue → Cargo → Option Check

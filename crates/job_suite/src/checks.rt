@@ -1,9 +1,8 @@
 //! The lines of the order of checks that come before the program, and which of them a packet meets.
 
-ghost use Rattle.std.specs.Prelude.{◌≡◌, MatchResult, None, Some};
-ghost use Rattle.rmap.specs.Checks.{Faults, HasPlace};
-ghost use Rattle.rmap.specs.Command.{command_of, discard_of};
-ghost use Rattle.job_suite.specs.Checks.{GoesOn, Meets, check_of_discard, check_of_fault};
+ghost use Rattle.std.specs.Prelude.{◌≡◌, MatchResult};
+ghost use Rattle.rmap.specs.Checks.{HasPlace};
+ghost use Rattle.job_suite.specs.Checks.{GoesOn, IsStoppedBy, Meets, check_of_discard, check_of_fault};
 
 use rmap::{Command, Discard, HeaderFault, Place, Windows, header_check};
 use spw::Packet;
@@ -59,16 +58,26 @@ fn check_of_fault(fault: HeaderFault) -> Check
     }
 }
 
+/// Where a command goes on to its program, or the first line of the order of checks that holds of its header, at a node with
+/// these windows.
+fn placed_command(command: &Command, windows: &Windows) -> Result<Place, Check>
+    ensures { MatchResult result (HasPlace command.now windows.now)
+        (IsStoppedBy windows.now command.now) }
+{
+    match header_check(command, windows) {
+        Ok(place) => Ok(place),
+        Err(fault) => Err(check_of_fault(fault)),
+    }
+}
+
 /// Where the command of a packet goes on to its program, or the first line of the order of checks that holds before
 /// that, at a node with these windows.
+#[tactic(auto, using(crate::proofs::Meeting::discarded, crate::proofs::Meeting::stopped, crate::proofs::Meeting::going_on))]
 pub fn placed(packet: &Packet, windows: &Windows) -> Result<Place, Check>
     ensures { MatchResult result (GoesOn windows.now packet.now) (Meets windows.now packet.now) }
 {
     match Command::view(packet) {
-        Ok(command) => match header_check(&command, windows) {
-            Ok(place) => Ok(place),
-            Err(fault) => Err(check_of_fault(fault)),
-        },
+        Ok(command) => placed_command(&command, windows),
         Err(reason) => Err(check_of_discard(reason)),
     }
 }
