@@ -2,16 +2,20 @@
 use Rattle.std.proofs.Common.{◌≡◌, ◌∙◌, ℕ, Option, Some, None, ap, absurd, subst, sym}
 use Rattle.std.specs.Prelude.{option_map}
 use Rattle.node_parts.specs.Slots.{slot_of}
-use Rattle.rmap.specs.Checks.{HasPlace, header_check}
+use Rattle.rmap.specs.Checks.{HasPlace, body_line, header_check}
 use Rattle.rmap.specs.Command.{CommandValue, command_kind, command_of, discard_of}
 use Rattle.rmap.specs.Windows.{WindowsValue}
 use Rattle.rmap.specs.declared.discard.Discard.{Discard}
 use Rattle.rmap.specs.declared.places.Place.{Place}
+use Rattle.rmap.specs.declared.status.Status.{Status}
 use Rattle.spw.specs.Cargo.{Cargo}
 use Rattle.job_suite.specs.Checks.{GoesOn, IsStoppedBy, Meets, check_behind, check_of_discard, check_of_fault, first_check}
+use Rattle.job_suite.specs.Comings.{Fits, FitsJudged, FitsStopped}
 use Rattle.job_suite.specs.Judges.{HasAnswered, judge_of}
-use Rattle.job_suite.specs.Trials.{IsMet, IsMetByRun, IsVerdict}
+use Rattle.job_suite.specs.Trials.{HasCome, IsMet, IsVerdict}
 use Rattle.job_suite.specs.declared.checks.Check.{Check}
+use Rattle.job_suite.specs.declared.comings.Came.{Came}
+use Rattle.job_suite.specs.declared.comings.Came.TheVariants as comings
 use Rattle.job_suite.specs.declared.rows.Wanted.{Wanted}
 use Rattle.job_suite.specs.declared.rows.Wanted.TheVariants.{Stopped, Brought, Judged, Spoilt, Whole}
 use Rattle.job_suite.specs.declared.trials.Bench.{Bench}
@@ -42,23 +46,23 @@ verdict_of b p c place verdict goes same answered = record {
   answered = subst (λ (k : CommandValue). HasAnswered (judge_of b.judges (slot_of (command_kind k) place)) k verdict) same answered;
 }
 
--- a packet that has a verdict, whose command meets what is wanted behind it, meets what is wanted
-of_command : (b : Bench) (p : Cargo) (verdict : ℕ) (wanted : Wanted) → IsVerdict b p verdict → IsMetByRun (command_of p) verdict wanted
+-- a packet that comes to what is wanted meets it
+stopped_meets : (b : Bench) (p : Cargo) (check : Check) (wanted : Wanted) → Meets b.windows p check → FitsStopped check wanted
     → IsMet b p wanted
-of_command b p verdict (Stopped check) is met = absurd met
-of_command b p verdict Brought is met = record { verdict = verdict; is = is }
-of_command b p verdict (Judged number) is met = subst (λ (v : ℕ). IsVerdict b p v) met is
-of_command b p verdict (Spoilt status) is met = (subst (λ (v : ℕ). IsVerdict b p v) met.0 is, met.1)
-of_command b p verdict Whole is met = (subst (λ (v : ℕ). IsVerdict b p v) met.0 is, met.1)
+stopped_meets b p check (Stopped line) meets fits = subst (λ (c : Check). Meets b.windows p c) fits meets
+stopped_meets b p check Brought meets fits = absurd fits
+stopped_meets b p check (Judged number) meets fits = absurd fits
+stopped_meets b p check (Spoilt status) meets fits = absurd fits
+stopped_meets b p check Whole meets fits = absurd fits
 
-pub met_by_run : (b : Bench) (p : Cargo) (c : CommandValue) (place : Place) (verdict : ℕ) (wanted : Wanted) → GoesOn b.windows p place
-    → c ≡ command_of p → HasAnswered (judge_of b.judges (slot_of (command_kind c) place)) c verdict → IsMetByRun c verdict wanted
-    → IsMet b p wanted
-met_by_run b p c place verdict wanted goes same answered met =
-    of_command b p verdict wanted (verdict_of b p c place verdict goes same answered)
-    (subst (λ (k : CommandValue). IsMetByRun k verdict wanted) same met)
+judged_meets : (b : Bench) (p : Cargo) (verdict : ℕ) (fault : Option Status) (wanted : Wanted) → IsVerdict b p verdict
+    → body_line (command_of p) ≡ fault → FitsJudged verdict fault wanted → IsMet b p wanted
+judged_meets b p verdict fault (Stopped line) is body fits = absurd fits
+judged_meets b p verdict fault Brought is body fits = record { verdict = verdict; is = is }
+judged_meets b p verdict fault (Judged number) is body fits = subst (λ (v : ℕ). IsVerdict b p v) fits is
+judged_meets b p verdict fault (Spoilt status) is body fits = (subst (λ (v : ℕ). IsVerdict b p v) fits.0 is, body ∙ fits.1)
+judged_meets b p verdict fault Whole is body fits = (subst (λ (v : ℕ). IsVerdict b p v) fits.0 is, body ∙ fits.1)
 
--- a packet that meets the line that is wanted meets what is wanted
-pub met_by_check : (b : Bench) (p : Cargo) (check : Check) (wanted : Wanted) → Meets b.windows p check → wanted ≡ Stopped check
-    → IsMet b p wanted
-met_by_check b p check wanted meets is = subst (IsMet b p) (sym is) meets
+pub meets_wanted : (b : Bench) (p : Cargo) (came : Came) (wanted : Wanted) → HasCome b p came → Fits came wanted → IsMet b p wanted
+meets_wanted b p (comings.Stopped check) wanted come fits = stopped_meets b p check wanted come fits
+meets_wanted b p (comings.Judged verdict fault) wanted come fits = judged_meets b p verdict fault wanted come.0 come.1 fits

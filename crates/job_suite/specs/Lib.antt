@@ -3,6 +3,7 @@ pub mod Rows
 pub mod Reach
 pub mod Ranges
 pub mod Judges
+pub mod Comings
 pub mod Trials
 pub mod SuiteJob
 pub mod Tables

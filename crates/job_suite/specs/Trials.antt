@@ -3,7 +3,7 @@ use Rattle.std.specs.Prelude.{◌≡◌, ℕ, List, [], ◌∷◌, ◌++◌, Boo
 use Rattle.bver.specs.Justified.{AcceptedValue}
 use Rattle.node_parts.specs.Slots.{slot_of}
 use Rattle.rmap.specs.Checks.{body_line}
-use Rattle.rmap.specs.Command.{CommandValue, command_kind, command_of}
+use Rattle.rmap.specs.Command.{command_kind, command_of}
 use Rattle.rmap.specs.Windows.{WindowsValue}
 use Rattle.rmap.specs.declared.places.Place.{Place}
 use Rattle.spw.specs.Cargo.{Cargo}
@@ -13,6 +13,8 @@ use Rattle.job_suite.specs.Judges.{HasAnswered, judge_of}
 use Rattle.job_suite.specs.Reach.{is_printed}
 use Rattle.job_suite.specs.Rows.{wanted_of}
 use Rattle.job_suite.specs.declared.judges.Judges.{Judges}
+use Rattle.job_suite.specs.declared.comings.Came.{Came}
+use Rattle.job_suite.specs.declared.comings.Came.TheVariants as comings
 use Rattle.job_suite.specs.declared.rows.Wanted.{Wanted}
 use Rattle.job_suite.specs.declared.rows.Wanted.TheVariants.{Stopped, Brought, Judged, Spoilt, Whole}
 use Rattle.job_suite.specs.declared.trials.Bench.{Bench}
@@ -39,13 +41,10 @@ IsMet b p (Judged verdict) = IsVerdict b p verdict
 IsMet b p (Spoilt status) = IsVerdict b p 0 × (body_line (command_of p) ≡ Some status)
 IsMet b p Whole = IsVerdict b p 0 × (body_line (command_of p) ≡ None)
 
--- the command, on which a program gave the verdict, meets what is wanted of it behind that
-abbrev pub IsMetByRun : CommandValue → (verdict : ℕ) → Wanted → Type 0
-IsMetByRun c verdict (Stopped check) = ⊥
-IsMetByRun c verdict Brought = Unit {0}
-IsMetByRun c verdict (Judged number) = verdict ≡ number
-IsMetByRun c verdict (Spoilt status) = (verdict ≡ 0) × (body_line c ≡ Some status)
-IsMetByRun c verdict Whole = (verdict ≡ 0) × (body_line c ≡ None)
+-- the packet comes to that at the node
+abbrev pub HasCome : Bench → Cargo → Came → Type 0
+HasCome b p (comings.Stopped check) = Meets b.windows p check
+HasCome b p (comings.Judged verdict fault) = IsVerdict b p verdict × (body_line (command_of p) ≡ fault)
 
 -- the packet meets its row, and changes memory only where that may be, whatever a target makes of it
 pub record IsTrial (b : Bench) (t : Trial) : Type 0 where

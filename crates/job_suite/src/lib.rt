@@ -4,6 +4,7 @@
 mod bodies;
 mod charted;
 pub mod checks;
+pub mod comings;
 pub mod drafts;
 mod effects;
 mod headers;

@@ -1,6 +1,7 @@
 //! Which verdicts the programs of a node give, and to whom: a search over the fields that a program reads.
 
 use crate::charted::Chart;
+use crate::comings::Came;
 use crate::drafts::{Asker, Shape};
 use crate::maker::{Area, Maker, READ, READ_ONE, RMW, WRITE, WRITE_ONE, WRITE_VERIFIED};
 use crate::rows::Row;
@@ -298,9 +299,9 @@ impl Findings {
         let Ok(packet) = Packet::new(header, End::Eop) else {
             return Ok(());
         };
-        match bench.verdict(alloc, &packet)? {
-            Some(verdict) => self.note(slot, verdict, shape),
-            None => Ok(()),
+        match bench.come(alloc, &packet)? {
+            Came::Judged(verdict, _) => self.note(slot, verdict, shape),
+            Came::Stopped(_) => Ok(()),
         }
     }
 }

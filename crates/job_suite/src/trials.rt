@@ -3,16 +3,17 @@
 ghost use Rattle.std.specs.Prelude.{◌≡◌, IfOk, IfSome, IsTrue, OnOk, Some, true};
 ghost use Rattle.job_suite.specs.Reach.{is_printed};
 ghost use Rattle.job_suite.specs.Rows.{wanted_of};
-ghost use Rattle.job_suite.specs.Trials.{AreTrials, IsMet, IsMetByRun, IsTrial, IsVerdict};
-ghost use Rattle.job_suite.specs.declared.rows.Wanted.TheVariants.{Stopped};
+ghost use Rattle.job_suite.specs.Checks.{GoesOn};
+ghost use Rattle.job_suite.specs.Trials.{AreTrials, HasCome, IsMet, IsTrial};
 
-use crate::checks::{Check, placed};
+use crate::checks::placed;
+use crate::comings::{Came, fits};
 use crate::drafts::{Asker, Draft, Shape};
 use crate::judges::Judges;
 use crate::ranges::Range;
 use crate::reach::is_printed;
 use crate::rows::{Row, Wanted};
-use rmap::{Command, Status, Windows, body_fault};
+use rmap::{Command, Place, Windows, body_fault};
 use spw::Packet;
 use std::alloc::{AllocError, Global};
 
@@ -40,65 +41,33 @@ pub struct Bench {
     pub loads: bool,
 }
 
-/// Whether a status was found, and is this one.
-fn is_status(found: Option<Status>, status: Status) -> bool
-    ensures { IsTrue result → found ≡ Some status }
-{
-    match found {
-        Some(own) => own == status,
-        None => false,
-    }
-}
-
-/// Whether a command that has that verdict meets what is wanted.
-fn is_met_by_run(command: &Command, verdict: u64, wanted: Wanted) -> bool
-    ensures { IsTrue result → IsMetByRun command.now verdict wanted }
-{
-    match wanted {
-        Wanted::Stopped(_) => false,
-        Wanted::Brought => true,
-        Wanted::Judged(number) => verdict == number,
-        Wanted::Spoilt(status) => verdict == 0 && is_status(body_fault(command), status),
-        Wanted::Whole => verdict == 0 && body_fault(command).is_none(),
-    }
-}
-
-/// Whether a packet that a check before the program stops meets what is wanted.
-fn is_met_by_check(check: Check, wanted: Wanted) -> bool
-    ensures { IsTrue result → wanted ≡ Stopped check }
-{
-    match wanted {
-        Wanted::Stopped(line) => line == check,
-        Wanted::Brought | Wanted::Judged(_) | Wanted::Spoilt(_) | Wanted::Whole => false,
-    }
-}
-
 impl Bench {
+    /// What the command of a packet comes to that has this place.
+    fn judged(&self, alloc: Global, packet: &Packet, place: Place) -> Result<Came, AllocError>
+        requires { GoesOn self.now.windows packet.now place }
+        ensures { IfOk result (HasCome self.now packet.now) }
+    {
+        let command = Command::again(packet);
+        let verdict = self.judges.verdict(alloc, &command, place)?;
+        Ok(Came::Judged(verdict, body_fault(&command)))
+    }
+
+    /// What a packet comes to.
+    pub fn come(&self, alloc: Global, packet: &Packet) -> Result<Came, AllocError>
+        ensures { IfOk result (HasCome self.now packet.now) }
+    {
+        match placed(packet, &self.windows) {
+            Ok(place) => self.judged(alloc, packet, place),
+            Err(check) => Ok(Came::Stopped(check)),
+        }
+    }
+
     /// Whether a packet meets what is wanted.
     pub fn is_met(&self, alloc: Global, packet: &Packet, wanted: Wanted) -> Result<bool, AllocError>
         ensures { IfOk result (λ met. IsTrue met → IsMet self.now packet.now wanted) }
     {
-        match placed(packet, &self.windows) {
-            Err(check) => Ok(is_met_by_check(check, wanted)),
-            Ok(place) => {
-                let command = Command::again(packet);
-                let verdict = self.judges.verdict(alloc, &command, place)?;
-                Ok(is_met_by_run(&command, verdict, wanted))
-            }
-        }
-    }
-
-    /// The verdict on the command of a packet, if it comes to its program.
-    pub fn verdict(&self, alloc: Global, packet: &Packet) -> Result<Option<u64>, AllocError>
-        ensures { IfOk result (λ came. IfSome came (IsVerdict self.now packet.now)) }
-    {
-        match placed(packet, &self.windows) {
-            Err(_) => Ok(None),
-            Ok(place) => {
-                let command = Command::again(packet);
-                Ok(Some(self.judges.verdict(alloc, &command, place)?))
-            }
-        }
+        let came = self.come(alloc, packet)?;
+        Ok(fits(came, wanted))
     }
 
     /// Whether a packet meets its row, and may be printed.
