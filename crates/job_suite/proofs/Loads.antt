@@ -1,9 +1,13 @@
 -- Programs that are loaded, one more at a time.
 use Rattle.std.proofs.Common.{◌≡◌, ◌<◌, ◌+◌, ◌++◌, ◌∷◌, ◌∙◌, ℕ, List, [], length, map, take, get_or, ap, ap₂, sym}
 use Rattle.std.proofs.lemmas.List.{map_push, take_more}
-use Rattle.job_config.specs.OwnNodes.{LoadValue}
+use Rattle.job_config.specs.OwnNodes.{LoadValue, load}
 use Rattle.job_suite.specs.Judges.{load_of}
 use Rattle.job_suite.specs.declared.judges.Loaded.{Loaded}
+
+-- a load of this slot and these bytes
+pub load_is : (l : LoadValue) (slot : ℕ) (image : List ℕ) → slot ≡ l.slot → image ≡ l.image → load slot image ≡ l
+load_is l slot image at is = ap₂ load at is
 
 -- one more program, of the load at that index
 pub one_more_load : (loads : List LoadValue) (i : ℕ) (d : LoadValue) (old new : List Loaded) (own : Loaded) → i < length loads

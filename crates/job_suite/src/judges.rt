@@ -1,6 +1,7 @@
 //! The programs that judge at a node before its first packet, and their verdicts on cells that nobody asked.
 
 ghost use Rattle.std.specs.Prelude.{◌≡◌, ◌<◌, IfOk, map};
+ghost use Rattle.bpf.specs.Program.{image_bytes};
 ghost use Rattle.node_parts.specs.Slots.{slot_of};
 ghost use Rattle.rmap.specs.Command.{command_kind};
 ghost use Rattle.job_suite.specs.Judges.{AreJudges, HasAnswered, judge_among, judge_behind, judge_of, load_of};
@@ -9,7 +10,7 @@ use bpf::Image;
 use brun::run;
 use bver::{Accepted, verify};
 use job_config::own_node::{OwnLoad, OwnNode};
-use machine::STACK_SIZE;
+use machine::{MapSizes, STACK_SIZE};
 use node_parts::slot;
 use plain_cells::PlainCells;
 use rmap::{Command, Place};
@@ -33,13 +34,33 @@ pub struct Judges {
     pub loaded: Vec<Loaded>,
 }
 
+/// The image that bytes spell. Memory alone can be refused to it: the node was made, and so each load was carried out.
+fn image_of(alloc: Global, bytes: &[u8]) -> Result<Image, AllocError>
+    ensures { IfOk result (λ image. image_bytes image ≡ bytes.now) }
+{
+    match Image::read(alloc, bytes) {
+        Ok(image) => Ok(image),
+        Err(_) => Err(AllocError),
+    }
+}
+
+/// The program that bytes spell, for a node with these maps. Memory alone can be refused to it, too.
+fn program_of(alloc: Global, bytes: &[u8], sizes: &MapSizes) -> Result<Accepted, AllocError>
+    ensures { IfOk result (λ program. image_bytes program.program ≡ bytes.now) }
+{
+    let image = image_of(alloc, bytes)?;
+    match verify(alloc, image, sizes) {
+        Ok(program) => Ok(program),
+        Err(_) => Err(AllocError),
+    }
+}
+
 /// The program of a load, for a node with the maps of this program.
+#[tactic(auto, using(crate::proofs::Loads::load_is))]
 fn load_in(alloc: Global, first: &Accepted, load: &OwnLoad) -> Result<Loaded, AllocError>
     ensures { IfOk result (λ loaded. load_of loaded ≡ load.now) }
 {
-    // Memory alone can be refused to these: the node was made, and so the load was carried out.
-    let image = Image::read(alloc, load.image()).map_err(|_| AllocError)?;
-    let program = verify(alloc, image, &first.sizes()).map_err(|_| AllocError)?;
+    let program = program_of(alloc, load.image(), &first.sizes())?;
     Ok(Loaded {
         slot: load.slot(),
         program,

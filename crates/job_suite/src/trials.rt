@@ -43,6 +43,7 @@ pub struct Bench {
 
 impl Bench {
     /// What the command of a packet comes to that has this place.
+    #[tactic(auto, using(crate::proofs::Meeting::verdict_of))]
     fn judged(&self, alloc: Global, packet: &Packet, place: Place) -> Result<Came, AllocError>
         requires { GoesOn self.now.windows packet.now place }
         ensures { IfOk result (HasCome self.now packet.now) }
@@ -63,6 +64,7 @@ impl Bench {
     }
 
     /// Whether a packet meets what is wanted.
+    #[tactic(auto, using(crate::proofs::Meeting::meets_wanted))]
     pub fn is_met(&self, alloc: Global, packet: &Packet, wanted: Wanted) -> Result<bool, AllocError>
         ensures { IfOk result (λ met. IsTrue met → IsMet self.now packet.now wanted) }
     {
