@@ -19,9 +19,13 @@ pub record WritesRange (part : List ℕ) (range : Range) : Type 0 where
   pub high : WritesHex 8 (after_first is_dash (after_first is_colon part)) range.high
   pub ordered : range.low ≤ range.high
 
--- it writes some range
-abbrev pub IsRange : List ℕ → Type 0
-IsRange part = Has (WritesRange part)
+-- it writes some range: each of its three words writes a number, and none that LOW writes is above one that HIGH writes
+pub record IsRange (part : List ℕ) : Type 0 where
+  pub extended : Has (WritesHex 2 (before_first is_colon part))
+  pub low : Has (WritesHex 8 (before_first is_dash (after_first is_colon part)))
+  pub high : Has (WritesHex 8 (after_first is_dash (after_first is_colon part)))
+  pub ordered : (low high : ℕ) → WritesHex 8 (before_first is_dash (after_first is_colon part)) low
+      → WritesHex 8 (after_first is_dash (after_first is_colon part)) high → low ≤ high
 
 -- each part of a list writes its range
 abbrev pub WriteRanges : (parts : List (List ℕ)) → List Range → Type 0

@@ -44,14 +44,21 @@ fn at_dash(part: &str) -> (&str, &str)
 }
 
 /// The range that a part of a list writes: `HH:LOW-HIGH`, all in hexadecimal digits, LOW not above HIGH.
+#[tactic(auto, using(crate::proofs::RangeLists::no_extended, crate::proofs::RangeLists::no_low, crate::proofs::RangeLists::no_high, crate::proofs::RangeLists::no_order))]
 fn range_written(part: &str) -> Option<Range>
     ensures { MatchOption result (¬ IsRange part.now) (WritesRange part.now) }
 {
     let (before, behind) = at_colon(part);
     let (first, last) = at_dash(behind);
-    let extended = hex_written(before, 2)?;
-    let low = hex_written(first, 8)?;
-    let high = hex_written(last, 8)?;
+    let Some(extended) = hex_written(before, 2) else {
+        return None;
+    };
+    let Some(low) = hex_written(first, 8) else {
+        return None;
+    };
+    let Some(high) = hex_written(last, 8) else {
+        return None;
+    };
     if low > high {
         return None;
     }
