@@ -39,16 +39,17 @@ fn last_of(instruction: u8, address: u32, length: u32) -> u64
 }
 
 /// The twelve bytes from that place on. The condition is that there are so many.
-fn tail_at(bytes: &[u8], place: usize) -> &[u8; 12]
+fn tail_at(bytes: &[u8], place: usize) -> &[u8]
     requires { place + 12 ≤ length bytes.now }
     ensures value { result.now ≡ take 12 (drop place bytes.now) }
     ensures len { length result.now ≡ 12 }
 {
-    bytes.split_at(place).1.split_first_chunk::<12>().unwrap().0
+    &bytes[place..][..12]
 }
 
-/// The memory that a header might change, which has this instruction and these last bytes.
-fn reach_in(instruction: u8, tail: &[u8; 12]) -> Reach
+/// The memory that a header might change, which has this instruction and these last twelve bytes.
+fn reach_in(instruction: u8, tail: &[u8]) -> Reach
+    requires { length tail.now ≡ 12 }
     ensures { result ≡ reach_in instruction tail.now }
 {
     let address = BigEndian::read_u32(&tail[4..]);
