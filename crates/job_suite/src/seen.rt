@@ -56,7 +56,7 @@ impl Seen {
         if offset < 0 {
             self.bytes = [true; BYTES];
         } else {
-            self.note(start + offset as usize, count);
+            self.note(start.saturating_add(offset as usize), count);
         }
     }
 

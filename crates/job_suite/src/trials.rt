@@ -138,6 +138,7 @@ impl Bench {
     }
 
     /// Adds a packet, if there is one.
+    #[tactic(auto, using(crate::proofs::TrialLists::one_more_trial))]
     fn add(&self, trials: &mut Vec<Trial>, came: Option<Trial>) -> Result<(), AllocError>
         requires trials { AreTrials self.now trials.old.items }
         requires came { IfSome came (IsTrial self.now) }
