@@ -1,10 +1,10 @@
 //! The rows of commands that are carried out.
 
+use crate::bodies::look;
+use crate::headers::plain_length;
 use crate::maker::{
     Area, Maker, READ, READ_ONE, RMW, WRITE, WRITE_ONE, WRITE_SILENT, WRITE_VERIFIED,
 };
-use crate::bodies::look;
-use crate::headers::plain_length;
 use crate::rows::Row;
 use std::alloc::{AllocError, Global};
 

@@ -363,7 +363,10 @@ fn codes_of(alloc: Global, slot: u8) -> Result<Vec<u32>, AllocError> {
     let (read, write, rmw) = (u32::from(READ), u32::from(WRITE), u32::from(RMW));
     match slot {
         0 => Vec::from_slice(alloc, &[read, u32::from(READ_ONE)]),
-        1 => Vec::from_slice(alloc, &[write, u32::from(WRITE_ONE), u32::from(WRITE_VERIFIED)]),
+        1 => Vec::from_slice(
+            alloc,
+            &[write, u32::from(WRITE_ONE), u32::from(WRITE_VERIFIED)],
+        ),
         2 => Vec::from_slice(alloc, &[rmw]),
         _ => Vec::from_slice(alloc, &[read, write, rmw]),
     }
