@@ -95,7 +95,7 @@ word_of rows.BootWindow = codes "boot-window"
 word_of rows.Load = codes "load"
 
 -- all rows, each verdict of a program as one
-pub all_rows : List Row
+abbrev pub all_rows : List Row
 all_rows =
     rows.Short ∷ rows.ShortBeforeProtocol ∷ rows.Protocol ∷ rows.ProtocolBeforeReplyType ∷ rows.ProtocolBeforeShort ∷
     rows.ReplyType ∷ rows.ReplyTypeBeforeShort ∷ rows.ReplyTypeBeforeHeaderCrc ∷ rows.HeaderCrc ∷

@@ -31,6 +31,15 @@ pub struct Seen {
     bases: [bool; REGISTERS],
 }
 
+/// The place of a region's first byte among those of a header; none for the stack.
+fn start_of(region: Option<Region>) -> Option<usize> {
+    match region {
+        Some(Region::Front) => Some(0),
+        Some(Region::Tail) => Some(4),
+        Some(Region::Stack) | None => None,
+    }
+}
+
 impl Seen {
     /// None.
     fn none() -> Seen {
@@ -71,13 +80,10 @@ impl Seen {
     /// Notes what an instruction loads, if it loads from that region.
     fn note_insn(&mut self, insn: Insn, region: Option<Region>) {
         if let Insn::Load { size, place, .. } = insn {
-            let count = size.bytes();
-            match region {
-                Some(Region::Front) => self.note_load(0, place.offset, count),
-                Some(Region::Tail) => self.note_load(4, place.offset, count),
-                Some(Region::Stack) | None => return,
+            if let Some(start) = start_of(region) {
+                self.note_load(start, place.offset, size.bytes());
+                self.note_base(place.base.number());
             }
-            self.note_base(place.base.number());
         }
     }
 
