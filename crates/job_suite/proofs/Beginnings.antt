@@ -8,7 +8,7 @@ pub no_beginnings : (parts : List (List ℕ)) (place : ℕ) (part : List ℕ) �
     → is_beginning part ≡ false → ¬ All (λ p. is_beginning p ≡ true) parts
 no_beginnings parts place part inside is none = λ all.
     let yes : is_beginning part ≡ true =
-        subst (λ p. is_beginning p ≡ true) (sym is) (All-get_or (λ p. is_beginning p ≡ true) parts place part inside all) in
+    subst (λ p. is_beginning p ≡ true) (sym is) (All-get_or (λ p. is_beginning p ≡ true) parts place part inside all) in
     cc (none, yes)
 
 -- one more part

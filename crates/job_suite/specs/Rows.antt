@@ -1,5 +1,5 @@
 -- What a packet of a row must meet, and how a row is named.
-use Rattle.std.specs.Prelude.{ℕ, Bool, true, false, ◌||◌, if◌then◌else◌, List, [], ◌∷◌, codes, nat_eq}
+use Rattle.std.specs.Prelude.{ℕ, ◌==◌, Bool, true, false, ◌||◌, if◌then◌else◌, List, [], ◌∷◌, codes, length, nat_eq}
 use Rattle.std.specs.List.{starts_with}
 use Rattle.rmap.specs.declared.status.Status.TheVariants.{ErrorEndOfPacket, EarlyEndOfPacket, TooMuchData, InvalidDataCrc}
 use Rattle.job_suite.specs.declared.checks.Check.TheVariants as checks
@@ -111,6 +111,6 @@ abbrev pub is_beginning_among : List Row → (word : List ℕ) → Bool
 is_beginning_among [] word = false
 is_beginning_among (row ∷ more) word = if starts_with nat_eq (word_of row) word then true else is_beginning_among more word
 
--- the names of some rows may begin so
+-- the names of some rows may begin so; no letters begin none
 abbrev pub is_beginning : (word : List ℕ) → Bool
-is_beginning word = starts_with nat_eq word (codes "program-") || is_beginning_among all_rows word
+is_beginning word = if length word == 0 then false else starts_with nat_eq word (codes "program-") || is_beginning_among all_rows word

@@ -4,7 +4,8 @@ use crate::drafts::{COMMAND, Shape};
 use crate::rows::{Row, name_of};
 use crate::search::Findings;
 use crate::trials::Trial;
-use rmap::{Instruction, Kind, PROTOCOL};
+use initiator::RMW_CODE;
+use rmap::{BOOT_WINDOW, Instruction, Kind, PROTOCOL};
 use spw::End;
 use std::alloc::{AllocError, Global};
 
@@ -113,19 +114,6 @@ fn add_trial(
     writeln!(text)
 }
 
-/// Adds a line for each verdict of a slot that no packet was found to have.
-fn add_missing(text: &mut String, findings: &Findings, slot: u8) -> Result<(), AllocError> {
-    for verdict in [0_u64, 3, 10, 12] {
-        if !findings.has(slot, verdict) {
-            writeln!(
-                text,
-                "- program-{verdict} no packet was found for slot {slot}"
-            )?;
-        }
-    }
-    Ok(())
-}
-
 /// Adds the index of these packets.
 fn add_trials(
     alloc: Global,
@@ -141,19 +129,53 @@ fn add_trials(
     Ok(())
 }
 
-/// The index of these packets, for a node of that logical address, and then what was not found.
-pub fn index_of(
-    alloc: Global,
-    address: u8,
-    trials: &[Trial],
-    findings: &Findings,
-) -> Result<String, AllocError> {
+/// The index of these packets, for a node of that logical address.
+pub fn index_of(alloc: Global, address: u8, trials: &[Trial]) -> Result<String, AllocError> {
     let mut text = String::new(alloc);
     add_trials(alloc, &mut text, address, trials)?;
-    for slot in 0..4_u8 {
-        add_missing(&mut text, findings, slot)?;
-    }
     Ok(text)
+}
+
+/// The slot of a command's program.
+fn slot_of(shape: &Shape) -> u8 {
+    if shape.extended == BOOT_WINDOW {
+        3
+    } else if shape.code >= 8 {
+        1
+    } else if shape.code == RMW_CODE {
+        2
+    } else {
+        0
+    }
+}
+
+/// Whether a packet is of the row of a verdict, and for a slot.
+fn is_judged(verdict: u64, slot: u8, trials: &[Trial]) -> bool {
+    for trial in trials {
+        if trial.row == Row::Program(verdict) && slot_of(&trial.shape) == slot {
+            return true;
+        }
+    }
+    false
+}
+
+/// Adds a line if no packet is of the row of a verdict and for a slot: none was found, or it may not be printed.
+pub fn add_missing_verdict(
+    text: &mut String,
+    findings: &Findings,
+    trials: &[Trial],
+    slot: u8,
+    verdict: u64,
+) -> Result<(), AllocError> {
+    if is_judged(verdict, slot, trials) {
+        return Ok(());
+    }
+    let why = if findings.has(slot, verdict) {
+        "may be printed"
+    } else {
+        "was found"
+    };
+    writeln!(text, "- program-{verdict} no packet {why} for slot {slot}")
 }
 
 /// Whether a packet is of a row.

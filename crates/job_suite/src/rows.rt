@@ -1,7 +1,7 @@
 //! The rows of a suite: what a packet tries, and what it must meet.
 
 ghost use Rattle.std.specs.Prelude.{◌≡◌};
-ghost use Rattle.job_suite.specs.Rows.{begins_program, is_beginning, is_beginning_among, wanted_of, word_of};
+ghost use Rattle.job_suite.specs.Rows.{is_beginning, is_beginning_among, wanted_of, word_of};
 
 use crate::checks::Check;
 use rmap::Status;
@@ -263,9 +263,12 @@ fn is_beginning_among(rows: &[Row], word: &str) -> bool
     false
 }
 
-/// Whether the names of some rows may begin so.
+/// Whether the names of some rows may begin so; no letters begin none.
 pub fn is_beginning(word: &str) -> bool
     ensures { result ≡ is_beginning word.now }
 {
+    if word.is_empty() {
+        return false;
+    }
     word.as_bytes().starts_with(b"program-") || is_beginning_among(&ROWS, word)
 }

@@ -140,7 +140,7 @@ impl Seen {
 /// The number of an operand.
 fn operand_number(operand: Operand) -> Option<u64> {
     match operand {
-        Operand::Immediate(number) => Some(u64::from(number as u32)),
+        Operand::Immediate(number) => Some(u64::from(number.cast_unsigned())),
         Operand::FromRegister(_) => None,
     }
 }

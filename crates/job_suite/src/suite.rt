@@ -15,7 +15,7 @@ use crate::charted::Chart;
 use crate::drafts::Draft;
 use crate::effects::effect_rows;
 use crate::headers::header_rows;
-use crate::index::{add_missing_row, index_of, is_there};
+use crate::index::{add_missing_row, add_missing_verdict, index_of, is_there};
 use crate::judges::Judges;
 use crate::maker::{Area, Maker};
 use crate::pairs::{body_pairs, header_pairs};
@@ -206,6 +206,24 @@ fn is_wanted(alloc: Global, words: &SuiteWords, row: Row) -> Result<bool, AllocE
     Ok(name.starts_with(words.rows.as_str()) && !is_left_out(name, words.without.as_str()))
 }
 
+/// Adds a line for each verdict of which the words name the row, and for each slot that has no packet of it.
+fn add_missing_verdicts(
+    text: &mut String,
+    alloc: Global,
+    words: &SuiteWords,
+    trials: &[Trial],
+    findings: &Findings,
+) -> Result<(), AllocError> {
+    for verdict in [0_u64, 3, 10, 12] {
+        if is_wanted(alloc, words, Row::Program(verdict))? {
+            for slot in 0..4_u8 {
+                add_missing_verdict(text, findings, trials, slot, verdict)?;
+            }
+        }
+    }
+    Ok(())
+}
+
 /// Adds a line for each row that the words name and of which there is no packet.
 fn add_missing_rows(
     text: &mut String,
@@ -311,7 +329,8 @@ fn text_of(
         → string_bytes text ≡ lines_of trials.now) }
 {
     if words.index {
-        let mut text = index_of(alloc, address, trials, findings)?;
+        let mut text = index_of(alloc, address, trials)?;
+        add_missing_verdicts(&mut text, alloc, words, trials, findings)?;
         add_missing_rows(&mut text, alloc, words, trials)?;
         Ok(text)
     } else {
