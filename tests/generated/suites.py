@@ -126,6 +126,7 @@ def tabled(random: Random, room: Room, seen: Counter[str]) -> None:
         why = look(node, row, packet)
         if why:
             raise Differs(f"{row}: {why}: {line}")
+        seen[row] += 1
         if row.startswith("program-") and "+" not in row:
             came.add((slot_of(packet), int(row.removeprefix("program-"))))
     missing = verdicts_of(node, rules) - came
