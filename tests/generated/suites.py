@@ -112,14 +112,8 @@ def verdicts_of(node: OwnNode, rules: list[Rule]) -> set[tuple[int, int]]:
     return {(slot_of(packet), decide(rules, packet, lambda *_: 0)) for packet in commands() if node.header_status(packet) is None}
 
 
-def tabled(random: Random, room: Room, seen: Counter[str]) -> None:
-    """The suite of a node whose programs are the image of a table."""
-    rules = [rule(random) for _ in range(random.randrange(7))]
-    room.put("own.policy", "".join(own.text() for own in rules))
-    room.printed("policy", "own.policy", "image", "--final", "--maps", ",".join(map(str, CELLS)))
-    room.put("node.toml", 'program = "image"\n' + "".join(f"[[map]]\ncells = {cells}\n" for cells in CELLS))
-    node = OwnNode(0xFE, 1, [Bank(BASE, SIZE, 1024, bytearray(SIZE))], MAPS, parsed(room.content("image") or b""))
-    lines, rows = same_suite(room, "--table", "all:own.policy", "--loads", "--within", "0:0-FFFFFFFF", "--seed", str(random.randrange(100)))
+def met(node: OwnNode, seen: Counter[str], lines: list[str], rows: list[str]) -> set[tuple[int, int]]:
+    """The slots and verdicts of the rows of programs, if each packet meets its row."""
     came = set()
     for line, row in zip(lines, rows):
         packet = packet_of(line)
@@ -129,9 +123,22 @@ def tabled(random: Random, room: Room, seen: Counter[str]) -> None:
         seen[row] += 1
         if row.startswith("program-") and "+" not in row:
             came.add((slot_of(packet), int(row.removeprefix("program-"))))
+    return came
+
+
+def tabled(random: Random, room: Room, seen: Counter[str]) -> None:
+    """The suite of a node whose programs are the image of a table."""
+    rules = [rule(random) for _ in range(random.randrange(7))]
+    room.put("own.policy", "".join(own.text() for own in rules))
+    room.printed("policy", "own.policy", "image", "--final", "--maps", ",".join(map(str, CELLS)))
+    room.put("node.toml", 'program = "image"\n' + "".join(f"[[map]]\ncells = {cells}\n" for cells in CELLS))
+    node = OwnNode(0xFE, 1, [Bank(BASE, SIZE, 1024, bytearray(SIZE))], MAPS, parsed(room.content("image") or b""))
+    words = ("--loads", "--within", "0:0-FFFFFFFF", "--seed", str(random.randrange(100)))
+    came = met(node, seen, *same_suite(room, "--table", "all:own.policy", *words))
     missing = verdicts_of(node, rules) - came
     if missing:
         raise Differs(f"no packet of these slots and verdicts: {sorted(missing)}")
+    met(node, seen, *same_suite(room, *words))
     seen["tables"] += 1
     seen["verdicts by tables"] += len(came)
 
