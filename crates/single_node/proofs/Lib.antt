@@ -1,4 +1,5 @@
 mod Slots
+mod Placing
 mod Judging
 mod Serving
 mod Making
