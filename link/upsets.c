@@ -327,7 +327,7 @@ static struct answer serve(const struct packet *packet) {
   memset(&answer, 0, sizeof answer);
   answer.code = sandbar_serve(node, packet->port, packet->bytes, packet->length, packet->end, reply, SANDBAR_MAX_REPLY,
                               &answer.served);
-  if (each != 0) answer.served.generation = 0;
+  if (each != 0) answer.served.generation = 0, answer.served.found = 0;
   uint32_t length = answer.served.reply_length;
   if (length > SANDBAR_MAX_REPLY) length = 0;
   last_reply = length;
