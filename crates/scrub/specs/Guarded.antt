@@ -18,6 +18,7 @@ use Rattle.scrub.specs.declared.guard.Guard.{Guard}
 use Rattle.scrub.specs.declared.guard.Health.{Health}
 use Rattle.scrub.specs.declared.guard.Health.TheVariants.{Whole, Mended, Unmended, Withdrawn}
 use Rattle.scrub.specs.declared.guard.Scrubbed.{Scrubbed}
+use Rattle.scrub.specs.declared.guard.Seen.{Seen}
 use Rattle.scrub.specs.declared.kept.SlotSums.{SlotSums}
 use Rattle.scrub.specs.Counting.{agrees, counted, counting_of, is_due, is_on, renewed}
 use Rattle.scrub.specs.Damage.{sizes_sum}
@@ -73,6 +74,11 @@ pub record IsPublishedAs (slot sum : ℕ) (before after : Watched) : Type 0 wher
   pub program : AcceptedValue
   pub shown : program_at before.node.programs slot ≡ Some program
   pub after_is : after ≡ with_made before slot program sum
+
+-- the same, if it could be published; else nothing changed, since no more programs can be
+abbrev pub PublishesAs : (is_published : Bool) → (slot sum : ℕ) → (before after : Watched) → Type 0
+PublishesAs true slot sum before after = IsPublishedAs slot sum before after
+PublishesAs false slot sum before after = (after ≡ before) × (2 ^ 32 ≤ length before.node.programs)
 
 -- the slot's last program, whose operations were made again of its own image, has a sum that is kept, and was published once more
 pub record IsRenewed (slot : ℕ) (kept : SlotSums) (before after : Watched) : Type 0 where
@@ -153,31 +159,28 @@ abbrev pub RepairsUnless : (whole : Bool) → Health → (slot : ℕ) → (image
 RepairsUnless true health slot image before after = (health ≡ Whole) × (after ≡ before)
 RepairsUnless false health slot image before after = Repairs health slot image before after
 
--- a look at the four slots, one after the other, which finds that
-pub record Looks (reads writes rmws window : Bool) (before after : Watched) : Type 0 where
+-- a look at the four slots, one after the other
+pub record Looks (seen : Seen) (before after : Watched) : Type 0 where
   pub one : Watched
   pub two : Watched
   pub three : Watched
-  pub reads_are : LooksAt reads 0 before one
-  pub writes_are : LooksAt writes 1 one two
-  pub rmws_are : LooksAt rmws 2 two three
-  pub window_is : LooksAt window 3 three after
+  pub reads : LooksAt seen.reads 0 before one
+  pub writes : LooksAt seen.writes 1 one two
+  pub rmws : LooksAt seen.rmws 2 two three
+  pub window : LooksAt seen.window 3 three after
 
 -- a scrub of the four slots: a look at all of them, and then each that was found damaged is repaired, one after the other
 pub record Scrubs (told : Scrubbed) (image : List ℕ) (before after : Watched) : Type 0 where
-  pub reads : Bool
-  pub writes : Bool
-  pub rmws : Bool
-  pub window : Bool
-  pub seen : Watched
+  pub seen : Seen
+  pub between : Watched
   pub one : Watched
   pub two : Watched
   pub three : Watched
-  pub looks : Looks reads writes rmws window before seen
-  pub reads_are : RepairsUnless reads told.reads 0 image seen one
-  pub writes_are : RepairsUnless writes told.writes 1 image one two
-  pub rmws_are : RepairsUnless rmws told.rmws 2 image two three
-  pub window_is : RepairsUnless window told.window 3 image three after
+  pub looks : Looks seen before between
+  pub reads : RepairsUnless seen.reads told.reads 0 image between one
+  pub writes : RepairsUnless seen.writes told.writes 1 image one two
+  pub rmws : RepairsUnless seen.rmws told.rmws 2 image two three
+  pub window : RepairsUnless seen.window told.window 3 image three after
 
 -- how the program of a slot was found; of a slot that there is not nothing is said
 abbrev pub health_at : Scrubbed → (slot : ℕ) → Health

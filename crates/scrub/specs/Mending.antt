@@ -30,6 +30,17 @@ pub data IsNoProgram (sizes : Maps) (image : List ℕ) : Type 0 where
   unspelled : (fault : ImageFault) → fault ≢ faults.Memory → Fails fault (image_reading image) → IsNoProgram sizes image
   refused : IsUnjustifiedIn sizes image → IsNoProgram sizes image
 
+-- what a fault of the image that is lent comes to
+abbrev pub read_fault : ImageFault → MendFault
+read_fault faults.Memory = Memory
+read_fault faults.Magic = Image
+read_fault faults.Version = Image
+read_fault faults.Length = Image
+read_fault faults.Count = Image
+read_fault faults.Budget = Image
+read_fault faults.Loop = Image
+read_fault (faults.Insn slot fault) = Image
+
 -- why no program was read: memory is refused only if there are bytes
 abbrev pub IsUnread : Maps → (image : List ℕ) → MendFault → Type 0
 IsUnread sizes image Memory = image ≢ []

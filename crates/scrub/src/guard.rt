@@ -8,7 +8,7 @@ ghost use Rattle.rmap.specs.Command.{discard_of};
 ghost use Rattle.single_node.specs.Nodes.{slot_in};
 ghost use Rattle.scrub.specs.Counting.{agrees, counted, is_due, is_on, renewed};
 ghost use Rattle.scrub.specs.Damage.{sizes_sum};
-ghost use Rattle.scrub.specs.Guarded.{IsGuardOf, IsInstalled, IsLentTo, IsPublishedAs, IsRemade, IsUnmended, LooksAt, Repairs, RepairsUnless, ScrubsFirst, ScrubsSlot, Scrubs, beside, health_at, health_by, scrubbing_each, with_all, with_counting, with_sums};
+ghost use Rattle.scrub.specs.Guarded.{IsGuardOf, IsInstalled, IsLentTo, IsRemade, IsUnmended, Looks, LooksAt, PublishesAs, Repairs, RepairsUnless, ScrubsFirst, ScrubsSlot, Scrubs, beside, health_at, health_by, scrubbing_each, with_all, with_counting, with_sums};
 ghost use Rattle.scrub.specs.Kept.{AreFresh, AreGenerations, Follow, FollowAt, closed_in, is_withheld};
 
 use crate::counting::Counting;
@@ -47,6 +47,19 @@ pub struct Scrubbed {
     pub rmws: Health,
     /// That for the boot window, of slot 3.
     pub window: Health,
+}
+
+/// Whether the program of each slot was found whole.
+#[derive(Clone, Copy, Debug, PartialEq, Eq)]
+pub struct Seen {
+    /// That of slot 0.
+    pub reads: bool,
+    /// That of slot 1.
+    pub writes: bool,
+    /// That of slot 2.
+    pub rmws: bool,
+    /// That of slot 3.
+    pub window: bool,
 }
 
 /// What a scrub before a packet found.
@@ -216,26 +229,17 @@ impl Guard {
         Ok(generation)
     }
 
-    /// Publishes the program of a slot for it once more, with that sum.
-    fn publish_renewed(
-        &mut self,
-        node: &mut SingleNode,
-        slot: u8,
-        sum: u64,
-    ) -> Result<(), MendFault>
+    /// Publishes the program of a slot for it once more, with that sum: whether it could be published.
+    fn publish_renewed(&mut self, node: &mut SingleNode, slot: u8, sum: u64) -> bool
         requires { slot < 4 }
-        ensures again { OnOk result
-            (IsPublishedAs slot sum (beside self.old node.old) (beside self.new node.new)) }
-        ensures same { OnErr result (beside self.new node.new ≡ beside self.old node.old) }
-        ensures full { OnErr result (2 ^ 32 ≤ length node.old.programs) }
-        ensures fault { IfErr result (λ fault. fault ≡ MendFault.Full) }
+        ensures { PublishesAs result slot sum (beside self.old node.old) (beside self.new node.new) }
     {
         match node.publish_again(slot) {
             Ok(_generation) => {
                 self.keep(slot, SlotSums::of(sum));
-                Ok(())
+                true
             }
-            Err(_full) => Err(MendFault::Full),
+            Err(_full) => false,
         }
     }
 
@@ -288,10 +292,14 @@ impl Guard {
     {
         node.renew(slot);
         let sum = program_sum(node.program(slot));
-        if kept.has(sum) {
-            return self.publish_renewed(node, slot, sum);
+        if !kept.has(sum) {
+            self.publish_lent(node, alloc, slot, image, kept)?;
+            return Ok(());
         }
-        self.publish_lent(node, alloc, slot, image, kept)
+        if self.publish_renewed(node, slot, sum) {
+            return Ok(());
+        }
+        Err(MendFault::Full)
     }
 
     /// From now on scrubs the program that judges a packet before each packet of so many; before none where it is 0.
@@ -316,8 +324,24 @@ impl Guard {
         false
     }
 
+    /// Looks at the programs of the four slots, one after the other.
+    fn look_at_all(&mut self, node: &SingleNode) -> Seen
+        ensures { Looks result (beside self.old node.now) (beside self.new node.now) }
+    {
+        let reads = self.look(node, 0);
+        let writes = self.look(node, 1);
+        let rmws = self.look(node, 2);
+        let window = self.look(node, 3);
+        Seen {
+            reads,
+            writes,
+            rmws,
+            window,
+        }
+    }
+
     /// Mends the program of a slot that was found damaged, or withdraws the slot. The condition is a slot below 4.
-    #[tactic(auto, using(crate::proofs::Mending::repairs_by))]
+    #[tactic(auto, using(crate::proofs::Serving::remade_banks, crate::proofs::Serving::remade_ports, crate::proofs::Mending::repairs_by))]
     fn repair(
         &mut self,
         node: &mut SingleNode,
@@ -369,14 +393,11 @@ impl Guard {
         ensures banks { node.new.banks ≡ node.old.banks }
         ensures ports { node.new.passes ≡ node.old.passes }
     {
-        let reads = self.look(node, 0);
-        let writes = self.look(node, 1);
-        let rmws = self.look(node, 2);
-        let window = self.look(node, 3);
-        let reads = self.repair_unless(node, alloc, 0, image, reads);
-        let writes = self.repair_unless(node, alloc, 1, image, writes);
-        let rmws = self.repair_unless(node, alloc, 2, image, rmws);
-        let window = self.repair_unless(node, alloc, 3, image, window);
+        let seen = self.look_at_all(node);
+        let reads = self.repair_unless(node, alloc, 0, image, seen.reads);
+        let writes = self.repair_unless(node, alloc, 1, image, seen.writes);
+        let rmws = self.repair_unless(node, alloc, 2, image, seen.rmws);
+        let window = self.repair_unless(node, alloc, 3, image, seen.window);
         Scrubbed {
             reads,
             writes,

@@ -1,7 +1,7 @@
 //! The program of an image that is lent.
 
-ghost use Rattle.std.specs.Prelude.{IfErr, IfOk};
-ghost use Rattle.scrub.specs.Mending.{IsLentFor, IsReadFrom, IsUnlent, IsUnread};
+ghost use Rattle.std.specs.Prelude.{◌≡◌, IfErr, IfOk};
+ghost use Rattle.scrub.specs.Mending.{IsLentFor, IsReadFrom, IsUnlent, IsUnread, read_fault};
 
 use crate::kept::SlotSums;
 use crate::op_sums::program_sum;
@@ -20,9 +20,25 @@ pub enum MendFault {
     Full,
 }
 
+/// What a fault of the image that is lent comes to.
+fn read_fault(fault: ImageFault) -> MendFault
+    ensures { result ≡ read_fault fault }
+{
+    match fault {
+        ImageFault::Memory => MendFault::Memory,
+        ImageFault::Magic
+        | ImageFault::Version
+        | ImageFault::Length
+        | ImageFault::Count
+        | ImageFault::Budget
+        | ImageFault::Loop
+        | ImageFault::Insn { .. } => MendFault::Image,
+    }
+}
+
 /// The program of an image that is lent, which the verifier accepts for those maps, or why there is none. Of no bytes no memory is
 /// asked for.
-#[tactic(auto, using(crate::proofs::Mending::unread, crate::proofs::Mending::refused))]
+#[tactic(auto, using(crate::proofs::Mending::empty_image, crate::proofs::Mending::unread, crate::proofs::Mending::refused))]
 fn program_of(alloc: Global, image: &[u8], sizes: &MapSizes) -> Result<Accepted, MendFault>
     ensures read { IfOk result (IsReadFrom sizes.now image.now) }
     ensures fault { IfErr result (IsUnread sizes.now image.now) }
@@ -32,8 +48,7 @@ fn program_of(alloc: Global, image: &[u8], sizes: &MapSizes) -> Result<Accepted,
     }
     let image = match Image::read(alloc, image) {
         Ok(image) => image,
-        Err(ImageFault::Memory) => return Err(MendFault::Memory),
-        Err(_fault) => return Err(MendFault::Image),
+        Err(fault) => return Err(read_fault(fault)),
     };
     match verify(alloc, image, sizes) {
         Ok(program) => Ok(program),

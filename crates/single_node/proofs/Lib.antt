@@ -9,3 +9,4 @@ mod Ending
 mod Running
 mod Growing
 mod Asked
+mod Under

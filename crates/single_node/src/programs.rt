@@ -1,7 +1,7 @@
 //! The programs that judge, by slot.
 
 ghost use Rattle.std.specs.Prelude.{◌≡◌, ◌≢◌, ◌<◌, ◌≤◌, ◌+◌, ◌^◌, ℕ, IfErr, IfOk, OnErr, OnOk, Some, length, slice_get};
-ghost use Rattle.bver.specs.Justified.{AcceptedValue};
+ghost use Rattle.bver.specs.Justified.{AcceptedValue, IsJustified};
 ghost use Rattle.node_programs.specs.Histories.{longer_history};
 ghost use Rattle.node_programs.specs.Published.{judging_program, program_at, sizes_of};
 ghost use Rattle.node_programs.specs.Codes.{IsUnpublished};
@@ -111,10 +111,13 @@ impl SlotPrograms {
         requires { slot < 4 }
         ensures value { judging_program self.now slot ≡ Some (result.0.now, result.1) }
         ensures sizes { result.0.now.sizes ≡ sizes_of self.now }
+        ensures justified { IsJustified result.0.now.program result.0.now.sizes }
     {
         let place = own_place(self.programs.len(), &self.slots, slot);
         let generation = self.slots[usize::from(slot)].generation;
-        (&self.programs[place].program, generation)
+        let program = &self.programs[place].program;
+        let _justified = program.image();
+        (program, generation)
     }
 
     /// Makes the operations of the program of a slot again, in their own memory, of its image. The condition is a slot below 4.
