@@ -831,7 +831,7 @@ static void damage_packets(void) {
   check(reported > 0, "no entry is damaged");
 }
 
-/* A bit of the first address of each bank flips, and back. */
+/* A bit of the first address of each bank flips, and back: the bank's own, and that of the node's windows. */
 static void damage_sizes(void) {
   uint32_t reported = 0;
   for (uint32_t at = 0; at + 4 <= ARENA; at += 1)
@@ -844,7 +844,7 @@ static void damage_sizes(void) {
       reported += told.sizes;
       arena[at] ^= 1;
     }
-  check(reported >= BANKS, "no other size");
+  check(reported >= 2 * BANKS, "no other size");
 }
 
 /* How many entries the journals have. */

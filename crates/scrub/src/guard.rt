@@ -291,12 +291,12 @@ impl Guard {
         ensures fault { IfErr result (IsUnmended image.now kept.now (beside self.old node.old)) }
     {
         node.renew(slot);
-        let sum = program_sum(node.program(slot));
-        if !kept.has(sum) {
+        let again = program_sum(node.program(slot));
+        if !kept.has(again) {
             self.publish_lent(node, alloc, slot, image, kept)?;
             return Ok(());
         }
-        if self.publish_renewed(node, slot, sum) {
+        if self.publish_renewed(node, slot, again) {
             return Ok(());
         }
         Err(MendFault::Full)

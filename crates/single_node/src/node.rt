@@ -1,12 +1,13 @@
 //! The node.
 
-ghost use Rattle.std.specs.Prelude.{◌≡◌, ◌<◌, ◌≤◌, ◌+◌, ◌^◌, ◌↔◌, [], IfErr, IfOk, IfSome, IsSome, None, OnErr, OnOk, OnSome, Some, length, slice_get, true};
+ghost use Rattle.std.specs.Prelude.{◌≡◌, ◌<◌, ◌≤◌, ◌+◌, ◌^◌, ◌↔◌, [], ℕ, IfErr, IfOk, IfSome, IsSome, None, OnErr, OnOk, OnSome, Some, length, slice_get, true};
 ghost use Rattle.bver.specs.Justified.{AcceptedValue};
 ghost use base.Stored.{gnil};
 ghost use Rattle.machine.specs.Sizes.{IsInside};
 ghost use Rattle.node_programs.specs.Published.{generation_at, program_at, sizes_of};
 ghost use Rattle.node_programs.specs.Codes.{IsUnpublished};
 ghost use Rattle.node_parts.specs.Nodes.{AreSharesOf, IsNodeFault, first_passes, first_programs, limit_fault, windows_of};
+ghost use Rattle.node_parts.specs.Passes.{PassValue};
 ghost use Rattle.plain_cells.specs.Words.{word_in};
 ghost use Rattle.single_node.specs.Nodes.{IsFresh, IsPublishedAgain, IsSingleNode, Rotates, RotatesTo, SetsBytes, SetsMemory, covers_in, room_in, slot_in, staging_in, with_program};
 ghost use Rattle.rmap.specs.Command.{command_of, discard_of};
@@ -195,6 +196,14 @@ impl SingleNode {
         ensures node { IsSingleNode self.now }
     {
         self.ports.len() as u8
+    }
+
+    /// The windows under which all ports serve: the node's address, and where its banks lie.
+    pub fn windows(&self) -> &Windows
+        ensures { (k : ℕ) (h : PassValue) → slice_get self.now.passes k ≡ Some h
+            → result.now ≡ h.windows }
+    {
+        &self.windows
     }
 
     /// How many banks there are: 1 to 8.

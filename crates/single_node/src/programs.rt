@@ -182,7 +182,7 @@ impl SlotPrograms {
         let place = own_place(self.programs.len(), &self.slots, slot);
         self.programs[place].slot = slot;
         let list = self.list.with(&self.programs[place]);
-        let generation = self.count + 1;
+        let generation = 1 + self.count;
         set_place(&mut self.slots, slot, place, generation);
         self.list = list;
         self.count = generation;
