@@ -6,14 +6,14 @@ use Rattle.std.proofs.lemmas.List.{length-map, length-set, map-set}
 use Rattle.std.proofs.lemmas.Option.{get_or_from_slice_get, slice_get-get_or, slice_get_within}
 use Rattle.machine.specs.Sizes.{Maps}
 use Rattle.node_programs.specs.declared.publishes.Publish.{Publish}
-use Rattle.node_programs.specs.Histories.{longer_history}
+use Rattle.node_programs.specs.Histories.{entry, longer_history}
 use Rattle.node_programs.specs.Laws.{IsSetByNext}
 use Rattle.node_programs.specs.Published.{judging_program, sizes_of}
 use Rattle.node_programs.proofs.Shelves.{Pair, slot_at}
 use Rattle.single_node.specs.declared.places.Placed.{Placed}
 use Rattle.single_node.specs.declared.publishing.Publishing.{Publishing}
 use Rattle.single_node.specs.Slots.{ArePlaced, first_placed, placed_at, shown_at, shown_by}
-use Rattle.single_node.proofs.Slots.{longer_slots, shown_sizes}
+use Rattle.single_node.proofs.Slots.{first_slots, longer_slots, shown_sizes}
 
 -- a program that is somewhere, with a generation
 pair_of : ℕ → Publishing → Pair
@@ -132,3 +132,11 @@ same_placed h xs ys slots count sizes are same = record {
     all_same : (ss : List Placed) → ((k : ℕ) (s : Placed) → slice_get ss k ≡ Some s → shown_at ys s ≡ shown_at xs s) → shown_by ys ss ≡ shown_by xs ss
     all_same [] each = refl
     all_same (s ∷ ss) each = ap₂ (λ (o : Option Pair) (os : List (Option Pair)). o ∷ os) (each 0 s refl) (all_same ss (λ k t at. each (suc k) t at))
+
+-- the factory program in each slot
+pub first_are : (p : Publishing) → ArePlaced (entry 0 p.program ∷ []) (p ∷ []) (first_placed ∷ first_placed ∷ first_placed ∷ first_placed ∷ []) 0 p.program.sizes
+first_are p = record {
+  shown = (p.program, 0) ∷ (p.program, 0) ∷ (p.program, 0) ∷ (p.program, 0) ∷ [];
+  placed = refl;
+  are = first_slots p.program;
+}
