@@ -10,7 +10,7 @@
  * IMAGES has the programs of slots 0 to 3, a line of digits each: those of tests/cases/upsets.cases, which `rules` says again.
  * With EACH the program that judges is scrubbed before each packet of so many. Generations are then not compared: a program
  * that is mended has a new one. REGION is a name of the first form, `any` for all of them by their bytes, or `none`: then nothing
- * flips. Each trial is a process, so that it may end as it likes. The node's memory lies between pages that nobody may touch. The
+ * flips. `pairs` is two flips: one in what switches scrubs (`switches`, if there are scrubs), and 20 packets later one in operations. Each trial is a process, so that it may end as it likes. The node's memory lies between pages that nobody may touch. The
  * same seed gives the same flips. `link/upsets` makes the table of docs/TESTING.md of the lines. It wants a system with fork and
  * signals. */
 #include "packets.h"
@@ -445,13 +445,13 @@ static void note(int made) {
 
 enum region {
   NOBODYS, HANDLE, CONTROL, BUFFERS, OPERATIONS, IMAGE, ACCESSES, BANK, FIRST, CELLS, ENTRIES, ROOM_LEFT, PACKETS, STACKS,
-  STAGINGS,
+  STAGINGS, SWITCHES,
   INSTANCE, OWN_STACK, CONSTANTS, HEADS, /* of the C source */
-  ANY, NONE
+  ANY, NONE, PAIRS
 };
 static const char *const names[] = {"nobody's", "handle", "control", "buffers", "operations", "images", "accesses", "banks",
-                                    "first_banks", "cells", "entries", "room", "packets", "stacks", "staging", "instance",
-                                    "own_stack", "constants", "heads", "any", "none"};
+                                    "first_banks", "cells", "entries", "room", "packets", "stacks", "staging", "switches", "instance",
+                                    "own_stack", "constants", "heads", "any", "none", "pairs"};
 static uint8_t *region_of; /* of each byte of the arena */
 
 static void mark(uint32_t at, size_t size, enum region region) { memset(region_of + at, (int)region, size); }
@@ -529,6 +529,14 @@ static uint32_t bytes_of(enum region region) {
   return count;
 }
 
+/* What switches scrubs, if there are scrubs: the marks of the slots, and how many packets there are to each, with complements. */
+static void mark_switches(void) {
+  const uint32_t open = 0x5A3C96E1u, counts[4] = {each, each, ~each, ~each};
+  if (each == 0) return;
+  if (mark_bytes(&open, sizeof open, 0, sizeof open, SWITCHES) != SLOTS) fail("the marks of the slots are not found");
+  if (each == 1 && mark_bytes(counts, sizeof counts, 0, sizeof counts, SWITCHES) != 1) fail("the counts of scrubs are not found");
+}
+
 /* The cells by their words and the complements of these, the stacks by the table that the program of slot 1 leaves at their
  * ends, and the buffers by what was last in them. */
 static void mark_found(void) {
@@ -545,6 +553,7 @@ static void mark_found(void) {
   }
   if (mark_bytes(table, sizeof table, STACK - sizeof table, STACK, STACKS) != PORTS) fail("the stacks are not found");
   if (mark_bytes(reply, last_reply, 0, SANDBAR_MAX_REPLY, BUFFERS) == 0) fail("the buffer of a reply is not found");
+  mark_switches();
 #ifdef SOURCE
   if (mark_bytes(packets[BEFORE - 1].bytes, packets[BEFORE - 1].length, 0, SANDBAR_MAX_PACKET, BUFFERS) == 0) fail("no buffer");
 #endif
@@ -690,11 +699,16 @@ static void compare(const struct packet *packet, uint32_t k, const struct answer
   seen->refused = answer->code != SANDBAR_OK || (is_done(&wanted[k]) && !is_done(answer));
 }
 
+/* The second flip of two: where, unless there is none, and which bit. It comes so many packets after the first. */
+enum { LATER = 20 };
+static uint32_t later, later_bit;
+
 /* What comes after the flip of a bit. */
 static void go_wrong(void) {
   uint32_t counts[QUOTAS];
   memcpy(counts, passed, sizeof counts);
   for (uint32_t k = 0; k < AFTER; k += 1) {
+    if (k == LATER && later != 0) arena[later] ^= (uint8_t)(1u << later_bit);
     begin_patience(1);
     struct answer answer = serve(&packets[BEFORE + k]);
     compare(&packets[BEFORE + k], k, &answer, counts);
@@ -974,16 +988,20 @@ int main(int count, char **words) {
     return 0;
   }
   enum region region = HANDLE;
-  while (region <= NONE && strcmp(names[region], words[2]) != 0) region += 1;
-  if (region > NONE) fail("no region %s", words[2]);
-  static uint32_t places[ARENA];
-  uint32_t bytes = 0;
-  for (uint32_t at = 0; at < ARENA; at += 1)
-    if (is_in(at, region)) places[bytes++] = at;
+  while (region <= PAIRS && strcmp(names[region], words[2]) != 0) region += 1;
+  if (region > PAIRS) fail("no region %s", words[2]);
+  static uint32_t places[ARENA], others[ARENA];
+  uint32_t bytes = 0, other_bytes = 0;
+  for (uint32_t at = 0; at < ARENA; at += 1) {
+    if (is_in(at, region == PAIRS ? SWITCHES : region)) places[bytes++] = at;
+    if (region == PAIRS && region_of[at] == OPERATIONS) others[other_bytes++] = at;
+  }
   if (bytes == 0 && region != NONE) fail("%s has no bytes", words[2]);
   run_unflipped();
   state = strtoul(words[4], NULL, 10);
-  for (unsigned long trials = strtoul(words[3], NULL, 10); trials > 0; trials -= 1)
+  for (unsigned long trials = strtoul(words[3], NULL, 10); trials > 0; trials -= 1) {
+    if (other_bytes != 0) later = others[any(other_bytes)], later_bit = any(8);
     trial(bytes != 0, bytes != 0 ? places[any(bytes)] : 0);
+  }
   return 0;
 }
