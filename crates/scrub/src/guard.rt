@@ -343,13 +343,7 @@ impl Guard {
 
     /// Mends the program of a slot that was found damaged, or withdraws the slot. The condition is a slot below 4.
     #[tactic(auto, using(crate::proofs::Serving::remade_banks, crate::proofs::Serving::remade_ports, crate::proofs::Mending::repairs_by))]
-    fn repair(
-        &mut self,
-        node: &mut SingleNode,
-        alloc: Global,
-        slot: u8,
-        image: &[u8],
-    ) -> Health
+    fn repair(&mut self, node: &mut SingleNode, alloc: Global, slot: u8, image: &[u8]) -> Health
         requires { slot < 4 }
         ensures repairs { Repairs result slot image.now (beside self.old node.old) (beside self.new node.new) }
         ensures banks { node.new.banks ≡ node.old.banks }

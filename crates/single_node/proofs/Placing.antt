@@ -109,9 +109,9 @@ longer_placed next h xs ys slots count sizes slot place p few are for same there
     let low : slot < length slots = omega (arith, few, four) in
     let others : (k : ℕ) (s : Placed) → k ≢ slot → slice_get slots k ≡ Some s → slice_get ys s.place ≡ slice_get xs s.place
     = λ k s other at.
-        let here = slice_get_within slots k s at in
-        let is : placed_at slots k ≡ s = get_or_from_slice_get slots k s first_placed at in
-        subst (λ (t : Placed). slice_get ys t.place ≡ slice_get xs t.place) is (same k (omega (arith, here, four)) other) in
+    let here = slice_get_within slots k s at in
+    let is : placed_at slots k ≡ s = get_or_from_slice_get slots k s first_placed at in
+    subst (λ (t : Placed). slice_get ys t.place ≡ slice_get xs t.place) is (same k (omega (arith, here, four)) other) in
     record {
       shown = set are.shown slot pair;
       placed = shown_set xs ys slots slot new p low others there

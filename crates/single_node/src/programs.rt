@@ -42,11 +42,7 @@ impl Model for SlotPrograms {
 }
 
 /// Puts a program at that place of those of a node, where the one before it goes, or behind the last of them.
-fn hold(
-    programs: &mut Vec<Publishing>,
-    place: usize,
-    next: Publishing,
-) -> Result<(), AllocError>
+fn hold(programs: &mut Vec<Publishing>, place: usize, next: Publishing) -> Result<(), AllocError>
     requires { place ≤ length programs.old.items }
     ensures there { OnOk result (slice_get programs.new.items place ≡ Some next) }
     ensures others { OnOk result ((k : ℕ) → k ≢ place → k < length programs.old.items

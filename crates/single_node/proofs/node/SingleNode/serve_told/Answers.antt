@@ -43,9 +43,11 @@ invariant_of-self c =
     let some = c.serve_at.ensures.some in
     let served = c.serve_at.ensures.served in
     let node : IsSingleNode (single_node c.serve_at.new.banks c.serve_at.new.cells.words c.serve_at.new.programs (slice_set passes c.from-place.result c.serve_at.new.port))
-    = node_after c.packets_keep_pairs.ensures.served c.packets_keep_pairs.ensures.all told.served told.generation told.verdict c.args.packet before c.serve_at.new.banks c.serve_at.new.cells.words c.serve_at.new.programs c.from-place.result pass c.serve_at.new.port c.serve_at.new.reply c.self.invariant.0 own some served in
-    (node, c.serve_at.ensures.sizes ∙ c.self.invariant.1 ∙ sym (sizes_kept c.self.inside.programs c.serve_at.new.programs some (kept_or_longer told.served told.generation told.verdict c.args.packet _ _ _ _ pass c.serve_at.new.port c.serve_at.new.reply served).longer),
-    under_after c.self.inside.windows passes c.from-place.result pass c.serve_at.new.port c.self.invariant.2 own (served_windows told.served told.generation told.verdict c.args.packet _ _ _ _ pass c.serve_at.new.port c.serve_at.new.reply served))
+    = node_after c.packets_keep_pairs.ensures.served c.packets_keep_pairs.ensures.all told.served told.generation told.verdict c.args.packet before c.serve_at.new.banks c.serve_at.new.cells.words c.serve_at.new.programs c.from-place.result pass c.serve_at.new.port c.serve_at.new.reply c.self.invariant.0 own some served in (
+      node,
+      c.serve_at.ensures.sizes ∙ c.self.invariant.1 ∙ sym (sizes_kept c.self.inside.programs c.serve_at.new.programs some (kept_or_longer told.served told.generation told.verdict c.args.packet _ _ _ _ pass c.serve_at.new.port c.serve_at.new.reply served).longer),
+      under_after c.self.inside.windows passes c.from-place.result pass c.serve_at.new.port c.self.invariant.2 own (served_windows told.served told.generation told.verdict c.args.packet _ _ _ _ pass c.serve_at.new.port c.serve_at.new.reply served),
+    )
 
 pub returns-clause-serves : goal.returns-clause-serves
 returns-clause-serves c =
