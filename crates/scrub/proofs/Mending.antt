@@ -1,5 +1,5 @@
 -- The image that is lent, how a slot is found whose program was not mended, and why no more programs are published.
-use Rattle.std.proofs.Common.{◌≡◌, ◌≢◌, ◌<◌, ◌≤◌, ◌^◌, ◌⊎◌, ℕ, zero, suc, List, [], false, true, inl, inr, sym, ◌∙◌, arith}
+use Rattle.std.proofs.Common.{◌≡◌, ◌≢◌, ◌<◌, ◌≤◌, ◌^◌, ◌⊎◌, ℕ, zero, suc, Bool, List, [], length, false, true, inl, inr, arith}
 use Rattle.bpf.specs.Program.{Program, image_bytes}
 use Rattle.bpf.specs.Reading.{Fails, image_reading}
 use Rattle.bpf.specs.declared.fault.ImageFault.{ImageFault}
@@ -10,8 +10,9 @@ use Rattle.bver_form.specs.declared.refusal.Refused.{Refused}
 use Rattle.machine.specs.Sizes.{Maps}
 use Rattle.node_programs.specs.Codes.{IsUnpublished}
 use Rattle.node_programs.specs.declared.faults.PublishFault.TheVariants.{GenerationsFull}
-use Rattle.scrub.specs.Guarded.{IsWithdrawn, Repairs, Watched, health_by}
-use Rattle.scrub.specs.Mending.{IsNoProgram, IsUnread, empty, read_fault, refused as refused_by, unspelled}
+use Rattle.scrub.specs.Guarded.{IsPublishedAs, IsWithdrawn, LooksAt, PublishesAs, Repairs, RepairsUnless, Scrubs, ScrubsSlot, Watched, health_at, health_by}
+use Rattle.scrub.specs.declared.guard.Scrubbed.{Scrubbed}
+use Rattle.scrub.specs.Mending.{IsUnread, empty, read_fault, refused as refused_by, unspelled}
 use Rattle.scrub.specs.declared.guard.Health.{Health}
 use Rattle.scrub.specs.declared.guard.Health.TheVariants.{Whole, Mended, Unmended, Withdrawn}
 use Rattle.scrub.specs.declared.made.MendFault.{MendFault}
@@ -57,3 +58,34 @@ repairs_by Image Mended slot image before after is found = absurd (cc is)
 repairs_by Full Mended slot image before after is found = absurd (cc is)
 repairs_by fault Withdrawn slot image before after is found = found
 repairs_by fault Unmended slot image before after is found = found
+
+-- ---- by what was found
+
+-- a slot that was looked at, by whether its program is whole
+pub scrubs_whole : (whole : Bool) (health : Health) (slot : ℕ) (before after : Watched) → whole ≡ true → LooksAt whole slot before after → health ≡ Whole → ScrubsSlot health slot before after
+scrubs_whole true health slot before after is looks found = inl (found, looks)
+scrubs_whole false health slot before after is looks found = absurd (cc is)
+
+pub scrubs_all : (whole : Bool) (told : Scrubbed) (health : Health) (slot : ℕ) (before between after : Watched) → whole ≡ false → LooksAt whole slot before between → Scrubs told [] between after → health ≡ health_at told slot
+    → ScrubsSlot health slot before after
+scrubs_all true told health slot before between after is looks scrubs found = absurd (cc is)
+scrubs_all false told health slot before between after is looks scrubs found =
+    inr (record { between = between; told = told; found = looks; scrubs = scrubs; health_is = found })
+
+-- a slot that is repaired unless it is whole
+pub repairs_none : (whole : Bool) (health : Health) (slot : ℕ) (image : List ℕ) (before after : Watched) → whole ≡ true → health ≡ Whole → after ≡ before → RepairsUnless whole health slot image before after
+repairs_none true health slot image before after is found same = (found, same)
+repairs_none false health slot image before after is found same = absurd (cc is)
+
+pub repairs_one : (whole : Bool) (health : Health) (slot : ℕ) (image : List ℕ) (before after : Watched) → whole ≡ false → Repairs health slot image before after → RepairsUnless whole health slot image before after
+repairs_one true health slot image before after is repairs = absurd (cc is)
+repairs_one false health slot image before after is repairs = repairs
+
+-- a program that was published once more, if it could be
+pub published : (is_published : Bool) (slot sum : ℕ) (before after : Watched) → is_published ≡ true → PublishesAs is_published slot sum before after → IsPublishedAs slot sum before after
+published true slot sum before after is publishes = publishes
+published false slot sum before after is publishes = absurd (cc is)
+
+pub unpublished : (is_published : Bool) (slot sum : ℕ) (before after : Watched) → is_published ≡ false → PublishesAs is_published slot sum before after → (after ≡ before) × (2 ^ 32 ≤ length before.node.programs)
+unpublished true slot sum before after is publishes = absurd (cc is)
+unpublished false slot sum before after is publishes = publishes

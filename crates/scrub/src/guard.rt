@@ -276,6 +276,7 @@ impl Guard {
 
     /// Makes the program of a slot again of its own image, in its own memory. If it has then a sum that is kept, it is published for
     /// the slot once more, else that of the image that is lent, if it has one.
+    #[tactic(auto, using(crate::proofs::Mending::published, crate::proofs::Mending::unpublished))]
     fn mend(
         &mut self,
         node: &mut SingleNode,
@@ -365,6 +366,7 @@ impl Guard {
     }
 
     /// The same if it was found damaged. The condition is a slot below 4.
+    #[tactic(auto, using(crate::proofs::Mending::repairs_none, crate::proofs::Mending::repairs_one))]
     fn repair_unless(
         &mut self,
         node: &mut SingleNode,
@@ -408,6 +410,7 @@ impl Guard {
 
     /// Scrubs the program of a slot. If it is damaged, the programs of all slots are scrubbed, since others may have it, too. The
     /// condition is a slot below 4.
+    #[tactic(auto, using(crate::proofs::Mending::scrubs_whole, crate::proofs::Mending::scrubs_all))]
     fn scrub_slot(&mut self, node: &mut SingleNode, alloc: Global, slot: u8) -> Health
         requires { slot < 4 }
         ensures scrubs { ScrubsSlot result slot (beside self.old node.old) (beside self.new node.new) }

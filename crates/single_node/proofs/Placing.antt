@@ -12,7 +12,7 @@ use Rattle.node_programs.specs.Published.{judging_program, sizes_of}
 use Rattle.node_programs.proofs.Shelves.{Pair, slot_at}
 use Rattle.single_node.specs.declared.places.Placed.{Placed}
 use Rattle.single_node.specs.declared.publishing.Publishing.{Publishing}
-use Rattle.single_node.specs.Slots.{ArePlaced, HasNoOther, first_placed, placed_at, shown_at, shown_by}
+use Rattle.single_node.specs.Slots.{ArePlaced, first_placed, placed_at, shown_at, shown_by}
 use Rattle.single_node.proofs.Slots.{longer_slots, shown_sizes}
 
 -- a program that is somewhere, with a generation
