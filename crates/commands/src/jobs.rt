@@ -1,14 +1,19 @@
 //! The jobs of `rmapctl`.
 
-ghost use Rattle.std.specs.Prelude.{◌≡◌, IfErr, IfOk};
-ghost use Rattle.commands.specs.Performed.{IsDone, IsEnded, Performs};
+ghost use Rattle.std.specs.Prelude.{◌≡◌, IfErr, IfOk, option_map};
+ghost use Rattle.commands.specs.Jobs.{are_talked, facts_of, made_of, maps_of_node};
+ghost use Rattle.commands.specs.Performed.{CanDo, IsDone, IsEnded, Performs};
 ghost use Rattle.job_parts.specs.Stops.{StopsBy};
+
+use crate::facts::Facts;
+use crate::serving::{Serves, Threaded};
 
 use job_charts::compare::{CompareWords, compare_file};
 use job_charts::map::{MapWords, map_file};
 use job_codes::explain::{ExplainWords, explain};
 use job_codes::why::why_file;
 use job_config::node_lines::NodeLines;
+use job_config::sources::NodeSource;
 use job_decide::decide::{DecideWords, decide_file};
 use job_node_file::node_file::{NodeFileWords, print_node_file};
 use job_nodes::judge::judge_file;
@@ -17,10 +22,10 @@ use job_packets::made_packets::packet_file;
 use job_packets::packet::PacketWords;
 use job_parts::faults::Fault;
 use job_parts::inputs::Inputs;
+use job_parts::options::no_maps;
 use job_parts::status::Status;
 use job_parts::stops::{Halt, WriteFault};
 use job_parts::storage::Files;
-use job_ports::serve::serve_file;
 use job_rehearse::rehearse::{RehearseWords, rehearse_file};
 use job_show::show::{ShowWords, show_file};
 use job_texts::asm::{AsmWords, assemble_file};
@@ -30,12 +35,14 @@ use job_texts::policies::{PolicyWords, compile_file};
 use job_texts::verify::verify_file;
 use job_trace::trace::trace_file;
 use job_weigh::weigh::{WeighWords, weigh_file};
+use machine::MapSizes;
 use std::alloc::Global;
 use std::io::Write;
-use std::marker::Brand;
 use std::sync::Wait;
 use std::thread::Threads;
-use target::{Family, Opened};
+
+/// The name of standard input.
+const STANDARD_INPUT: &str = "-";
 
 /// A job, as a command line names it.
 #[derive(Debug, Drop)]
@@ -78,6 +85,23 @@ pub enum Job {
     Rehearse(RehearseWords),
 }
 
+/// The maps of a node that its options say; none of a node's file, which names no image but in it.
+pub fn maps_of_node(node: &NodeSource) -> MapSizes
+    ensures { result ≡ maps_of_node node.now }
+{
+    match node {
+        NodeSource::Words(words) => words.sizes,
+        NodeSource::File(_) => no_maps(),
+    }
+}
+
+/// Whether lines are those of standard input.
+fn are_talked(words: &ShowWords) -> bool
+    ensures { result ≡ are_talked words.now }
+{
+    words.lines.as_str() == STANDARD_INPUT
+}
+
 impl Job {
     /// What the job reads and writes.
     pub fn inputs(&self) -> Inputs<'_> {
@@ -100,6 +124,38 @@ impl Job {
             Job::Explain(_) => Inputs::of(None, None),
         }
     }
+
+    /// What is to be known of it before it is done.
+    pub fn facts(&self) -> Facts
+        ensures { result ≡ facts_of self.now }
+    {
+        match self {
+            Job::Judge(args) | Job::Simulate(args) | Job::Trace(args) =>
+                Facts::on_lines(maps_of_node(&args.node)),
+            Job::Serve(args) => Facts::serves_lines(maps_of_node(&args.node)),
+            Job::Verify(args) | Job::Why(args) => Facts::on_image(args.sizes),
+            Job::Weigh(words) => Facts::on_image(words.sizes),
+            Job::Show(words) => Facts::shows(words.raw, are_talked(words)),
+            Job::Policy(_) | Job::Packet(_) | Job::Decide(_) | Job::Compare(_) | Job::Map(_) =>
+                Facts::for_node(),
+            Job::Assemble(_)
+            | Job::Disassemble(_)
+            | Job::Explain(_)
+            | Job::Node(_)
+            | Job::Rehearse(_) => Facts::plain(),
+        }
+    }
+
+    /// The file of which it makes another, and that one, if it makes one.
+    pub fn made(&self) -> Option<(&str, &str)>
+        ensures { option_map (λ names. (names.0.now, names.1.now)) result ≡ made_of self.now }
+    {
+        match self {
+            Job::Assemble(words) => Some((words.text.as_str(), words.image.as_str())),
+            Job::Policy(words) => Some((words.table.as_str(), words.image.as_str())),
+            _ => None,
+        }
+    }
 }
 
 /// How a job ended.
@@ -116,17 +172,16 @@ pub struct JobEnd<'a> {
 }
 
 /// Does a job, up to its end or the fault that ends it, which is still to be printed. `full` and `lost` are as in [`JobEnd`].
-fn attempt<'a, J: Family + Send + Sync + 'static, R: Threads + Wait + Sync, F: Files, W: Write>(
-    rt: &R,
+fn attempt<'a, S: Serves, F: Files, W: Write>(
     alloc: Global,
-    opened: Opened,
+    server: &S,
     job: &'a Job,
     files: &mut F,
     out: &mut W,
     full: &mut Option<usize>,
     lost: &mut u64,
 ) -> Result<Status, Halt<'a>>
-    requires { opened ≡ J.book }
+    requires { CanDo S.serves job.now }
     ensures done { IfOk result (IsDone F.reads F.writes job.now files.old files.new
         (W.contents out.old) (W.contents out.new)) }
     ensures stops { IfErr result (StopsBy (IsEnded F.reads F.writes job.now files.old files.new
@@ -134,7 +189,7 @@ fn attempt<'a, J: Family + Send + Sync + 'static, R: Threads + Wait + Sync, F: F
 {
     match job {
         Job::Judge(args) => judge_file(alloc, args, files, out, full),
-        Job::Serve(args) => serve_file::<J, _, _, _>(rt, alloc, opened, args, files, out, lost),
+        Job::Serve(args) => server.serve(alloc, args, files, out, lost),
         Job::Simulate(args) => sim_file(alloc, args, files, out),
         Job::Trace(args) => trace_file(alloc, args, files, out),
         Job::Assemble(words) => {
@@ -156,28 +211,23 @@ fn attempt<'a, J: Family + Send + Sync + 'static, R: Threads + Wait + Sync, F: F
     }
 }
 
-/// Does a job, where a node that it makes has that history of programs.
-fn perform_opened<
-    'a,
-    J: Family + Send + Sync + 'static,
-    R: Threads + Wait + Sync,
-    F: Files,
-    W: Write,
->(
-    rt: &R,
+/// Does a job with who serves ports, and gives how it ended.
+///
+/// `WriteFault` where the writer failed; nothing is written after that.
+pub fn perform_with<'a, S: Serves, F: Files, W: Write>(
     alloc: Global,
-    opened: Opened,
+    server: &S,
     job: &'a Job,
     files: &mut F,
     out: &mut W,
 ) -> Result<JobEnd<'a>, WriteFault>
-    requires { opened ≡ J.book }
+    requires { CanDo S.serves job.now }
     ensures { IfOk result (λ end. Performs F.reads F.writes job.now files.old files.new
         (W.contents out.old) (W.contents out.new) end.status) }
 {
     let mut full = None;
     let mut lost = 0;
-    match attempt::<J, _, _, _>(rt, alloc, opened, job, files, out, &mut full, &mut lost) {
+    match attempt(alloc, server, job, files, out, &mut full, &mut lost) {
         Ok(status) => Ok(JobEnd {
             status,
             fault: None,
@@ -212,7 +262,7 @@ pub fn perform_told<'a, R: Threads + Wait + Sync, F: Files, W: Write>(
     ensures { IfOk result (λ end. Performs F.reads F.writes job.now files.old files.new
         (W.contents out.old) (W.contents out.new) end.status) }
 {
-    perform_opened::<Brand, _, _, _>(rt, alloc, Opened::new(), job, files, out)
+    perform_with(alloc, &Threaded::new(rt), job, files, out)
 }
 
 /// The same, with the exit status alone.
