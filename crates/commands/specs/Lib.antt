@@ -1,8 +1,12 @@
 pub mod CommandLine
-pub mod Courses
+pub mod Desks
+pub mod Driven
+pub mod Facts
 pub mod Given
 pub mod InPlace
+pub mod Jobs
 pub mod Losses
+pub mod Machine
 pub mod Notes
 pub mod OnNodes
 pub mod Performed

@@ -1,8 +1,8 @@
-//! What the words of a command line ask for: a work, or a text.
+//! What the words of a command line ask for, with help.
 
-ghost use Rattle.std.specs.Prelude.{◌≡◌, ◌&&◌, IfOk, is_some};
+ghost use Rattle.std.specs.Prelude.{◌≡◌, ◌&&◌, IfErr, IfOk, is_some};
 ghost use Rattle.clap.specs.Walk.{texts};
-ghost use Rattle.commands.specs.CommandLine.{AsksFor, waits};
+ghost use Rattle.commands.specs.CommandLine.{AreTaken, AsksFor, AsksNone, ask_help, waits};
 ghost use Rattle.commands.specs.Given.{words_given};
 
 use crate::usage::{command_line, words};
@@ -21,15 +21,6 @@ const JUDGE_WAITS: &str = "judge -: reads packet lines; rmapctl --help has the w
 const LIVE_WAITS: &str =
     "live: reads packet lines, journal, cells and set 00 ADDRESS HEX; rmapctl help live has more";
 
-/// What the words of a command line ask for.
-#[derive(Debug, Drop)]
-pub enum Asked {
-    /// A work, which is to be done.
-    Named(Work),
-    /// A text, which is to be printed: that of `help` or `--help`, or the version.
-    Told(String),
-}
-
 /// Whether `clap` refuses words since they ask for its help or the version.
 fn asks_clap(alloc: Global, words: &[&str]) -> Result<bool, AllocError> {
     match command_line(alloc)?.try_get_matches_from(words) {
@@ -42,11 +33,13 @@ fn asks_clap(alloc: Global, words: &[&str]) -> Result<bool, AllocError> {
 }
 
 /// The text for the user of words that `clap` refuses, if they ask for it; else it is that of a fault.
-fn text_asked(alloc: Global, given: &[&str], text: String) -> Result<Asked, UsageFault>
-    ensures { IfOk result (AsksFor (texts given.now)) }
+fn text_asked(alloc: Global, given: &[&str], text: String) -> Result<Work, UsageFault>
+    requires { ¬ AreTaken (texts given.now) }
+    ensures ok { IfOk result (AsksFor (texts given.now)) }
+    ensures err { IfErr result (AsksNone (texts given.now)) }
 {
     if asks_clap(alloc, given)? {
-        Ok(Asked::Told(text))
+        Ok(Work::Told(text))
     } else {
         Err(UsageFault::Parse(text))
     }
@@ -72,19 +65,30 @@ fn help(alloc: Global, words: &[&str]) -> Result<String, UsageFault> {
     }
 }
 
+/// The words behind `help`, if words begin with it.
+fn topic_of<'a>(given: &'a [&'a str]) -> Option<&'a [&'a str]>
+    ensures { is_some result ≡ ask_help (texts given.now) }
+{
+    match given {
+        [first, topic @ ..] if *first == "help" => Some(topic),
+        _ => None,
+    }
+}
+
 /// What the words of a command line ask for, without the program's own name: `help` and `help WORD` for the text of
 /// `--help`.
 ///
 /// Words that ask for nothing are `Parse` with the text of `clap` for the user, `BadOption` where an option or a code is none,
 /// `Memory` where memory was refused.
-pub fn asked_of(alloc: Global, given: &[&str]) -> Result<Asked, UsageFault>
-    ensures { IfOk result (AsksFor (texts given.now)) }
+pub fn asked_of(alloc: Global, given: &[&str]) -> Result<Work, UsageFault>
+    ensures ok { IfOk result (AsksFor (texts given.now)) }
+    ensures err { IfErr result (AsksNone (texts given.now)) }
 {
-    if let ["help", topic @ ..] = given {
-        return Ok(Asked::Told(help(alloc, topic)?));
+    if let Some(topic) = topic_of(given) {
+        return Ok(Work::Told(help(alloc, topic)?));
     }
     match words(alloc, given) {
-        Ok(work) => Ok(Asked::Named(work)),
+        Ok(work) => Ok(work),
         Err(UsageFault::Parse(text)) => text_asked(alloc, given, text),
         Err(fault) => Err(fault),
     }
@@ -101,16 +105,17 @@ pub struct Waits {
 
 /// What is told of what words ask for before it waits for standard input, if that is a terminal: of a talk, and if no word was
 /// given.
-pub fn told_wait(asked: &Asked, given: Waits) -> Option<&'static str>
+pub fn told_wait(asked: &Work, given: Waits) -> Option<&'static str>
     ensures { is_some result ≡ (given.is_terminal && waits asked.now given.without_words) }
 {
     if !given.is_terminal {
         return None;
     }
     match asked {
-        Asked::Named(Work::Live(words)) if !words.frames => Some(LIVE_WAITS),
-        Asked::Named(_) if given.without_words => Some(JUDGE_WAITS),
-        Asked::Named(_) | Asked::Told(_) => None,
+        Work::Live(words) if !words.frames => Some(LIVE_WAITS),
+        Work::Told(_) => None,
+        _ if given.without_words => Some(JUDGE_WAITS),
+        _ => None,
     }
 }
 

@@ -2,17 +2,14 @@
 
 ghost use Rattle.std.specs.Prelude.{◌≡◌, IfOk, IfSome};
 ghost use Rattle.std.specs.Str.{IsUtf8};
-ghost use Rattle.commands.specs.InPlace.{IsInPlace, IsOfTable, Stands, maps_of_job, maps_of_node};
+ghost use Rattle.commands.specs.InPlace.{IsInPlace, IsOfTable, Stands};
 
 use crate::hints::{told_placed, told_text};
-use crate::jobs::Job;
 use basm::{AsmCode, assemble};
 use basm_lex::{read_head, read_mnemonic};
 use bpf::Image;
 use bver::{Refusal, Refused, verify};
-use job_config::sources::NodeSource;
 use job_parts::faults::Fault;
-use job_parts::options::no_maps;
 use machine::MapSizes;
 use policy::{Policy, TableFault, TextFault, compile_policy};
 use spw::lines_of;
@@ -23,40 +20,6 @@ const BUDGET: &str = ".budget";
 
 /// The directives that no table has.
 const DIRECTIVES: [&str; 2] = [BUDGET, ".loop"];
-
-/// The maps of a node that its options say; none of a node's file, which names no image but in it.
-pub fn maps_of_node(node: &NodeSource) -> MapSizes
-    ensures { result ≡ maps_of_node node.now }
-{
-    match node {
-        NodeSource::Words(words) => words.sizes,
-        NodeSource::File(_) => no_maps(),
-    }
-}
-
-/// The maps for which a job takes the text of a program or a table in the place of an image, if it does.
-pub fn maps_of_job(job: &Job) -> Option<MapSizes>
-    ensures { result ≡ maps_of_job job.now }
-{
-    match job {
-        Job::Judge(args) | Job::Serve(args) | Job::Simulate(args) | Job::Trace(args) => {
-            Some(maps_of_node(&args.node))
-        }
-        Job::Verify(args) | Job::Why(args) => Some(args.sizes),
-        Job::Weigh(words) => Some(words.sizes),
-        Job::Assemble(_)
-        | Job::Disassemble(_)
-        | Job::Policy(_)
-        | Job::Explain(_)
-        | Job::Node(_)
-        | Job::Packet(_)
-        | Job::Show(_)
-        | Job::Decide(_)
-        | Job::Compare(_)
-        | Job::Map(_)
-        | Job::Rehearse(_) => None,
-    }
-}
 
 /// The image of a table that has a rule, for a node with maps of these sizes; none if the text is no such table.
 fn compiled(alloc: Global, text: &str, sizes: &MapSizes) -> Result<Option<Image>, AllocError>

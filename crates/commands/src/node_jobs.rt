@@ -5,7 +5,8 @@ ghost use Rattle.clap.specs.Matches.{found_of};
 ghost use Rattle.clap.specs.Simple.{app_of};
 ghost use Rattle.clap.specs.Walk.{rows_of};
 ghost use Rattle.clap.specs.declared.builder.command.Command.TheViews.{out-Command as fields_of};
-ghost use Rattle.commands.specs.OnNodes.{are_left, own_file, placed, takes_file, with_node};
+ghost use Rattle.commands.specs.Jobs.{placed};
+ghost use Rattle.commands.specs.OnNodes.{are_left, own_file, with_node};
 ghost use Rattle.job_config.specs.Configured.{numbers_in};
 ghost use Rattle.job_parts.specs.Inputs.{AreInputs, input, input_value};
 ghost use Rattle.job_parts.specs.declared.inputs.Content.TheVariants.{Node};
@@ -40,21 +41,6 @@ pub struct NodeJob {
     pub node: String,
 }
 
-impl NodeJob {
-    /// What is read first of all that is read, and what is written: the node's file, the first file of the job, and its OUT.
-    pub fn inputs(&self) -> Inputs<'_>
-        ensures { option_map input_value result.first
-            ≡ Some (input (string_bytes self.now.node) Node) }
-    {
-        let own = self.job.inputs();
-        Inputs {
-            first: node_inputs(self.node.as_str()).first,
-            second: own.first,
-            output: own.output,
-        }
-    }
-}
-
 /// What is read of the node's file of this name: it alone, and none of the files that it names.
 pub fn node_inputs(node: &str) -> Inputs<'_>
     ensures { AreInputs (Some (input node.now Node)) None None result }
@@ -86,37 +72,11 @@ pub fn with_node<'a>(alloc: Global, command: Command<'a>) -> Result<Command<'a>,
     command.arg(node)
 }
 
-/// Whether what the options of a job say of a node may be left to a node's file.
-fn takes_file(job: &Job) -> bool
-    ensures { result ≡ takes_file job.now }
-{
-    match job {
-        Job::Verify(_)
-        | Job::Why(_)
-        | Job::Weigh(_)
-        | Job::Policy(_)
-        | Job::Packet(_)
-        | Job::Decide(_)
-        | Job::Compare(_)
-        | Job::Map(_) => true,
-        Job::Assemble(_)
-        | Job::Disassemble(_)
-        | Job::Judge(_)
-        | Job::Serve(_)
-        | Job::Simulate(_)
-        | Job::Explain(_)
-        | Job::Node(_)
-        | Job::Show(_)
-        | Job::Trace(_)
-        | Job::Rehearse(_) => false,
-    }
-}
-
 /// The name of the node's file that such a job is left to, if the matches have one.
 pub fn own_file<'a>(job: &Job, found: &ArgMatches<'a>) -> Option<&'a str>
     ensures { option_map (λ name. name.now) result ≡ own_file job.now (rows_of (found_of found.now)) }
 {
-    if takes_file(job) {
+    if job.facts().takes_file {
         text_of(found, "node")
     } else {
         None

@@ -1,12 +1,12 @@
 //! What is noted of the files that a job reads: why one could not be read or written, and what was read last.
 
 ghost use Rattle.std.specs.Prelude.{◌≡◌, ◌≤◌, IfOk, IfSome, None, Some, false, is_some, option_copied, option_map, string_bytes};
-ghost use Rattle.commands.specs.InPlace.{maps_of_job, maps_of_node};
-ghost use Rattle.commands.specs.Notes.{GivesPlaced, is_dump, maps_for, may_be_text, most_of, next_content, ports_of, reads_dump};
+ghost use Rattle.commands.specs.Jobs.{is_dump, maps_of_job, maps_of_node};
+ghost use Rattle.commands.specs.Notes.{GivesPlaced, maps_for, may_be_text, most_of, next_content, ports_of, reads_dump};
 
 use crate::dumps::dump_lines;
-use crate::in_place::{bytes_in_place, maps_of_job, maps_of_node};
-use crate::jobs::Job;
+use crate::in_place::bytes_in_place;
+use crate::jobs::{Job, maps_of_node};
 use job_config::sources::NodeSource;
 use job_parts::inputs::{Content, Inputs};
 use job_parts::storage::Cannot;
@@ -111,16 +111,6 @@ fn too_long(bytes: &[u8]) -> Option<Cause> {
     }
 }
 
-/// Whether the lines of a job are those of a dump.
-fn shows_dump(job: &Job) -> bool
-    ensures { result ≡ is_dump job.now }
-{
-    match job {
-        Job::Show(words) => words.raw,
-        _ => false,
-    }
-}
-
 /// The packet lines of a dump, which is a text.
 fn packet_lines(alloc: Global, bytes: &[u8]) -> Result<Vec<u8>, AllocError> {
     let dump = str::from_utf8(bytes).unwrap_or("");
@@ -151,10 +141,11 @@ impl<'a> Noted<'a> {
         ensures dump { reads_dump result ≡ is_dump job.now }
         ensures maps { maps_for result ≡ maps_of_job job.now }
     {
+        let facts = job.facts();
         let mut noted = Noted::new(job.inputs());
-        noted.is_dump = shows_dump(job);
+        noted.is_dump = facts.is_dump;
         noted.ports = ports;
-        noted.maps = maps_of_job(job);
+        noted.maps = facts.maps;
         noted
     }
 

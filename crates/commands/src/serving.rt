@@ -6,6 +6,7 @@ ghost use Rattle.job_parts.specs.Stops.{StopsBy};
 ghost use Rattle.job_ports.specs.ServedFile.{IsNotServed, ServesFile};
 
 use job_config::node_lines::NodeLines;
+use job_parts::faults::Fault;
 use job_parts::status::Status;
 use job_parts::stops::Halt;
 use job_parts::storage::Files;
@@ -73,5 +74,30 @@ impl<R: Threads + Wait + Sync> Serves for Threaded<'_, R> {
         lost: &mut u64,
     ) -> Result<Status, Halt<'a>> {
         serve_file::<Brand, _, _, _>(self.rt, alloc, Opened::new(), args, files, out, lost)
+    }
+}
+
+/// Nobody, if no thread can start.
+#[derive(Clone, Copy, Debug)]
+pub struct Nobody;
+
+impl Serves for Nobody {
+    ghost use Rattle.std.specs.Prelude.{false};
+
+    ghost serves = { false };
+
+    fn serves(&self) -> bool {
+        false
+    }
+
+    fn serve<'a, F: Files, W: Write>(
+        &self,
+        _alloc: Global,
+        _args: &'a NodeLines,
+        _files: &mut F,
+        _out: &mut W,
+        _lost: &mut u64,
+    ) -> Result<Status, Halt<'a>> {
+        Err(Halt::Ended(Fault::NoMemory))
     }
 }

@@ -185,7 +185,7 @@ fn work_named(alloc: Global, word: Word, rows: &ArgMatches) -> Result<Work, Usag
 {
     match plain_named(alloc, word, rows)? {
         Work::Once(job) => placed_by(alloc, job, rows),
-        Work::OnNode(_) => unreachable!(),
+        Work::OnNode(_) | Work::Told(_) => unreachable!(),
         Work::Live(words) => Ok(Work::Live(words)),
     }
 }

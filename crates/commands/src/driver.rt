@@ -1,0 +1,483 @@
+//! The words of a command line, done over a desk.
+
+ghost use Rattle.std.specs.Prelude.{◌≡◌, IfOk, MatchOption, ◌&&◌, not, string_bytes};
+ghost use Rattle.clap.specs.Walk.{texts};
+ghost use Rattle.commands.specs.Driven.{DoesAlone, DoesJob, DoesOnNode, DoesOnce, DoesTalk, DoesWords, DoesWork, EndsTalk, HoldsLines, HoldsLink, IsApart, IsApartFrom, IsLeftOut, IsMisused, IsOwn, IsOwnOf, LosesOutput, Prints, RefusesOutput, ShowsInput, end_code, leaves_out, link_words, talk_words};
+ghost use Rattle.commands.specs.Given.{words_given};
+ghost use Rattle.commands.specs.Jobs.{made_of};
+ghost use Rattle.commands.specs.Performed.{CanDo};
+ghost use Rattle.job_parts.specs.Printed.{fault_line};
+ghost use Rattle.job_parts.specs.declared.status.Status.TheVariants.{Failed};
+
+use crate::asked::{Waits, asked_of, told_wait, words_or_judge};
+use crate::desk::Desk;
+use crate::dumps::DumpTalk;
+use crate::ends::{told_end, told_node};
+use crate::jobs::{Job, JobEnd, perform_with};
+use crate::node_jobs::{NodeJob, node_inputs};
+use crate::refusals::{Refusal, told_fault};
+use crate::serving::Serves;
+use crate::shows::show_talk;
+use crate::slips::{OWN_CONTENTS, OWN_SOURCE};
+use crate::told_files::ToldFiles;
+use crate::told_talk::ToldTalk;
+use crate::work::Work;
+use job_config::configuration::Configuration;
+use job_config::contents_named::contents_paths;
+use job_config::reading::configuration_in;
+use job_frames::holding::live_frames;
+use job_live::live::live;
+use job_live::words::LiveWords;
+use job_parts::faults::Fault;
+use job_parts::status::Status;
+use job_parts::stops::WriteFault;
+use job_parts::usage::UsageFault;
+use std::alloc::{AllocError, Global};
+use std::io::{self, Eprint, Write};
+
+/// The exit status of what cannot be done, since no thread can start, or there is no link.
+pub const LEFT_OUT: u8 = 3;
+
+/// What is told of `serve` if no thread can start.
+const SERVE_LEFT_OUT: &str = "serve is left out here: it starts a thread for each port\n";
+
+/// What is told of `live --frames` if there is no link.
+const FRAMES_LEFT_OUT: &str = "live --frames is left out here: there is no link\n";
+
+/// How a command line ends.
+#[derive(Clone, Copy, Debug, PartialEq, Eq)]
+pub enum End {
+    /// It was done, up to this status.
+    Ended(Status),
+    /// It was left out.
+    LeftOut,
+}
+
+impl End {
+    /// The exit status.
+    pub fn code(self) -> u8
+        ensures { result ≡ end_code self }
+    {
+        match self {
+            End::Ended(status) => status.code(),
+            End::LeftOut => LEFT_OUT,
+        }
+    }
+}
+
+/// What is left if a command line was done.
+#[derive(Drop)]
+pub struct Left<D> {
+    /// The desk.
+    pub desk: D,
+    /// How it ended.
+    pub end: End,
+}
+
+/// It was left out, which is told.
+fn leave_out<D: Desk + Drop>(alloc: Global, desk: D, text: &str) -> Result<Left<D>, AllocError>
+    ensures { IfOk result (λ left. IsLeftOut D.words desk left.end left.desk) }
+{
+    desk.tell(String::from_str(alloc, text))?;
+    Ok(Left {
+        desk,
+        end: End::LeftOut,
+    })
+}
+
+/// Output was lost, which is told.
+fn lose<D: Desk + Drop>(desk: D, written: &io::Result<()>) -> Result<Left<D>, AllocError>
+    ensures { IfOk result (λ left. LosesOutput D.words left.end) }
+{
+    desk.lose(written)?;
+    Ok(Left {
+        desk,
+        end: End::Ended(Status::Failed),
+    })
+}
+
+/// Ends standard output, to which this was written, with this status.
+fn end_output<D: Desk + Drop>(
+    mut desk: D,
+    mut out: D::Output,
+    written: io::Result<()>,
+    status: Status,
+) -> Result<Left<D>, AllocError> {
+    match (written, desk.close(&mut out)) {
+        (Ok(()), Ok(())) => Ok(Left {
+            desk,
+            end: End::Ended(status),
+        }),
+        (Err(refused), _) => lose(desk, &Err(refused)),
+        (_, closed) => lose(desk, &closed),
+    }
+}
+
+/// Prints a text, and ends with this status.
+fn print_text<D: Desk + Drop>(
+    alloc: Global,
+    desk: D,
+    text: &str,
+    status: Status,
+) -> Result<Left<D>, AllocError>
+    ensures { IfOk result (λ left. Prints D.words text.now status desk left.end left.desk) }
+{
+    let mut out = desk.output(alloc)?;
+    let written = out.write_all(text.as_bytes());
+    end_output(desk, out, written, status)
+}
+
+/// Prints the line of a fault.
+fn fail<D: Desk + Drop>(alloc: Global, desk: D, fault: &Fault<'_>) -> Result<Left<D>, AllocError>
+    ensures { IfOk result (λ left. Prints D.words (fault_line fault.now) Failed desk left.end left.desk) }
+{
+    let mut out = desk.output(alloc)?;
+    let written = writeln!(out, "{fault}");
+    end_output(desk, out, written, Status::Failed)
+}
+
+/// Refuses a job that would write to the file of this name, and tells why.
+fn refuse_output<D: Desk + Drop>(
+    alloc: Global,
+    desk: D,
+    name: &str,
+    why: &str,
+) -> Result<Left<D>, AllocError>
+    ensures { IfOk result (λ left. RefusesOutput D.words name.now desk left.end left.desk) }
+{
+    let left = fail(alloc, desk, &Fault::CannotWrite(name))?;
+    left.desk.tell(String::from_str(alloc, why))?;
+    Ok(left)
+}
+
+/// Does a job over the files. If a node's file says its maps, that node has so many ports.
+fn do_job<D: Desk + Drop>(
+    alloc: Global,
+    desk: D,
+    job: &Job,
+    ports: Option<u8>,
+) -> Result<Left<D>, AllocError>
+    requires { CanDo D.Server.serves job.now }
+    ensures { IfOk result (λ left. DoesJob D.words job.now desk left.end left.desk) }
+{
+    let server = desk.server();
+    let mut out = desk.output(alloc)?;
+    let mut files = ToldFiles::of_job(desk, job, ports);
+    let done = perform_with(alloc, &server, job, &mut files, &mut out);
+    // What was held back fails again where it failed before, with the reason.
+    match (done, files.close(&mut out)) {
+        (Ok(end), Ok(())) => {
+            let told = files.told_end(alloc, job, &end);
+            let end = End::Ended(end.status);
+            let desk = files.into_desk();
+            desk.tell(told)?;
+            Ok(Left { desk, end })
+        }
+        (_, closed) => lose(files.into_desk(), &closed),
+    }
+}
+
+/// Tells in words what the lines of standard input are, as they come.
+fn show_input<D: Desk + Drop>(
+    alloc: Global,
+    mut desk: D,
+    is_dump: bool,
+) -> Result<Left<D>, AllocError>
+    ensures { IfOk result (λ left. ShowsInput D.words D.Errors
+        (talk_words D.Talk.came D.Talk.sent D.Talk.unsent D.Talk.missed) is_dump desk left.end left.desk) }
+{
+    let errors = desk.errors();
+    let lines = DumpTalk::new(alloc, desk.talk(alloc)?, is_dump);
+    let mut talk = ToldTalk::new(&errors, alloc, lines);
+    let done = show_talk(alloc, &mut talk);
+    let sent = desk.end_talk(talk.into_talk().into_talk());
+    end_talk(desk, done, &sent)
+}
+
+/// Ends what was held so, whose last text could not be sent for that, if it could not.
+fn end_talk<D: Desk + Drop>(
+    desk: D,
+    done: Result<Status, WriteFault>,
+    sent: &io::Result<()>,
+) -> Result<Left<D>, AllocError>
+    ensures ended { IfOk result (λ left. EndsTalk D.words done left.end) }
+    ensures desk { IfOk result (λ left. left.desk ≡ desk) }
+{
+    match done {
+        Ok(status) => Ok(Left {
+            desk,
+            end: End::Ended(status),
+        }),
+        Err(_) => lose(desk, sent),
+    }
+}
+
+/// The name of the file that a job makes, if that is the file of which it makes it.
+fn own_source<'a, D: Desk>(desk: &D, job: &'a Job) -> Option<&'a str>
+    ensures { MatchOption result (IsApart D.words desk.now (made_of job.now))
+        (λ name. IsOwn D.words desk.now (made_of job.now) name.now) }
+{
+    let (source, output) = job.made()?;
+    if desk.are_one(source, output) {
+        Some(output)
+    } else {
+        None
+    }
+}
+
+/// The same, or if it is the node's file.
+fn own_input<'a, D: Desk>(desk: &D, job: &'a Job, node: &str) -> Option<&'a str>
+    ensures { MatchOption result (IsApartFrom D.words node.now desk.now (made_of job.now))
+        (λ name. IsOwnOf D.words node.now desk.now (made_of job.now) name.now) }
+{
+    let (source, output) = job.made()?;
+    if desk.are_one(node, output) || desk.are_one(source, output) {
+        Some(output)
+    } else {
+        None
+    }
+}
+
+/// Does a job that is no talk. If a node's file says its maps, that node has so many ports.
+fn do_alone<D: Desk + Drop>(
+    alloc: Global,
+    desk: D,
+    job: &Job,
+    ports: Option<u8>,
+) -> Result<Left<D>, AllocError>
+    requires { CanDo D.Server.serves job.now }
+    ensures { IfOk result (λ left. DoesAlone D.words job.now desk left.end left.desk) }
+{
+    match own_source(&desk, job) {
+        Some(name) => refuse_output(alloc, desk, name, OWN_SOURCE),
+        None => do_job(alloc, desk, job, ports),
+    }
+}
+
+/// Does a job: one on the lines of standard input as a talk, and one that starts threads if there are any. If a node's file says its
+/// maps, that node has so many ports.
+fn do_once<D: Desk + Drop>(
+    alloc: Global,
+    desk: D,
+    job: &Job,
+    ports: Option<u8>,
+) -> Result<Left<D>, AllocError>
+    ensures { IfOk result (λ left. DoesOnce D.words D.Errors
+        (talk_words D.Talk.came D.Talk.sent D.Talk.unsent D.Talk.missed) D.Server.serves
+        job.now desk left.end left.desk) }
+{
+    let facts = job.facts();
+    if facts.talks {
+        return show_input(alloc, desk, facts.is_dump);
+    }
+    if facts.starts_threads && !desk.server().serves() {
+        return leave_out(alloc, desk, SERVE_LEFT_OUT);
+    }
+    do_alone(alloc, desk, job, ports)
+}
+
+/// The path of the file that a job makes, if a bank of its node's file begins with that file. The node's file was read last.
+fn own_contents<'a, D: Desk + Drop>(
+    alloc: Global,
+    files: &ToldFiles<'_, D>,
+    job: &'a Job,
+    node: &str,
+) -> Result<Option<&'a str>, AllocError> {
+    let (Some((_, output)), Some(text)) = (job.made(), files.noted().text()) else {
+        return Ok(None);
+    };
+    let paths = contents_paths(alloc, node, text)?;
+    for path in &paths {
+        if files.desk().are_one(path.as_str(), output) {
+            return Ok(Some(output));
+        }
+    }
+    Ok(None)
+}
+
+/// Does a job for the node of a configuration, which its node's file says.
+fn do_placed<D: Desk + Drop>(
+    alloc: Global,
+    files: ToldFiles<'_, D>,
+    job: Job,
+    node: &str,
+    configuration: &Configuration,
+) -> Result<Left<D>, AllocError> {
+    if let Some(name) = own_contents(alloc, &files, &job, node)? {
+        return refuse_output(alloc, files.into_desk(), name, OWN_CONTENTS);
+    }
+    let ports = Some(configuration.ports);
+    do_once(
+        alloc,
+        files.into_desk(),
+        &job.placed(configuration),
+        ports,
+    )
+}
+
+/// Tells the fault of a job's node, and that nothing was done.
+fn refuse_node<D: Desk + Drop>(
+    alloc: Global,
+    files: ToldFiles<'_, D>,
+    job: &Job,
+    fault: Fault<'_>,
+) -> Result<Left<D>, AllocError> {
+    let end = JobEnd::refused(fault);
+    let told = told_end(alloc, job, &end, files.noted());
+    let desk = files.into_desk();
+    match end.fault {
+        Some(fault) => {
+            let left = fail(alloc, desk, &fault)?;
+            left.desk.tell(told)?;
+            Ok(left)
+        }
+        None => unreachable!(),
+    }
+}
+
+/// Does a job for the node of a file.
+fn do_on_node<D: Desk + Drop>(
+    alloc: Global,
+    desk: D,
+    own: NodeJob,
+) -> Result<Left<D>, AllocError>
+    ensures { IfOk result (λ left. DoesOnNode D.words D.Errors
+        (talk_words D.Talk.came D.Talk.sent D.Talk.unsent D.Talk.missed) D.Server.serves
+        own desk left.end left.desk) }
+{
+    let NodeJob { job, node } = own;
+    let name = node.as_str();
+    if let Some(output) = own_input(&desk, &job, name) {
+        return refuse_output(alloc, desk, output, OWN_SOURCE);
+    }
+    let mut files = ToldFiles::new(desk, node_inputs(name));
+    match configuration_in(alloc, &mut files, name) {
+        Ok(configuration) => do_placed(alloc, files, job, name, &configuration),
+        Err(fault) => refuse_node(alloc, files, &job, fault),
+    }
+}
+
+/// Holds a talk in lines.
+fn talk_lines<D: Desk + Drop>(
+    alloc: Global,
+    desk: D,
+    words: &LiveWords,
+) -> Result<Left<D>, AllocError>
+    ensures { IfOk result (λ left. HoldsLines D.words D.Errors
+        (talk_words D.Talk.came D.Talk.sent D.Talk.unsent D.Talk.missed)
+        words.now desk left.end left.desk) }
+{
+    let errors = desk.errors();
+    let mut talk = ToldTalk::new(&errors, alloc, desk.talk(alloc)?);
+    let mut files = ToldFiles::of_node(desk, &words.node);
+    let mut place = None;
+    let done = live(alloc, words, &mut files, &mut talk, &mut place);
+    let told = told_node(alloc, &words.node, place.as_deref(), files.noted());
+    let mut desk = files.into_desk();
+    desk.tell(told)?;
+    let sent = desk.end_talk(talk.into_talk());
+    end_talk(desk, done, &sent)
+}
+
+/// Holds a talk in frames over a link.
+fn talk_frames<D: Desk + Drop>(
+    alloc: Global,
+    desk: D,
+    words: &LiveWords,
+    mut link: D::Link,
+) -> Result<Left<D>, AllocError> {
+    let mut files = ToldFiles::of_node(desk, &words.node);
+    let mut place = None;
+    let done = live_frames(alloc, words, &mut files, &mut link, &mut place);
+    let told = told_node(alloc, &words.node, place.as_deref(), files.noted());
+    let mut desk = files.into_desk();
+    desk.tell(told)?;
+    let sent = desk.end_link(link);
+    end_talk(desk, done, &sent)
+}
+
+/// Holds a talk: one in frames only if there is a link.
+fn do_live<D: Desk + Drop>(
+    alloc: Global,
+    desk: D,
+    words: &LiveWords,
+) -> Result<Left<D>, AllocError> {
+    if !words.frames {
+        return talk_lines(alloc, desk, words);
+    }
+    match desk.link() {
+        Some(link) => talk_frames(alloc, desk, words, link),
+        None => leave_out(alloc, desk, FRAMES_LEFT_OUT),
+    }
+}
+
+/// Does what words ask for.
+fn do_work<D: Desk + Drop>(alloc: Global, desk: D, work: Work) -> Result<Left<D>, AllocError> {
+    match work {
+        Work::Once(job) => do_once(alloc, desk, &job, None),
+        Work::OnNode(own) => do_on_node(alloc, desk, own),
+        Work::Live(words) => do_live(alloc, desk, &words),
+        Work::Told(text) => print_text(alloc, desk, text.as_str(), Status::Done),
+    }
+}
+
+/// What is told of words that ask for nothing.
+fn refusal_text(
+    alloc: Global,
+    fault: &UsageFault,
+    words: &[&str],
+) -> Result<String, AllocError> {
+    let more = told_fault(alloc, fault, words)?;
+    let refusal = Refusal::of(fault);
+    format!(in alloc; "{refusal}{more}")
+}
+
+/// Tells that words ask for nothing.
+fn refuse<D: Desk + Drop>(
+    alloc: Global,
+    desk: D,
+    fault: &UsageFault,
+    words: &[&str],
+) -> Result<Left<D>, AllocError> {
+    if let UsageFault::Memory = fault {
+        return Err(AllocError);
+    }
+    desk.tell(refusal_text(alloc, fault, words))?;
+    Ok(Left {
+        desk,
+        end: End::Ended(Status::Misused),
+    })
+}
+
+/// Does what the words of a command line ask for over a desk, and gives what is left: how it ended, and the desk. If there is no word
+/// it judges standard input. Before it waits for standard input at a terminal, it says so.
+///
+/// # Errors
+///
+/// If memory was refused before a job began, or if the desk ends for that.
+pub fn do_words<D: Desk + Drop>(
+    alloc: Global,
+    desk: D,
+    given: &[&str],
+    is_terminal: bool,
+) -> Result<Left<D>, AllocError>
+    ensures { IfOk result (λ left. DoesWords D.words D.Errors
+        (talk_words D.Talk.came D.Talk.sent D.Talk.unsent D.Talk.missed) D.Server.serves
+        (link_words D.Link.came D.Link.sent D.Link.told D.Link.unread D.Link.unsent D.Link.untold)
+        (words_given (texts given.now)) desk left.end left.desk) }
+{
+    let waits = Waits {
+        is_terminal,
+        without_words: given.is_empty(),
+    };
+    let words = words_or_judge(given);
+    match asked_of(alloc, words) {
+        Ok(work) => {
+            if let Some(text) = told_wait(&work, waits) {
+                let _ = desk.errors().eprintln(&text);
+            }
+            do_work(alloc, desk, work)
+        }
+        Err(fault) => refuse(alloc, desk, &fault, words),
+    }
+}
