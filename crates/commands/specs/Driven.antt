@@ -157,9 +157,9 @@ module _ {D T L : Type 0} (desk : DeskWords D T L) where
       pub hears : desk.hears before first.talk.talk
       pub dump : first.talk.is_dump ≡ of_dump
       pub shown : MatchResult done
-        (ShowsTalk (ToldComes (DumpComes talk.came)) (ToldSends (DumpSends talk.sent)) (ToldSends (DumpSends talk.unsent))
+          (ShowsTalk (ToldComes (DumpComes talk.came)) (ToldSends (DumpSends talk.sent)) (ToldSends (DumpSends talk.unsent))
           (ToldMisses (DumpMisses talk.came talk.missed)) first last)
-        (IsShowUnsent (ToldComes (DumpComes talk.came)) (ToldSends (DumpSends talk.sent)) (ToldSends (DumpSends talk.unsent))
+          (IsShowUnsent (ToldComes (DumpComes talk.came)) (ToldSends (DumpSends talk.sent)) (ToldSends (DumpSends talk.unsent))
           (ToldMisses (DumpMisses talk.came talk.missed)) first last)
       pub over : desk.ends before last.talk.talk after
       pub ended : EndsTalk done end
@@ -176,9 +176,9 @@ module _ {D T L : Type 0} (desk : DeskWords D T L) where
       pub maps : maps_for start.noted ≡ Some (maps_of_node words.node)
       pub hears : desk.hears before first.talk
       pub held : MatchResult done
-        (Lives (ToldReads desk) (ToldComes talk.came) (ToldSends talk.sent) (ToldSends talk.unsent) (ToldMisses talk.missed)
+          (Lives (ToldReads desk) (ToldComes talk.came) (ToldSends talk.sent) (ToldSends talk.unsent) (ToldMisses talk.missed)
           words start stop first last)
-        (IsUnsent (ToldReads desk) (ToldComes talk.came) (ToldSends talk.sent) (ToldSends talk.unsent) (ToldMisses talk.missed)
+          (IsUnsent (ToldReads desk) (ToldComes talk.came) (ToldSends talk.sent) (ToldSends talk.unsent) (ToldMisses talk.missed)
           words start stop first last)
       pub over : desk.ends stop.desk last.talk after
       pub ended : EndsTalk done end
@@ -257,8 +257,8 @@ module _ {D T L : Type 0} (desk : DeskWords D T L) where
         pub maps : maps_for start.noted ≡ Some (maps_of_node words.node)
         pub linked : desk.links before first
         pub held : MatchResult done
-          (LivesFrames (ToldReads desk) link.came link.sent link.told link.unread link.unsent link.untold words start stop first last)
-          (IsFramesUnsent (ToldReads desk) link.came link.sent link.told link.unread link.unsent link.untold words start stop first
+            (LivesFrames (ToldReads desk) link.came link.sent link.told link.unread link.unsent link.untold words start stop first last)
+            (IsFramesUnsent (ToldReads desk) link.came link.sent link.told link.unread link.unsent link.untold words start stop first
             last)
         pub over : desk.unlinks stop.desk last after
         pub ended : EndsTalk done end

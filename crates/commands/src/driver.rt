@@ -307,12 +307,7 @@ fn do_placed<D: Desk + Drop>(
         return refuse_output(alloc, files.into_desk(), name, OWN_CONTENTS);
     }
     let ports = Some(configuration.ports);
-    do_once(
-        alloc,
-        files.into_desk(),
-        &job.placed(configuration),
-        ports,
-    )
+    do_once(alloc, files.into_desk(), &job.placed(configuration), ports)
 }
 
 /// Tells the fault of a job's node, and that nothing was done.
@@ -336,11 +331,7 @@ fn refuse_node<D: Desk + Drop>(
 }
 
 /// Does a job for the node of a file.
-fn do_on_node<D: Desk + Drop>(
-    alloc: Global,
-    desk: D,
-    own: NodeJob,
-) -> Result<Left<D>, AllocError>
+fn do_on_node<D: Desk + Drop>(alloc: Global, desk: D, own: NodeJob) -> Result<Left<D>, AllocError>
     ensures { IfOk result (λ left. DoesOnNode D.words D.Errors
         (talk_words D.Talk.came D.Talk.sent D.Talk.unsent D.Talk.missed) D.Server.serves
         own desk left.end left.desk) }
@@ -422,11 +413,7 @@ fn do_work<D: Desk + Drop>(alloc: Global, desk: D, work: Work) -> Result<Left<D>
 }
 
 /// What is told of words that ask for nothing.
-fn refusal_text(
-    alloc: Global,
-    fault: &UsageFault,
-    words: &[&str],
-) -> Result<String, AllocError> {
+fn refusal_text(alloc: Global, fault: &UsageFault, words: &[&str]) -> Result<String, AllocError> {
     let more = told_fault(alloc, fault, words)?;
     let refusal = Refusal::of(fault);
     format!(in alloc; "{refusal}{more}")

@@ -7,7 +7,6 @@ ghost use Rattle.job_parts.specs.Stops.{StopsBy};
 
 use crate::facts::Facts;
 use crate::serving::{Serves, Threaded};
-
 use job_charts::compare::{CompareWords, compare_file};
 use job_charts::map::{MapWords, map_file};
 use job_codes::explain::{ExplainWords, explain};
@@ -130,8 +129,9 @@ impl Job {
         ensures { result ≡ facts_of self.now }
     {
         match self {
-            Job::Judge(args) | Job::Simulate(args) | Job::Trace(args) =>
-                Facts::on_lines(maps_of_node(&args.node)),
+            Job::Judge(args) | Job::Simulate(args) | Job::Trace(args) => Facts::on_lines(
+                maps_of_node(&args.node),
+            ),
             Job::Serve(args) => Facts::serves_lines(maps_of_node(&args.node)),
             Job::Verify(args) | Job::Why(args) => Facts::on_image(args.sizes),
             Job::Weigh(words) => Facts::on_image(words.sizes),

@@ -71,8 +71,7 @@ fn found<R: rt::Files>(rt: &R, name: &str) -> Option<Metadata> {
 }
 
 impl<'a, R: rt::Files + Input + Print + Eprint + Threads + Wait + Sync> Desk
-    for MachineDesk<'a, R>
-{
+    for MachineDesk<'a, R> {
     type Output = BufWriter<Printer<'a, R>>;
 
     type Talk = HostTalk<BufReader<R::Reader>, Printer<'a, R>>;
@@ -128,10 +127,7 @@ impl<'a, R: rt::Files + Input + Print + Eprint + Threads + Wait + Sync> Desk
         }
     }
 
-    fn end_talk(
-        &mut self,
-        talk: HostTalk<BufReader<R::Reader>, Printer<'a, R>>,
-    ) -> io::Result<()> {
+    fn end_talk(&mut self, talk: HostTalk<BufReader<R::Reader>, Printer<'a, R>>) -> io::Result<()> {
         talk.into_output().1
     }
 

@@ -1,11 +1,15 @@
 -- A desk over files in memory.
-use Rattle.std.specs.Prelude.{◌≡◌, ℕ, List, [], Option, None, Some, Bool, bytes_eq, codes, false, ⊥}
+use Rattle.std.specs.Prelude.{◌≡◌, ℕ, List, [], Option, None, Some, Bool, bytes_eq, codes, drop, false, ⊥, ⊤}
+use Rattle.std.specs.Io.KnownBytes.{Appends}
 use Rattle.std.specs.Io.Cursor.{cursor_inner, cursor_position}
 use Rattle.std.specs.declared.io.impls.Cursor.{Cursor}
 use Rattle.std.specs.declared.vec.Vec.{Vec}
 use Rattle.folders.specs.Folders.{FolderReads, FolderValue, FolderWrites, content_of}
+use Rattle.job_frames.specs.declared.host.HostLink.{HostLink}
+use Rattle.job_live.specs.HostLines.{LosesLine, ReadsLine}
 use Rattle.job_live.specs.declared.host.HostTalk.{HostTalk}
 use Rattle.commands.specs.Desks.{DeskWords}
+use Rattle.commands.specs.Driven.{TalkWords, talk_words}
 use Rattle.doing.specs.declared.desk.PageDesk.{PageDesk}
 
 -- the bytes that were found, if any were
@@ -20,6 +24,22 @@ input_of folder = found_or_none (content_of folder (codes "-"))
 -- a talk over bytes in memory
 abbrev pub PageTalk : Type 0 → Type 0
 PageTalk Z = HostTalk (Cursor (Vec ℕ Z)) (Vec ℕ Z)
+
+-- a link over bytes in memory, of which there is none
+abbrev pub PageLink : Type 0 → Type 0
+PageLink Z = HostLink (Cursor (Vec ℕ Z)) (Vec ℕ Z) (Vec ℕ Z)
+
+-- the bytes of standard input that have not come yet
+abbrev pub left_of : {Z : Type 0} → PageTalk Z → Option (List ℕ)
+left_of talk = Some (drop (cursor_position talk.input) (cursor_inner talk.input).items)
+
+-- a line comes that standard input has, and what is sent is behind all that was
+abbrev pub page_talk : {Z : Type 0} → TalkWords (PageTalk Z)
+page_talk = talk_words
+  (λ before line after. ReadsLine (left_of before) line (left_of after))
+  (λ before text after. Appends (Some before.output.items) (Some after.output.items) text)
+  (λ before text after. ⊤)
+  (λ before after. LosesLine (left_of before) (left_of after))
 
 -- a read is one of the folder, and prints nothing
 abbrev pub PageReads : (before : PageDesk) → List ℕ → Option (List ℕ) → (after : PageDesk) → Type 0
@@ -44,7 +64,7 @@ abbrev pub PageEnds : {Z : Type 0} → (before : PageDesk) → PageTalk Z → (a
 PageEnds before talk after = (after.folder ≡ before.folder) × (after.out.items ≡ talk.output.items)
 
 -- the files of a folder; two names are of one file if they are the same; no output is lost, and there is no link
-abbrev pub page_words : {Z L : Type 0} → DeskWords PageDesk (PageTalk Z) L
+abbrev pub page_words : {Z : Type 0} → DeskWords PageDesk (PageTalk Z) (PageLink Z)
 page_words = record {
   reads = PageReads;
   writes = PageWrites;

@@ -1,11 +1,37 @@
 -- What the words of a command line come to over the files of a folder.
-use Rattle.std.specs.Prelude.{◌≡◌, List, [], false}
+use Rattle.std.specs.Prelude.{◌≡◌, List, [], false, ⊥, ⊤}
+use Rattle.std.specs.Borrow.{Bor}
+use Rattle.std_heap.specs.declared.Global.{Global}
 use Rattle.clap.specs.Walk.{Text}
 use Rattle.commands.specs.Driven.{LinkWords, TalkWords, end_code, DoesWords as DoesOver}
 pub use Rattle.commands.specs.Given.{words_given}
 use Rattle.commands.specs.declared.driver.End.{End}
 use Rattle.folders.specs.Folders.{FolderValue}
-use Rattle.doing.specs.Desks.{PageTalk, page_words}
+use Rattle.doing.specs.Desks.{PageLink, page_talk, page_words}
 use Rattle.doing.specs.declared.desk.PageDesk.{PageDesk}
 use Rattle.doing.specs.declared.doing.Left.{Left}
+use Rattle.doing.specs.declared.slate.Slate.{Slate}
 
+-- there is no link
+abbrev pub no_link : LinkWords (PageLink Global)
+no_link = record {
+  came = λ before bytes after. ⊥;
+  sent = λ before bytes after. ⊥;
+  told = λ before text after. ⊥;
+  unread = λ before after. ⊥;
+  unsent = λ before bytes after. ⊥;
+  untold = λ before text after. ⊥;
+}
+
+-- the words were done over a desk with the files of the folder, on which nothing was printed, and no thread can start; what is left is the
+-- status, what was printed, and the files
+pub record DoesWords (words : List Text) (before : FolderValue) (left : Left) : Type 0 where
+  pub start : PageDesk
+  pub stop : PageDesk
+  pub end : End
+  pub begun : start.folder ≡ before
+  pub silent : start.out.items ≡ []
+  pub does : DoesOver page_words (Bor Slate) page_talk false no_link words start end stop
+  pub status : left.done.status ≡ end_code end
+  pub printed : left.done.out.items ≡ stop.out.items
+  pub folder : left.folder ≡ stop.folder
