@@ -1,4 +1,5 @@
 mod Apart
+mod Asking
 mod InPlace
 mod Matching
 mod Placing

@@ -97,4 +97,4 @@ module _ {T : Type 0} where
   -- no line could be read there; or one came, and memory was refused to its packet line
   abbrev pub DumpMisses : Comes T → Misses T → Misses (DumpTalk T)
   DumpMisses came missed before after =
-      missed before.talk after.talk ⊎ ((line : List ℕ) × came before.talk (Some line) after.talk)
+      missed before.talk after.talk ⊎ ((line : Option (List ℕ)) × came before.talk line after.talk)

@@ -80,6 +80,7 @@ fn topic_of<'a>(given: &'a [&'a str]) -> Option<&'a [&'a str]>
 ///
 /// Words that ask for nothing are `Parse` with the text of `clap` for the user, `BadOption` where an option or a code is none,
 /// `Memory` where memory was refused.
+#[tactic(auto, using(crate::proofs::Asking::helps_none, crate::proofs::Asking::asks_none, crate::proofs::Asking::asks_for))]
 pub fn asked_of(alloc: Global, given: &[&str]) -> Result<Work, UsageFault>
     ensures ok { IfOk result (AsksFor (texts given.now)) }
     ensures err { IfErr result (AsksNone (texts given.now)) }

@@ -178,14 +178,15 @@ fn placed_by(alloc: Global, job: Job, rows: &ArgMatches) -> Result<Work, UsageFa
 }
 
 /// What the subcommand of this word names, with its matches.
-#[tactic(auto, using(crate::proofs::Placing::places, crate::proofs::Placing::names_talk, crate::proofs::Placing::is_unplaced, crate::proofs::Placing::refuses_plain, crate::proofs::Placing::refuses_place))]
+#[tactic(auto, using(crate::proofs::Placing::places, crate::proofs::Placing::names_talk, crate::proofs::Placing::is_unplaced, crate::proofs::Placing::is_no_text, crate::proofs::Placing::refuses_plain, crate::proofs::Placing::refuses_place))]
 fn work_named(alloc: Global, word: Word, rows: &ArgMatches) -> Result<Work, UsageFault>
     ensures ok { IfOk result (Names (Some (name_of word, rows_of (found_of rows.now)))) }
     ensures err { IfErr result (Refuses word (rows_of (found_of rows.now))) }
 {
     match plain_named(alloc, word, rows)? {
         Work::Once(job) => placed_by(alloc, job, rows),
-        Work::OnNode(_) | Work::Told(_) => unreachable!(),
+        Work::OnNode(_) => unreachable!(),
+        Work::Told(_) => unreachable!(),
         Work::Live(words) => Ok(Work::Live(words)),
     }
 }

@@ -36,10 +36,10 @@ left_of talk = Some (drop (cursor_position talk.input) (cursor_inner talk.input)
 -- a line comes that standard input has, and what is sent is behind all that was
 abbrev pub page_talk : {Z : Type 0} → TalkWords (PageTalk Z)
 page_talk = talk_words
-  (λ before line after. ReadsLine (left_of before) line (left_of after))
-  (λ before text after. Appends (Some before.output.items) (Some after.output.items) text)
-  (λ before text after. ⊤)
-  (λ before after. LosesLine (left_of before) (left_of after))
+    (λ before line after. ReadsLine (left_of before) line (left_of after))
+    (λ before text after. Appends (Some before.output.items) (Some after.output.items) text)
+    (λ before text after. ⊤)
+    (λ before after. LosesLine (left_of before) (left_of after))
 
 -- a read is one of the folder, and prints nothing
 abbrev pub PageReads : (before : PageDesk) → List ℕ → Option (List ℕ) → (after : PageDesk) → Type 0
