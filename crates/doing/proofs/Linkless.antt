@@ -1,2 +1,33 @@
 -- If there is no link, nothing is said of one.
-use Rattle.std.proofs.Common.{inl, inr, Type, List, true, false, Bool}
+use Rattle.std.proofs.Common.{inl, inr, Bool, true, false, List}
+use Rattle.std_heap.specs.declared.Global.{Global}
+use Rattle.clap.specs.Walk.{Text}
+use Rattle.commands.specs.Driven.{DoesNamed, DoesTalk, DoesWork, LinkWords, TalkWords, DoesWords as DoesOver}
+use Rattle.commands.specs.declared.driver.End.{End}
+use Rattle.commands.specs.declared.work.Work.{Work}
+use Rattle.commands.specs.declared.work.Work.TheVariants.{Once, OnNode, Live, Told}
+use Rattle.job_live.specs.declared.words.LiveWords.{LiveWords}
+use Rattle.doing.specs.Desks.{PageLink, PageTalk, page_words}
+use Rattle.doing.specs.declared.desk.PageDesk.{PageDesk}
+
+module _ (E : Type 0) (talk : TalkWords (PageTalk Global)) (one other : LinkWords (PageLink Global)) (start : PageDesk) (end : End)
+    (stop : PageDesk) where
+  -- a talk in frames is left out
+  talked : (frames : Bool) (words : LiveWords) → DoesTalk page_words E talk false one frames false words start end stop
+      → DoesTalk page_words E talk false other frames false words start end stop
+  talked false words does = does
+  talked true words does = does
+
+  -- a work
+  worked : (work : Work) → DoesWork page_words E talk false one work start end stop
+      → DoesWork page_words E talk false other work start end stop
+  worked (Once job) does = does
+  worked (OnNode own) does = does
+  worked (Live words) does = talked words.frames words does
+  worked (Told text) does = does
+
+  -- words
+  pub linkless : (words : List Text) → DoesOver page_words E talk false one words start end stop
+      → DoesOver page_words E talk false other words start end stop
+  linkless words (inl does) = inl (record { work = does.work; named = does.named; done = worked does.work does.done })
+  linkless words (inr does) = inr does

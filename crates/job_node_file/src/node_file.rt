@@ -4,16 +4,15 @@ ghost use Rattle.std.specs.Prelude.{◌≡◌, ◌++◌, ℕ, List, IfErr, IfOk,
 ghost use Rattle.clap.specs.Walk.{first_of};
 ghost use Rattle.job_parts.specs.Matched.{app_of, fields_of, found_of, rows_of};
 ghost use Rattle.job_node_file.specs.NodeFileJob.{NamesNodeFile, first_input, node_file_app, second_input};
-ghost use Rattle.job_node_file.specs.Pools.{IsPool};
 ghost use Rattle.job_node_file.specs.Printed.{HasEnd, IsNotTold, PrintsNodeFile};
-ghost use Rattle.job_node_file.specs.Quotas.{header_end, lines_asked};
+ghost use Rattle.job_node_file.specs.Quotas.{lines_asked};
 ghost use Rattle.job_parts.specs.Arguments.{Lacks};
 ghost use Rattle.job_parts.specs.Statuses.{IsDoneWith};
 ghost use Rattle.job_parts.specs.Stops.{StopsBy};
 ghost use Rattle.job_parts.specs.Inputs.{AreInputs};
 
-use crate::pool::pool_of;
-use crate::quotas::{add_header_end, add_quota_lines, asked_quotas, asked_text};
+use crate::header::whole_header;
+use crate::quotas::{add_quota_lines, asked_quotas, asked_text};
 use bpf::Image;
 use bver::Accepted;
 use clap::{ArgMatches, Command};
@@ -31,143 +30,6 @@ use node_parts::BankConfig;
 use policy_table::Quota;
 use std::alloc::{AllocError, Global};
 use std::io::Write;
-
-/// How many bytes stand in a row.
-const ROW: usize = 16;
-
-/// Adds a byte, `0xHH,`, and behind it a line feed where its row ends, and else a space.
-fn add_byte(text: &mut String, byte: u8, ends: bool) -> Result<(), AllocError> {
-    let behind = if ends { '\n' } else { ' ' };
-    write!(text, "0x{byte:02X},{behind}")
-}
-
-/// Adds the bytes of an array, 16 in a row, and its end. An array of C is not empty: no bytes are a zero.
-fn add_c_bytes(text: &mut String, bytes: &[u8]) -> Result<(), AllocError> {
-    if bytes.is_empty() {
-        text.push_str("0\n")?;
-    }
-    for place in 0..bytes.len() {
-        let ends = place % ROW == ROW - 1 || place + 1 == bytes.len();
-        add_byte(text, bytes[place], ends)?;
-    }
-    text.push_str("};\n")
-}
-
-/// What stands before all else.
-const HEAD: &str = "\
-/* Made by rmapctl node --c. */
-#ifndef NODE_FILE_H
-#define NODE_FILE_H
-
-#include <sandbarstove.h>
-
-";
-
-/// Adds the address of the node, and how many ports, banks, maps and loads it has.
-fn add_c_numbers(text: &mut String, node: &OwnNode) -> Result<(), AllocError> {
-    let (address, ports, banks) = (node.address(), node.ports(), node.banks().len());
-    let (maps, loads) = (node.sizes().maps(), node.loads().len());
-    write!(
-        text,
-        "#define NODE_ADDRESS 0x{address:02X}\n#define NODE_PORTS {ports}\n#define NODE_BANKS {banks}\n"
-    )?;
-    write!(
-        text,
-        "#define NODE_MAPS {maps}\n#define NODE_LOADS {loads}\n"
-    )
-}
-
-/// Adds the banks, by their extended address.
-fn add_c_banks(text: &mut String, banks: &[BankConfig]) -> Result<(), AllocError> {
-    text.push_str("\nstatic const struct sandbar_bank node_banks[] = {\n")?;
-    for bank in banks {
-        let (base, size, room) = (bank.base, bank.size, bank.room);
-        writeln!(text, "  {{0x{base:08X}u, {size}u, {room}u}},")?;
-    }
-    text.push_str("};\n")
-}
-
-/// Adds the maps; one without cells where there is none, since an array of C is not empty.
-fn add_c_maps(text: &mut String, sizes: &MapSizes) -> Result<(), AllocError> {
-    text.push_str("\nstatic const struct sandbar_map node_maps[] = {\n")?;
-    for map in 0..sizes.maps() {
-        let cells = sizes.cells(map).unwrap_or(0);
-        let peak = match sizes.kind(map) {
-            Some(MapKind::Peak) => 1,
-            Some(MapKind::Counter) | None => 0,
-        };
-        writeln!(text, "  {{{cells}, {peak}}},")?;
-    }
-    if sizes.maps() == 0 {
-        text.push_str("  {0, 0},\n")?;
-    }
-    text.push_str("};\n")
-}
-
-/// Adds the bytes that banks begin with, and a row for each bank.
-fn add_contents(text: &mut String, node: &OwnNode) -> Result<(), AllocError> {
-    let contents = node.contents();
-    for place in 0..contents.len() {
-        writeln!(text, "\nstatic const uint8_t node_contents_{place}[] = {{")?;
-        add_c_bytes(text, contents[place].bytes())?;
-    }
-    text.push_str("\nstatic const struct { const uint8_t *bytes; size_t length; } ")?;
-    text.push_str("node_contents[] = {\n")?;
-    for place in 0..contents.len() {
-        let count = contents[place].bytes().len();
-        writeln!(text, "  {{node_contents_{place}, {count}}},")?;
-    }
-    text.push_str("};\n")
-}
-
-/// Adds the images that are loaded, and a row for each load.
-fn add_loads(text: &mut String, node: &OwnNode) -> Result<(), AllocError> {
-    let loads = node.loads();
-    for place in 0..loads.len() {
-        writeln!(text, "\nstatic const uint8_t node_load_{place}[] = {{")?;
-        add_c_bytes(text, loads[place].image())?;
-    }
-    text.push_str("\nstatic const struct { uint8_t slot; const uint8_t *image; ")?;
-    text.push_str("size_t length; } node_loads[] = {\n")?;
-    for place in 0..loads.len() {
-        let (slot, count) = (loads[place].slot(), loads[place].image().len());
-        writeln!(text, "  {{{slot}, node_load_{place}, {count}}},")?;
-    }
-    if loads.is_empty() {
-        text.push_str("  {0, 0, 0},\n")?;
-    }
-    text.push_str("};\n")
-}
-
-/// The header of a node up to its end, with the image that judges in all slots at first.
-fn header_text(alloc: Global, node: &OwnNode, program: &Accepted) -> Result<String, AllocError> {
-    let image = program.image().write()?;
-    let mut text = String::from_str(alloc, HEAD)?;
-    add_c_numbers(&mut text, node)?;
-    add_c_banks(&mut text, node.banks())?;
-    add_c_maps(&mut text, &node.sizes())?;
-    text.push_str("\nstatic const uint8_t node_image[] = {\n")?;
-    add_c_bytes(&mut text, image.as_slice())?;
-    add_contents(&mut text, node)?;
-    add_loads(&mut text, node)?;
-    Ok(text)
-}
-
-/// The header of a node, with the bytes of its pool and the quotas of its table.
-fn whole_header(
-    alloc: Global,
-    node: &OwnNode,
-    program: &Accepted,
-    quotas: &Option<Vec<Quota>>,
-) -> Result<String, AllocError>
-    ensures { IfOk result (λ text. (begun : List ℕ) × (pool : ℕ) × IsPool node.now program.now pool
-        × (string_bytes text ≡ begun ++ header_end pool (option_map (λ q. q.items) quotas.now))) }
-{
-    let mut text = header_text(alloc, node, program)?;
-    let pool = pool_of(alloc, node, program)?;
-    add_header_end(&mut text, pool, quotas)?;
-    Ok(text)
-}
 
 /// Adds where a bank lies, and what its journal has room for: `bank EXTENDED FIRST LAST size N journal N`, and `contents N`
 /// behind that where it begins with bytes.
