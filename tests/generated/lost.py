@@ -1,6 +1,6 @@
 #!/usr/bin/env python3
 """Standard output that takes nothing: a full device, a closed one, and a pipe that nobody reads any more. Whatever a job prints, it then
-ends with status 1, and the system's own words are told only if there is a fault. docs/COMMANDS.md, *Exit statuses*, says what is due."""
+ends with status 1, and the system's own words are told only if there is a fault. docs/COMMANDS.md, *Exit status*, says what is due."""
 from __future__ import annotations
 
 import os

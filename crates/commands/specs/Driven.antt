@@ -1,9 +1,9 @@
 -- What the words of a command line come to over a desk.
-use Rattle.std.specs.Prelude.{◌≡◌, ◌⊎◌, ℕ, Bool, true, false, ◌&&◌, not, List, Option, None, Some, Result, Ok, Err, MatchResult, slice_get, string_bytes}
+use Rattle.std.specs.Prelude.{◌≡◌, ◌⊎◌, ℕ, Bool, true, false, ◌&&◌, not, List, Option, None, Some, Result, Ok, Err, IsOk, MatchResult, slice_get, string_bytes}
 use Rattle.std.specs.Borrow.{Bor}
 use Rattle.std.specs.Io.KnownBytes.{Appends}
 use Rattle.clap.specs.Walk.{Text}
-use Rattle.job_config.specs.Configured.{numbers_in}
+use Rattle.job_config.specs.Configured.{ConfigurationValue, numbers_in}
 use Rattle.job_config.specs.ContentsNamed.{AreContentsPaths}
 use Rattle.job_config.specs.Reads.{ReadsConfiguration, ReadsNoConfiguration}
 use Rattle.job_config.specs.declared.configuration.Configuration.{Configuration}
@@ -29,6 +29,7 @@ use Rattle.commands.specs.declared.driver.End.{End}
 use Rattle.commands.specs.declared.driver.End.TheVariants.{Ended, LeftOut}
 use Rattle.commands.specs.declared.dumps.DumpTalk.{DumpTalk}
 use Rattle.commands.specs.declared.jobs.Job.{Job}
+use Rattle.commands.specs.declared.jobs.JobEnd.{JobEnd}
 use Rattle.commands.specs.declared.node_jobs.NodeJob.{NodeJob}
 use Rattle.commands.specs.declared.told_files.ToldFiles.{ToldFiles}
 use Rattle.commands.specs.declared.told_talk.ToldTalk.{ToldTalk}
@@ -82,6 +83,11 @@ module _ {D T L : Type 0} (desk : DeskWords D T L) where
     pub appended : Appends first last text
     pub closed : desk.closes before last after
 
+  -- standard output ends with this status, if what was written was written, and it is what it has; or output was lost
+  abbrev pub EndsOutput : {V X : Type 0} → (written : Result V X) → Status → (before : D) → Option (List ℕ) → End → (after : D) → Type 0
+  EndsOutput written status before last end after =
+      ((end ≡ Ended status) × IsOk written × desk.closes before last after) ⊎ LosesOutput end
+
   -- a text was printed, and it ends with this status; or output was lost
   abbrev pub Prints : (text : List ℕ) → Status → (before : D) → End → (after : D) → Type 0
   Prints text status before end after = ((end ≡ Ended status) × WritesText text before after) ⊎ LosesOutput end
@@ -100,6 +106,11 @@ module _ {D T L : Type 0} (desk : DeskWords D T L) where
     pub performs : Performs (ToldReads desk) (ToldWrites desk) job start stop first last status
     pub printed : desk.closes stop.desk last closed
     pub again : LooksAgain desk closed after
+
+  -- a job ends as it ended, if its output was written, and a file may be read again for what is told; or output was lost
+  abbrev pub EndsJob : {V X : Type 0} → Result JobEnd WriteFault → (closed : Result V X) → (before : D) → End → (after : D) → Type 0
+  EndsJob done closed before end after =
+      ((own : JobEnd) × (done ≡ Ok own) × IsOk closed × (end ≡ Ended own.status) × LooksAgain desk before after) ⊎ LosesOutput end
 
   -- the same, and it ends with that status; or output was lost
   abbrev pub DoesJob : Job → (before : D) → End → (after : D) → Type 0
@@ -132,6 +143,22 @@ module _ {D T L : Type 0} (desk : DeskWords D T L) where
   IsOwnOf node before None name = ⊥
   IsOwnOf node before (Some made) name =
       (name ≡ made.1) × (desk.are_one before node made.1 true ⊎ desk.are_one before made.0 made.1 true)
+
+  -- one of the paths is of the file, as the desk tells
+  pub record IsOneOf (before : D) (paths : List (List ℕ)) (file : List ℕ) : Type 0 where
+    pub place : ℕ
+    pub path : List ℕ
+    pub is_path : slice_get paths place ≡ Some path
+    pub is_one : desk.are_one before path file true
+
+  -- the file of this name is the one that a job makes, and by some text of the node's file a bank begins with it
+  pub record HasContents (node : List ℕ) (made : Option (List ℕ × List ℕ)) (before : D) (name : List ℕ) : Type 0 where
+    pub source : List ℕ
+    pub makes : made ≡ Some (source, name)
+    pub text : List ℕ
+    pub paths : List (List ℕ)
+    pub are : AreContentsPaths node text paths
+    pub is_one_of : IsOneOf before paths name
 
   -- a job that is no talk: it was done, or refused since it would write over what it reads
   abbrev pub DoesAlone : Job → (before : D) → End → (after : D) → Type 0
@@ -194,7 +221,14 @@ module _ {D T L : Type 0} (desk : DeskWords D T L) where
       abbrev pub DoesOnce : Job → (before : D) → End → (after : D) → Type 0
       DoesOnce job before end after = DoesBy (facts_of job).talks (leaves_out serves job) job before end after
 
-      -- the node's file of a job says a configuration, and the job was done for that node
+      -- what a job comes to whose node's file says these numbers: it is done for that node; or a bank begins with the file that it makes, which
+      -- is told
+      abbrev pub DoesRead : (node : List ℕ) → Job → ConfigurationValue → (before : D) → End → (after : D) → Type 0
+      DoesRead node job own before end after =
+          DoesOnce (placed job own) before end after
+          ⊎ ((name : List ℕ) × HasContents node (made_of job) before name × RefusesOutput name before end after)
+
+      -- the node's file of a job says a configuration, and the job was done for that node, or refused
       pub record DoesPlaced (own : NodeJob) (before : D) (end : End) (after : D) : Type 0 where
         pub start : ToldFiles D
         pub stop : ToldFiles D
@@ -203,26 +237,7 @@ module _ {D T L : Type 0} (desk : DeskWords D T L) where
         pub dump : reads_dump start.noted ≡ false
         pub maps : maps_for start.noted ≡ None
         pub read : ReadsConfiguration (ToldReads desk) (string_bytes own.node) start configuration stop
-        pub done : DoesOnce (placed own.job (numbers_in configuration)) stop.desk end after
-
-  -- the node's file of a job says a configuration, and a bank begins with the file that the job makes, which was told; nothing was done
-  pub record RefusesContents (own : NodeJob) (before : D) (end : End) (after : D) : Type 0 where
-    pub start : ToldFiles D
-    pub stop : ToldFiles D
-    pub configuration : Configuration
-    pub begun : start.desk ≡ before
-    pub read : ReadsConfiguration (ToldReads desk) (string_bytes own.node) start configuration stop
-    pub text : List ℕ
-    pub paths : List (List ℕ)
-    pub place : ℕ
-    pub path : List ℕ
-    pub source : List ℕ
-    pub output : List ℕ
-    pub are : AreContentsPaths (string_bytes own.node) text paths
-    pub is_path : slice_get paths place ≡ Some path
-    pub makes : made_of own.job ≡ Some (source, output)
-    pub is_own : desk.are_one stop.desk path output true
-    pub refused : RefusesOutput output stop.desk end after
+        pub done : DoesRead (string_bytes own.node) own.job (numbers_in configuration) stop.desk end after
 
   -- the node's file of a job says no configuration, which was told, and nothing was done
   pub record TellsNode (own : NodeJob) (before : D) (end : End) (after : D) : Type 0 where
@@ -241,7 +256,7 @@ module _ {D T L : Type 0} (desk : DeskWords D T L) where
     abbrev pub DoesOnNode : NodeJob → (before : D) → End → (after : D) → Type 0
     DoesOnNode own before end after =
         (IsApartFrom (string_bytes own.node) before (made_of own.job)
-        × (DoesPlaced E talk serves own before end after ⊎ RefusesContents own before end after ⊎ TellsNode own before end after))
+        × (DoesPlaced E talk serves own before end after ⊎ TellsNode own before end after))
         ⊎ ((name : List ℕ) × IsOwnOf (string_bytes own.node) before (made_of own.job) name × RefusesOutput name before end after)
 
     module _ (link : LinkWords L) where

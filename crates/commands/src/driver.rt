@@ -1,13 +1,17 @@
 //! The words of a command line, done over a desk.
 
-ghost use Rattle.std.specs.Prelude.{◌≡◌, IfOk, MatchOption, ◌&&◌, not, string_bytes};
+ghost use Rattle.std.specs.Prelude.{◌≡◌, IfOk, IfSome, MatchOption, map, string_bytes, true};
 ghost use Rattle.clap.specs.Walk.{texts};
-ghost use Rattle.commands.specs.Driven.{DoesAlone, DoesJob, DoesOnNode, DoesOnce, DoesTalk, DoesWords, DoesWork, EndsTalk, HoldsLines, HoldsLink, IsApart, IsApartFrom, IsLeftOut, IsMisused, IsOwn, IsOwnOf, LosesOutput, Prints, RefusesOutput, ShowsInput, end_code, leaves_out, link_words, talk_words};
+ghost use Rattle.commands.specs.Driven.{DoesAlone, DoesJob, DoesOnNode, DoesOnce, DoesRead, DoesTalk, DoesWords, DoesWork, EndsJob, EndsOutput, EndsTalk, HasContents, HoldsLines, HoldsLink, IsApart, IsApartFrom, IsLeftOut, IsOneOf, IsOwn, IsOwnOf, LosesOutput, Prints, RefusesOutput, ShowsInput, end_code, link_words, talk_words};
 ghost use Rattle.commands.specs.Given.{words_given};
 ghost use Rattle.commands.specs.Jobs.{made_of};
 ghost use Rattle.commands.specs.Performed.{CanDo};
 ghost use Rattle.job_parts.specs.Printed.{fault_line};
-ghost use Rattle.job_parts.specs.declared.status.Status.TheVariants.{Failed};
+ghost use Rattle.job_config.specs.Configured.{numbers_in};
+ghost use Rattle.job_parts.specs.Statuses.{usage_status};
+ghost use Rattle.job_parts.specs.declared.status.Status.TheVariants.{Failed, Misused};
+ghost use Rattle.node_parts.specs.Nodes.{are_within};
+ghost use Rattle.commands.specs.declared.driver.End.TheVariants.{Ended};
 
 use crate::asked::{Waits, asked_of, told_wait, words_or_judge};
 use crate::desk::Desk;
@@ -102,8 +106,12 @@ fn end_output<D: Desk + Drop>(
     mut out: D::Output,
     written: io::Result<()>,
     status: Status,
-) -> Result<Left<D>, AllocError> {
-    match (written, desk.close(&mut out)) {
+) -> Result<Left<D>, AllocError>
+    ensures { IfOk result (λ left. EndsOutput D.words written status desk (D.Output.contents out)
+        left.end left.desk) }
+{
+    let closed = desk.close(&mut out);
+    match (written, closed) {
         (Ok(()), Ok(())) => Ok(Left {
             desk,
             end: End::Ended(status),
@@ -150,6 +158,31 @@ fn refuse_output<D: Desk + Drop>(
     Ok(left)
 }
 
+/// Ends a job that ended so, whose output was written so, and tells what there is to tell of it.
+fn end_job<D: Desk + Drop>(
+    alloc: Global,
+    mut files: ToldFiles<'_, D>,
+    job: &Job,
+    done: Result<JobEnd<'_>, WriteFault>,
+    closed: io::Result<()>,
+) -> Result<Left<D>, AllocError>
+    ensures { IfOk result (λ left. EndsJob D.words done closed files.entry.desk left.end left.desk) }
+{
+    match (done, closed) {
+        (Ok(end), Ok(())) => {
+            let told = files.told_end(alloc, job, &end);
+            let status = end.status;
+            let desk = files.into_desk();
+            desk.tell(told)?;
+            Ok(Left {
+                desk,
+                end: End::Ended(status),
+            })
+        }
+        (_, closed) => lose(files.into_desk(), &closed),
+    }
+}
+
 /// Does a job over the files. If a node's file says its maps, that node has so many ports.
 fn do_job<D: Desk + Drop>(
     alloc: Global,
@@ -165,16 +198,8 @@ fn do_job<D: Desk + Drop>(
     let mut files = ToldFiles::of_job(desk, job, ports);
     let done = perform_with(alloc, &server, job, &mut files, &mut out);
     // What was held back fails again where it failed before, with the reason.
-    match (done, files.close(&mut out)) {
-        (Ok(end), Ok(())) => {
-            let told = files.told_end(alloc, job, &end);
-            let end = End::Ended(end.status);
-            let desk = files.into_desk();
-            desk.tell(told)?;
-            Ok(Left { desk, end })
-        }
-        (_, closed) => lose(files.into_desk(), &closed),
-    }
+    let closed = files.close(&mut out);
+    end_job(alloc, files, job, done, closed)
 }
 
 /// Tells in words what the lines of standard input are, as they come.
@@ -276,23 +301,40 @@ fn do_once<D: Desk + Drop>(
     do_alone(alloc, desk, job, ports)
 }
 
+/// Whether one of these paths is of a file.
+fn is_any_one<D: Desk>(desk: &D, paths: &[String], file: &str) -> bool
+    ensures { result ≡ true → IsOneOf D.words desk.now (map string_bytes paths.now) file.now }
+{
+    for place in 0..paths.len() {
+        if desk.are_one(paths[place].as_str(), file) {
+            return true;
+        }
+    }
+    false
+}
+
 /// The path of the file that a job makes, if a bank of its node's file begins with that file. The node's file was read last.
 fn own_contents<'a, D: Desk + Drop>(
     alloc: Global,
     files: &ToldFiles<'_, D>,
     job: &'a Job,
     node: &str,
-) -> Result<Option<&'a str>, AllocError> {
-    let (Some((_, output)), Some(text)) = (job.made(), files.noted().text()) else {
+) -> Result<Option<&'a str>, AllocError>
+    ensures { IfOk result (λ found. IfSome found (λ name.
+        HasContents D.words node.now (made_of job.now) files.now.desk name.now)) }
+{
+    let Some((_, output)) = job.made() else {
+        return Ok(None);
+    };
+    let Some(text) = files.noted().text() else {
         return Ok(None);
     };
     let paths = contents_paths(alloc, node, text)?;
-    for path in &paths {
-        if files.desk().are_one(path.as_str(), output) {
-            return Ok(Some(output));
-        }
+    if is_any_one(files.desk(), paths.as_slice(), output) {
+        Ok(Some(output))
+    } else {
+        Ok(None)
     }
-    Ok(None)
 }
 
 /// Does a job for the node of a configuration, which its node's file says.
@@ -302,7 +344,12 @@ fn do_placed<D: Desk + Drop>(
     job: Job,
     node: &str,
     configuration: &Configuration,
-) -> Result<Left<D>, AllocError> {
+) -> Result<Left<D>, AllocError>
+    requires { are_within configuration.now.banks.items ≡ true }
+    ensures { IfOk result (λ left. DoesRead D.words D.Errors
+        (talk_words D.Talk.came D.Talk.sent D.Talk.unsent D.Talk.missed) D.Server.serves
+        node.now job (numbers_in configuration.now) files.entry.desk left.end left.desk) }
+{
     if let Some(name) = own_contents(alloc, &files, &job, node)? {
         return refuse_output(alloc, files.into_desk(), name, OWN_CONTENTS);
     }
@@ -316,18 +363,17 @@ fn refuse_node<D: Desk + Drop>(
     files: ToldFiles<'_, D>,
     job: &Job,
     fault: Fault<'_>,
-) -> Result<Left<D>, AllocError> {
+) -> Result<Left<D>, AllocError>
+    ensures { IfOk result (λ left. Prints D.words (fault_line fault.entry) Failed files.entry.desk
+        left.end left.desk) }
+{
+    let mut text = String::new(alloc);
+    writeln!(text, "{fault}")?;
     let end = JobEnd::refused(fault);
     let told = told_end(alloc, job, &end, files.noted());
-    let desk = files.into_desk();
-    match end.fault {
-        Some(fault) => {
-            let left = fail(alloc, desk, &fault)?;
-            left.desk.tell(told)?;
-            Ok(left)
-        }
-        None => unreachable!(),
-    }
+    let left = print_text(alloc, files.into_desk(), text.as_str(), Status::Failed)?;
+    left.desk.tell(told)?;
+    Ok(left)
 }
 
 /// Does a job for the node of a file.
@@ -376,7 +422,13 @@ fn talk_frames<D: Desk + Drop>(
     desk: D,
     words: &LiveWords,
     mut link: D::Link,
-) -> Result<Left<D>, AllocError> {
+) -> Result<Left<D>, AllocError>
+    requires { D.words.links desk link }
+    ensures { IfOk result (λ left. HoldsLink D.words D.Errors
+        (talk_words D.Talk.came D.Talk.sent D.Talk.unsent D.Talk.missed) D.Server.serves
+        (link_words D.Link.came D.Link.sent D.Link.told D.Link.unread D.Link.unsent D.Link.untold)
+        words.now desk left.end left.desk) }
+{
     let mut files = ToldFiles::of_node(desk, &words.node);
     let mut place = None;
     let done = live_frames(alloc, words, &mut files, &mut link, &mut place);
@@ -388,11 +440,12 @@ fn talk_frames<D: Desk + Drop>(
 }
 
 /// Holds a talk: one in frames only if there is a link.
-fn do_live<D: Desk + Drop>(
-    alloc: Global,
-    desk: D,
-    words: &LiveWords,
-) -> Result<Left<D>, AllocError> {
+fn do_live<D: Desk + Drop>(alloc: Global, desk: D, words: &LiveWords) -> Result<Left<D>, AllocError>
+    ensures { IfOk result (λ left. DoesTalk D.words D.Errors
+        (talk_words D.Talk.came D.Talk.sent D.Talk.unsent D.Talk.missed) D.Server.serves
+        (link_words D.Link.came D.Link.sent D.Link.told D.Link.unread D.Link.unsent D.Link.untold)
+        words.now.frames D.words.has_link words.now desk left.end left.desk) }
+{
     if !words.frames {
         return talk_lines(alloc, desk, words);
     }
@@ -403,7 +456,12 @@ fn do_live<D: Desk + Drop>(
 }
 
 /// Does what words ask for.
-fn do_work<D: Desk + Drop>(alloc: Global, desk: D, work: Work) -> Result<Left<D>, AllocError> {
+fn do_work<D: Desk + Drop>(alloc: Global, desk: D, work: Work) -> Result<Left<D>, AllocError>
+    ensures { IfOk result (λ left. DoesWork D.words D.Errors
+        (talk_words D.Talk.came D.Talk.sent D.Talk.unsent D.Talk.missed) D.Server.serves
+        (link_words D.Link.came D.Link.sent D.Link.told D.Link.unread D.Link.unsent D.Link.untold)
+        work desk left.end left.desk) }
+{
     match work {
         Work::Once(job) => do_once(alloc, desk, &job, None),
         Work::OnNode(own) => do_on_node(alloc, desk, own),
@@ -425,15 +483,20 @@ fn refuse<D: Desk + Drop>(
     desk: D,
     fault: &UsageFault,
     words: &[&str],
-) -> Result<Left<D>, AllocError> {
-    if let UsageFault::Memory = fault {
-        return Err(AllocError);
+) -> Result<Left<D>, AllocError>
+    ensures { IfOk result (λ left. (left.end ≡ Ended Misused) × (left.desk ≡ desk)
+        × (usage_status fault.now ≡ 2)) }
+{
+    match fault {
+        UsageFault::Memory => Err(AllocError),
+        UsageFault::Parse(_) | UsageFault::BadOption => {
+            desk.tell(refusal_text(alloc, fault, words))?;
+            Ok(Left {
+                desk,
+                end: End::Ended(Status::Misused),
+            })
+        }
     }
-    desk.tell(refusal_text(alloc, fault, words))?;
-    Ok(Left {
-        desk,
-        end: End::Ended(Status::Misused),
-    })
 }
 
 /// Does what the words of a command line ask for over a desk, and gives what is left: how it ended, and the desk. If there is no word
