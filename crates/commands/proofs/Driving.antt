@@ -1,15 +1,13 @@
 -- What the driver did, of what its steps did.
-use Rattle.std.proofs.Common.{◌≡◌, ◌×◌, ◌∙◌, ℕ, Bool, true, false, List, Option, Some, None, Result, Ok, Err, IfOk, IfErr, OnOk, inl, inr, refl, sym, subst, rules}
-use Rattle.std.specs.Prelude.{IsOk, MatchResult, not, ◌&&◌}
+use Rattle.std.proofs.Common.{◌≡◌, ℕ, true, false, List, Option, Some, None, Result, Ok, Err, IfOk, OnOk, inl, inr, refl, subst}
+use Rattle.std.specs.Prelude.{IsOk}
 use Rattle.std.specs.Borrow.{Bor}
 use Rattle.std.specs.Io.KnownBytes.{Appends}
-use Rattle.clap.specs.Walk.{Text}
 use Rattle.job_parts.specs.Printed.{fault_line}
 use Rattle.job_parts.specs.declared.faults.Fault.TheVariants.{CannotWrite}
 use Rattle.job_parts.specs.declared.status.Status.{Status}
 use Rattle.job_parts.specs.declared.status.Status.TheVariants.{Failed}
 use Rattle.job_parts.specs.declared.stops.WriteFault.{WriteFault}
-use Rattle.commands.specs.CommandLine.{AsksFor, AsksNone}
 use Rattle.commands.specs.Desks.{DeskWords, LooksAgain, ToldReads, ToldWrites}
 use Rattle.commands.specs.Driven.{DoesJob, EndsJob, EndsOutput, IsApart, IsApartFrom, IsOwn, IsOwnOf, PerformsJob, Prints, RefusesOutput, WritesText}
 use Rattle.commands.specs.Jobs.{is_dump, maps_of_job}

@@ -367,12 +367,10 @@ fn refuse_node<D: Desk + Drop>(
     ensures { IfOk result (λ left. Prints D.words (fault_line fault.entry) Failed files.entry.desk
         left.end left.desk) }
 {
-    let mut text = String::new(alloc);
-    writeln!(text, "{fault}")?;
+    let (desk, noted) = files.into_parts();
+    let left = fail(alloc, desk, &fault)?;
     let end = JobEnd::refused(fault);
-    let told = told_end(alloc, job, &end, files.noted());
-    let left = print_text(alloc, files.into_desk(), text.as_str(), Status::Failed)?;
-    left.desk.tell(told)?;
+    left.desk.tell(told_end(alloc, job, &end, &noted))?;
     Ok(left)
 }
 

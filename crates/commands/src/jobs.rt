@@ -247,25 +247,11 @@ pub fn perform_with<'a, S: Serves, F: Files, W: Write>(
     }
 }
 
-/// Does a job over any files and any writer, and gives how it ended, with the exit status: `Failed` where an image was refused, two tables differ,
+/// Does a job over any files and any writer, and gives the exit status: `Failed` where an image was refused, two tables differ,
 /// a load or its way back is closed or a fault was printed, `Misused` where there are no packets such as `packet` was to make, or a bank begins with bytes, which no schedule does, else `Done`. What the writer holds back is
 /// not flushed. It may wait: `serve` has a node, whose end does, and starts threads and waits for them.
 ///
 /// `WriteFault` where the writer failed; nothing is written after that.
-pub fn perform_told<'a, R: Threads + Wait + Sync, F: Files, W: Write>(
-    rt: &R,
-    alloc: Global,
-    job: &'a Job,
-    files: &mut F,
-    out: &mut W,
-) -> Result<JobEnd<'a>, WriteFault>
-    ensures { IfOk result (λ end. Performs F.reads F.writes job.now files.old files.new
-        (W.contents out.old) (W.contents out.new) end.status) }
-{
-    perform_with(alloc, &Threaded::new(rt), job, files, out)
-}
-
-/// The same, with the exit status alone.
 pub fn perform<R: Threads + Wait + Sync, F: Files, W: Write>(
     rt: &R,
     alloc: Global,
@@ -276,6 +262,7 @@ pub fn perform<R: Threads + Wait + Sync, F: Files, W: Write>(
     ensures { IfOk result (Performs F.reads F.writes job.now files.old files.new
         (W.contents out.old) (W.contents out.new)) }
 {
-    let end = perform_told(rt, alloc, job, files, out)?;
+    let server = Threaded::new(rt);
+    let end = perform_with(alloc, &server, job, files, out)?;
     Ok(end.status)
 }

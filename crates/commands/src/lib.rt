@@ -28,7 +28,6 @@ mod whole_file;
 mod word;
 mod work;
 
-pub use asked::words_or_judge;
 pub use desk::Desk;
 pub use driver::{End, LEFT_OUT, Left, do_words};
 pub use job_charts::compare::CompareWords;
@@ -59,8 +58,7 @@ pub use job_texts::asm::AsmWords;
 pub use job_texts::dis::DisWords;
 pub use job_texts::images::ImageArgs;
 pub use job_weigh::weigh::WeighWords;
-pub use jobs::{Job, JobEnd, perform, perform_told};
-pub use losses::told_loss;
+pub use jobs::{Job, perform};
 pub use machine_desk::MachineDesk;
 pub use node_jobs::NodeJob;
 pub use noted::Cause;

@@ -90,14 +90,20 @@ impl<'a, R: rt::Files + Input + Print + Eprint + Threads + Wait + Sync> Desk
     ghost held = { writer_buffer };
 
     fn read(&mut self, alloc: Global, name: &str, most: u64) -> Result<Vec<u8>, Cause> {
-        file_bytes(self.rt, alloc, name, most).map_err(Cause::System)
+        match file_bytes(self.rt, alloc, name, most) {
+            Ok(bytes) => Ok(bytes),
+            Err(refused) => Err(Cause::System(refused)),
+        }
     }
 
     fn write(&mut self, name: &str, bytes: &[u8]) -> Result<(), Cause> {
         if name == STANDARD_INPUT {
             return Err(Cause::Input);
         }
-        write_whole(self.rt, self.alloc, name, bytes).map_err(Cause::System)
+        match write_whole(self.rt, self.alloc, name, bytes) {
+            Ok(()) => Ok(()),
+            Err(refused) => Err(Cause::System(refused)),
+        }
     }
 
     // By a link, or by the path of standard input: if the file has content of its own.

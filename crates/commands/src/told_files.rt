@@ -87,6 +87,13 @@ impl<'a, D: Desk + Drop> ToldFiles<'a, D> {
         self.desk.close(out)
     }
 
+    /// The desk, and what was noted of the files.
+    pub fn into_parts(self) -> (D, Noted<'a>)
+        ensures { result.0 ≡ self.entry.desk }
+    {
+        (self.desk, self.noted)
+    }
+
     /// The desk alone.
     pub fn into_desk(self) -> D
         ensures { result ≡ self.entry.desk }

@@ -2,15 +2,15 @@
 //! standard streams of this machine. docs/COMMANDS.md says what it does.
 #![tactic(auto)]
 
-ghost use Rattle.std.specs.Prelude.{◌≡◌, IfErr, IfOk, string_bytes, map};
+ghost use Rattle.std.specs.Prelude.{◌≡◌, IfErr};
 ghost use Rattle.commands.specs.Refusals.{AreUnknown};
 ghost use Rattle.job_parts.specs.Statuses.{status_code, usage_status};
 
 use commands::{
-    Left, MachineDesk, Refusal, Status, Stream, UsageFault, argument_fault, do_words, stream_of,
+    MachineDesk, Refusal, Status, Stream, UsageFault, argument_fault, do_words, stream_of,
     usage_end,
 };
-use std::alloc::{AllocError, Global};
+use std::alloc::Global;
 use std::env;
 use std::io::{IsTerminal, Stderr};
 use std::process::ExitCode;
