@@ -1,1 +1,2 @@
+mod Input
 mod Linkless

@@ -1,5 +1,5 @@
 -- What the words of a command line come to over the files of a folder.
-use Rattle.std.specs.Prelude.{◌≡◌, List, [], false, ⊥, ⊤}
+use Rattle.std.specs.Prelude.{◌≡◌, List, [], false}
 use Rattle.std.specs.Borrow.{Bor}
 use Rattle.std_heap.specs.declared.Global.{Global}
 use Rattle.clap.specs.Walk.{Text}

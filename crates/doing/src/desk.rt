@@ -49,6 +49,7 @@ impl<'a, 'b> PageDesk<'a, 'b> {
     }
 
     /// What standard input has.
+    #[tactic(auto, using(crate::proofs::Input::input_found, crate::proofs::Input::input_is_empty))]
     fn input(&self, alloc: Global) -> Result<Vec<u8>, AllocError>
         ensures { IfOk result (λ bytes. bytes.items ≡ input_of self.now.folder) }
     {
