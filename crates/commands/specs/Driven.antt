@@ -175,70 +175,6 @@ module _ {D T L : Type 0} (desk : DeskWords D T L) where
   EndsTalk (Ok status) end = end ≡ Ended status
   EndsTalk (Err refused) end = LosesOutput end
 
-  module _ (E : Type 0) (talk : TalkWords T) where
-    -- what lines of standard input are was told as they came
-    pub record ShowsInput (of_dump : Bool) (before : D) (end : End) (after : D) : Type 0 where
-      pub first : ToldTalk E (DumpTalk T)
-      pub last : ToldTalk E (DumpTalk T)
-      pub done : Result Status WriteFault
-      pub hears : desk.hears before first.talk.talk
-      pub dump : first.talk.is_dump ≡ of_dump
-      pub shown : MatchResult done
-          (ShowsTalk (ToldComes (DumpComes talk.came)) (ToldSends (DumpSends talk.sent)) (ToldSends (DumpSends talk.unsent))
-          (ToldMisses (DumpMisses talk.came talk.missed)) first last)
-          (IsShowUnsent (ToldComes (DumpComes talk.came)) (ToldSends (DumpSends talk.sent)) (ToldSends (DumpSends talk.unsent))
-          (ToldMisses (DumpMisses talk.came talk.missed)) first last)
-      pub over : desk.ends before last.talk.talk after
-      pub ended : EndsTalk done end
-
-    -- a talk was held over the lines of standard input, on a node of these words
-    pub record HoldsLines (words : LiveWords) (before : D) (end : End) (after : D) : Type 0 where
-      pub start : ToldFiles D
-      pub stop : ToldFiles D
-      pub first : ToldTalk E T
-      pub last : ToldTalk E T
-      pub done : Result Status WriteFault
-      pub begun : start.desk ≡ before
-      pub dump : reads_dump start.noted ≡ false
-      pub maps : maps_for start.noted ≡ Some (maps_of_node words.node)
-      pub hears : desk.hears before first.talk
-      pub held : MatchResult done
-          (Lives (ToldReads desk) (ToldComes talk.came) (ToldSends talk.sent) (ToldSends talk.unsent) (ToldMisses talk.missed)
-          words start stop first last)
-          (IsUnsent (ToldReads desk) (ToldComes talk.came) (ToldSends talk.sent) (ToldSends talk.unsent) (ToldMisses talk.missed)
-          words start stop first last)
-      pub over : desk.ends stop.desk last.talk after
-      pub ended : EndsTalk done end
-
-    -- what a job comes to, if it talks, or is left out
-    abbrev pub DoesBy : (talks is_left : Bool) → Job → (before : D) → End → (after : D) → Type 0
-    DoesBy true is_left job before end after = ShowsInput (is_dump job) before end after
-    DoesBy false true job before end after = IsLeftOut before end after
-    DoesBy false false job before end after = DoesAlone job before end after
-
-    module _ (serves : Bool) where
-      -- what a job comes to
-      abbrev pub DoesOnce : Job → (before : D) → End → (after : D) → Type 0
-      DoesOnce job before end after = DoesBy (facts_of job).talks (leaves_out serves job) job before end after
-
-      -- what a job comes to whose node's file says these numbers: it is done for that node; or a bank begins with the file that it makes, which
-      -- is told
-      abbrev pub DoesRead : (node : List ℕ) → Job → ConfigurationValue → (before : D) → End → (after : D) → Type 0
-      DoesRead node job own before end after =
-          DoesOnce (placed job own) before end after
-          ⊎ ((name : List ℕ) × HasContents node (made_of job) before name × RefusesOutput name before end after)
-
-      -- the node's file of a job says a configuration, and the job was done for that node, or refused
-      pub record DoesPlaced (own : NodeJob) (before : D) (end : End) (after : D) : Type 0 where
-        pub start : ToldFiles D
-        pub stop : ToldFiles D
-        pub configuration : Configuration
-        pub begun : start.desk ≡ before
-        pub dump : reads_dump start.noted ≡ false
-        pub maps : maps_for start.noted ≡ None
-        pub read : ReadsConfiguration (ToldReads desk) (string_bytes own.node) start configuration stop
-        pub done : DoesRead (string_bytes own.node) own.job (numbers_in configuration) stop.desk end after
-
   -- the node's file of a job says no configuration, which was told, and nothing was done
   pub record TellsNode (own : NodeJob) (before : D) (end : End) (after : D) : Type 0 where
     pub start : ToldFiles D
@@ -250,68 +186,131 @@ module _ {D T L : Type 0} (desk : DeskWords D T L) where
     pub read : ReadsNoConfiguration (ToldReads desk) (string_bytes own.node) start fault stop
     pub told : Prints (fault_line fault) Failed stop.desk end after
 
-  module _ (E : Type 0) (talk : TalkWords T) (serves : Bool) where
-    -- what a job for the node of a file comes to: if it would write over the node's file or over what it reads, it is refused; else the
-    -- node's file is read, and the job is done or refused by what that says
-    abbrev pub DoesOnNode : NodeJob → (before : D) → End → (after : D) → Type 0
-    DoesOnNode own before end after =
-        (IsApartFrom (string_bytes own.node) before (made_of own.job)
-        × (DoesPlaced E talk serves own before end after ⊎ TellsNode own before end after))
-        ⊎ ((name : List ℕ) × IsOwnOf (string_bytes own.node) before (made_of own.job) name × RefusesOutput name before end after)
+module _ {D T L : Type 0} (desk : DeskWords D T L) (E : Type 0) (talk : TalkWords T) where
+  -- what lines of standard input are was told as they came
+  pub record ShowsInput (of_dump : Bool) (before : D) (end : End) (after : D) : Type 0 where
+    pub first : ToldTalk E (DumpTalk T)
+    pub last : ToldTalk E (DumpTalk T)
+    pub done : Result Status WriteFault
+    pub hears : desk.hears before first.talk.talk
+    pub dump : first.talk.is_dump ≡ of_dump
+    pub shown : MatchResult done
+        (ShowsTalk (ToldComes (DumpComes talk.came)) (ToldSends (DumpSends talk.sent)) (ToldSends (DumpSends talk.unsent))
+        (ToldMisses (DumpMisses talk.came talk.missed)) first last)
+        (IsShowUnsent (ToldComes (DumpComes talk.came)) (ToldSends (DumpSends talk.sent)) (ToldSends (DumpSends talk.unsent))
+        (ToldMisses (DumpMisses talk.came talk.missed)) first last)
+    pub over : desk.ends before last.talk.talk after
+    pub ended : EndsTalk desk done end
 
-    module _ (link : LinkWords L) where
-      -- a link was held over standard input, on a node of these words
-      pub record HoldsLink (words : LiveWords) (before : D) (end : End) (after : D) : Type 0 where
-        pub start : ToldFiles D
-        pub stop : ToldFiles D
-        pub first : L
-        pub last : L
-        pub done : Result Status WriteFault
-        pub begun : start.desk ≡ before
-        pub dump : reads_dump start.noted ≡ false
-        pub maps : maps_for start.noted ≡ Some (maps_of_node words.node)
-        pub linked : desk.links before first
-        pub held : MatchResult done
-            (LivesFrames (ToldReads desk) link.came link.sent link.told link.unread link.unsent link.untold words start stop first last)
-            (IsFramesUnsent (ToldReads desk) link.came link.sent link.told link.unread link.unsent link.untold words start stop first
-            last)
-        pub over : desk.unlinks stop.desk last after
-        pub ended : EndsTalk done end
+  -- a talk was held over the lines of standard input, on a node of these words
+  pub record HoldsLines (words : LiveWords) (before : D) (end : End) (after : D) : Type 0 where
+    pub start : ToldFiles D
+    pub stop : ToldFiles D
+    pub first : ToldTalk E T
+    pub last : ToldTalk E T
+    pub done : Result Status WriteFault
+    pub begun : start.desk ≡ before
+    pub dump : reads_dump start.noted ≡ false
+    pub maps : maps_for start.noted ≡ Some (maps_of_node words.node)
+    pub hears : desk.hears before first.talk
+    pub held : MatchResult done
+        (Lives (ToldReads desk) (ToldComes talk.came) (ToldSends talk.sent) (ToldSends talk.unsent) (ToldMisses talk.missed)
+        words start stop first last)
+        (IsUnsent (ToldReads desk) (ToldComes talk.came) (ToldSends talk.sent) (ToldSends talk.unsent) (ToldMisses talk.missed)
+        words start stop first last)
+    pub over : desk.ends stop.desk last.talk after
+    pub ended : EndsTalk desk done end
 
-      -- what a talk comes to: one in lines is held, and one in frames if there is a link
-      abbrev pub DoesTalk : (frames has_link : Bool) → LiveWords → (before : D) → End → (after : D) → Type 0
-      DoesTalk false has_link words before end after = HoldsLines E talk words before end after
-      DoesTalk true true words before end after = HoldsLink words before end after
-      DoesTalk true false words before end after = IsLeftOut before end after
+  -- what a job comes to, if it talks, or is left out
+  abbrev pub DoesBy : (talks is_left : Bool) → Job → (before : D) → End → (after : D) → Type 0
+  DoesBy true is_left job before end after = ShowsInput (is_dump job) before end after
+  DoesBy false true job before end after = IsLeftOut desk before end after
+  DoesBy false false job before end after = DoesAlone desk job before end after
 
-      -- what a work comes to
-      abbrev pub DoesWork : Work → (before : D) → End → (after : D) → Type 0
-      DoesWork (Once job) before end after = DoesOnce E talk serves job before end after
-      DoesWork (OnNode own) before end after = DoesOnNode own before end after
-      DoesWork (Live words) before end after = DoesTalk words.frames desk.has_link words before end after
-      DoesWork (Told text) before end after = Prints (string_bytes text) Done before end after
+module _ {D T L : Type 0} (desk : DeskWords D T L) (E : Type 0) (talk : TalkWords T) (serves : Bool) where
+  -- what a job comes to
+  abbrev pub DoesOnce : Job → (before : D) → End → (after : D) → Type 0
+  DoesOnce job before end after = DoesBy desk E talk (facts_of job).talks (leaves_out serves job) job before end after
 
-      -- the words name a work, which was done
-      pub record DoesNamed (words : List Text) (before : D) (end : End) (after : D) : Type 0 where
-        pub work : Work
-        pub named : NamesWork words work
-        pub done : DoesWork work before end after
+  -- what a job comes to whose node's file says these numbers: it is done for that node; or a bank begins with the file that it makes, which
+  -- is told
+  abbrev pub DoesRead : (node : List ℕ) → Job → ConfigurationValue → (before : D) → End → (after : D) → Type 0
+  DoesRead node job own before end after =
+      DoesOnce (placed job own) before end after
+      ⊎ ((name : List ℕ) × HasContents desk node (made_of job) before name × RefusesOutput desk name before end after)
 
-      -- the words name no work, and ask for a text, which was printed
-      pub record TellsText (words : List Text) (before : D) (end : End) (after : D) : Type 0 where
-        pub text : List ℕ
-        pub asked : AskText words
-        pub told : Prints text Done before end after
+  -- the node's file of a job says a configuration, and the job was done for that node, or refused
+  pub record DoesPlaced (own : NodeJob) (before : D) (end : End) (after : D) : Type 0 where
+    pub start : ToldFiles D
+    pub stop : ToldFiles D
+    pub configuration : Configuration
+    pub begun : start.desk ≡ before
+    pub dump : reads_dump start.noted ≡ false
+    pub maps : maps_for start.noted ≡ None
+    pub read : ReadsConfiguration (ToldReads desk) (string_bytes own.node) start configuration stop
+    pub done : DoesRead (string_bytes own.node) own.job (numbers_in configuration) stop.desk end after
 
-      -- the words name no work, and ask for no text: nothing was printed, and the status is that of this
-      pub record IsMisused (words : List Text) (before : D) (end : End) (after : D) : Type 0 where
-        pub fault : UsageFault
-        pub asked : AsksNone words fault
-        pub code : usage_status fault ≡ 2
-        pub ended : end ≡ Ended Misused
-        pub same : after ≡ before
+  -- what a job for the node of a file comes to: if it would write over the node's file or over what it reads, it is refused; else the
+  -- node's file is read, and the job is done or refused by what that says
+  abbrev pub DoesOnNode : NodeJob → (before : D) → End → (after : D) → Type 0
+  DoesOnNode own before end after =
+      (IsApartFrom desk (string_bytes own.node) before (made_of own.job)
+      × (DoesPlaced own before end after ⊎ TellsNode desk own before end after))
+      ⊎ ((name : List ℕ) × IsOwnOf desk (string_bytes own.node) before (made_of own.job) name × RefusesOutput desk name before end after)
 
-      -- what words come to: the work that they name is done; or they name none, and a text is told, or that they are misused
-      abbrev pub DoesWords : List Text → (before : D) → End → (after : D) → Type 0
-      DoesWords words before end after =
-          DoesNamed words before end after ⊎ TellsText words before end after ⊎ IsMisused words before end after
+module _ {D T L : Type 0} (desk : DeskWords D T L) (E : Type 0) (talk : TalkWords T) (serves : Bool) (link : LinkWords L) where
+  -- a link was held over standard input, on a node of these words
+  pub record HoldsLink (words : LiveWords) (before : D) (end : End) (after : D) : Type 0 where
+    pub start : ToldFiles D
+    pub stop : ToldFiles D
+    pub first : L
+    pub last : L
+    pub done : Result Status WriteFault
+    pub begun : start.desk ≡ before
+    pub dump : reads_dump start.noted ≡ false
+    pub maps : maps_for start.noted ≡ Some (maps_of_node words.node)
+    pub linked : desk.links before first
+    pub held : MatchResult done
+        (LivesFrames (ToldReads desk) link.came link.sent link.told link.unread link.unsent link.untold words start stop first last)
+        (IsFramesUnsent (ToldReads desk) link.came link.sent link.told link.unread link.unsent link.untold words start stop first
+        last)
+    pub over : desk.unlinks stop.desk last after
+    pub ended : EndsTalk desk done end
+
+  -- what a talk comes to: one in lines is held, and one in frames if there is a link
+  abbrev pub DoesTalk : (frames has_link : Bool) → LiveWords → (before : D) → End → (after : D) → Type 0
+  DoesTalk false has_link words before end after = HoldsLines desk E talk words before end after
+  DoesTalk true true words before end after = HoldsLink words before end after
+  DoesTalk true false words before end after = IsLeftOut desk before end after
+
+  -- what a work comes to
+  abbrev pub DoesWork : Work → (before : D) → End → (after : D) → Type 0
+  DoesWork (Once job) before end after = DoesOnce desk E talk serves job before end after
+  DoesWork (OnNode own) before end after = DoesOnNode desk E talk serves own before end after
+  DoesWork (Live words) before end after = DoesTalk words.frames desk.has_link words before end after
+  DoesWork (Told text) before end after = Prints desk (string_bytes text) Done before end after
+
+  -- the words name a work, which was done
+  pub record DoesNamed (words : List Text) (before : D) (end : End) (after : D) : Type 0 where
+    pub work : Work
+    pub named : NamesWork words work
+    pub done : DoesWork work before end after
+
+  -- the words name no work, and ask for a text, which was printed
+  pub record TellsText (words : List Text) (before : D) (end : End) (after : D) : Type 0 where
+    pub text : List ℕ
+    pub asked : AskText words
+    pub told : Prints desk text Done before end after
+
+  -- the words name no work, and ask for no text: nothing was printed, and the status is that of this
+  pub record IsMisused (words : List Text) (before : D) (end : End) (after : D) : Type 0 where
+    pub fault : UsageFault
+    pub asked : AsksNone words fault
+    pub code : usage_status fault ≡ 2
+    pub ended : end ≡ Ended Misused
+    pub same : after ≡ before
+
+  -- what words come to: the work that they name is done; or they name none, and a text is told, or that they are misused
+  abbrev pub DoesGiven : List Text → (before : D) → End → (after : D) → Type 0
+  DoesGiven words before end after =
+      DoesNamed words before end after ⊎ TellsText words before end after ⊎ IsMisused words before end after

@@ -2,7 +2,7 @@
 
 ghost use Rattle.std.specs.Prelude.{◌≡◌, IfOk, IfSome, MatchOption, map, string_bytes, true};
 ghost use Rattle.clap.specs.Walk.{texts};
-ghost use Rattle.commands.specs.Driven.{DoesAlone, DoesJob, DoesOnNode, DoesOnce, DoesRead, DoesTalk, DoesWords, DoesWork, EndsJob, EndsOutput, EndsTalk, HasContents, HoldsLines, HoldsLink, IsApart, IsApartFrom, IsLeftOut, IsOneOf, IsOwn, IsOwnOf, LosesOutput, Prints, RefusesOutput, ShowsInput, end_code, link_words, talk_words};
+ghost use Rattle.commands.specs.Driven.{DoesAlone, DoesJob, DoesOnNode, DoesOnce, DoesRead, DoesTalk, DoesGiven, DoesWork, EndsJob, EndsOutput, EndsTalk, HasContents, HoldsLines, HoldsLink, IsApart, IsApartFrom, IsLeftOut, IsOneOf, IsOwn, IsOwnOf, LosesOutput, Prints, RefusesOutput, ShowsInput, end_code, link_words, talk_words};
 ghost use Rattle.commands.specs.Given.{words_given};
 ghost use Rattle.commands.specs.Jobs.{made_of};
 ghost use Rattle.commands.specs.Performed.{CanDo};
@@ -509,7 +509,7 @@ pub fn do_words<D: Desk + Drop>(
     given: &[&str],
     is_terminal: bool,
 ) -> Result<Left<D>, AllocError>
-    ensures { IfOk result (λ left. DoesWords D.words D.Errors
+    ensures { IfOk result (λ left. DoesGiven D.words D.Errors
         (talk_words D.Talk.came D.Talk.sent D.Talk.unsent D.Talk.missed) D.Server.serves
         (link_words D.Link.came D.Link.sent D.Link.told D.Link.unread D.Link.unsent D.Link.untold)
         (words_given (texts given.now)) desk left.end left.desk) }

@@ -2,7 +2,7 @@
 use Rattle.std.proofs.Common.{inl, inr, Bool, true, false, List}
 use Rattle.std_heap.specs.declared.Global.{Global}
 use Rattle.clap.specs.Walk.{Text}
-use Rattle.commands.specs.Driven.{DoesNamed, DoesTalk, DoesWork, LinkWords, TalkWords, DoesWords as DoesOver}
+use Rattle.commands.specs.Driven.{DoesNamed, DoesTalk, DoesWork, LinkWords, TalkWords, DoesGiven}
 use Rattle.commands.specs.declared.driver.End.{End}
 use Rattle.commands.specs.declared.work.Work.{Work}
 use Rattle.commands.specs.declared.work.Work.TheVariants.{Once, OnNode, Live, Told}
@@ -27,7 +27,7 @@ module _ (E : Type 0) (talk : TalkWords (PageTalk Global)) (one other : LinkWord
   worked (Told text) does = does
 
   -- words
-  pub linkless : (words : List Text) → DoesOver page_words E talk false one words start end stop
-      → DoesOver page_words E talk false other words start end stop
+  pub linkless : (words : List Text) → DoesGiven page_words E talk false one words start end stop
+      → DoesGiven page_words E talk false other words start end stop
   linkless words (inl does) = inl (record { work = does.work; named = does.named; done = worked does.work does.done })
   linkless words (inr does) = inr does

@@ -3,7 +3,7 @@ use Rattle.std.specs.Prelude.{◌≡◌, List, [], false}
 use Rattle.std.specs.Borrow.{Bor}
 use Rattle.std_heap.specs.declared.Global.{Global}
 use Rattle.clap.specs.Walk.{Text}
-use Rattle.commands.specs.Driven.{LinkWords, TalkWords, end_code, DoesWords as DoesOver}
+use Rattle.commands.specs.Driven.{LinkWords, TalkWords, end_code, DoesGiven}
 pub use Rattle.commands.specs.Given.{words_given}
 use Rattle.commands.specs.declared.driver.End.{End}
 use Rattle.folders.specs.Folders.{FolderValue}
@@ -31,7 +31,7 @@ pub record DoesWords (words : List Text) (before : FolderValue) (left : Left) : 
   pub end : End
   pub begun : start.folder ≡ before
   pub silent : start.out.items ≡ []
-  pub does : DoesOver page_words (Bor Slate) page_talk false no_link words start end stop
+  pub does : DoesGiven page_words (Bor Slate) page_talk false no_link words start end stop
   pub status : left.done.status ≡ end_code end
   pub printed : left.done.out.items ≡ stop.out.items
   pub folder : left.folder ≡ stop.folder
