@@ -20,7 +20,7 @@ use Rattle.job_rehearse.specs.declared.passing.Passing.TheVariants.{Always, Unti
 use Rattle.job_rehearse.specs.declared.starts.Start.{Start}
 use Rattle.job_rehearse.specs.declared.starts.Start.TheVariants.{Fresh, Spent}
 
--- the program had a run on the header of the command, at that port, that ends with the verdict; behind it the calls so far are longer
+-- the program had a run on the header of the command, at that port, that ends with the verdict; after it the calls so far are longer
 -- by those of the run
 pub record HasAnswered (judge : AcceptedValue) (port : ℕ) (c : CommandValue) (verdict : ℕ) (before after : List Call) : Type 0
   where
@@ -53,7 +53,7 @@ pub record LetsPart (judge : AcceptedValue) (loader : Loader) (image : List ℕ)
       → LetsPass judge loader (stage_request 0 (part_of image number) number) passes before after
   pub absent : length image ≤ MAX_DATA * number → (passes ≡ true) × (after ≡ before)
 
--- whether it lets each write of a load of the image pass, in turn, each behind the calls of those before it: those of its parts, and
+-- whether it lets each write of a load of the image pass, in turn, each after the calls of those before it: those of its parts, and
 -- the control write. The read of the load result comes after them, and a load whose result may not be read is a load
 pub record LetsWrites (judge : AcceptedValue) (loader : Loader) (image : List ℕ) (passes : Bool) (before after : List Call) :
     Type 0 where

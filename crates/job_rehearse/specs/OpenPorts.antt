@@ -38,7 +38,7 @@ kind_words UntilSpent = codes " until quotas are spent"
 kind_words OnceSpent = codes " only after quotas are spent"
 kind_words Never = []
 
--- the answer at a port; behind the last it is none of those that are printed
+-- the answer at a port; after the last it is none of those that are printed
 abbrev pub answer_at : (answers : List Passing) → (port : ℕ) → Passing
 answer_at answers port = slice_index_or answers port Never
 
@@ -68,14 +68,14 @@ abbrev pub with_end : (front : List ℕ) → (answers : List Passing) → (kind 
 with_end front answers kind lead words first port =
     if ends_run answers kind port then front ++ run_line lead words (kind_words kind) first port else front
 
--- behind a text a line for each run of ports with that answer that ends below a number
+-- after a text a line for each run of ports with that answer that ends below a number
 abbrev pub with_runs : (front : List ℕ) → (answers : List Passing) → (kind : Passing) → (lead words : List ℕ)
     → (count : ℕ) → List ℕ
 with_runs front answers kind lead words zero = front
 with_runs front answers kind lead words (suc port) =
     with_end (with_runs front answers kind lead words port) answers kind lead words (first_of_run answers kind port) port
 
--- behind a text the runs of each answer but the last: of ports at which both loads pass, the first alone, and the second alone
+-- after a text the runs of each answer but the last: of ports at which both loads pass, only the first, and only the second
 abbrev pub with_kinds : (front : List ℕ) → (answers : List Passing) → (lead words : List ℕ) → (count : ℕ) → List ℕ
 with_kinds front answers lead words count =
     with_runs
@@ -95,7 +95,7 @@ module _ (judge : AcceptedValue) (image : List ℕ) (node : LoadedNode) where
       × (answers ≡ front ++ last ∷ [])
 
 module _ (judge : AcceptedValue) (image : List ℕ) (node : LoadedNode) (lead : List ℕ) where
-  -- behind a text a line for each run of the node's ports at which the program lets the asker's load pass, in one way
+  -- after a text a line for each run of the node's ports at which the program lets the asker's load pass, in one way
   pub record TellsAsker (asker : Asker) (before after : List ℕ) : Type 0 where
     pub answers : List Passing
     pub are_open : AreOpen judge image node asker node.ports answers

@@ -70,13 +70,13 @@ module _ (ports : ℕ) (made : TableLoads) where
   abbrev pub TellsLoads : (image lead lines : List ℕ) → Type 0
   TellsLoads image lead lines = TellsAskers made.judge image (node_of ports) lead made.askers.items lines
 
-  -- behind a text the lines of the table's own image, with its size
+  -- after a text the lines of the table's own image, with its size
   pub record AddsOwn (before after : List ℕ) : Type 0 where
     pub lines : List ℕ
     pub tells : TellsLoads made.image.items (lead_of (length made.image.items)) lines
     pub added : after ≡ before ++ lines_or_nobody (lead_of (length made.image.items)) lines
 
-  -- the text is the lines of the smallest image, and behind them those of the table's own, if these are others
+  -- the text is the lines of the smallest image, and after them those of the table's own, if these are others
   abbrev pub TellsOf : (plain own text : List ℕ) → Type 0
   TellsOf plain own text =
       ((own ≡ plain) × (text ≡ lines_or_nobody lead_plain plain))
@@ -114,7 +114,7 @@ is_feed byte = byte == 10
 abbrev pub mended_front : (text : List ℕ) → List ℕ
 mended_front text = mending_line ++ text
 
--- the text with that line behind its first line
+-- the text with that line after its first line
 abbrev pub mended_second : (text : List ℕ) → List ℕ
 mended_second text = before_first is_feed text ++ 10 ∷ [] ++ mending_line ++ after_first is_feed text
 
@@ -153,7 +153,7 @@ mending_words is =
 abbrev pub final_words : List ℕ
 final_words = codes "    --final says that it is meant, and then nothing is said" ++ 10 ∷ []
 
--- whether the line mends the table: in front of it, or behind its first line, which may be `.version 2`
+-- whether the line mends the table: in front of it, or after its first line, which may be `.version 2`
 pub record CanBeMended (sizes : Maps) (text : List ℕ) (is : Bool) : Type 0 where
   pub front : Bool
   pub second : Bool
@@ -167,7 +167,7 @@ pub record TellsShut (sizes : Maps) (text told : List ℕ) : Type 0 where
   pub mended : CanBeMended sizes text is
   pub told_is : told ≡ shut_words ++ mending_words is ++ final_words
 
--- what `policy` says of these lines: nothing if somebody loads both images, that nobody does, or both lines if one image alone is
+-- what `policy` says of these lines: nothing if somebody loads both images, that nobody does, or both lines if only one image is
 -- loaded by somebody
 abbrev pub TellsDoors : (sizes : Maps) → (text : List ℕ) → (ports : ℕ) → TableLoads → (plain own told : List ℕ) → Type 0
 TellsDoors sizes text ports made [] [] told = TellsShut sizes text told
