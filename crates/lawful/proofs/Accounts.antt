@@ -214,9 +214,9 @@ load_asked q whole j p s after is one =
 abbrev pub load_acted : (q : ℕ) (whole : List Link) (j : Judging) (p : Cargo) (s after : Standing) (is : IsJudged j p s after) → PublishesOne q whole j p s after is → HasActed q whole j p s after is
 load_acted q whole j p s after is one = record {
   before = one.placed.before;
-  item = link publishes_chain (length (chain_of publishes_chain one.placed.before)) (Does (Publishes (q, one.publish))) one.placed.next;
+  item = one.placed.item;
   act = Publishes (q, one.publish);
-  deed = refl;
+  deed = one.placed.deed;
   own = refl;
   stands = one.placed.stands;
   seen = one.placed.seen;
@@ -235,8 +235,7 @@ from_publish q whole j p s after last is one ps ds w listed begins =
         elim (cases_lt (length one.placed.before) (length at)) [
           | inl more ↦ omega (arith, more)
           | inr few ↦
-              let item = link publishes_chain (length (chain_of publishes_chain one.placed.before)) (Does (Publishes (q, one.publish))) one.placed.next in
-              let here = prefix_shorter at one.placed.before whole stands (front_of one.placed.before whole item one.placed.stands) few in
+              let here = prefix_shorter at one.placed.before whole stands (front_of one.placed.before whole one.placed.item one.placed.stands) few in
               let less = published_few at one.placed.before here in
               absurd (omega (arith, size, met, low, less, many))
         ])

@@ -10,6 +10,7 @@ mod Loading
 mod Entering
 mod Alone
 mod Links
+mod Placing
 mod Accounts
 mod Sharing
 mod Worlds

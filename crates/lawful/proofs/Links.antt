@@ -55,7 +55,7 @@ longer_has xs ys zs x p q more = let size = size_more xs x in prefix_shorter (xs
 
 -- ---- who did what
 
-done_joined : (q c : ℕ) (d : Deed) (xs ys : List Due) → with_done q c d (xs ++ ys) ≡ with_done q c d xs ++ ys
+pub done_joined : (q c : ℕ) (d : Deed) (xs ys : List Due) → with_done q c d (xs ++ ys) ≡ with_done q c d xs ++ ys
 done_joined q c (Opens x) xs ys = refl
 done_joined q c (Does a) xs ys = here (owner_of a == q) where
   here : (b : Bool) → cond b ((c, a) ∷ (xs ++ ys)) (xs ++ ys) ≡ cond b ((c, a) ∷ xs) xs ++ ys
@@ -64,7 +64,7 @@ done_joined q c (Does a) xs ys = here (owner_of a == q) where
 done_joined q c (Asks x) xs ys = refl
 done_joined q c Shows xs ys = refl
 
-done_append : (q : ℕ) (ls ms : List Link) → done_for q (ls ++ ms) ≡ done_for q ls ++ done_for q ms
+pub done_append : (q : ℕ) (ls ms : List Link) → done_for q (ls ++ ms) ≡ done_for q ls ++ done_for q ms
 done_append q [] ms = refl
 done_append q (l ∷ ls) ms = ap (with_done q l.chain l.deed) (done_append q ls ms) ∙ done_joined q l.chain l.deed (done_for q ls) (done_for q ms)
 
@@ -75,7 +75,7 @@ done_prefix q xs ys p = (done_for q p.0, sym (done_append q xs p.0) ∙ ap (done
 pub done_few : (q : ℕ) (xs ys : List Link) → IsPrefix xs ys → length (done_for q xs) ≤ length (done_for q ys)
 done_few q xs ys p = prefix_length (done_for q xs) (done_for q ys) (done_prefix q xs ys p)
 
-does : (q c : ℕ) (d : Deed) (a : Act) (rest : List Due) → d ≡ Does a → owner_of a ≡ q → with_done q c d rest ≡ (c, a) ∷ rest
+pub does : (q c : ℕ) (d : Deed) (a : Act) (rest : List Due) → d ≡ Does a → owner_of a ≡ q → with_done q c d rest ≡ (c, a) ∷ rest
 does q c d a rest is own =
     let same : (owner_of a == q) ≡ true = grind (arith, nat_tests, own) in
     ap (λ (x : Deed). with_done q c x rest) is ∙ ap (λ (b : Bool). cond b ((c, a) ∷ rest) rest) same
@@ -138,6 +138,12 @@ pub published_prefix : (xs ys : List Link) → IsPrefix xs ys → IsPrefix (publ
 published_prefix xs ys p =
     let q = chain_begin publishes_chain xs ys p in
     (publishes_in q.0, sym (publishes_append (chain_of publishes_chain xs) q.0) ∙ ap publishes_in q.1)
+
+-- as many were published by two lists as by both
+pub count_published : (xs ys : List Link) → length (publishes_of (xs ++ ys)) ≡ length (publishes_of xs) + length (publishes_of ys)
+count_published xs ys =
+    ap (λ (ls : List Link). length (publishes_in ls)) (filter-append (λ (l : Link). l.chain == publishes_chain) xs ys)
+    ∙ (ap length (publishes_append (chain_of publishes_chain xs) (chain_of publishes_chain ys)) ∙ length-append (publishes_of xs) (publishes_of ys))
 
 pub published_few : (xs ys : List Link) → IsPrefix xs ys → length (publishes_of xs) ≤ length (publishes_of ys)
 published_few xs ys p = prefix_length (publishes_of xs) (publishes_of ys) (published_prefix xs ys p)

@@ -289,7 +289,7 @@ module _ (laws : Laws) (n : Node) (whole : List Link) (q : ℕ) (a : Account) (p
       let o = x.open_at in
       let it = load_acted q whole o.j o.p o.s o.after o.is x.one in
       let that = at_place it.before pre whole it.item l it.stands stands same in
-      let deed : l.deed ≡ Does (Publishes (q, x.one.publish)) = ap (λ (i : Link). i.deed) (sym that.item) in
+      let deed : l.deed ≡ Does (Publishes (q, x.one.publish)) = ap (λ (i : Link). i.deed) (sym that.item) ∙ x.one.placed.deed in
       let one = done_one q pre l (Publishes (q, x.one.publish)) deed refl in
       let acts = x.acts in
       let met : length (publishes_of pre) ≡ length x.one.windowed.old = ap (λ (ls : List Link). length (publishes_of ls)) (sym that.front) ∙ ap length x.one.placed.met in
@@ -319,7 +319,7 @@ module _ (laws : Laws) (n : Node) (whole : List Link) (q : ℕ) (a : Account) (p
       let act = load_acted q whole o.j o.p o.s o.after o.is one in
       let load = one_loaded q whole j o.p s after is one in
       let in_pre : IsPrefix (act.before ++ act.item ∷ []) pre = longer_has act.before pre whole act.item act.stands before_it x.place in
-      let published : publishes_of (act.before ++ act.item ∷ []) ≡ old ++ one.publish ∷ [] = published_one act.before act.item q one.publish refl refl ∙ ap (λ (ps : List Publish). ps ++ one.publish ∷ []) one.placed.met in
+      let published : publishes_of (act.before ++ act.item ∷ []) ≡ old ++ one.publish ∷ [] = published_one act.before act.item q one.publish one.placed.chain one.placed.deed ∙ ap (λ (ps : List Publish). ps ++ one.publish ∷ []) one.placed.met in
       let old_pre : IsPrefix old (publishes_of pre) =
       subst (λ (ps : List Publish). IsPrefix ps (publishes_of pre)) one.placed.met (published_prefix act.before pre (front_of act.before pre act.item in_pre)) in
       let new_pre : IsPrefix (old ++ one.publish ∷ []) (publishes_of (pre ++ l ∷ [])) =

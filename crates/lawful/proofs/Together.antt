@@ -190,10 +190,10 @@ module _ (laws : Laws) (n : Node) (accounts : ℕ → Account) (whole : List Lin
           let met : publishes_of pre ≡ x.one.windowed.old = ap publishes_of (sym that.front) ∙ x.one.placed.met in
           let met_count = ap length met in
           let one : publishes_of (pre ++ l ∷ []) ≡ publishes_of pre ++ x.one.publish ∷ [] =
-          published_one pre l q x.one.publish (ap (λ (i : Link). i.chain) (sym that.item)) (ap (λ (i : Link). i.deed) (sym that.item)) in
+          published_one pre l q x.one.publish (ap (λ (i : Link). i.chain) (sym that.item) ∙ x.one.placed.chain) (ap (λ (i : Link). i.deed) (sym that.item) ∙ x.one.placed.deed) in
           let more = ap length one ∙ size_more (publishes_of pre) x.one.publish in
           let quiet = shown_same pre l does_quiet in
-          let no_entry : with_entry l.deed [] ≡ [] = ap (λ (i : Link). with_entry i.deed []) (sym that.item) in
+          let no_entry : with_entry l.deed [] ≡ [] = ap (λ (i : Link). with_entry i.deed []) (sym that.item) ∙ ap (λ (d : LinkDeed). with_entry d []) x.one.placed.deed in
           let next = set_wait q (Some number) waits in
           let acts = ap length (done_same instrument pre l (not_theirs instrument not_instrument)) in
           let some : 0 < number = old_some x in
@@ -387,8 +387,8 @@ module _ (laws : Laws) (n : Node) (accounts : ℕ → Account) (whole : List Lin
           let ay = load_acted r whole y.open_at.j y.open_at.p y.open_at.s y.open_at.after y.open_at.is y.one in
           let met_x = ap length x.one.placed.met in
           let met_y = ap length y.one.placed.met in
-          let that = at_place ax.before ay.before whole ax.item ay.item ax.stands ay.stands (no_other ax.before ay.before q r x.one.publish y.one.publish ax.item ay.item refl refl refl refl ax.stands ay.stands (omega (arith, met_x, met_y, same))) in
-          same_owner q r x.one.publish y.one.publish (ap (λ (i : Link). i.deed) that.item)
+          let that = at_place ax.before ay.before whole ax.item ay.item ax.stands ay.stands (no_other ax.before ay.before q r x.one.publish y.one.publish ax.item ay.item x.one.placed.chain x.one.placed.deed y.one.placed.chain y.one.placed.deed ax.stands ay.stands (omega (arith, met_x, met_y, same))) in
+          same_owner q r x.one.publish y.one.publish (sym x.one.placed.deed ∙ (ap (λ (i : Link). i.deed) that.item ∙ y.one.placed.deed))
         where
           same_owner : (q r : ℕ) (a b : Publish) → Does (Publishes (q, a)) ≡ Does (Publishes (r, b)) → r ≡ q
           same_owner q r a b eq = cc eq
@@ -595,7 +595,7 @@ module _ (laws : Laws) (n : Node) (accounts : ℕ → Account) (whole : List Lin
           let o = x.open_at in
           let act = load_acted q whole o.j o.p o.s o.after o.is x.one in
           let few = published_few (act.before ++ act.item ∷ []) whole act.stands in
-          let one = ap length (published_one act.before act.item q x.one.publish refl refl) ∙ size_more (publishes_of act.before) x.one.publish in
+          let one = ap length (published_one act.before act.item q x.one.publish x.one.placed.chain x.one.placed.deed) ∙ size_more (publishes_of act.before) x.one.publish in
           let met = ap length x.one.placed.met in
           absurd (omega (arith, all, unseen, few, one, met))
 

@@ -9,7 +9,7 @@ use Rattle.annals.specs.declared.deed.Deed.{Deed as LinkDeed}
 use Rattle.annals.specs.declared.deed.Deed.TheVariants.{Opens, Does, Asks, Shows}
 use Rattle.annals.specs.declared.deed.Link.{Link}
 use Rattle.annals.specs.Banks.{entries_of}
-use Rattle.annals.specs.Chains.{chain_of, done_for, instrument, link}
+use Rattle.annals.specs.Chains.{chain_of, done_for, instrument}
 use Rattle.annals.specs.Publishes.{publishes_chain, publishes_of}
 use Rattle.annals.specs.Shown.{AreListed, shown_in}
 use Rattle.node_programs.specs.declared.publishes.Publish.{Publish}
@@ -36,9 +36,10 @@ pub record Account : Type 0 where
 -- the publish of that port stands in the list right behind those that the load met, and behind all that the port knew then
 pub record IsPlaced (port : ℕ) (whole known : List Link) (old : List Publish) (publish : Publish) : Type 0 where
   pub before : List Link
-  pub next : ℕ
-  pub stands : IsPrefix
-      (before ++ link publishes_chain (length (chain_of publishes_chain before)) (Does (Publishes (port, publish))) next ∷ []) whole
+  pub item : Link
+  pub chain : item.chain ≡ publishes_chain
+  pub deed : item.deed ≡ Does (Publishes (port, publish))
+  pub stands : IsPrefix (before ++ item ∷ []) whole
   pub seen : IsPrefix known before
   pub met : publishes_of before ≡ old
 
