@@ -231,7 +231,11 @@ class Tree:
             return self.find_type(crate, names[-1] if names[-1][:1].isupper() else name, name)
         file = self.files.get((crate, ".".join(inner)))
         if file is None:
-            raise Unresolved
+            # A constructor, by the name of its data.
+            outer, data = self.files.get((crate, ".".join(inner[:-1]))), inner[-1]
+            if outer is None or data not in outer.bodies:
+                raise Unresolved
+            return Definition(crate, outer.path, data, outer.public[data])
         if name in file.passed_on:
             return self.find(*file.passed_on[name])
         name = file.of_data.get(name, name)

@@ -17,7 +17,7 @@ from rmapctl import Differs, Room
 RACES = 200
 
 # How many ports load, and how often each.
-PORTS, LOADS = 4, 100
+PORTS, LOADS = 4, 25
 
 # How many commands pass at 32 ports, and how many each port sends.
 QUOTA, SENT = 100, 8
@@ -29,7 +29,7 @@ STATUSES = {0: 0, 3: 3, 12: 12, 10: 10}
 QUOTA_TEXT = f".budget 8\nldmap r1, 0\nmov r2, 0\ncall 2\njlt r0, {QUOTA}, +2\nmov r0, 10\nexit\nmov r0, 0\nexit\n"
 
 # What the replies have to come to.
-KINDS = {"loads": RACES * PORTS * LOADS, "writes by another port's program": 20, "quotas": RACES // 2}
+KINDS = {"loads": RACES * PORTS * LOADS, "writes by another port's program": 5, "quotas": RACES // 2}
 
 
 class Step(NamedTuple):

@@ -1,5 +1,5 @@
 -- What is known of a port's acts in the list by what became of its packets: it did not do more so far than it asked for.
-use Rattle.std.proofs.Common.{◌≡◌, ◌+◌, ◌<◌, ◌≤◌, ◌⊎◌, ℕ, List, [], ◌∷◌, ◌++◌, length, Option, Some, None, refl, sym, ap, subst, ◌∙◌, inl, inr, arith, length-append}
+use Rattle.std.proofs.Common.{◌≡◌, ◌+◌, ◌≤◌, ◌⊎◌, ℕ, true, List, [], ◌∷◌, ◌++◌, length, Option, Some, None, refl, sym, ap, subst, ◌∙◌, inl, inr, arith, length-append}
 use Rattle.std.proofs.lemmas.Bool.{cases_lt}
 use mathlib.Core.List.{IsPrefix}
 use Rattle.spw.specs.Cargo.{Cargo}
@@ -9,7 +9,7 @@ use Rattle.rmap.specs.declared.status.Status.{Status}
 use Rattle.rmap.specs.Command.{command_of}
 use Rattle.rmap.specs.Reply.{reply_of}
 use Rattle.bank.specs.Answer.{judged_line}
-use Rattle.bank.specs.Records.{JudgedValue, entry_of, is_bank_place}
+use Rattle.bank.specs.Records.{JudgedValue, entry_of}
 use Rattle.node_programs.specs.declared.publishes.Publish.{Publish}
 use Rattle.node_parts.specs.Applied.{share_of}
 use Rattle.node_parts.specs.Loaded.{EndsAs, HasLoaded}
@@ -20,18 +20,18 @@ use Rattle.annals.specs.declared.deed.Act.TheVariants.{Leaves, Publishes}
 use Rattle.annals.specs.declared.deed.Deed.TheVariants.{Does}
 use Rattle.annals.specs.declared.deed.Link.{Link}
 use Rattle.annals.specs.Chains.{Due, chain_of, done_for, link, owner_of}
-use Rattle.annals.specs.Publishes.{publishes_chain, publishes_of}
-use Rattle.annals.specs.Shown.{AreListed, shown_in, shown_of}
+use Rattle.annals.specs.Publishes.{publishes_chain}
+use Rattle.annals.specs.Shown.{AreListed, shown_in}
 use Rattle.target.specs.Loads.{AsksForLoad}
 use Rattle.ports.specs.Due.{Deed, HasMet, IsBanked, IsJudged, IsWindowed, Judging, Standing, Worked, stand}
 use Rattle.ports.specs.Due.Deed.{Dropped, Answered, Judged}
 use Rattle.sched.specs.Looking.{Node}
 use Rattle.lawful.specs.Alone.{AreDealtInFull, IsJudgedInFull}
 use Rattle.lawful.proofs.Placing.{AreLoadsPlaced, IsLoadPlaced, IsPlaced, placed_by}
-use Rattle.lawful.proofs.Alone.{Laws, bank_is, dealt_front, one_counted, worked_front}
+use Rattle.lawful.proofs.Alone.{Laws, bank_is, one_counted, worked_front}
 use Rattle.lawful.proofs.Entering.{IsDoneAt, asks_one, done_at, finished_front}
 use Rattle.lawful.proofs.Growing.{taken_longer}
-use Rattle.lawful.proofs.Links.{at_place, done_few, done_one, front_of, longer_has, published_few, seen_count, shown_few, size_more}
+use Rattle.lawful.proofs.Links.{done_few, done_one, front_of, published_few, seen_count, size_more}
 use Rattle.lemmas.proofs.Prefixes.{prefix_length, prefix_same, prefix_shorter, prefix_trans}
 
 -- ---- where the next command of a port is taken

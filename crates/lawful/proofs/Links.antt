@@ -1,5 +1,5 @@
 -- What one link more changes of what a list tells: who did what, what was published, what readers see, and what a bank's chain has.
-use Rattle.std.proofs.Common.{◌≡◌, ◌==◌, ◌+◌, ◌<◌, ◌≤◌, ℕ, Bool, true, false, cond, List, [], ◌∷◌, ◌++◌, length, refl, sym, ap, subst, ◌∙◌, arith, length-append}
+use Rattle.std.proofs.Common.{◌≡◌, ◌==◌, ◌+◌, ◌<◌, ◌≤◌, ℕ, Bool, true, false, cond, List, [], ◌∷◌, ◌++◌, length, refl, sym, ap, ◌∙◌, arith, length-append}
 use Rattle.std.specs.Prelude.{drop, take}
 use Rattle.std.specs.List.{filter}
 use Rattle.std.proofs.lemmas.Bool.Decides.{nat_tests}
@@ -17,8 +17,8 @@ use Rattle.annals.specs.declared.deed.Link.{Link}
 use Rattle.annals.specs.Banks.{entries_in, entries_of, with_entry}
 use Rattle.annals.specs.Chains.{Due, chain_of, done_for, link, owner_of, with_done}
 use Rattle.annals.specs.Publishes.{publishes_chain, publishes_in, publishes_of, with_publish}
-use Rattle.annals.specs.Shown.{AreListed, shown_in, shown_of, shows}
-use Rattle.lemmas.proofs.Prefixes.{prefix_length, prefix_same, prefix_shorter, prefix_trans, prefix_whole}
+use Rattle.annals.specs.Shown.{shown_in, shown_of, shows}
+use Rattle.lemmas.proofs.Prefixes.{prefix_length, prefix_shorter, prefix_trans, prefix_whole}
 
 -- ---- beginnings of one list
 

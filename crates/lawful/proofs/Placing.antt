@@ -5,11 +5,11 @@ use Rattle.std.proofs.lemmas.Bool.Decides.{nat_tests}
 use mathlib.Core.List.{IsPrefix}
 use Rattle.node_programs.specs.declared.publishes.Publish.{Publish}
 use Rattle.annals.specs.declared.deed.Act.{Act}
-use Rattle.annals.specs.declared.deed.Act.TheVariants.{Leaves, Sets, Rotates, Publishes}
+use Rattle.annals.specs.declared.deed.Act.TheVariants.{Publishes}
 use Rattle.annals.specs.declared.deed.Deed.{Deed}
 use Rattle.annals.specs.declared.deed.Deed.TheVariants.{Opens, Does, Asks, Shows}
 use Rattle.annals.specs.declared.deed.Link.{Link}
-use Rattle.annals.specs.Chains.{Due, done_for, owner_of, with_done}
+use Rattle.annals.specs.Chains.{Due, done_for, owner_of}
 use Rattle.annals.specs.Publishes.{publishes_chain, publishes_of}
 use Rattle.target.specs.Loads.{AsksForLoad}
 use Rattle.spw.specs.Cargo.{Cargo}

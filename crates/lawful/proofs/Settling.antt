@@ -1,6 +1,5 @@
 -- What ports do at a place of the list before the next link of it: they take commands, and end those that need no link.
-use Rattle.std.proofs.Common.{◌≡◌, ◌+◌, ◌<◌, ◌≤◌, ◌⊎◌, ℕ, zero, suc, Bool, true, false, List, [], ◌∷◌, ◌++◌, length, Option, Some, None, refl, sym, ap, subst, ◌∙◌, inl, inr, arith, append_assoc}
-use Rattle.std.specs.Prelude.{slice_get}
+use Rattle.std.proofs.Common.{◌≡◌, ◌+◌, ◌<◌, ◌≤◌, ◌⊎◌, ℕ, zero, suc, true, false, List, [], ◌∷◌, ◌++◌, length, Option, Some, None, refl, sym, ap, subst, ◌∙◌, inl, inr, arith, append_assoc}
 use Rattle.std.proofs.lemmas.Bool.{cases_lt}
 use mathlib.Core.List.{IsPrefix}
 use Rattle.spw.specs.Cargo.{Cargo}
@@ -20,36 +19,33 @@ use Rattle.node_parts.specs.Loaded.{EndsAs}
 use Rattle.node_parts.specs.Loads.{IsUnprepared}
 use Rattle.node_parts.specs.Passes.{PassValue}
 use Rattle.node_parts.specs.Served.{EndsAtWindow}
-use Rattle.node_parts.specs.declared.config.BankConfig.{BankConfig}
 use Rattle.annals.specs.declared.deed.Link.{Link}
-use Rattle.annals.specs.Banks.{entries_of}
 use Rattle.annals.specs.Chains.{Due, done_for}
 use Rattle.annals.specs.Shown.{AreListed, shown_in, shown_of}
 use Rattle.target.specs.Loads.{AsksForLoad}
-use Rattle.ports.specs.Due.{Deed, IsJudged, IsWindowed, Judging, Standing, Worked, stand}
+use Rattle.ports.specs.Due.{Deed, IsJudged, Judging, Standing, Worked, stand}
 use Rattle.ports.specs.Due.Deed.{Dropped, Answered as Replied, Judged}
-use Rattle.sched.specs.declared.event.Event.{Event}
 use Rattle.sched.specs.declared.event.Event.TheVariants.{Take}
 use Rattle.sched.specs.declared.event.Outcome.TheVariants.{Done, Taken}
-use Rattle.sched.specs.History.{History, Then, Open, opened, port_of}
-use Rattle.sched.specs.Looking.{Node, entries, published, publishes, staged_behind, staging}
+use Rattle.sched.specs.History.{History, Then, Open, port_of}
+use Rattle.sched.specs.Looking.{Node, published, staged_behind, staging}
 use Rattle.sched.specs.Turns.{answers_of}
 use Rattle.lawful.specs.Alone.{AreDealtInFull, IsJudgedInFull, IsRefusedForStaged}
 use Rattle.lawful.specs.ButTold.{IsLawfulButTold}
-use Rattle.lawful.specs.Happenings.{Happening, HappenBy, HappensBy, ending, happened_at, happening, told_calls}
+use Rattle.lawful.specs.Happenings.{Happening, HappenBy, HappensBy, ending, happening, told_calls}
 use Rattle.lawful.specs.Together.{Account}
 use Rattle.lawful.proofs.Placing.{AreLoadsPlaced, IsLoadPlaced}
-use Rattle.lawful.proofs.Accounts.{HasEnded, IsFrom, LeavesEntry, PublishesNone, PublishesOne, ended, from_front, moment_stands, reached_front}
+use Rattle.lawful.proofs.Accounts.{IsFrom, PublishesNone, ended, from_front, moment_stands}
 use Rattle.lawful.proofs.Alone.{Laws, ending_port, one_counted, worked_front}
-use Rattle.lawful.proofs.Growing.{dealt_grown, made, none_made, one_made, taken_longer}
+use Rattle.lawful.proofs.Growing.{dealt_grown, made, one_made, taken_longer}
 use Rattle.lawful.proofs.Idling.{HasPassed, IsKnown, dropped_thus, known_kept, replied_thus}
 use Rattle.lawful.proofs.Keeping.{Keeps, StaysElsewhere, elsewhere_on, elsewhere_same, happened_here, one_elsewhere, opened_here, staging_here}
 use Rattle.lawful.proofs.Links.{same_begin, seen_count}
-use Rattle.lawful.proofs.Loading.{EndsThus, IsAround, IsNow, window_thus}
-use Rattle.lawful.proofs.Taking.{HasVerdict, taken}
+use Rattle.lawful.proofs.Loading.{IsAround, IsNow, window_thus}
+use Rattle.lawful.proofs.Taking.{taken}
 use Rattle.lawful.proofs.Telling.{asking, outcome_here, tell}
-use Rattle.lawful.proofs.Worlds.{IsCommon, IsIdleAt, IsIdleBy, IsOf, IsOpen, IsOpenNow, IsPort, IsPortAt, IsSeenAt, IsStill, IsToEnter, IsToPublish, IsToShow, IsWorld, entry_at, nowhere_moved, port_moved, waits_for}
-use Rattle.lemmas.proofs.Prefixes.{prefix_length, prefix_shorter, prefix_trans}
+use Rattle.lawful.proofs.Worlds.{IsCommon, IsIdleBy, IsOf, IsOpen, IsOpenNow, IsPort, IsPortAt, IsStill, IsToEnter, IsToPublish, IsToShow, IsWorld, entry_at, nowhere_moved, port_moved, waits_for}
+use Rattle.lemmas.proofs.Prefixes.{prefix_length, prefix_trans}
 
 -- ---- what goes on
 

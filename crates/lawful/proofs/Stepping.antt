@@ -1,55 +1,51 @@
 -- What ports do by one link of the list: a bank has its entry, a program is published, or readers see it.
-use Rattle.std.proofs.Common.{◌≡◌, ◌==◌, ◌+◌, ◌<◌, ◌≤◌, ◌⊎◌, ℕ, zero, suc, Bool, true, false, cond, List, [], ◌∷◌, ◌++◌, length, Option, Some, None, refl, sym, ap, subst, ◌∙◌, inl, inr, arith, append_assoc, eqb-true}
-use Rattle.std.specs.Prelude.{option_map, slice_get}
+use Rattle.std.proofs.Common.{◌≡◌, ◌==◌, ◌+◌, ◌<◌, ◌≤◌, ℕ, true, false, List, [], ◌∷◌, ◌++◌, length, Option, Some, None, refl, sym, ap, subst, ◌∙◌, inl, inr, arith, append_assoc, eqb-true}
+use Rattle.std.specs.Prelude.{slice_get}
 use Rattle.std.proofs.lemmas.Bool.{cases_Bool, cases_lt}
 use Rattle.std.proofs.lemmas.Bool.Decides.{nat_tests}
 use mathlib.Core.List.{IsPrefix}
 use Rattle.spw.specs.Cargo.{Cargo}
 use Rattle.rmap.specs.declared.places.Place.{Place}
 use Rattle.rmap.specs.declared.places.Place.TheVariants as places
-use Rattle.rmap.specs.declared.status.Status.{Status}
 use Rattle.rmap.specs.Command.{command_of}
 use Rattle.rmap.specs.Reply.{reply_of}
 use Rattle.rmap.specs.Windows.{WindowsValue}
 use Rattle.bank.specs.Answer.{judged_line}
 use Rattle.bank.specs.Records.{entry_of}
-use Rattle.bpf.specs.Program.{Program}
 use Rattle.node_programs.specs.declared.publishes.Publish.{Publish}
-use Rattle.node_programs.specs.Published.{sizes_of}
 use Rattle.node_parts.specs.declared.config.BankConfig.{BankConfig}
 use Rattle.node_parts.specs.Loaded.{HasLoaded}
 use Rattle.node_parts.specs.Passes.{PassValue}
 use Rattle.annals.specs.declared.deed.Act.{Act}
-use Rattle.annals.specs.declared.deed.Act.TheVariants.{Leaves, Sets, Rotates, Publishes}
+use Rattle.annals.specs.declared.deed.Act.TheVariants.{Leaves, Publishes}
 use Rattle.annals.specs.declared.deed.Deed.{Deed as LinkDeed}
-use Rattle.annals.specs.declared.deed.Deed.TheVariants.{Opens, Does, Asks, Shows}
+use Rattle.annals.specs.declared.deed.Deed.TheVariants.{Does, Shows}
 use Rattle.annals.specs.declared.deed.Link.{Link}
 use Rattle.annals.specs.Banks.{entries_of, with_entry}
-use Rattle.annals.specs.Chains.{chain_of, done_for, instrument, link, owner_of}
-use Rattle.annals.specs.Publishes.{publishes_chain, publishes_of, with_publish}
+use Rattle.annals.specs.Chains.{chain_of, done_for, link, owner_of}
+use Rattle.annals.specs.Publishes.{publishes_of}
 use Rattle.annals.specs.Shown.{AreListed, shown_in, shown_of, shows}
-use Rattle.ports.specs.Due.{Deed, IsJudged, Judging, Standing, Worked, stand}
-use Rattle.ports.specs.Due.Deed.{Dropped, Answered as Replied, Judged}
+use Rattle.ports.specs.Due.{stand}
 use Rattle.sched.specs.declared.event.Event.{Event}
 use Rattle.sched.specs.declared.event.Event.TheVariants.{Effect, Publish as Publishing}
 use Rattle.sched.specs.declared.event.Outcome.TheVariants.{Done}
-use Rattle.sched.specs.History.{History, Then, Open, opened, port_of}
-use Rattle.sched.specs.Looking.{Node, entries, published, publishes, staged_behind, staging}
-use Rattle.lawful.specs.Happenings.{Happening, HappenBy, ending, happened_at, happening}
+use Rattle.sched.specs.History.{History, Then, Open, port_of}
+use Rattle.sched.specs.Looking.{Node, entries, published, staged_behind, staging}
+use Rattle.lawful.specs.Happenings.{Happening, HappenBy, ending, happening}
 use Rattle.lawful.specs.Together.{Account, IsBankOf}
-use Rattle.lawful.proofs.Accounts.{HasActed, IsFrom, IsLoadOf, LeavesEntry, PublishesOne, acts_few, from_front, from_less, from_publish, from_seen, load_acted, one_loaded}
-use Rattle.lawful.proofs.Alone.{Laws, ending_port, there_at, worked_front}
-use Rattle.lawful.proofs.Entering.{IsDoneAt, asks_one, bank_staging}
+use Rattle.lawful.proofs.Accounts.{HasActed, IsFrom, LeavesEntry, PublishesOne, acts_few, from_front, from_less, from_seen, load_acted, one_loaded}
+use Rattle.lawful.proofs.Alone.{Laws, there_at}
+use Rattle.lawful.proofs.Entering.{bank_staging}
 use Rattle.lawful.proofs.Growing.{taken_longer}
 use Rattle.lawful.proofs.Idling.{IsKnown}
 use Rattle.lawful.proofs.Keeping.{StaysElsewhere, happened_here, one_elsewhere, opened_here, staging_here}
-use Rattle.lawful.proofs.Links.{IsNoneOf, at_place, done_few, done_one, done_own, done_prefix, done_same, entries_elsewhere, entries_same, front_of, longer_has, none_asks, none_not, none_opens, none_other, none_shows, published_few, published_one, published_prefix, published_same, same_begin, seen_count, seen_is, seen_prefix, seen_same, shown_few, shown_one, shown_same, size_more}
-use Rattle.lawful.proofs.Loading.{EndsThus, IsNow, loaded_thus, quiet_known}
+use Rattle.lawful.proofs.Links.{IsNoneOf, at_place, done_few, done_one, done_same, entries_elsewhere, entries_same, front_of, longer_has, none_not, none_shows, published_one, published_prefix, seen_is, seen_same, shown_few, shown_one, shown_same, size_more}
+use Rattle.lawful.proofs.Loading.{IsNow, loaded_thus, quiet_known}
 use Rattle.lawful.proofs.Settling.{of_after}
-use Rattle.lawful.proofs.Sharing.{EndsWithEntry, entry_thus}
-use Rattle.lawful.proofs.Telling.{asking, outcome_here}
-use Rattle.lawful.proofs.Worlds.{IsCommon, IsIdleAt, IsIdleBy, IsOf, IsOpen, IsPort, IsPortAt, IsSeenAt, IsToEnter, IsToPublish, IsToShow, IsUnpublished, command_in, enter_acted, entry_at, front_open, nowhere_moved, waits_for}
-use Rattle.lemmas.proofs.Prefixes.{prefix_length, prefix_self, prefix_shorter, prefix_trans}
+use Rattle.lawful.proofs.Sharing.{entry_thus}
+use Rattle.lawful.proofs.Telling.{outcome_here}
+use Rattle.lawful.proofs.Worlds.{IsCommon, IsIdleAt, IsOpen, IsPort, IsPortAt, IsToEnter, IsToPublish, IsToShow, command_in, enter_acted, entry_at, front_open, nowhere_moved, waits_for}
+use Rattle.lemmas.proofs.Prefixes.{prefix_length, prefix_shorter, prefix_trans}
 
 -- what a port did by a link, as a history goes on
 pub record HasStepped (n : Node) (whole : List Link) (q : ℕ) (a : Account) (pre : List Link) (l : Link) (h : History) (wait : Option ℕ) : Type 0 where

@@ -1,6 +1,5 @@
 -- What threads did at fresh ports that they served side by side is a lawful history, but for what cells told: link by link of the list.
-use Rattle.std.proofs.Common.{◌≡◌, ◌==◌, ◌+◌, ◌<◌, ◌≤◌, ◌⊎◌, ℕ, zero, suc, Bool, true, false, cond, List, [], ◌∷◌, ◌++◌, length, Option, Some, None, refl, sym, ap, subst, ◌∙◌, inl, inr, arith, append_assoc, eqb-true}
-use Rattle.std.specs.Prelude.{option_map, slice_get}
+use Rattle.std.proofs.Common.{◌≡◌, ◌==◌, ◌+◌, ◌<◌, ◌≤◌, ◌⊎◌, ℕ, Bool, true, false, cond, List, [], ◌∷◌, ◌++◌, length, Option, Some, None, refl, sym, ap, subst, ◌∙◌, inl, inr, arith, append_assoc, eqb-true}
 use Rattle.std.proofs.lemmas.Bool.{cases_Bool, cases_lt}
 use Rattle.std.proofs.lemmas.Bool.Decides.{nat_tests}
 use Rattle.std.proofs.lemmas.List.{append-nil, take_all}
@@ -8,25 +7,21 @@ use mathlib.Core.List.{IsPrefix}
 use Rattle.spw.specs.Cargo.{Cargo}
 use Rattle.bpf.specs.Program.{Program}
 use Rattle.node_programs.specs.declared.publishes.Publish.{Publish}
-use Rattle.node_programs.specs.Published.{judging_program, sizes_of}
-use Rattle.node_parts.specs.declared.config.BankConfig.{BankConfig}
 use Rattle.annals.specs.declared.deed.Act.{Act}
-use Rattle.annals.specs.declared.deed.Act.TheVariants.{Leaves, Sets, Rotates, Publishes}
+use Rattle.annals.specs.declared.deed.Act.TheVariants.{Publishes}
 use Rattle.annals.specs.declared.deed.Deed.{Deed as LinkDeed}
 use Rattle.annals.specs.declared.deed.Deed.TheVariants.{Opens, Does, Asks, Shows}
 use Rattle.annals.specs.declared.deed.Link.{Link}
-use Rattle.annals.specs.Banks.{entries_of, with_entry}
+use Rattle.annals.specs.Banks.{with_entry}
 use Rattle.annals.specs.Chains.{Due, done_for, instrument, owner_of}
 use Rattle.annals.specs.Publishes.{publishes_chain, publishes_of, with_publish}
-use Rattle.annals.specs.Shown.{AreListed, shown_in, shown_of, shows}
-use Rattle.ports.specs.Due.{Deed, Judging, Standing}
+use Rattle.annals.specs.Shown.{shown_in, shown_of, shows}
+use Rattle.ports.specs.Due.{Deed, Standing}
 use Rattle.ports.specs.Due.Deed.{Dropped, Answered as Replied, Judged}
-use Rattle.sched.specs.Agreement.{program_and_generation}
 use Rattle.sched.specs.History.{History, Start, opened}
-use Rattle.sched.specs.Looking.{Node, entries, published, publishes, staging}
-use Rattle.lawful.specs.ButTold.{IsLawfulButTold}
+use Rattle.sched.specs.Looking.{Node, staging}
 use Rattle.lawful.specs.Happenings.{Happening, HappenBy, happened_at}
-use Rattle.lawful.specs.Together.{Account, AreServedTogether, HaveLawfulHistory, IsServedBeside, ThreadsAreLawful}
+use Rattle.lawful.specs.Together.{Account, AreServedTogether, HaveLawfulHistory, ThreadsAreLawful}
 use Rattle.lawful.proofs.Accounts.{from_front, from_publish, load_acted, loads_placed, moment_stands}
 use Rattle.lawful.proofs.Alone.{Laws, worked_front}
 use Rattle.lawful.proofs.Growing.{taken_longer}
@@ -36,7 +31,7 @@ use Rattle.lawful.proofs.Links.{IsNoneOf, at_place, done_few, done_own, done_pre
 use Rattle.lawful.proofs.Settling.{all_settled}
 use Rattle.lawful.proofs.Stepping.{entry_step, from_entry, idle_not, later_not, port_further, publish_step, show_step, shown_not}
 use Rattle.lawful.proofs.Worlds.{IsBegun, IsCommon, IsIdleBy, IsPort, IsPortAt, IsToEnter, IsToPublish, IsToShow, IsUnbegun, IsWaiting, IsWorld, enter_acted, entry_at, front_open, port_moved, waits_for}
-use Rattle.lemmas.proofs.Prefixes.{prefix_length, prefix_self, prefix_trans, prefix_whole}
+use Rattle.lemmas.proofs.Prefixes.{prefix_length, prefix_trans}
 
 -- ---- what ports wait for
 
