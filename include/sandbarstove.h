@@ -69,7 +69,9 @@ enum sandbar_code {
   SANDBAR_IS_OPEN = 13,   /**< the node, or the reader of frames, is open */
   SANDBAR_NO_CELL = 14,   /**< the node has no such map or cell */
   SANDBAR_DAMAGED = 15,   /**< a bit of memory flipped: of the entry, of the reader of frames, or of the node's sizes */
-  SANDBAR_NO_PART = 16    /**< the number is no ::sandbar_part */
+  SANDBAR_NO_PART = 16,   /**< the number is no ::sandbar_part */
+  SANDBAR_BAD_SLOT = 17,  /**< there is no such slot: a slot is 0 to 3 */
+  SANDBAR_NO_GENERATION = 18 /**< no generation is left: 4,294,967,295 programs were published */
 };
 
 enum {
@@ -240,6 +242,18 @@ SANDBAR_CALL
 uint32_t sandbar_open(sandbar_node *node, uint8_t address, uint8_t ports, const sandbar_bank *banks, size_t bank_count,
                       const sandbar_map *maps, size_t map_count, const uint8_t *image, size_t image_length,
                       sandbar_why *why);
+
+/**
+ * Publishes the program of @p image for a slot, without a packet. It has the next generation, and judges there from the next
+ * command on; the generation of the first is 1. Call it before the first packet, as `rmapctl` does with each `[[publish]]` of a
+ * node's file, or later, as the instrument. Stagings and load results stay as they are. Codes: ::SANDBAR_NO_NODE,
+ * ::SANDBAR_BAD_SLOT, ::SANDBAR_BAD_IMAGE, ::SANDBAR_REFUSED, ::SANDBAR_NO_GENERATION, and ::SANDBAR_NO_MEMORY if memory for the
+ * program is refused. It writes @p why at all codes except ::SANDBAR_NO_NODE, as ::sandbar_verify does.
+ *
+ * @param slot 0 for reads, 1 for writes, 2 for read-modify-writes, 3 for the boot window.
+ */
+SANDBAR_CALL
+uint32_t sandbar_publish(sandbar_node *node, uint8_t slot, const uint8_t *image, size_t image_length, sandbar_why *why);
 
 /** Ends a node, and gives back all its memory. Code: ::SANDBAR_NO_NODE. */
 SANDBAR_LAST_CALL

@@ -36,6 +36,8 @@ static SANDBAR_INLINE const char *sandbar_text(uint32_t code) {
     case SANDBAR_NO_CELL: return "the node has no such map or cell";
     case SANDBAR_DAMAGED: return "what memory holds is not what was written there: a bit of it flipped";
     case SANDBAR_NO_PART: return "the number is no part of a node that is scrubbed";
+    case SANDBAR_BAD_SLOT: return "there is no such slot: a slot is 0 to 3";
+    case SANDBAR_NO_GENERATION: return "no generation is left: 4,294,967,295 programs were published";
     default: return "no code of this library";
   }
 }

@@ -1,5 +1,5 @@
 /* The least pool (link/pool.c) over which the node of a header that `rmapctl node --c` made, node_file.h, is opened and serves without
- * want of memory: its banks begin with their bytes and its images are loaded, each journal is filled with the longest packets that
+ * want of memory: its banks begin with their bytes and its images are published, each journal is filled with the longest packets that
  * there are, one packet more is served, and each image is loaded again while the journals are full. Then all journals are turned, and
  * this is done twice more. It prints NODE_POOL_BYTES, the least number, and by how much the first is above it. The status is 1 if
  * NODE_POOL_BYTES is less, or more than 5 % above (link/least). */
@@ -25,7 +25,7 @@ typedef struct {
 } loader;
 
 /* Those of each image, and the one of slot 3 now. */
-static loader loaders[NODE_LOADS + 1];
+static loader loaders[NODE_PUBLISHES + 1];
 static loader by = {false, 0x67, 0};
 
 /* ---- pools of any size in the array of pool.c */
@@ -69,10 +69,10 @@ typedef struct {
   size_t length;
 } bytes_of;
 
-/* The image that judges at first, and then those that are loaded. */
+/* The image that judges at first, and then those that are published. */
 static bytes_of image_at(size_t k) {
   if (k == 0) return (bytes_of){node_image, sizeof node_image};
-  return (bytes_of){node_loads[k - 1].image, node_loads[k - 1].length};
+  return (bytes_of){node_publishes[k - 1].image, node_publishes[k - 1].length};
 }
 
 /* Whether a write to the boot window is permitted, of no bytes. */
@@ -108,6 +108,12 @@ static bool loads(uint8_t slot, bytes_of it) {
     if (!serves(put_write(packet, 0, WINDOW, (uint32_t)at, it.image + at, some))) return false;
   }
   return serves(put_write(packet, 1, WINDOW, CONTROL, control, 4)) && served.status == 0;
+}
+
+/* Publishes an image for a slot: whether memory was there. */
+static bool publishes(uint8_t slot, bytes_of it) {
+  sandbar_why why;
+  return sandbar_publish(&node, slot, it.image, it.length, &why) == SANDBAR_OK;
 }
 
 /* ---- what is done over a pool */
@@ -151,8 +157,8 @@ static bool loads_at(uint8_t slot, size_t place) {
 
 /* Loads each image into all slots, and then each other image into one of them. */
 static bool loads_all(void) {
-  for (size_t place = 0; place <= NODE_LOADS; place += 1)
-    for (size_t other = 0; other <= NODE_LOADS; other += 1) {
+  for (size_t place = 0; place <= NODE_PUBLISHES; place += 1)
+    for (size_t other = 0; other <= NODE_PUBLISHES; other += 1) {
       for (uint8_t slot = 0; slot < 4; slot += 1)
         if (!loads_at(slot, place)) return false;
       if (!loads_at((uint8_t)(other % 3), other)) return false;
@@ -166,9 +172,9 @@ static bool holds(size_t bytes) {
   by = loaders[0];
   if (!opens()) return false;
   bool is_enough = true;
-  for (size_t place = 1; is_enough && by.is_there && place <= NODE_LOADS; place += 1) {
-    is_enough = loads(node_loads[place - 1].slot, image_at(place));
-    if (node_loads[place - 1].slot == 3) by = loaders[place];
+  for (size_t place = 1; is_enough && place <= NODE_PUBLISHES; place += 1) {
+    is_enough = publishes(node_publishes[place - 1].slot, image_at(place));
+    if (node_publishes[place - 1].slot == 3) by = loaders[place];
   }
   for (unsigned round = 0; is_enough && round < ROUNDS; round += 1) {
     is_enough = fills() && (!by.is_there || loads_all());
@@ -181,7 +187,7 @@ static bool holds(size_t bytes) {
 
 int main(void) {
   begin(sizeof pool);
-  for (size_t k = 0; k <= NODE_LOADS; k += 1) loaders[k] = loader_of(image_at(k));
+  for (size_t k = 0; k <= NODE_PUBLISHES; k += 1) loaders[k] = loader_of(image_at(k));
   if (!holds(sizeof pool)) {
     printf("a pool of %zu bytes is not enough\n", sizeof pool);
     return 2;

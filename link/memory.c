@@ -143,6 +143,28 @@ static long load(long n) {
   return asked;
 }
 
+/* The publish of a program that denies reads, at a fresh node, with the n-th request refused. Gives the requests of it. */
+static long publish(long n) {
+  uint8_t packet[16];
+  sandbar_node node = {0};
+  sandbar_why why = {9, 9};
+  holds(open_node(&node, 2, 16) == SANDBAR_OK, "open", n);
+  requests = 0;
+  refuse_at = n;
+  uint32_t code = sandbar_publish(&node, 0, no, sizeof no, &why);
+  long asked = requests;
+  refuse_at = 0;
+  holds(code == (n <= asked ? SANDBAR_NO_MEMORY : SANDBAR_OK) && why.code == 0 && why.slot == 0, "a refused publish", n);
+  sandbar_served served = serve(&node, packet, put_read(packet, 1, 0, 0xA0000000u, 1));
+  holds(served.status == (n <= asked ? 0 : 10), "the old program judges if the publish was refused", n);
+  holds(sandbar_publish(&node, 0, yes, sizeof yes, &why) == SANDBAR_OK, "publish", n);
+  served = serve(&node, packet, put_read(packet, 2, 0, 0xA0000000u, 1));
+  holds(served.generation == (n <= asked ? 1 : 2), "a refused publish counts no generation", n);
+  sandbar_close(&node);
+  holds(blocks == 0, "all is given back", n);
+  return asked;
+}
+
 /* A journal is turned with no request, also by a poke. With more room it is refused, and then its entry is there still. */
 static void turns(void) {
   const uint8_t four[4] = {1, 2, 3, 4};
@@ -206,6 +228,9 @@ int main(void) {
   long n = 1;
   while (load(n) >= n) n += 1;
   printf("loads: %ld requests refused in turn\n", n - 1);
+  n = 1;
+  while (publish(n) >= n) n += 1;
+  printf("publishes: %ld requests refused in turn\n", n - 1);
   turns();
   readers();
   printf("%s\n", failures == 0 ? "all held" : "failed");

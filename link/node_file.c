@@ -1,7 +1,6 @@
 /* The node of a node's file: `rmapctl node FILE --c` made the header. Packet lines come on standard input, and what comes of them
    is printed as `rmapctl live --node FILE` prints it, with the journal of each bank at the end. */
 #include "node_file.h" /* the header that was made */
-#include "packets.h"
 
 #include <inttypes.h>
 #include <stdio.h>
@@ -21,29 +20,6 @@ static void print_hex(const uint8_t *bytes, size_t length) {
   for (size_t i = 0; i < length; i += 1) printf("%02X", bytes[i]);
 }
 
-/* Serves a packet of packets.h, which is for this node then. */
-static sandbar_served serve_own(size_t length) {
-  sandbar_served served;
-  packet[0] = NODE_ADDRESS;
-  packet[15] = sandbar_crc(packet, 15);
-  want(sandbar_serve(&node, 0, packet, length, SANDBAR_EOP, reply, sizeof reply, &served), "serve");
-  if (served.kind != SANDBAR_JUDGED || served.status != 0) exit(EXIT_FAILURE);
-  return served;
-}
-
-/* Loads an image by packets, as `rmapctl packet load` makes them: its parts, the control write, the read of the load result. Each must
-   have status 0: the control write has no sum of the image, so after a part that failed it loads other bytes. */
-static void load(uint8_t slot, const uint8_t *image, size_t length) {
-  uint16_t transaction = 0;
-  for (size_t at = 0; at < length; at += 4096) {
-    uint32_t part = (uint32_t)(length - at < 4096 ? length - at : 4096);
-    serve_own(put_write(packet, transaction++, 0xFF, (uint32_t)at, image + at, part));
-  }
-  const uint8_t control[4] = {slot, 0, (uint8_t)(length >> 8), (uint8_t)length};
-  serve_own(put_write(packet, transaction++, 0xFF, 0x10000, control, 4));
-  serve_own(put_read(packet, transaction, 0xFF, 0x10000, 8));
-}
-
 static void open_node(void) {
   sandbar_why why;
   want(sandbar_open(&node, NODE_ADDRESS, NODE_PORTS, node_banks, NODE_BANKS, node_maps, NODE_MAPS, node_image,
@@ -51,7 +27,8 @@ static void open_node(void) {
   for (uint8_t bank = 0; bank < NODE_BANKS; bank += 1)
     want(sandbar_poke(&node, bank, node_banks[bank].base, node_contents[bank].bytes, node_contents[bank].length,
                       node_banks[bank].room), "contents");
-  for (size_t k = 0; k < NODE_LOADS; k += 1) load(node_loads[k].slot, node_loads[k].image, node_loads[k].length);
+  for (size_t k = 0; k < NODE_PUBLISHES; k += 1)
+    want(sandbar_publish(&node, node_publishes[k].slot, node_publishes[k].image, node_publishes[k].length, &why), "publish");
 }
 
 /* Reads the digits of a packet: how many bytes it has. */

@@ -458,6 +458,40 @@ static void fields(void) {
   answers(sandbar_close(&node), SANDBAR_OK, "close");
 }
 
+/* Programs that are published without a packet: what judges in a slot is the last, and each has the next generation. */
+static void publishes(void) {
+  uint8_t packet[64], reply[SANDBAR_MAX_REPLY], odd[sizeof yes];
+  sandbar_why why = {9, 9};
+  sandbar_journal journal;
+  sandbar_node node = {0};
+  answers(sandbar_publish(&node, 4, yes, 31, &why), SANDBAR_NO_NODE, "publish");
+  holds(why.code == 9 && why.slot == 9, "nothing is written");
+  node = opened(&bank, 1, yes, sizeof yes);
+  answers(sandbar_publish(&node, 4, yes, 31, &why), SANDBAR_BAD_SLOT, "slot 4");
+  holds(why.code == 0 && why.slot == 0, "nothing to tell");
+  answers(sandbar_publish(&node, 3, yes, 31, &why), SANDBAR_BAD_IMAGE, "a cut image");
+  holds(why.code == 3 && why.slot == 0, "the image has another length");
+  memcpy(odd, yes, sizeof yes);
+  odd[8] = 1;
+  answers(sandbar_publish(&node, 3, odd, sizeof odd, &why), SANDBAR_REFUSED, "a budget of 1");
+  holds(why.code == 15 && why.slot == 0, "refused V15 slot 0");
+  answers(sandbar_journal_of(&node, 0, &journal), SANDBAR_OK, "journal");
+  holds(journal.loaded == 0, "nothing was published");
+  answers(sandbar_publish(&node, 0, no, sizeof no, &why), SANDBAR_OK, "publish");
+  holds(serve(&node, 0, packet, put_read(packet, 0, 0, 0xA0000000u, 1), reply).status == 10, "denied");
+  answers(sandbar_publish(&node, 3, no, sizeof no, &why), SANDBAR_OK, "publish");
+  answers(sandbar_publish(&node, 0, yes, sizeof yes, &why), SANDBAR_OK, "publish behind a guard that denies");
+  holds(why.code == 0 && why.slot == 0, "nothing to tell");
+  sandbar_served served = serve(&node, 0, packet, put_read(packet, 1, 0, 0xA0000000u, 1), reply);
+  holds(served.status == 0 && served.generation == 3, "the last that was published for the slot judges");
+  answers(sandbar_journal_of(&node, 0, &journal), SANDBAR_OK, "journal");
+  holds(journal.loaded == 3, "three programs were published");
+  sandbar_scrubbed told = touched_scrubbed;
+  answers(sandbar_scrub(&node, SANDBAR_PROGRAMS, yes, 0, &told), SANDBAR_OK, "scrub");
+  holds(are_zeros(&told), "their sums are kept");
+  answers(sandbar_close(&node), SANDBAR_OK, "close");
+}
+
 /* What is not open, and what is not served. */
 static void refusals(void) {
   uint8_t packet[SANDBAR_MAX_PACKET + 1] = {0}, room[SANDBAR_MAX_REPLY];
@@ -602,10 +636,11 @@ int main(int count, char **words) {
   words_of_cells();
   scrubs();
   fields();
+  publishes();
   refusals();
   order();
   /* NO_MEMORY is left to memory.c, and DAMAGED to upsets.c */
-  holds(codes_seen == 0x17FFD, "every code but two");
+  holds(codes_seen == 0x37FFD, "every code but three");
   printf("%d checks, %d failed\n", checks, failures);
   return failures == 0 ? EXIT_SUCCESS : EXIT_FAILURE;
 }

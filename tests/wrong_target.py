@@ -17,8 +17,7 @@ from typing import Callable, Iterator
 sys.dont_write_bytecode = True
 sys.path.insert(0, str(Path(__file__).resolve().parent))
 from models.images import BadImage, Image, form_fault, parsed
-from models.nodes import Bank, OwnNode, yes_image
-from models.world import INCREMENT, MODIFY, STAGING, VERIFY, WRITE, Packet
+from models.nodes import INCREMENT, MODIFY, STAGING, VERIFY, WRITE, Bank, OwnNode, Packet, yes_image
 from packets import crc
 
 # What is planted, by the line of the order of checks or the effect that it spoils.
@@ -175,7 +174,8 @@ class Target(OwnNode):
             return 0, b""
         if place != "control":
             return super().at_window(port, packet, place)
-        slot, zero, size = packet.data[packet.begin], packet.data[packet.begin + 1], packet.field(18, 2)
+        slot, zero, *size_bytes = packet.data[packet.begin:packet.begin + 4]
+        size = int.from_bytes(size_bytes, "big")
         code, at, image = (71, 0, None) if zero or size > STAGING else (66, 0, None) if slot > 3 and not self.has("load-slot") \
             else self.image(bytes(self.staging[port][:size]))
         if image is not None:

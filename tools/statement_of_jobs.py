@@ -17,7 +17,7 @@ CHAPTERS = [
     ("The verifier and its weights", ["bver_form", "weights", "stepper"]),
     ("Tables of both versions", ["policy_table", "policy"]),
     ("Charts", ["regions", "charts", "differences", "chart_lines"]),
-    ("Nodes", ["node_parts", "sched", "ports", "single_node", "scrub", "loading"]),
+    ("Nodes", ["node_parts", "sched", "publish", "target", "ports", "single_node", "scrub", "loading"]),
     ("What jobs read, and how they end", ["job_parts", "folders"]),
     ("A node's file", ["job_config", "job_node_file"]),
     ("decide", ["job_decide"]),

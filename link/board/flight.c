@@ -70,6 +70,8 @@ _Noreturn void flight_main(void) {
   for (uint8_t bank = 0; bank < NODE_BANKS; bank += 1)
     want(sandbar_poke(&node, bank, node_banks[bank].base, node_contents[bank].bytes, node_contents[bank].length,
                       node_banks[bank].room));
+  for (int k = 0; k < NODE_PUBLISHES; k += 1)
+    want(sandbar_publish(&node, node_publishes[k].slot, node_publishes[k].image, node_publishes[k].length, &why));
   want(sandbar_scrub_each(&node, 1)); /* before each packet the program that judges it */
   want(sandbar_frames_open(&frames));
   for (uint32_t packets = 0;; flight_kick()) {

@@ -201,6 +201,22 @@ uint32_t sandbar_open(sandbar_node *node, uint8_t address, uint8_t ports, const 
   return code;
 }
 
+uint32_t sandbar_publish(sandbar_node *node, uint8_t slot, const uint8_t *image, size_t image_length, sandbar_why *why) {
+  struct inside *inside = inside_of(node);
+  if (inside == NULL) return SANDBAR_NO_NODE;
+  module *it = &inside->it;
+  uint32_t code = SANDBAR_NO_MEMORY;
+  size_t length = at_most(image_length, IMAGE_ROOM);
+  why->code = why->slot = 0;
+  if (slot > 3) return SANDBAR_BAD_SLOT;
+  uint64_t block = lend(it, NULL, 0, image, length);
+  if (block != 0) {
+    code = Z_sandbarZ_sandbar_publish(it, inside->node, slot, block + IMAGE, length, block + WHY);
+    give_back(it, block, why);
+  }
+  return code;
+}
+
 uint32_t sandbar_close(sandbar_node *node) {
   struct inside *inside = inside_of(node);
   if (inside == NULL) return SANDBAR_NO_NODE;

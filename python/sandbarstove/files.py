@@ -1,4 +1,4 @@
-"""The file of a node, in TOML: its address, ports, banks, maps, programs, and what is loaded before the first packet. It is read as
+"""The file of a node, in TOML: its address, ports, banks, maps, and the programs that are published before the first packet. It is read as
 `rmapctl` reads it, and what is wrong has the same code and words."""
 from __future__ import annotations
 
@@ -9,20 +9,20 @@ from typing import Any, Callable, Optional, Union
 from .texts import NoToml, table_of
 
 # The limits of docs/COMMANDS.md, and the keys of each table.
-_ADDRESS, _WORD, _PORTS, _SLOT = (0, 0xFF), (0, 0xFFFFFFFF), (1, 32), (0, 3)
+_ADDRESS, _WORD, _PORTS, _SLOT = (0x20, 0xFE), (0, 0xFFFFFFFF), (1, 32), (0, 3)
 _SIZE, _ROOM, _CELLS = 1 << 20, 1 << 16, 256
 _TEXT, _IMAGE = 1 << 20, 16384
 _KEYS = {
-    "": ("address", "bank", "load", "map", "ports", "program"),
+    "": ("address", "bank", "map", "ports", "program", "publish"),
     "bank": ("base", "contents", "journal", "size"),
     "map": ("cells", "peak"),
-    "load": ("image", "slot"),
+    "publish": ("image", "slot"),
 }
 
 # The codes of faults, as `rmapctl explain` has them: of each key, and of each list.
-_UNREAD, _NO_TOML, _KEY, NOT_LOADED = 0, 1, 2, 9
+_UNREAD, _NO_TOML, _KEY, NOT_PUBLISHED = 0, 1, 2, 9
 _CODES = {"address": 3, "ports": 4, "bank": 5, "base": 5, "size": 5, "journal": 5, "map": 6, "cells": 6, "peak": 6, "contents": 7,
-          "program": 8, "load": 9, "slot": 9, "image": 9}
+          "program": 8, "publish": 9, "slot": 9, "image": 9}
 
 
 class NodeFileFault(Exception):
@@ -49,7 +49,7 @@ class MapPart:
 
 
 @dataclass
-class LoadPart:
+class PublishPart:
     slot: int
     image: bytes
 
@@ -67,7 +67,7 @@ class NodeFile:
     program: Optional[bytes] = None
     banks: list[BankPart] = field(default_factory=list)
     maps: list[MapPart] = field(default_factory=list)
-    loads: list[LoadPart] = field(default_factory=list)
+    publishes: list[PublishPart] = field(default_factory=list)
 
     def fault(self, code: int, text: str) -> NodeFileFault:
         return NodeFileFault(code, f"{self.path} {text}")
@@ -85,6 +85,8 @@ class _Table:
     def check_keys(self) -> None:
         for key in sorted(self.rows, key=str.encode):
             if key not in _KEYS[self.kind]:
+                if not self.place and key == "load":
+                    raise self.file.fault(_KEY, "key load: [[load]] is [[publish]] since 1.0+6, without packets (CHANGELOG)")
                 *keys, last = _KEYS[self.kind]
                 raise self.file.fault(_KEY, f"{self.place}key {key}: wanted {', '.join(keys)} or {last}")
 
@@ -94,7 +96,8 @@ class _Table:
         if is_number and bounds[0] <= value <= bounds[1]:
             return value
         found = f" {value}" if is_number else " is no number" if key in self.rows else " is missing"
-        raise self.fault(key, f"{found}: wanted {bounds[0]} to {bounds[1]}")
+        digits = f", {bounds[0]:02X} to {bounds[1]:02X} hexadecimal" if key == "address" else ""
+        raise self.fault(key, f"{found}: wanted {bounds[0]} to {bounds[1]}{digits}")
 
     def flag(self, key: str) -> bool:
         value = self.rows.get(key, False)
@@ -140,10 +143,11 @@ class _Table:
         if most is not None and not least <= len(rows) <= most:
             wanted = f"{least} to {most}" if least else f"at most {most}"
             raise self.file.fault(_CODES[kind], f"{len(rows)} {kind}s: wanted {wanted}")
-        return [self.table(kind, number, row) for number, row in enumerate(rows, 1)]
+        return [self.table(kind, number, row) for number, row in enumerate(rows)]
 
     def table(self, kind: str, number: int, row: Any) -> _Table:
-        return _Table(self.file, kind, f"{kind} {number} ", row)
+        # Banks and maps count from 0; a publish has the number of its generation.
+        return _Table(self.file, kind, f"{kind} {number + (kind == 'publish')} ", row)
 
     def checked(self) -> _Table:
         """This table, if it is one."""
@@ -153,11 +157,11 @@ class _Table:
 
 
 def _check_keys(table: _Table) -> None:
-    """Refuses an unknown key: of the node first, then of banks, maps and loads."""
+    """Refuses an unknown key: of the node first, then of banks, maps and publishes."""
     table.check_keys()
-    for kind in ("bank", "map", "load"):
+    for kind in ("bank", "map", "publish"):
         rows = table.rows.get(kind)
-        for number, row in enumerate(rows if isinstance(rows, list) else [], 1):
+        for number, row in enumerate(rows if isinstance(rows, list) else []):
             if isinstance(row, dict):
                 table.table(kind, number, row).check_keys()
 
@@ -181,9 +185,9 @@ def _maps(table: _Table) -> list[MapPart]:
     return parts
 
 
-def _load(row: _Table, maps: list[MapPart], refuses: Optional[Refuses]) -> LoadPart:
+def _publish(row: _Table, maps: list[MapPart], refuses: Optional[Refuses]) -> PublishPart:
     slot = row.checked().number("slot", _SLOT)
-    return LoadPart(slot, row.image("image", maps, refuses, is_needed=True) or b"")
+    return PublishPart(slot, row.image("image", maps, refuses, is_needed=True) or b"")
 
 
 def _rows_of(file: NodeFile) -> dict[str, Any]:
@@ -216,5 +220,5 @@ def read_node_file(path: Union[str, Path], refuses: Optional[Refuses] = None) ->
     for bank, row in zip(file.banks, table.tables("bank")):
         bank.contents = row.bytes_of("contents", bank.size) or b""
     file.program = table.image("program", file.maps, refuses)
-    file.loads = [_load(row, file.maps, refuses) for row in table.tables("load")]
+    file.publishes = [_publish(row, file.maps, refuses) for row in table.tables("publish")]
     return file

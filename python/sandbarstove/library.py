@@ -31,6 +31,8 @@ TEXTS = {
     14: "the node has no such map or cell",
     15: "what memory holds is not what was written there: a bit of it flipped",
     16: "the number is no part of a node that is scrubbed",
+    17: "there is no such slot: a slot is 0 to 3",
+    18: "no generation is left: 4,294,967,295 programs were published",
 }
 
 
@@ -85,6 +87,7 @@ _IMAGE = [c_char_p, c_size_t, POINTER(Why)]
 _CALLS = {
     "verify": [*_MAPS, *_IMAGE],
     "open": [_NODE, c_uint8, c_uint8, POINTER(BankConfig), c_size_t, *_MAPS, *_IMAGE],
+    "publish": [_NODE, c_uint8, *_IMAGE],
     "close": [_NODE],
     "serve": [_NODE, c_uint8, c_char_p, c_size_t, c_uint8, _BYTES, c_size_t, POINTER(ServedRecord)],
     "journal_of": [_NODE, c_uint8, POINTER(JournalRecord)],

@@ -154,7 +154,7 @@ class Lines(_Link):
         answer = self._answer(self._end())
         words = answer.split(" ")
         if words[0] == "line":
-            if len(words) != 4 or words[2] != "fault" or not words[3].isdigit() or int(words[3][:4]) not in LINES:
+            if len(words) != 4 or words[2] != "fault" or words[3] not in map(str, LINES):
                 raise LinkFault(f"no answer to a line: {answer[:80]}")
             raise BadLine(line, int(words[3]))
         return answer

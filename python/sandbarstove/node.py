@@ -7,10 +7,9 @@ from pathlib import Path
 from typing import Iterable, Optional, Sequence, Union
 
 from . import library as c
-from .files import NOT_LOADED, MapPart, NodeFile, read_node_file
+from .files import NOT_PUBLISHED, MapPart, NodeFile, read_node_file
 from .journals import Damaged, Entry
 from .loads import load
-from .packets import load_packets, reply
 
 #: The image of the program that says yes to every command: `mov r0, 0; exit`.
 YES = bytes.fromhex("42504641010002000200000000000000B7000000000000009500000000000000")
@@ -136,7 +135,7 @@ class Node:
 
     @classmethod
     def from_file(cls, path: Union[str, Path]) -> Node:
-        """Opens the node that a file says, with the contents of its banks, and its loads done."""
+        """Opens the node that a file says, with the contents of its banks, and its programs published."""
         return cls._of(read_node_file(path, _why_not))
 
     @classmethod
@@ -147,19 +146,20 @@ class Node:
         for number, bank in enumerate(file.banks):
             if bank.contents:
                 node.poke(bank.base, bank.contents, number)
-        for number, row in enumerate(file.loads, 1):
-            if why := node._load(row.image, row.slot, file.address):
-                raise file.fault(NOT_LOADED, f"load {number}: {why}")
+        for number, row in enumerate(file.publishes, 1):
+            try:
+                node.publish(row.image, row.slot)
+            except NodeFault as fault:
+                raise file.fault(NOT_PUBLISHED, f"publish {number} image: {fault}") from None
         return node
 
-    def _load(self, image: bytes, slot: int, address: int) -> Optional[str]:
-        """Does a load as packets at port 0, and says why it was not carried out, if it was not."""
-        *writes, read = load_packets(image, slot, target=address)
-        status = next((status for status in (self.serve(packet).status for packet in writes) if status), 0)
-        if not status:
-            return None
-        told = reply(self.ask(read) or b"")
-        return f"status {status}, load fault {told.data[0] if told.data else 0}"
+    def publish(self, image: bytes, slot: int) -> None:
+        """Publishes the program of an image for a slot, without a packet. It has the next generation, and judges from the next
+        command on. If it may not judge, this raises NodeFault, and the node stays as it is."""
+        why = c.Why()
+        code = self._c.sandbar_publish(byref(self._node), _byte("slot", slot), image, len(image), byref(why))
+        if code:
+            raise NodeFault(code, why)
 
     def _done(self, code: int) -> None:
         if code:

@@ -138,6 +138,7 @@ NO_ANSWERS = [
     b"\n", b" \n", b"0\n", b"0 \n", b"0 - -\n", b"0  -\n", b"1 -\n", b"00 -\n", b"0 discard\n", b"0 discard 5\n", b"0 discard x\n",
     b"0 discard " + b"9" * 5000 + b"\n", b"0 FE\n", b"0 FE PART\n", b"0 F EOP\n", b"0 GG EOP\n", b"0 EOP\n", b"0  EOP\n", b"1 FE EOP\n",
     b"line\n", b"line 1\n", b"line 1 fault\n", b"line 1 fault x\n", b"line 1 fault 99\n", b"line 1 fault " + b"9" * 5000 + b"\n",
+    b"line 1 fault 01\n", b"line 1 fault 0001" + b"9" * 5000 + b"\n",
     b"\xff\xfe\n", b"\0\n", b"hello, world\n", b"journal x\n", b"journal 0 0 0 0 0 F EOP\n", b"journal 0 0 0 0 x FE EOP\n", b"bank\n",
     b"bank xx 00000000\n", b"journal scrub\n", b"journal scrub x mended\n", b"entry 00\n", b"entry zz damaged\n", b"set 4\n", b"cells 0 maps\n",
     b"x" * 100_000,

@@ -1,6 +1,7 @@
 """A node of the library, its journal, its memory and its cells; and a node's file."""
 import os
 import re
+import shutil
 import sys
 import tempfile
 import unittest
@@ -29,6 +30,9 @@ exit
 mov r0, 0
 exit
 """
+#: An image that draws a ticket of cell 0 of map 0, which a node without maps does not have.
+DRAWS = bytes.fromhex("42504641 0100 0500 0400 000000000000 1851000000000000 0000000000000000 b702000000000000 8500000002000000 "
+                      "9500000000000000")
 FILE = """
 address = 0x42
 ports = 2
@@ -51,29 +55,30 @@ cells = 5
 cells = 2
 peak = true
 
-[[load]]
+[[publish]]
 slot = 1
 image = "deny.img"
 """
 # (the text, the words of the refusal) of files that no node can be of: those of `rmapctl node`. What each file of tests/node_files.txt
 # is answered is compared too.
 BAD_FILES = [
-    ("address = 256", "address 256: wanted 0 to 255"),
-    ("adress = 1", "key adress: wanted address, bank, load, map, ports or program"),
+    ("address = 256", "address 256: wanted 32 to 254, 20 to FE hexadecimal"),
+    ("address = 0x1F", "address 31: wanted 32 to 254, 20 to FE hexadecimal"),
+    ("adress = 1", "key adress: wanted address, bank, map, ports, program or publish"),
     ("ports = true", "ports is no number: wanted 1 to 32"),
-    ("[[bank]]\nsize = 0", "bank 1 base is missing: wanted 0 to 4294967295"),
-    ("[[bank]]\nbase = 0xFFFFFFFF\nsize = 2", "bank 1 size 2: wanted 1 to 1"),
-    ("[[bank]]\nbase = 0\nsize = 1\njournal = 1\ncontents = 'none.bin'", "bank 1 contents none.bin: cannot be read"),
+    ("[[bank]]\nsize = 0", "bank 0 base is missing: wanted 0 to 4294967295"),
+    ("[[bank]]\nbase = 0xFFFFFFFF\nsize = 2", "bank 0 size 2: wanted 1 to 1"),
+    ("[[bank]]\nbase = 0\nsize = 1\njournal = 1\ncontents = 'none.bin'", "bank 0 contents none.bin: cannot be read"),
     ("[bank]\nsize = 1", "bank is no list of tables: wanted [[bank]]"),
-    ("bank = [1]", "bank 1 is no table: wanted [[bank]]"),
+    ("bank = [1]", "bank 0 is no table: wanted [[bank]]"),
     ("bank = []", "0 banks: wanted 1 to 8"),
     ("[[map]]\n" * 9, "9 maps: wanted at most 8"),
-    ("[[map]]\ncells = 2\npeak = 1", "map 1 peak: wanted true or false"),
-    ("[[map]]\ncells = 200\n[[map]]\ncells = 57", "map 2 cells 57: wanted 1 to 56"),
+    ("[[map]]\ncells = 2\npeak = 1", "map 0 peak: wanted true or false"),
+    ("[[map]]\ncells = 200\n[[map]]\ncells = 57", "map 1 cells 57: wanted 1 to 56"),
     ("program = 'science.bin'", "program science.bin: image fault 1 slot 0"),
     ("program = 5", "program: wanted the name of a file"),
-    ("[[load]]\nslot = 1\nimage = 'science.bin'", "load 1 image science.bin: image fault 1 slot 0"),
-    ("[[load]]\nslot = 3\nimage = 'deny.img'\n" * 2, "load 2: status 10, load fault 0"),
+    ("[[publish]]\nslot = 1\nimage = 'science.bin'", "publish 1 image science.bin: image fault 1 slot 0"),
+    ("[[load]]\nslot = 1\nimage = 'deny.img'", "key load: [[load]] is [[publish]] since 1.0+6"),
     ("address = ", "is no TOML: Invalid value"),
 ]
 
@@ -200,6 +205,41 @@ class Files(unittest.TestCase):
             self.assertEqual(node.serve(command("write", 0x1000, b"x", target=0x42, extended=1)).status, 10)
             self.assertEqual((node.loaded, node.word(0, 4), node.word(1, 1)), (1, 0, 0))
             self.assertEqual(node.serve(READ).status, 12)
+
+    def test_as_rmapctl(self):
+        """The file of link/node_file: the replies, generations and load results of `rmapctl live`, which link/run compares with C."""
+        if kit.program() is None:
+            self.skipTest("there is no rmapctl")
+        room = Path(self.room.name, "camera")
+        shutil.copytree(kit.TOP / "link/node_file", room)
+        for policy in ("table", "guard"):
+            kit.run("policy", str(room / f"{policy}.txt"), str(room / f"{policy}.img"), "--maps", "5,2p")
+        lines = (room / "lines.txt").read_text(encoding="utf-8").splitlines()
+        printed = kit.run("live", "--node", str(room / "camera.toml"), text="\n".join(lines) + "\n").splitlines()
+        with Node.from_file(room / "camera.toml") as node:
+            for line, wanted in zip(lines, printed):
+                port, digits, _ = line.split(" ")
+                served = node.serve(bytes.fromhex(digits), int(port))
+                self.assertEqual(wanted, f"{port} {served.reply.hex().upper()} EOP")
+            entries = [f"journal {row.port} {row.number} {row.generation} {row.verdict} {row.status} {row.packet.hex().upper()} {row.end}"
+                       for bank in (0, 1) for row in node.journal(bank)]
+            self.assertEqual(entries, [line for line in printed if line.startswith("journal ") and not line.endswith("entries")])
+            self.assertEqual(node.loaded, 3)
+
+    def test_publish(self):
+        with Node() as node:
+            node.publish(kit.DENY, 0)
+            self.assertEqual((node.serve(READ).status, node.loaded), (10, 1))
+            node.publish(YES, 0)
+            self.assertEqual((node.serve(READ).status, node.serve(READ).generation, node.loaded), (0, 2, 2))
+            for image, slot, code in ((YES, 4, 17), (b"no image", 0, 5), (DRAWS, 0, 6)):
+                with self.assertRaises(NodeFault) as caught:
+                    node.publish(image, slot)
+                self.assertEqual((caught.exception.code, node.loaded), (code, 2))
+            node.close()
+            with self.assertRaises(NodeFault) as caught:
+                node.publish(YES, 0)
+            self.assertEqual(caught.exception.code, 2)
 
     def test_empty(self):
         with Node.from_file(self.file("")) as node:

@@ -32,9 +32,9 @@ VALUES = ["1", "0", "-1", "254", "255", "256", "0xA0", "0o7", "0b1", "1_0", "1__
           "{}", "{a = 1}", "{a = 1,}", "{a = 1\n}", "{a.b = 1, a.c = 2}", "{a = {b = 1}, a.c = 1}", "1979-05-27", "07:32", "07:32:61",
           "1979-05-27T07:32:00Z", "1979-05-27 07:32", "2023-02-29", "[1 # a comment\n]", "{a = 1 # }\n}", "9223372036854775807",
           "9223372036854775808", "", "yes", '"', "[", "{", "}", "1 2", "{cells = 1}", "[{cells = 1}]", "[{cells = 1,}, {cells = 2\n}]"]
-KEYS = ["address", "ports", "program", "bank", "map", "load", "base", "size", "journal", "contents", "cells", "peak", "slot", "image", "other",
+KEYS = ["address", "ports", "program", "bank", "map", "publish", "load", "base", "size", "journal", "contents", "cells", "peak", "slot", "image", "other",
         '"ports"', "'map'", "map.cells", "a.b", "", '"\\u0061ddress"', "address ", "é"]
-HEADS = ["[[bank]]", "[[map]]", "[[load]]", "[bank]", "[map.a]", "[[map.a]]", "[[bank]] # a comment", "[[ map ]]", "[[map]", "[a]", "[a.b]", "[[]]"]
+HEADS = ["[[bank]]", "[[map]]", "[[publish]]", "[[load]]", "[bank]", "[map.a]", "[[map.a]]", "[[bank]] # a comment", "[[ map ]]", "[[map]", "[a]", "[a.b]", "[[]]"]
 WHOLE = ["base = 0\nsize = 8\njournal = 4", "cells = 3", 'slot = 1\nimage = "yes.img"', "base = 1\nsize = 8\njournal = 4\n", "peak = true"]
 
 
@@ -76,8 +76,8 @@ def lines_of(node: NodeFile) -> Iterator[str]:
     for number, row in enumerate(node.maps):
         yield f"map {number} cells {row.cells}{' peak' * row.peak}"
     yield "program"
-    for number, load in enumerate(node.loads, 1):
-        yield f"load {number} slot {load.slot}"
+    for number, publish in enumerate(node.publishes, 1):
+        yield f"publish {number} slot {publish.slot}"
 
 
 def same_node(room: Room, node: NodeFile | None) -> str | None:

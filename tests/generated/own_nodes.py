@@ -1,7 +1,7 @@
 #!/usr/bin/env python3
-"""Random nodes of a file: 1 to 8 banks, ports, maps, a program, contents, and images that are loaded before the first packet. `judge`,
-`serve`, `trace` and `live` print what a node prints that was written from the pages alone; a load that a program refuses is the fault of
-the file, and `trace` takes no contents."""
+"""Random nodes of a file: 1 to 8 banks, ports, maps, a program, contents, and images that are published before the first packet. `judge`,
+`serve`, `trace` and `live` print what a node prints that was written from the pages alone, in which a program in slot 3 has no say on
+what is published; and `trace` takes no contents."""
 from __future__ import annotations
 
 import sys
@@ -14,8 +14,7 @@ sys.path.insert(0, str(Path(__file__).resolve().parent.parent))
 from generator import main, same_lines
 from models.images import Image, assembled
 from models.machine import Map
-from models.nodes import Bank, OwnNode, Refused, yes_image
-from models.world import Packet
+from models.nodes import Bank, OwnNode, Packet, yes_image
 from packets import crc, header
 from rmapctl import Differs, Room
 
@@ -23,7 +22,7 @@ from rmapctl import Differs, Room
 NODES, PACKETS = 60, 40
 
 # What the runs have to come to, and how often.
-KINDS = {"banks": 150, "loads": 20, "loads refused": 3, "full journals": 20, "bytes set": 50, "contents": 20, "replies": 600,
+KINDS = {"banks": 150, "publishes": 40, "publishes behind one for their slot": 5, "publishes behind a program in slot 3": 10, "load results": 20, "full journals": 20, "bytes set": 50, "contents": 20, "replies": 600,
          "nodes of more than one port": 15, "commands at a bank behind the first": 300, "served": 5, "traced": 5, "untraced": 5}
 
 # What is told of contents that a schedule does not take.
@@ -67,7 +66,7 @@ class File:
         self.lines: list[str] = []
         self.tables: list[str] = []
         self.begins_with_bytes = False
-        address = random.choice([0xFE, 0x42, random.randrange(256)])
+        address = random.choice([0xFE, 0x42, random.randrange(0x20, 0xFF)])
         ports = random.choice([1, 1, 1, 2, 3, random.randrange(1, 33)])
         if address != 0xFE or random.randrange(2):
             self.lines.append(f"address = {number(random, address)}")
@@ -82,7 +81,7 @@ class File:
         self.node = OwnNode(address, ports, banks, maps, image)
         seen["banks"] += len(banks)
         seen["nodes of more than one port"] += ports > 1
-        self.loads = [self.load(maps) for _ in range(random.choice([0, 0, 1, 2, 3]))]
+        self.publishes = [self.publish(maps) for _ in range(random.choice([0, 0, 1, 2, 3, 5]))]
 
     def put(self, name: str, content: bytes) -> str:
         """Puts a file beside the node's, and gives its name there."""
@@ -114,10 +113,10 @@ class File:
             self.tables.append(f"peak = {str(is_peak).lower()}")
         return cells, is_peak
 
-    def load(self, maps: list[Map]) -> tuple[int, bytes]:
+    def publish(self, maps: list[Map]) -> tuple[int, bytes]:
         slot, image = self.random.choice([0, 1, 2, 3, 3]), program(self.random, maps).spelled()
         name = self.put(f"image{len(self.tables)}", image)
-        self.tables += ["[[load]]", f"slot = {slot}", f'image = "{name}"']
+        self.tables += ["[[publish]]", f"slot = {slot}", f'image = "{name}"']
         return slot, image
 
     def text(self) -> str:
@@ -153,6 +152,7 @@ def judged(random: Random, file: File, seen: Counter[str]) -> None:
         lines.append(packet.line(port))
         wanted.append(node.judge(port, packet))
         seen["replies"] += wanted[-1].endswith("EOP")
+        seen["load results"] += packet.discard() is None and packet.extended == 0xFF
         seen["commands at a bank behind the first"] += packet.discard() is None and 0 < packet.extended < len(node.banks)
     file.room.put("lines", "\n".join(lines) + "\n")
     same_lines("judge", file.room.printed("judge", "lines", "--node", "node.toml"), wanted)
@@ -216,28 +216,16 @@ def talked(random: Random, file: File, seen: Counter[str]) -> None:
         raise Differs(f"live has status {done.status}, wanted {int(bad)}")
 
 
-def refused(file: File, fault: Refused) -> None:
-    """What is told where a load is not carried out."""
-    file.room.put("lines", "")
-    number, status, code = fault.args
-    wanted = f"node fault 9\n    node.toml load {number}: status {status}, load fault {code}\n"
-    for word in ("judge", "serve", "sim"):
-        done = file.room.job(word, "lines", "--node", "node.toml", joined=True)
-        told = (UNTRACED, 2) if word == "sim" and file.begins_with_bytes else (wanted, 1)
-        if (done.out.decode(), done.status) != told:
-            raise Differs(f"{word}: status {done.status}: {done.out.decode()}wanted: {told[0]}")
-
-
 def check(random: Random, room: Room, seen: Counter[str]) -> None:
     file = File(random, room, seen)
     room.put("node.toml", file.text())
-    try:
-        for place, (slot, image) in enumerate(file.loads, 1):
-            file.node.load(place, slot, image)
-            seen["loads"] += 1
-    except Refused as fault:
-        seen["loads refused"] += 1
-        return refused(file, fault)
+    done: list[int] = []
+    for slot, image in file.publishes:
+        file.node.publish(slot, image)
+        seen["publishes"] += 1
+        seen["publishes behind one for their slot"] += slot in done
+        seen["publishes behind a program in slot 3"] += 3 in done
+        done.append(slot)
     return (judged if random.randrange(2) else talked)(random, file, seen)
 
 

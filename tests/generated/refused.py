@@ -33,7 +33,7 @@ DRAWS = bytes.fromhex("42504641 0100 0500 0400 000000000000 1851000000000000 000
                       "9500000000000000")
 UNSET = bytes.fromhex("42504641 0100 0200 0200 000000000000 bf40000000000000 9500000000000000")
 
-# A program that says yes, and a node whose bank begins with bytes, into which that program is loaded.
+# A program that says yes, and a node whose bank begins with bytes, for which that program is published.
 YES = bytes.fromhex("42504641 0100 0200 0200 000000000000 b700000000000000 9500000000000000")
 OWN = """\
 [[bank]]
@@ -41,19 +41,19 @@ base = 0xA0000000
 size = 4096
 journal = 2
 contents = "begin"
-[[load]]
+[[publish]]
 slot = 3
 image = "yes.img"
 """
 
-# A node of two ports whose bank begins with zeros, into which that program is loaded.
+# A node of two ports whose bank begins with zeros, for which that program is published.
 ZEROS = """\
 ports = 2
 [[bank]]
 base = 0xA0000000
 size = 4096
 journal = 4
-[[load]]
+[[publish]]
 slot = 2
 image = "yes.img"
 """

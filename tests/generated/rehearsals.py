@@ -115,8 +115,8 @@ def told(node: Node, name: str, image: bytes, slots: list[int], loader: Loader) 
                 is_failed |= status != 0
             lines.append(f"    {what}: status {status} {WORDS[status]}")
             if packet is packets[-1] and status == 0:
-                lines[-1] += result_of(node.ports[loader.port].result)
-    loaded = [node.slots[slot][1] > before and node.slots[slot][0].spelled() == image for slot in slots]
+                lines[-1] += result_of(node.results[loader.port])
+    loaded = [node.is_loaded(slot, image, before) for slot in slots]
     return lines, Ending(loaded, is_refused, is_failed)
 
 

@@ -1,17 +1,24 @@
-"""The packets of loads, and what a node at which policies judge answers to them: from docs/PROTOCOL.md and docs/POLICIES.md alone."""
+"""The packets of loads, what a node at which policies judge answers to them, and whose loads a policy lets pass.
+
+Written from docs/PROTOCOL.md (*Loads and slots*, *Places*), docs/POLICIES.md and docs/COMMANDS.md (*`rehearse`*, *`map`*) alone. What a
+program comes to is answered by models/machine.py, and what a table decides by models/tables.py. No outcome of a packet or a load comes
+from another model of a node."""
 from __future__ import annotations
 
 from collections.abc import Iterator
 from typing import NamedTuple
 
+from models.fields import Fields
 from models.images import BadImage, Image, parsed
 from models.machine import Machine, Map
 from models.tables import PortRule, decide, rules_at
-from models.world import CONTROL, Packet, World
 from packets import crc, header
 
-# The most bytes of a part of an image.
-PART = 4096
+# The most bytes of a part of an image, the bytes of the staging, and where control and result are.
+PART, STAGING, CONTROL = 4096, 16_384, 0x10000
+
+# The statuses of the verdicts that are not 10.
+STATUS_OF_VERDICT = {0: 0, 3: 3, 12: 12}
 
 
 class Policy(NamedTuple):
@@ -30,13 +37,13 @@ class Loader(NamedTuple):
 PLAIN = Loader(0, 0x67, 0)
 
 
-def made(instruction: int, address: int, data: bytes, length: int, loader: Loader, transaction: int) -> Packet:
+def made(instruction: int, address: int, data: bytes, length: int, loader: Loader, transaction: int) -> Fields:
     """A command to the boot window."""
     head = header(instruction, address, length, key=loader.key, initiator=loader.initiator, transaction=transaction, extended=0xFF)
-    return Packet(head + bytes([crc(head)]) + (data + bytes([crc(data)]) if instruction & 0x20 else b""))
+    return Fields(head + bytes([crc(head)]) + (data + bytes([crc(data)]) if instruction & 0x20 else b""))
 
 
-def load_of(image: bytes, slot: int, loader: Loader, transaction: int = 0) -> list[Packet]:
+def load_of(image: bytes, slot: int, loader: Loader, transaction: int = 0) -> list[Fields]:
     """The packets of a load: the writes of the parts, the control write, and the read of the load result."""
     parts = [image[begin:begin + PART] for begin in range(0, len(image), PART)]
     packets = [made(0x6C, PART * number, part, len(part), loader, transaction + number) for number, part in enumerate(parts)]
@@ -45,41 +52,51 @@ def load_of(image: bytes, slot: int, loader: Loader, transaction: int = 0) -> li
     return packets + [made(0x4C, CONTROL, b"", 8, loader, transaction + len(parts) + 1)]
 
 
-def answer(data: bytes) -> Image | tuple[int, int]:
-    """What a load of these bytes answers: each image that is loaded is accepted."""
-    try:
-        return parsed(data)
-    except BadImage as fault:
-        return 32 + fault.code, fault.slot
-
-
-class Node(World):
-    """A node at which policies judge; the verdict of a table is that of its meaning."""
+class Node:
+    """A node at which policies judge, as far as loads ask it: each packet is a whole command to the boot window. Each image that is
+    loaded may judge."""
 
     def __init__(self, policies: list[Policy], maps: list[Map], ports: int):
-        super().__init__(policies[0].image, maps, ports, answer)
-        self.tables = {policy.image.spelled(): policy.rules for policy in policies if policy.rules is not None}
-        self.verdict = 0
+        self.known = {policy.image.spelled(): policy for policy in policies}
+        self.maps, self.cells = maps, [[0] * count for count, _ in maps]
+        self.slots = [(policies[0], 0)] * 4
+        self.published, self.verdict = 0, 0
+        self.staging = [bytearray(STAGING) for _ in range(ports)]
+        self.results = [bytes(8) for _ in range(ports)]
 
-    def draw(self, index: int, key: int) -> int:
-        self.cells[index][key] += 1
-        return self.cells[index][key] - 1
+    def status_of(self, port: int, packet: Fields) -> int:
+        """The status with which a packet of a load ends; `verdict` is then what the program of slot 3 says of it."""
+        self.verdict = verdict_on(self.slots[3][0], self.maps, self.cells, port, packet)
+        status = STATUS_OF_VERDICT.get(self.verdict, 10)
+        if status or not packet.has(0x20):
+            return status
+        data = packet.data[packet.begin:-1]
+        if packet.address != CONTROL:
+            self.staging[port][packet.address:packet.address + len(data)] = data
+            return 0
+        code, place = self.publish(port, data[0], data[1], int.from_bytes(data[2:], "big"))
+        generation = 0 if code else self.published
+        self.results[port] = bytes([code, 0]) + place.to_bytes(2, "big") + generation.to_bytes(4, "big")
+        return 1 if code else 0
 
-    def end(self, port: int) -> str:
-        it = self.ports[port].open
-        assert it is not None
-        rules = self.tables.get(it.machine.image.spelled())
-        if rules is not None:
-            it.asked, it.verdict = None, decide(rules_at(rules, port), it.packet, self.draw)
-        while it.asked is not None:
-            self.tell(it.asked.helper, port)
-        self.verdict = it.verdict
-        return self.effect(port, it.packet.place() == "control")
+    def publish(self, port: int, slot: int, zero: int, size: int) -> tuple[int, int]:
+        """The code and the place of a control write."""
+        if zero or size > STAGING:
+            return 71, 0
+        if slot > 3:
+            return 66, 0
+        try:
+            image = parsed(bytes(self.staging[port][:size]))
+        except BadImage as fault:
+            return 32 + fault.code, fault.slot
+        self.published += 1
+        self.slots[slot] = (self.known.get(image.spelled(), Policy(image, None)), self.published)
+        return 0, 0
 
-    def status_of(self, port: int, packet: Packet) -> int:
-        """The status with which a packet of a load ends."""
-        self.take(port, packet)
-        return int(self.end(port).split()[1])
+    def is_loaded(self, slot: int, image: bytes, before: int) -> bool:
+        """Whether the program of a slot is that of the image, by a publish after so many."""
+        policy, generation = self.slots[slot]
+        return generation > before and policy.image.spelled() == image
 
 
 def draws(told: int) -> int:
@@ -92,7 +109,7 @@ def cells_of(maps: list[Map], is_spent: bool) -> list[list[int]]:
     return [[(2 ** 64 - 1 if is_peak else 2 ** 32) if is_spent else 0] * count for count, is_peak in maps]
 
 
-def verdict_on(policy: Policy, maps: list[Map], cells: list[list[int]], port: int, packet: Packet) -> int:
+def verdict_on(policy: Policy, maps: list[Map], cells: list[list[int]], port: int, packet: Fields) -> int:
     """The verdict of a policy on a packet, which draws its tickets of the cells."""
 
     def ask(helper: int, index: int, key: int, argument: int) -> int:

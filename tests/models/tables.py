@@ -1,10 +1,10 @@
-"""The meaning of policy tables, from docs/POLICIES.md alone."""
+"""What a policy table decides. Written from docs/POLICIES.md (*A policy as a table*) alone."""
 from __future__ import annotations
 
 from collections.abc import Callable
 from dataclasses import dataclass
 
-from models.world import Packet
+from models.fields import Fields
 
 # Of which instructions the rules of a kind are: the bits that count, and what they are.
 KINDS_OF_RULES = {"read": (0xF8, 0x48), "write": (0xE0, 0x60), "rmw": (0xFC, 0x5C), "any": (0, 0)}
@@ -25,7 +25,7 @@ class Rule:
         quota = "-" if self.quota is None else ":".join(map(str, self.quota))
         return f"{self.kind} {' '.join(fields)} {self.low:08X} {self.high:08X} {quota} {self.verdict}\n"
 
-    def matches(self, packet: Packet) -> bool:
+    def matches(self, packet: Fields) -> bool:
         """Whether all but the quota matches."""
         mask, wanted = KINDS_OF_RULES[self.kind]
         found = [packet.data[3], packet.field(4, 1), packet.extended]
@@ -34,7 +34,7 @@ class Rule:
                 and self.low <= packet.address and last <= self.high)
 
 
-def decide(rules: list[Rule], packet: Packet, draw: Callable[[int, int], int]) -> int:
+def decide(rules: list[Rule], packet: Fields, draw: Callable[[int, int], int]) -> int:
     """The verdict of a table: that of the first rule that matches, and whose ticket is below its limit."""
     for rule in rules:
         if rule.matches(packet) and (rule.quota is None or draw(*rule.quota[:2]) < rule.quota[2]):

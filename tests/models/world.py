@@ -1,5 +1,6 @@
-"""A node, from docs/PROTOCOL.md and the events of docs/COMMANDS.md alone: what it prints, event by event and packet by packet.
+"""A node of one bank, event by event and packet by packet: what it prints.
 
+Written from docs/PROTOCOL.md and docs/COMMANDS.md (*`sim`*, *`judge`*) alone. What a program comes to is answered by models/machine.py.
 Its bank has 65,536 bytes from A0000000 on. What becomes of an image that is loaded is given, since the verifier is no part of it.
 """
 from __future__ import annotations
@@ -7,6 +8,7 @@ from __future__ import annotations
 from collections.abc import Callable, Generator
 from dataclasses import dataclass, field
 
+from models.fields import Fields
 from models.images import Image
 from models.machine import Machine, Map, Question
 from packets import crc
@@ -27,16 +29,8 @@ def no_image(_: bytes) -> tuple[int, int]:
     return 33, 0
 
 
-@dataclass(frozen=True)
-class Packet:
+class Packet(Fields):
     """A packet: its bytes, and whether it ended as it should."""
-    data: bytes
-    is_whole: bool = True
-
-    def line(self, port: int) -> str:
-        """Its packet line."""
-        digits = f"{self.data.hex().upper()} " if self.data else ""
-        return f"{port} {digits}{'EOP' if self.is_whole else 'EEP'}"
 
     def discard(self) -> int | None:
         """Why it is no command: 1 short, 2 another protocol, 3 a reply, 4 a wrong header check."""
@@ -50,44 +44,6 @@ class Packet:
         if len(data) < self.begin:
             return 1
         return None if crc(data[:self.begin - 1]) == data[self.begin - 1] else 4
-
-    @property
-    def instruction(self) -> int:
-        return self.data[2]
-
-    @property
-    def code(self) -> int:
-        """The command code."""
-        return self.instruction // 4 % 16
-
-    @property
-    def way(self) -> int:
-        """How many bytes the reply address has."""
-        return 4 * (self.instruction % 4)
-
-    @property
-    def begin(self) -> int:
-        """Where the body begins."""
-        return 16 + self.way
-
-    def field(self, place: int, size: int) -> int:
-        """A field behind the reply address."""
-        return int.from_bytes(self.data[self.way + place:self.way + place + size], "big")
-
-    @property
-    def extended(self) -> int:
-        return self.field(7, 1)
-
-    @property
-    def address(self) -> int:
-        return self.field(8, 4)
-
-    @property
-    def length(self) -> int:
-        return self.field(12, 3)
-
-    def has(self, bit: int) -> bool:
-        return bool(self.instruction & bit)
 
     def lies(self, base: int, size: int) -> bool:
         """Whether the bytes of the command lie in a window."""

@@ -2,8 +2,10 @@
 use Rattle.std.proofs.Common.{◌≡◌, Bool, true, false, List, Option, None, Some, string_bytes, ap, inl, inr, subst, refl, sym}
 use Rattle.std.specs.Prelude.{if◌then◌else◌, is_some, not}
 use Rattle.clap.specs.Walk.{Row, Text}
-use Rattle.commands.specs.CommandLine.{IsPlacedBy, Names, NamesPlain, Refuses, RefusesPlace, RefusesPlain, SpoilsPlace}
+use Rattle.commands.specs.CommandLine.{IsPlacedBy, Names, NamesPlaced, NamesPlain, Refuses, RefusesPlace, RefusesPlaced, RefusesPlain, SpoilsInput, SpoilsPlace}
 use Rattle.commands.specs.OnNodes.{are_left, own_file, takes_file}
+use Rattle.commands.specs.OneInput.{reads_input_twice}
+use Rattle.commands.specs.Words.{name_of}
 use Rattle.commands.specs.declared.jobs.Job.{Job}
 use Rattle.commands.specs.declared.node_jobs.NodeJob.{NodeJob}
 use Rattle.commands.specs.declared.word.Word.{Word}
@@ -15,7 +17,7 @@ use Rattle.job_parts.specs.declared.usage.UsageFault.TheVariants.{Parse, BadOpti
 
 -- the job of matches, for the node of the file that they name, if they name one, is the work that they name
 names_placed : (found : Text × List Row) (job : Job) (work : Work) → NamesPlain found (Once job)
-    → IsPlacedBy job found.1 work → Names (Some found) work
+    → IsPlacedBy job found.1 work → NamesPlaced (Some found) work
 names_placed found job (Once own) names (same, none) = (
   subst (λ (j : Job). NamesPlain found (Once j)) (sym same) names,
   (refl, subst (λ (j : Job). own_file j found.1 ≡ None) (sym same) none),
@@ -28,12 +30,12 @@ names_placed found job (Live words) names placed = absurd placed
 
 -- the same of what the subcommand names, which is that job
 pub places : (found : Text × List Row) (plain : Work) (job : Job) (work : Work) → plain ≡ Once job → NamesPlain found plain
-    → IsPlacedBy job found.1 work → Names (Some found) work
+    → IsPlacedBy job found.1 work → NamesPlaced (Some found) work
 places found plain job work is names placed = names_placed found job work (subst (NamesPlain found) is names) placed
 
 -- a talk is named as it is
 pub names_talk : (found : Text × List Row) (plain : Work) (words : LiveWords) → plain ≡ Live words → NamesPlain found plain
-    → Names (Some found) (Live words)
+    → NamesPlaced (Some found) (Live words)
 names_talk found plain words is names = subst (NamesPlain found) is names
 
 -- no subcommand names a job for the node of a file before that file is looked for
@@ -42,17 +44,32 @@ is_unplaced found plain own is names = subst (NamesPlain found) is names
 
 -- what is refused of the job alone is refused
 pub refuses_plain : (named : Word) (rows : List Row) (fault : UsageFault) → RefusesPlain named rows fault
-    → Refuses named rows fault
+    → RefusesPlaced named rows fault
 refuses_plain named rows Memory refuses = refuses
 refuses_plain named rows BadOption refuses = inl refuses
 refuses_plain named rows (Parse text) refuses = refuses
 
 -- what is refused of the node's file is refused
 pub refuses_place : (named : Word) (rows : List Row) (fault : UsageFault) → RefusesPlace rows fault
-    → Refuses named rows fault
+    → RefusesPlaced named rows fault
 refuses_place named rows Memory refuses = refuses
 refuses_place named rows BadOption refuses = inr refuses
 refuses_place named rows (Parse text) refuses = refuses
+
+-- a work of which no two files are standard input is named
+pub names_apart : (found : Option (Text × List Row)) (work : Work) → NamesPlaced found work → reads_input_twice work ≡ false → Names found work
+names_apart found work names apart = (names, apart)
+
+-- what is refused of the job or of the node's file is refused
+pub refuses_placed : (named : Word) (rows : List Row) (fault : UsageFault) → RefusesPlaced named rows fault → Refuses named rows fault
+refuses_placed named rows Memory refuses = refuses
+refuses_placed named rows BadOption refuses = inl refuses
+refuses_placed named rows (Parse text) refuses = refuses
+
+-- so is a work of which two files are standard input
+pub refuses_input : (named : Word) (rows : List Row) (work : Work) → NamesPlaced (Some (name_of named, rows)) work
+    → reads_input_twice work ≡ true → Refuses named rows BadOption
+refuses_input named rows work names twice = inr (record { work = work; names = names; twice = twice })
 
 -- the name of a node's file that stands beside a job is among its matches
 left_to : (takes : Bool) (given : Option Text) (name : Text) → (if takes then given else None) ≡ Some name → given ≡ Some name

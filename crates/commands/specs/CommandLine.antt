@@ -34,6 +34,7 @@ use Rattle.commands.specs.declared.jobs.Job.TheVariants.{Judge, Serve, Simulate,
 use Rattle.commands.specs.declared.jobs.Job.TheVariants.{Verify, Policy, Explain, Why, Weigh, Node, Packet, Show}
 use Rattle.commands.specs.declared.jobs.Job.TheVariants.{Decide, Compare, Map, Rehearse}
 use Rattle.commands.specs.OnNodes.{are_left, own_file, with_node}
+use Rattle.commands.specs.OneInput.{reads_input_twice}
 use Rattle.commands.specs.Words.{name_of}
 use Rattle.commands.specs.declared.word.Word.{Word}
 use Rattle.commands.specs.declared.word.Word.TheVariants as word
@@ -115,12 +116,16 @@ IsPlacedBy job rows (OnNode own) =
     (own.job ≡ job) × (own_file job rows ≡ Some (string_bytes own.node)) × (are_left rows ≡ true)
 IsPlacedBy job rows (Live words) = ⊥
 
--- the work is that of the subcommand with its matches
+-- the work is that of the subcommand with its matches, whatever of it is standard input
+abbrev pub NamesPlaced : Option (Text × List Row) → Work → Type 0
+NamesPlaced None work = ⊥
+NamesPlaced (Some found) (Once job) = NamesPlain found (Once job) × IsPlacedBy job found.1 (Once job)
+NamesPlaced (Some found) (OnNode own) = NamesPlain found (Once own.job) × IsPlacedBy own.job found.1 (OnNode own)
+NamesPlaced (Some found) (Live words) = NamesPlain found (Live words)
+
+-- the work is that of the subcommand with its matches, and no two of its files are standard input
 abbrev pub Names : Option (Text × List Row) → Work → Type 0
-Names None work = ⊥
-Names (Some found) (Once job) = NamesPlain found (Once job) × IsPlacedBy job found.1 (Once job)
-Names (Some found) (OnNode own) = NamesPlain found (Once own.job) × IsPlacedBy own.job found.1 (OnNode own)
-Names (Some found) (Live words) = NamesPlain found (Live words)
+Names found work = NamesPlaced found work × (reads_input_twice work ≡ false)
 
 -- what the user is told of a refusal by clap of this kind
 abbrev pub TellsRefusal : ErrorKind → UsageFault → Type 0
@@ -155,9 +160,19 @@ SpoilsPlain word.Rehearse rows = SpoilsRehearse rows
 abbrev pub SpoilsPlace : List Row → Type 0
 SpoilsPlace rows = (lacks (codes "node") rows ≡ false) × (are_left rows ≡ false)
 
+-- the work of the subcommand of this word would read standard input for two of its files
+pub record SpoilsInput (named : Word) (rows : List Row) : Type 0 where
+  pub work : Work
+  pub names : NamesPlaced (Some (name_of named, rows)) work
+  pub twice : reads_input_twice work ≡ true
+
 -- the one or the other
+abbrev pub SpoilsPlaced : Word → List Row → Type 0
+SpoilsPlaced named rows = SpoilsPlain named rows ⊎ SpoilsPlace rows
+
+-- the same, or standard input is named for two files
 abbrev pub Spoils : Word → List Row → Type 0
-Spoils named rows = SpoilsPlain named rows ⊎ SpoilsPlace rows
+Spoils named rows = SpoilsPlaced named rows ⊎ SpoilsInput named rows
 
 -- so does the subcommand with its matches
 abbrev pub IsSpoiled : Text × List Row → Type 0
@@ -179,6 +194,12 @@ abbrev pub RefusesPlace : List Row → UsageFault → Type 0
 RefusesPlace rows Memory = Unit {0}
 RefusesPlace rows BadOption = SpoilsPlace rows
 RefusesPlace rows (Parse text) = ⊥
+
+-- the same of one or the other
+abbrev pub RefusesPlaced : Word → List Row → UsageFault → Type 0
+RefusesPlaced named rows Memory = Unit {0}
+RefusesPlaced named rows BadOption = SpoilsPlaced named rows
+RefusesPlaced named rows (Parse text) = ⊥
 
 -- the matches of the subcommand of this word name no work, or memory was refused
 abbrev pub Refuses : Word → List Row → UsageFault → Type 0

@@ -5,6 +5,7 @@ pub mod InPlace
 pub mod Losses
 pub mod Notes
 pub mod OnNodes
+pub mod OneInput
 pub mod Performed
 pub mod Refusals
 pub mod ShownTalk

@@ -13,6 +13,7 @@ mod line_paths;
 mod losses;
 mod node_jobs;
 mod noted;
+mod one_input;
 mod refusals;
 mod shows;
 mod slips;

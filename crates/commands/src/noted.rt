@@ -11,6 +11,7 @@ use job_config::sources::NodeSource;
 use job_parts::inputs::{Content, Inputs};
 use job_parts::storage::Cannot;
 use machine::MapSizes;
+use simdutf8::{from_utf8_baseline, is_utf8_baseline};
 use spw::PORTS;
 use std::alloc::{AllocError, Global};
 use std::io;
@@ -92,7 +93,7 @@ fn may_be_text(content: Content) -> bool
 
 /// Why bytes are no text, if they are none.
 fn no_text(bytes: &[u8]) -> Option<Cause> {
-    if str::from_utf8(bytes).is_ok() {
+    if is_utf8_baseline(bytes) {
         return None;
     }
     Some(if is_image(bytes) {
@@ -265,7 +266,7 @@ impl<'a> Noted<'a> {
     {
         match content {
             Content::Lines if bytes.len() as u64 <= MAX_TEXT => {
-                if let Ok(text) = str::from_utf8(bytes) {
+                if let Ok(text) = from_utf8_baseline(bytes) {
                     self.lines = String::from_str(alloc, text).ok();
                 }
             }

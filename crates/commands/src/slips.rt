@@ -34,8 +34,116 @@ const ONE_PORT: &str = "1 if frames come";
 /// What may not be there beside `--any`.
 const ANY_ALONE: &str = "    --any is there: without --port, --initiator, --key and --slot\n";
 
-/// What NEW may be where OLD is standard input.
-const ONE_INPUT: &str = "the name of a file if OLD is - too";
+/// The name of standard input.
+const STANDARD_INPUT: &str = "-";
+
+/// What names a file that is read.
+#[derive(Clone, Copy, Debug)]
+struct Named {
+    /// Its name among the matches.
+    id: &'static str,
+    /// The user's word for it.
+    title: &'static str,
+}
+
+/// What `verify`, `why` and `weigh` read, in this order.
+const OF_IMAGE: [Named; 2] = [
+    Named {
+        id: "image",
+        title: "FILE",
+    },
+    Named {
+        id: "node",
+        title: "--node",
+    },
+];
+
+/// What the jobs that take lines on a node read.
+const OF_LINES: [Named; 3] = [
+    Named {
+        id: "lines",
+        title: "LINES",
+    },
+    Named {
+        id: "image",
+        title: "--image",
+    },
+    Named {
+        id: "node",
+        title: "--node",
+    },
+];
+
+/// What `policy` reads.
+const OF_POLICY: [Named; 2] = [
+    Named {
+        id: "table",
+        title: "FILE",
+    },
+    Named {
+        id: "node",
+        title: "--node",
+    },
+];
+
+/// What `decide` reads.
+const OF_DECIDE: [Named; 3] = [
+    Named {
+        id: "lines",
+        title: "LINES",
+    },
+    Named {
+        id: "table",
+        title: "TABLE",
+    },
+    Named {
+        id: "node",
+        title: "--node",
+    },
+];
+
+/// What `compare` and `rehearse` read.
+const OF_TWO: [Named; 3] = [
+    Named {
+        id: "old",
+        title: "OLD",
+    },
+    Named {
+        id: "new",
+        title: "NEW",
+    },
+    Named {
+        id: "node",
+        title: "--node",
+    },
+];
+
+/// What `map` reads.
+const OF_MAP: [Named; 2] = [
+    Named {
+        id: "table",
+        title: "TABLE",
+    },
+    Named {
+        id: "node",
+        title: "--node",
+    },
+];
+
+/// What `node` reads.
+const OF_NODE: [Named; 2] = [
+    Named {
+        id: "node",
+        title: "FILE",
+    },
+    Named {
+        id: "table",
+        title: "--table",
+    },
+];
+
+/// What the node's file of `packet` is beside its data or its image.
+const OWN_FILE: &str = "    --node is -: the name of a file if the data or the image are - too\n";
 
 /// What `--ns` may be.
 const TIMES: &str =
@@ -57,10 +165,10 @@ const CODE: &str = "one of the codes that explain lists without CODE, as V5 or l
 
 /// What is told of a node's file whose banks do not begin with zeros, of a job that steps through a schedule.
 const CONTENTS: &str =
-    "    contents is there in the node's file: the banks of a schedule begin with zeros\n";
+    "bad option\n    contents is there in the node's file: the banks of a schedule begin with zeros\n";
 
 /// What is told of a loader at a port that the node of a file does not have.
-const FEW_PORTS: &str = "    --port is there: the node of the file has fewer ports\n";
+const FEW_PORTS: &str = "bad option\n    --port is there: the node of the file has fewer ports\n";
 
 /// The line that tells what a word stands for, how it was written, and what is wanted.
 fn line_of(
@@ -89,19 +197,46 @@ fn slip_line(alloc: Global, found: &ArgMatches, slip: Slip) -> Result<String, Al
     line_of(alloc, name, text_of(found, word.id()), wanted)
 }
 
+/// What the word of this name names of the files that are read. `packet` names one more after KIND.
+fn read_by(name: &str) -> &'static [Named] {
+    match name {
+        "verify" | "why" | "weigh" => &OF_IMAGE,
+        "judge" | "serve" | "sim" | "trace" => &OF_LINES,
+        "policy" => &OF_POLICY,
+        "decide" => &OF_DECIDE,
+        "compare" | "rehearse" => &OF_TWO,
+        "map" => &OF_MAP,
+        "node" => &OF_NODE,
+        _ => &[],
+    }
+}
+
+/// The line of two files that are standard input, which one read ends.
+fn input_line(alloc: Global, name: &str, found: &ArgMatches) -> Result<String, AllocError> {
+    let mut first: Option<&str> = None;
+    for named in read_by(name) {
+        if text_of(found, named.id) != Some(STANDARD_INPUT) {
+            continue;
+        }
+        let title = named.title;
+        if let Some(first) = first {
+            return format!(in alloc; "    {title} is -: the name of a file if {first} is - too\n");
+        }
+        first = Some(title);
+    }
+    Ok(String::new(alloc))
+}
+
 /// The line of words of which each is one that it may be, but not beside the other: `--frames` and `--ports`, `--any` and options
-/// of loads that are done or the file of a node, or OLD and NEW.
-fn pair_line(alloc: Global, found: &ArgMatches) -> Result<String, AllocError> {
+/// of loads that are done or the file of a node, or two files that are standard input.
+fn pair_line(alloc: Global, name: &str, found: &ArgMatches) -> Result<String, AllocError> {
     if is_set(found, "frames") {
         return line_of(alloc, "--ports", text_of(found, "ports"), ONE_PORT);
     }
     if is_any_beside(found) {
         return String::from_str(alloc, ANY_ALONE);
     }
-    match text_of(found, "new") {
-        Some(new) => line_of(alloc, "NEW", Some(new), ONE_INPUT),
-        None => Ok(String::new(alloc)),
-    }
+    input_line(alloc, name, found)
 }
 
 /// The codes that have this number, with commas between them.
@@ -147,12 +282,15 @@ fn beside(name: &str, found: &ArgMatches) -> Option<&'static str> {
 fn packet_line(alloc: Global, found: &ArgMatches) -> Result<String, AllocError> {
     match packet_words(alloc, found) {
         Err(PacketFault::Words(slip)) => slip_line(alloc, found, slip),
+        Ok(_) if text_of(found, "node") == Some(STANDARD_INPUT) => String::from_str(
+            alloc, OWN_FILE,
+        ),
         Err(PacketFault::Memory) | Ok(_) => Ok(String::new(alloc)),
     }
 }
 
 /// The line of an option that words of any other job have.
-fn option_line(alloc: Global, found: &ArgMatches) -> Result<String, AllocError> {
+fn option_line(alloc: Global, name: &str, found: &ArgMatches) -> Result<String, AllocError> {
     if let Err(UsageFault::BadOption) = sizes_of(alloc, found) {
         return line_of(alloc, "--maps", text_of(found, "maps"), MAPS);
     }
@@ -174,7 +312,7 @@ fn option_line(alloc: Global, found: &ArgMatches) -> Result<String, AllocError> 
     }
     match text_of(found, "code") {
         Some(code) => code_line(alloc, code),
-        None => pair_line(alloc, found),
+        None => pair_line(alloc, name, found),
     }
 }
 
@@ -195,19 +333,20 @@ pub fn told_option(alloc: Global, words: &[&str]) -> Result<String, AllocError> 
     }
     match name {
         "packet" => packet_line(alloc, found),
-        _ => option_line(alloc, found),
+        _ => option_line(alloc, name, found),
     }
 }
 
-/// The line behind `bad option` of a job that was begun: what of a packet is too long, or what the node's file may not say.
+/// `bad option` of a job that was begun, and the line behind it: what of a packet is too long, or what the node's file may not say.
 pub(crate) fn advice(job: &Job) -> &'static str {
     match job {
         Job::Simulate(_) | Job::Trace(_) => CONTENTS,
         Job::Rehearse(_) => FEW_PORTS,
         Job::Packet(words) => match &words.order {
-            Order::Load { .. } => "    IMAGE is too long: the staging has 16,384 bytes\n",
+            Order::Load { .. } =>
+                "bad option\n    IMAGE is too long: the staging has 16,384 bytes\n",
             Order::Read { .. } | Order::Write { .. } | Order::Rmw { .. } => {
-                "    DATA is too long: a packet has at most 4,200 bytes\n"
+                "bad option\n    DATA is too long: a packet has at most 4,200 bytes\n"
             }
         },
         _ => "",

@@ -5,11 +5,12 @@ ghost use Rattle.clap.specs.Simple.{app_of, subcommand_rows_of};
 ghost use Rattle.clap.specs.Values.{kind_of};
 ghost use Rattle.clap.specs.Walk.{rows_of, texts};
 ghost use Rattle.clap.specs.Matches.{found_of};
-ghost use Rattle.commands.specs.CommandLine.{rmapctl_app, with_chart_jobs, with_first_jobs, with_packet_jobs, IsPlacedBy, Names, NamesPlain, NamesWork, NamesNone, LacksWork, Refuses, RefusesPlace, RefusesPlain, TellsRefusal};
+ghost use Rattle.commands.specs.CommandLine.{rmapctl_app, with_chart_jobs, with_first_jobs, with_packet_jobs, IsPlacedBy, Names, NamesPlaced, NamesPlain, NamesWork, NamesNone, LacksWork, Refuses, RefusesPlace, RefusesPlaced, RefusesPlain, TellsRefusal};
 ghost use Rattle.commands.specs.Words.{name_of};
 
 use crate::jobs::Job;
 use crate::node_jobs::{NodeJob, beside_file, own_file, with_node};
+use crate::one_input::reads_input_twice;
 use crate::word::Word;
 use crate::work::Work;
 use clap::error::ErrorKind;
@@ -177,16 +178,30 @@ fn placed_by(alloc: Global, job: Job, rows: &ArgMatches) -> Result<Work, UsageFa
     }
 }
 
-/// What the subcommand of this word names, with its matches.
+/// What the subcommand of this word names with its matches, whatever of it is standard input.
 #[tactic(auto, using(crate::proofs::Placing::places, crate::proofs::Placing::names_talk, crate::proofs::Placing::is_unplaced, crate::proofs::Placing::refuses_plain, crate::proofs::Placing::refuses_place))]
-fn work_named(alloc: Global, word: Word, rows: &ArgMatches) -> Result<Work, UsageFault>
-    ensures ok { IfOk result (Names (Some (name_of word, rows_of (found_of rows.now)))) }
-    ensures err { IfErr result (Refuses word (rows_of (found_of rows.now))) }
+fn placed_named(alloc: Global, word: Word, rows: &ArgMatches) -> Result<Work, UsageFault>
+    ensures ok { IfOk result (NamesPlaced (Some (name_of word, rows_of (found_of rows.now)))) }
+    ensures err { IfErr result (RefusesPlaced word (rows_of (found_of rows.now))) }
 {
     match plain_named(alloc, word, rows)? {
         Work::Once(job) => placed_by(alloc, job, rows),
         Work::OnNode(_) => unreachable!(),
         Work::Live(words) => Ok(Work::Live(words)),
+    }
+}
+
+/// What the subcommand of this word names, with its matches.
+#[tactic(auto, using(crate::proofs::Placing::names_apart, crate::proofs::Placing::refuses_placed, crate::proofs::Placing::refuses_input))]
+fn work_named(alloc: Global, word: Word, rows: &ArgMatches) -> Result<Work, UsageFault>
+    ensures ok { IfOk result (Names (Some (name_of word, rows_of (found_of rows.now)))) }
+    ensures err { IfErr result (Refuses word (rows_of (found_of rows.now))) }
+{
+    let work = placed_named(alloc, word, rows)?;
+    if reads_input_twice(&work) {
+        Err(UsageFault::BadOption)
+    } else {
+        Ok(work)
     }
 }
 
@@ -216,7 +231,8 @@ fn work_of(alloc: Global, found: &ArgMatches) -> Result<Work, UsageFault>
 /// What the words of a command line name, without the program's own name: a job over files, or a talk.
 ///
 /// Words that name none are `Parse` with the text of `clap` for the user (so are `--help`, `-h` and
-/// `--version`), `BadOption` where an option or a code is none, `Memory` where memory was refused.
+/// `--version`), `BadOption` where an option or a code is none, or two files that are read are standard input, `Memory` where
+/// memory was refused.
 pub fn words(alloc: Global, words: &[&str]) -> Result<Work, UsageFault>
     ensures ok { IfOk result (NamesWork (texts words.now)) }
     ensures err { IfErr result (NamesNone (texts words.now)) }

@@ -23,7 +23,7 @@ use Rattle.job_parts.specs.Printed.{GivesReason, fault_line}
 use Rattle.job_parts.specs.declared.faults.Fault.TheVariants.{BadImage, Refused as IsRefused}
 use Rattle.job_parts.specs.declared.status.Status.{Status}
 use Rattle.job_parts.specs.declared.status.Status.TheVariants.{Done, Failed, Misused}
-use Rattle.job_codes.specs.Forms.{PrintsForm}
+use Rattle.job_parts.specs.Forms.{PrintsForm}
 use Rattle.job_texts.specs.Needed.{PrintsMaps}
 use Rattle.job_texts.specs.VerifyJob.{accepted_line}
 use Rattle.job_texts.specs.declared.images.ImageArgs.{ImageArgs}

@@ -1,5 +1,5 @@
 -- The codes that outputs tell: a kind and a number, which the enums of the kinds have.
-use Rattle.std.specs.Prelude.{◌≡◌, ◌<◌, ◌^◌, ◌==◌, ◌⊎◌, ℕ, List, [], ◌∷◌, ◌++◌, map, Bool, true, is_some}
+use Rattle.std.specs.Prelude.{◌≡◌, ◌<◌, ◌^◌, ◌==◌, ◌||◌, ◌⊎◌, ℕ, List, [], ◌∷◌, ◌++◌, map, Bool, true, is_some}
 use Rattle.std.specs.Prelude.{if◌then◌else◌, codes, decimal}
 use Rattle.std.specs.Char.{to_ascii_lowercase}
 use Rattle.basm.specs.Codes.{asm_of_code}
@@ -46,6 +46,10 @@ kind_word Load = codes "load"
 kind_word Policy = codes "policy"
 kind_word Node = codes "node"
 
+-- the code of a load result: 0 of a load that was carried out, or that of a refusal
+abbrev pub is_load_code : ℕ → Bool
+is_load_code n = n == 0 || is_some (load_refusal_of_code n)
+
 -- the kind has a code of the number
 abbrev pub has_code : CodeKind → ℕ → Bool
 has_code Verifier n = is_some (refusal_of_code n)
@@ -56,7 +60,7 @@ has_code Line n = is_some (bad_line_of_number n)
 has_code Frame n = is_some (frame_fault_of_code n)
 has_code Discard n = is_some (discard_of_code n)
 has_code Status n = is_some (status_of_code n)
-has_code Load n = is_some (load_refusal_of_code n)
+has_code Load n = is_load_code n
 has_code Policy n = is_some (policy_fault_of_code n)
 has_code Node n = is_some (node_code_of n)
 

@@ -2,6 +2,5 @@
 #![tactic(auto)]
 
 pub mod explain;
-pub mod forms;
 pub mod topics;
 pub mod why;

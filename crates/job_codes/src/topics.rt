@@ -1,8 +1,7 @@
 //! The codes that outputs tell, and what is said of each.
 
 ghost use Rattle.std.specs.Prelude.{◌≡◌, ◌↔◌, ◌<◌, ◌^◌, ◌++◌, ℕ, IfOk, IsTrue, MatchOption, Some, decimal, is_some};
-ghost use Rattle.node_parts.specs.Loads.{load_refusal_of_code};
-ghost use Rattle.job_codes.specs.Topics.{HasNumber, HasByte, IsCode, IsCodeOf, IsDecimalCode, IsWritten, Writes, WritesByte, byte_text, code_text, has_code, kind_at, kind_word, marked_byte_text};
+ghost use Rattle.job_codes.specs.Topics.{HasNumber, HasByte, IsCode, IsCodeOf, IsDecimalCode, IsWritten, Writes, WritesByte, byte_text, code_text, has_code, is_load_code, kind_at, kind_word, marked_byte_text};
 
 use basm::AsmCode;
 use bpf::ImageFault;
@@ -18,6 +17,15 @@ use std::alloc::{AllocError, Global};
 
 /// What the bytes of an image's slot are where they spell no instruction.
 const NO_INSN: &str = "the bytes of a slot spell no instruction";
+
+/// What a load result with the code 0 is.
+const LOADED: &str = "the load was carried out";
+
+/// When that comes, and what to do then.
+const LOADED_ADVICE: &str = "\
+The slot has the program of the staged image. The last four bytes of the load result are its generation, which
+the journal has of each command that it judges. If all eight bytes are 0, nothing was loaded by this port.
+Go on: the next command for the slot is judged by it.";
 
 /// What has codes: the letters before the number.
 #[derive(Clone, Copy, Debug, PartialEq, Eq)]
@@ -38,7 +46,7 @@ pub enum CodeKind {
     Discard,
     /// A status of a reply: `status10`.
     Status,
-    /// The code of a load result: `load40`.
+    /// The code of a load result: `load40`, or `load0` of a load that was carried out.
     Load,
     /// A fault of a policy table: `policy1`.
     Policy,
@@ -70,6 +78,8 @@ pub enum Topic {
     Status(Status),
     /// A load is refused for itself.
     Load(LoadRefusal),
+    /// A load was carried out.
+    Loaded,
     /// A policy table is none, or makes no program.
     Policy(PolicyFault),
     /// A node's file says no node.
@@ -90,6 +100,7 @@ impl Topic {
             Topic::Discard(reason) => format!(in alloc; "{reason}"),
             Topic::Status(status) => format!(in alloc; "{status}"),
             Topic::Load(refusal) => format!(in alloc; "{refusal}"),
+            Topic::Loaded => String::from_str(alloc, LOADED),
             Topic::Policy(fault) => format!(in alloc; "{fault}"),
             Topic::Node(fault) => format!(in alloc; "{fault}"),
         }
@@ -107,16 +118,21 @@ impl Topic {
             Topic::Discard(reason) => reason.advice(),
             Topic::Status(status) => status.advice(),
             Topic::Load(refusal) => refusal.advice(),
+            Topic::Loaded => LOADED_ADVICE,
             Topic::Policy(fault) => fault.advice(),
             Topic::Node(fault) => fault.advice(),
         }
     }
 }
 
-/// The refusal of a load that has this number: the verifier's, the fault of the image, or the load's own.
+/// What the code of this number says of a load: that it was carried out, or why not: the verifier's refusal, the fault of the
+/// image, or the load's own.
 fn load_topic(number: u8) -> Option<Topic>
-    ensures { is_some result ≡ is_some (load_refusal_of_code number) }
+    ensures { is_some result ≡ is_load_code number }
 {
+    if number == 0 {
+        return Some(Topic::Loaded);
+    }
     match LoadRefusal::from_code(number)? {
         LoadRefusal::Program(refused) => Some(Topic::Refusal(refused.code)),
         LoadRefusal::Image(fault) => Some(Topic::Image(fault)),

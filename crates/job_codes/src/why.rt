@@ -11,7 +11,6 @@ ghost use Rattle.job_codes.specs.Explained.{ExplainsBytes, ExplainsFile, Explain
 ghost use Rattle.job_codes.specs.WhyJob.{why_app};
 ghost use Rattle.job_texts.specs.Needed.{IsMapsLine};
 
-use crate::forms::form_line;
 use crate::topics::Topic;
 use absdom::{AbsKind, Offsets};
 use absdom_num::Range;
@@ -20,6 +19,7 @@ use bpf_insn::{Insn, REGISTERS, Register};
 use bver::{MapSizes, Refusal, Refused, Region, State};
 use clap::Command;
 use job_parts::faults::Fault;
+use job_parts::forms::form_line;
 use job_parts::printing::{print_indented, print_text};
 use job_parts::programs::bytes_in;
 use job_parts::status::Status;

@@ -2,16 +2,17 @@
 use Rattle.std.proofs.Common.{◌≡◌, ◌≤◌, ◌<◌, ◌+◌, ◌++◌, ◌∷◌, [], ℕ, List, true, drop, take, length, get_or, nat_le, refl, ap, ◌∙◌, sym, subst, append_assoc, append-nil, le-leb}
 use Rattle.std.proofs.lemmas.Bool.{and_parts}
 use Rattle.std.proofs.lemmas.List.{drop_all, drop_more, take_more}
+use Rattle.bver.specs.Justified.{AcceptedValue}
 use Rattle.node_parts.specs.declared.config.BankConfig.{BankConfig}
 use Rattle.toml.specs.Data.{Items, item}
 use Rattle.toml.specs.View.{items_view, view}
 use Rattle.toml.specs.declared.value.Value.{Value}
 use Rattle.toml.proofs.Views.{items_view-drop}
 use Rattle.job_parts.specs.Files.{Reads}
-use Rattle.job_config.specs.OwnNodes.{LoadValue, fit}
+use Rattle.job_config.specs.OwnNodes.{fit}
 use Rattle.job_config.specs.Places.{place}
-use Rattle.job_config.specs.Reads.{BeginWith, BeginsWith, HoldLoads, HoldsLoad}
-use Rattle.job_config.specs.declared.places.Kind.TheVariants.{Bank, Load}
+use Rattle.job_config.specs.Reads.{BeginWith, BeginsWith, HoldPublishes, HoldsPublish}
+use Rattle.job_config.specs.declared.places.Kind.TheVariants.{Bank, Publish}
 
 -- nothing is left past the end
 drop_past : {A : Type 0} (xs : List A) (n : ℕ) → length xs ≤ n → drop n xs ≡ []
@@ -45,7 +46,7 @@ module _ {S : Type 0} (reads : Reads S) (file : List ℕ) where
   pub goes_further : (list : List Value) (banks : List BankConfig) (index : ℕ) (before now next : S) (contents all : List (List ℕ))
       (value : Value) (d : BankConfig) (bytes : List ℕ) → index < length list → index < length banks
       → get_or list index value ≡ value → all ≡ contents ++ bytes ∷ []
-      → BeginsWith reads file (place Bank (index + 1)) (view value) (get_or banks index d).size now bytes next
+      → BeginsWith reads file (place Bank index) (view value) (get_or banks index d).size now bytes next
       → GoesOn list banks index before now contents → GoesOn list banks (index + 1) before next all
   goes_further list banks index before now next contents all value d bytes in_list in_banks at_value is begins so_far = λ others after more.
       let items : items_view (drop index list) ≡ item (view value) (items_view (drop (index + 1) list)) =
@@ -69,31 +70,31 @@ module _ {S : Type 0} (reads : Reads S) (file : List ℕ) where
       subst (λ (b : List BankConfig). BeginWith reads file index (items_view (drop index list)) b now [] now) (sym none) (refl, refl) in
       subst (λ (c : List (List ℕ)). BeginWith reads file 0 (items_view list) banks before c now) (append-nil contents) (so_far [] now end)
 
-  -- the same of loads
-  abbrev pub LoadsGoOn : (list : List Value) (index : ℕ) (before now : S) → List LoadValue → Type 0
-  LoadsGoOn list index before now loads = (others : List LoadValue) (after : S)
-      → HoldLoads reads file index (items_view (drop index list)) now others after
-      → HoldLoads reads file 0 (items_view list) before (loads ++ others) after
+  -- the same of publishes
+  abbrev pub PublishesGoOn : (list : List Value) (index : ℕ) (before now : S) → List (ℕ × AcceptedValue) → Type 0
+  PublishesGoOn list index before now publishes = (others : List (ℕ × AcceptedValue)) (after : S)
+      → HoldPublishes reads file index (items_view (drop index list)) now others after
+      → HoldPublishes reads file 0 (items_view list) before (publishes ++ others) after
 
-  -- the next load
-  pub loads_go_further : (list : List Value) (index : ℕ) (before now next : S) (loads all : List LoadValue) (value : Value)
-      (load : LoadValue) → index < length list → get_or list index value ≡ value → all ≡ loads ++ load ∷ []
-      → HoldsLoad reads file (place Load (index + 1)) (view value) now load next
-      → LoadsGoOn list index before now loads → LoadsGoOn list (index + 1) before next all
-  loads_go_further list index before now next loads all value load in_list at_value is holds so_far = λ others after more.
+  -- the next publish
+  pub publishes_go_further : (list : List Value) (index : ℕ) (before now next : S) (publishes all : List (ℕ × AcceptedValue)) (value : Value)
+      (publish : ℕ × AcceptedValue) → index < length list → get_or list index value ≡ value → all ≡ publishes ++ publish ∷ []
+      → HoldsPublish reads file (place Publish index) (view value) now publish next
+      → PublishesGoOn list index before now publishes → PublishesGoOn list (index + 1) before next all
+  publishes_go_further list index before now next publishes all value publish in_list at_value is holds so_far = λ others after more.
       let items : items_view (drop index list) ≡ item (view value) (items_view (drop (index + 1) list)) =
       items_view-drop list index value in_list ∙ ap (λ (v : Value). item (view v) (items_view (drop (index + 1) list))) at_value in
-      let step : HoldLoads reads file index (items_view (drop index list)) now (load ∷ others) after =
-      subst (λ (i : Items). HoldLoads reads file index i now (load ∷ others) after) (sym items) (next, holds, more) in
-      let whole : loads ++ load ∷ others ≡ all ++ others =
-      sym (append_assoc loads (load ∷ []) others) ∙ ap (λ (l : List LoadValue). l ++ others) (sym is) in
-      subst (λ (l : List LoadValue). HoldLoads reads file 0 (items_view list) before l after) whole (so_far (load ∷ others) after step)
+      let step : HoldPublishes reads file index (items_view (drop index list)) now (publish ∷ others) after =
+      subst (λ (i : Items). HoldPublishes reads file index i now (publish ∷ others) after) (sym items) (next, holds, more) in
+      let whole : publishes ++ publish ∷ others ≡ all ++ others =
+      sym (append_assoc publishes (publish ∷ []) others) ∙ ap (λ (l : List (ℕ × AcceptedValue)). l ++ others) (sym is) in
+      subst (λ (l : List (ℕ × AcceptedValue)). HoldPublishes reads file 0 (items_view list) before l after) whole (so_far (publish ∷ others) after step)
 
-  -- all loads
-  pub loads_go_to_end : (list : List Value) (index : ℕ) (before now : S) (loads : List LoadValue) → length list ≤ index
-      → LoadsGoOn list index before now loads → HoldLoads reads file 0 (items_view list) before loads now
-  loads_go_to_end list index before now loads past so_far =
+  -- all publishes
+  pub publishes_go_to_end : (list : List Value) (index : ℕ) (before now : S) (publishes : List (ℕ × AcceptedValue)) → length list ≤ index
+      → PublishesGoOn list index before now publishes → HoldPublishes reads file 0 (items_view list) before publishes now
+  publishes_go_to_end list index before now publishes past so_far =
       let none : drop index list ≡ [] = drop_past list index past in
-      let end : HoldLoads reads file index (items_view (drop index list)) now [] now =
-      subst (λ (l : List Value). HoldLoads reads file index (items_view l) now [] now) (sym none) refl in
-      subst (λ (l : List LoadValue). HoldLoads reads file 0 (items_view list) before l now) (append-nil loads) (so_far [] now end)
+      let end : HoldPublishes reads file index (items_view (drop index list)) now [] now =
+      subst (λ (l : List Value). HoldPublishes reads file index (items_view l) now [] now) (sym none) refl in
+      subst (λ (l : List (ℕ × AcceptedValue)). HoldPublishes reads file 0 (items_view list) before l now) (append-nil publishes) (so_far [] now end)

@@ -13,10 +13,10 @@ use Rattle.job_config.specs.OwnNodes.{own_bank}
 use Rattle.job_config.specs.Places.{kind_word, knows, place}
 use Rattle.job_config.specs.declared.configuration.Configuration.{Configuration}
 use Rattle.job_config.specs.declared.faults.ConfigFault.{ConfigFault}
-use Rattle.job_config.specs.declared.faults.ConfigFault.TheVariants.{BadCount, BadPeak, Memory, NoTable, UnknownKey}
+use Rattle.job_config.specs.declared.faults.ConfigFault.TheVariants.{BadCount, BadPeak, Memory, NoList, NoTable, UnknownKey}
 use Rattle.job_config.specs.declared.own_node.TheConstants.{NODE_ADDRESS}
 use Rattle.job_config.specs.declared.places.Kind.{Kind}
-use Rattle.job_config.specs.declared.places.Kind.TheVariants.{Node, Bank, Map, Load}
+use Rattle.job_config.specs.declared.places.Kind.TheVariants.{Node, Bank, Map, Publish}
 use Rattle.job_config.specs.declared.places.NumberKey.TheVariants.{Address, Ports, Base, Size, Journal, Cells}
 use Rattle.job_config.specs.declared.places.Place.{Place}
 
@@ -54,7 +54,7 @@ unknown_in at (Some table) = unknown at (unknown_key at.kind table)
 abbrev pub unknown_among : Kind → (before : ℕ) → Items → Option ConfigFault
 unknown_among kind before no_items = None
 unknown_among kind before (item value items) =
-    first_of (unknown_in (place kind (before + 1)) (as_table value)) (unknown_among kind (before + 1) items)
+    first_of (unknown_in (place kind before) (as_table value)) (unknown_among kind (before + 1) items)
 
 -- the list that a value is, if there is one
 abbrev pub array_in : Option Data → Option Items
@@ -70,15 +70,15 @@ unknown_listed kind (Some items) = unknown_among kind 0 items
 abbrev pub unknown_of_kind : Members → Kind → Option ConfigFault
 unknown_of_kind table kind = unknown_listed kind (array_in (get_member (kind_word kind) table))
 
--- the first key that is unknown: of the node's own table, then of banks, maps and loads
+-- the first key that is unknown: of the node's own table, then of banks, maps and publishes
 abbrev pub unknown_at_all : Members → Option ConfigFault
 unknown_at_all table =
     first_of (unknown own_place (unknown_key Node table)) (first_of (unknown_of_kind table Bank)
-    (first_of (unknown_of_kind table Map) (unknown_of_kind table Load)))
+    (first_of (unknown_of_kind table Map) (unknown_of_kind table Publish)))
 
 -- the list of tables that a value is
 abbrev pub list_of : Kind → Option Items → Result (Option Items) ConfigFault
-list_of kind None = Err (NoTable (place kind 0))
+list_of kind None = Err (NoList kind)
 list_of kind (Some items) = Ok (Some items)
 
 -- the list of tables that stands at a key, if something does
@@ -126,7 +126,7 @@ bank_in number value =
 
 -- the bank that stands behind those
 abbrev pub next_bank : List BankConfig → Data → Result BankConfig ConfigFault
-next_bank banks value = bank_in (length banks + 1) value
+next_bank banks value = bank_in (length banks) value
 
 -- the banks of a list of 1 to 8 tables; without a list the one of 65,536 bytes at A0000000
 abbrev pub banks_in : Option Items → Result (List BankConfig) ConfigFault
@@ -166,7 +166,7 @@ map_in number left value =
 
 -- the map that stands behind those
 abbrev pub next_map : List (ℕ × MapKind) → Data → Result (ℕ × MapKind) ConfigFault
-next_map maps value = map_in (length maps + 1) (left_behind maps) value
+next_map maps value = map_in (length maps) (left_behind maps) value
 
 -- the maps of a list of at most 8 tables
 abbrev pub maps_in : Items → Result (List (ℕ × MapKind)) ConfigFault
@@ -203,7 +203,7 @@ unless (Some fault) reading = Err fault
 -- the address, the ports, the banks and the maps of a table, in this order
 unfoldable pub numbers_at : Members → Result ConfigurationValue ConfigFault
 numbers_at table =
-    number_or table own_place Address 0 255 NODE_ADDRESS >>= (λ address.
+    number_or table own_place Address 32 254 NODE_ADDRESS >>= (λ address.
     number_or table own_place Ports 1 32 1 >>= (λ ports.
     banks_at table >>= (λ banks.
     maps_at table >>= (λ sizes.

@@ -2,7 +2,7 @@
 use Rattle.std.specs.Prelude.{◌≡◌, ◌⊎◌, Option, None, Some, Result, Ok, Err}
 use Rattle.job_config.specs.declared.faults.ConfigFault.{ConfigFault}
 use Rattle.job_config.specs.declared.faults.ConfigFault.TheVariants.{Memory, NoToml, UnknownKey, BadNumber, BadPeak}
-use Rattle.job_config.specs.declared.faults.ConfigFault.TheVariants.{NoTable, BadCount, NoName, BadFile, NotLoaded}
+use Rattle.job_config.specs.declared.faults.ConfigFault.TheVariants.{NoTable, NoList, BadCount, NoName, BadFile}
 use Rattle.job_config.specs.declared.places.Kind.{Kind}
 use Rattle.job_config.specs.declared.places.Kind.TheVariants as kinds
 use Rattle.job_config.specs.declared.places.NameKey.{NameKey}
@@ -17,7 +17,7 @@ abbrev pub kind_code : Kind → NodeCode
 kind_code kinds.Node = codes.Text
 kind_code kinds.Bank = codes.Bank
 kind_code kinds.Map = codes.Map
-kind_code kinds.Load = codes.Load
+kind_code kinds.Publish = codes.Load
 
 -- the code of faults of the numbers of a key
 abbrev pub number_code : NumberKey → NodeCode
@@ -43,10 +43,10 @@ code_of (UnknownKey place key) = Some codes.Key
 code_of (BadNumber place key found least most) = Some (number_code key)
 code_of (BadPeak place) = Some codes.Map
 code_of (NoTable place) = Some (kind_code place.kind)
+code_of (NoList kind) = Some (kind_code kind)
 code_of (BadCount kind count) = Some (kind_code kind)
 code_of (NoName place key) = Some (name_code key)
 code_of (BadFile place key name trouble) = Some (name_code key)
-code_of (NotLoaded number status load) = Some codes.Load
 
 -- the next step of a reading, unless a fault was found
 infixl 10 ◌>>=◌

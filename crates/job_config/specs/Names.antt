@@ -40,8 +40,3 @@ IsPath false file name path = (folder : Option (List ℕ)) × IsFolder file fold
 -- the path of the file of that name beside that file
 abbrev pub IsBeside : (file name path : List ℕ) → Type 0
 IsBeside file name path = IsPath (slice_index name 0 == 47) file name path
-
--- the path of the file that the name is of, if there is a name
-abbrev pub IsPathOf : (file : List ℕ) → (name path : Option (List ℕ)) → Type 0
-IsPathOf file None path = path ≡ None
-IsPathOf file (Some name) path = (own : List ℕ) × IsBeside file name own × (path ≡ Some own)

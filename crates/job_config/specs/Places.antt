@@ -2,7 +2,7 @@
 use Rattle.std.specs.Prelude.{ℕ, List, [], Bool, ◌||◌, codes}
 use Rattle.std.specs.Str.{bytes_eq}
 use Rattle.job_config.specs.declared.places.Kind.{Kind}
-use Rattle.job_config.specs.declared.places.Kind.TheVariants.{Node, Bank, Map, Load}
+use Rattle.job_config.specs.declared.places.Kind.TheVariants.{Node, Bank, Map, Publish}
 use Rattle.job_config.specs.declared.places.NameKey.{NameKey}
 use Rattle.job_config.specs.declared.places.NameKey.TheVariants.{Contents, Program, Image}
 use Rattle.job_config.specs.declared.places.NumberKey.{NumberKey}
@@ -14,18 +14,18 @@ abbrev pub kind_word : Kind → List ℕ
 kind_word Node = []
 kind_word Bank = codes "bank"
 kind_word Map = codes "map"
-kind_word Load = codes "load"
+kind_word Publish = codes "publish"
 
 -- whether a table of the kind may have the key
 abbrev pub knows : Kind → List ℕ → Bool
 knows Node key =
-    bytes_eq key (codes "address") || bytes_eq key (codes "bank") || bytes_eq key (codes "load")
-    || bytes_eq key (codes "map") || bytes_eq key (codes "ports") || bytes_eq key (codes "program")
+    bytes_eq key (codes "address") || bytes_eq key (codes "bank") || bytes_eq key (codes "map")
+    || bytes_eq key (codes "ports") || bytes_eq key (codes "program") || bytes_eq key (codes "publish")
 knows Bank key =
     bytes_eq key (codes "base") || bytes_eq key (codes "contents") || bytes_eq key (codes "journal")
     || bytes_eq key (codes "size")
 knows Map key = bytes_eq key (codes "cells") || bytes_eq key (codes "peak")
-knows Load key = bytes_eq key (codes "image") || bytes_eq key (codes "slot")
+knows Publish key = bytes_eq key (codes "image") || bytes_eq key (codes "slot")
 
 -- the key that holds the number
 abbrev pub number_word : NumberKey → List ℕ

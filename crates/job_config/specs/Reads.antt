@@ -8,7 +8,8 @@ use Rattle.rmap.specs.declared.boot.TheConstants.{STAGING_SIZE}
 use Rattle.toml.specs.Data.{Data, Items, no_items, item, Members}
 use Rattle.toml.specs.Parse.{parse_document}
 use Rattle.job_parts.specs.Files.{Reads}
-use Rattle.job_parts.specs.Given.{HoldsProgram}
+use Rattle.bpf.specs.Program.{IsProgram, image_bytes}
+use Rattle.job_parts.specs.Factory.{factory}
 use Rattle.job_parts.specs.Reading.{TextUnread}
 use Rattle.job_parts.specs.declared.faults.Fault.{Fault}
 use Rattle.job_parts.specs.declared.faults.Fault.TheVariants.{CannotRead, CannotWrite, NoMemory, BadText, BadTable}
@@ -18,14 +19,14 @@ use Rattle.job_parts.specs.declared.node_codes.NodeCode.TheVariants.{Text}
 use Rattle.job_config.specs.Configured.{ConfigurationValue, IsBadConfiguration, IsConfiguration, configuration_at}
 use Rattle.job_config.specs.Configured.{items_in, list_at, own_place, table_in}
 use Rattle.job_config.specs.Faults.{code_of}
-use Rattle.job_config.specs.Names.{IsBeside, IsPathOf, name_at}
+use Rattle.job_config.specs.Names.{IsBeside, name_at}
 use Rattle.job_config.specs.Numbers.{number_at}
-use Rattle.job_config.specs.OwnNodes.{LoadValue, OwnNodeValue}
+use Rattle.job_config.specs.OwnNodes.{OwnNodeValue}
 use Rattle.job_config.specs.Places.{place}
 use Rattle.job_config.specs.declared.configuration.Configuration.{Configuration}
 use Rattle.job_config.specs.declared.faults.ConfigFault.{ConfigFault}
 use Rattle.job_config.specs.declared.faults.ConfigFault.TheVariants.{Memory}
-use Rattle.job_config.specs.declared.places.Kind.TheVariants.{Bank, Load}
+use Rattle.job_config.specs.declared.places.Kind.TheVariants.{Bank, Publish}
 use Rattle.job_config.specs.declared.places.NameKey.TheVariants.{Contents, Program, Image}
 use Rattle.job_config.specs.declared.places.NumberKey.TheVariants.{Slot}
 use Rattle.job_config.specs.declared.places.Place.{Place}
@@ -55,6 +56,12 @@ Ends (Some code) (BadTable fault) = ⊥
 Ends (Some code) (BadImage fault) = ⊥
 Ends (Some code) (Refused refused) = ⊥
 Ends (Some code) (BadLine number fault) = ⊥
+
+-- the job ends for a fault of which that is said
+pub record EndsBy (end : Fault) (bad : ConfigFault → Type 0) : Type 0 where
+  pub fault : ConfigFault
+  pub is_bad : bad fault
+  pub ends : Ends (code_of fault) end
 
 module _ {S : Type 0} (reads : Reads S) where
   -- these files were read in this order, and gave these bytes or none
@@ -105,7 +112,7 @@ module _ {S : Type 0} (reads : Reads S) (file : List ℕ) where
   BeginWith number no_items (bank ∷ banks) before contents after = ⊥
   BeginWith number (item value items) (bank ∷ banks) before [] after = ⊥
   BeginWith number (item value items) (bank ∷ banks) before (bytes ∷ contents) after =
-      (middle : S) × BeginsWith (place Bank (number + 1)) value bank.size before bytes middle
+      (middle : S) × BeginsWith (place Bank number) value bank.size before bytes middle
       × BeginWith (number + 1) items banks middle contents after
 
   -- each of the banks begins with these bytes; the one bank of a file without banks with none
@@ -120,37 +127,54 @@ module _ {S : Type 0} (reads : Reads S) (file : List ℕ) where
     pub listed : list_at table Bank ≡ Ok list
     pub held : HoldsContents list banks before contents after
 
-  -- the load of a table: its slot, and the bytes of its image, which the staging has room for
-  pub record HoldsLoad (at : Place) (value : Data) (before : S) (load : LoadValue) (after : S) : Type 0 where
-    pub table : Members
+  -- the program is that of the image in the file of that name beside the node's, which has at most that number of bytes; it is
+  -- justified on its maps, and so safe
+  pub record HoldsProgramOf (name : List ℕ) (most : ℕ) (before : S) (program : AcceptedValue) (after : S) : Type 0 where
+    pub bytes : List ℕ
+    pub beside : HoldsBeside name most before bytes after
+    pub spelled : bytes ≡ image_bytes program.program
+    pub limits : IsProgram program.program
+    pub justified : IsJustified program.program program.sizes
+    pub safe : IsSafe program.program program.sizes
+
+  -- the program of the image that a table names, which the staging would have room for
+  pub record HoldsImageAt (at : Place) (table : Members) (before : S) (program : AcceptedValue) (after : S) : Type 0 where
     pub name : List ℕ
-    pub is_table : table_in value at ≡ Ok table
-    pub slot : number_at table at Slot 0 3 ≡ Ok load.slot
     pub named : name_at table at Image ≡ Ok (Some name)
-    pub held : HoldsBeside name STAGING_SIZE before load.image after
+    pub held : HoldsProgramOf name STAGING_SIZE before program after
 
-  -- the loads of a list of tables, in this order; so many loads stand before them
-  abbrev pub HoldLoads : (number : ℕ) → Items → (before : S) → List LoadValue → (after : S) → Type 0
-  HoldLoads number no_items before [] after = after ≡ before
-  HoldLoads number no_items before (load ∷ loads) after = ⊥
-  HoldLoads number (item value items) before [] after = ⊥
-  HoldLoads number (item value items) before (load ∷ loads) after =
-      (middle : S) × HoldsLoad (place Load (number + 1)) value before load middle
-      × HoldLoads (number + 1) items middle loads after
+  -- the publish of a table: its slot, and the program of its image
+  pub record HoldsPublish (at : Place) (value : Data) (before : S) (publish : ℕ × AcceptedValue) (after : S) : Type 0 where
+    pub table : Members
+    pub is_table : table_in value at ≡ Ok table
+    pub slot : number_at table at Slot 0 3 ≡ Ok publish.0
+    pub image : HoldsImageAt at table before publish.1 after
 
-  -- the loads of a table
-  pub record HoldsLoads (table : Members) (before : S) (loads : List LoadValue) (after : S) : Type 0 where
+  -- the publishes of a list of tables, in this order, after that number of them
+  abbrev pub HoldPublishes : (number : ℕ) → Items → (before : S) → List (ℕ × AcceptedValue) → (after : S) → Type 0
+  HoldPublishes number no_items before [] after = after ≡ before
+  HoldPublishes number no_items before (publish ∷ publishes) after = ⊥
+  HoldPublishes number (item value items) before [] after = ⊥
+  HoldPublishes number (item value items) before (publish ∷ publishes) after =
+      (middle : S) × HoldsPublish (place Publish number) value before publish middle
+      × HoldPublishes (number + 1) items middle publishes after
+
+  -- the publishes of a table
+  pub record HoldsPublishes (table : Members) (before : S) (publishes : List (ℕ × AcceptedValue)) (after : S) : Type 0 where
     pub list : Option Items
-    pub listed : list_at table Load ≡ Ok list
-    pub held : HoldLoads 0 (items_in list) before loads after
+    pub listed : list_at table Publish ≡ Ok list
+    pub held : HoldPublishes 0 (items_in list) before publishes after
+
+  -- the program is that of the file of this name, of whatever length, or the factory program
+  abbrev pub HoldsFirstOf : Option (List ℕ) → (before : S) → AcceptedValue → (after : S) → Type 0
+  HoldsFirstOf None before program after = (program.program ≡ factory) × (after ≡ before)
+  HoldsFirstOf (Some name) before program after = (most : ℕ) × HoldsProgramOf name most before program after
 
   -- the program that judges in all slots at first is that of the file that the table names, or the factory program
   pub record HoldsFirst (table : Members) (before : S) (program : AcceptedValue) (after : S) : Type 0 where
     pub name : Option (List ℕ)
-    pub path : Option (List ℕ)
     pub named : name_at table own_place Program ≡ Ok name
-    pub path_of : IsPathOf file name path
-    pub held : HoldsProgram reads before path program.program after
+    pub held : HoldsFirstOf name before program after
     pub justified : IsJustified program.program program.sizes
     pub safe : IsSafe program.program program.sizes
 
@@ -163,7 +187,7 @@ module _ {S : Type 0} (reads : Reads S) (file : List ℕ) where
     pub banks : HoldsBanks table own.banks before own.contents filled
     pub first : HoldsFirst table filled program judged
     pub sizes : program.sizes ≡ own.sizes
-    pub loads : HoldsLoads table judged own.loads after
+    pub publishes : HoldsPublishes table judged own.publishes after
 
   -- the node of the node's file, and the program that judges in all slots at first; and files were read, and nothing else was done
   -- to them

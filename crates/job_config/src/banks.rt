@@ -1,6 +1,6 @@
 //! The banks of a node's file.
 
-ghost use Rattle.std.specs.Prelude.{◌≡◌, ◌∷◌, [], IfErr, IfOk, Ok, length, true};
+ghost use Rattle.std.specs.Prelude.{◌≡◌, ◌∷◌, ◌&&◌, [], IfErr, IfOk, Ok, length, nat_le, true};
 ghost use Rattle.job_config.specs.Configured.{bank_in, banks_at, each, greatest_size, next_bank};
 ghost use Rattle.job_config.specs.Faults.{IsFaultOf};
 ghost use Rattle.job_config.specs.OwnNodes.{own_bank};
@@ -20,7 +20,7 @@ use std::alloc::{AllocError, Global};
 use toml::{Table, Value};
 
 /// The greatest size of a bank at an address: its last byte is at most at the last address.
-fn greatest_size(base: u32) -> u32
+pub(crate) fn greatest_size(base: u32) -> u32
     ensures { result ≡ greatest_size base }
 {
     let behind = u32::MAX - base;
@@ -57,7 +57,7 @@ fn banks_in(alloc: Global, list: &[Value]) -> Result<Vec<BankConfig>, ConfigFaul
 {
     let mut banks = Vec::new(alloc);
     for item in list {
-        let bank = bank_in(item, banks.len() + 1)?;
+        let bank = bank_in(item, banks.len())?;
         banks.push(bank)?;
     }
     Ok(banks)
@@ -72,6 +72,13 @@ fn own_banks(alloc: Global) -> Result<Vec<BankConfig>, AllocError>
     Ok(banks)
 }
 
+/// Whether a node may have so many banks.
+pub(crate) fn is_count(count: usize) -> bool
+    ensures { result ≡ (nat_le 1 count && nat_le count 8) }
+{
+    1 <= count && count <= MAX_BANKS
+}
+
 /// The banks of a file, by their extended address.
 #[tactic(auto, using(crate::proofs::Each::count_view), unfolding(crate::specs::Configured::banks_at))]
 pub fn banks_of(alloc: Global, table: &Table) -> Result<Vec<BankConfig>, ConfigFault>
@@ -83,7 +90,7 @@ pub fn banks_of(alloc: Global, table: &Table) -> Result<Vec<BankConfig>, ConfigF
         return Ok(own_banks(alloc)?);
     };
     let count = list.len();
-    if count < 1 || count > MAX_BANKS {
+    if !is_count(count) {
         return Err(ConfigFault::BadCount {
             kind: Kind::Bank,
             count,

@@ -10,7 +10,7 @@ use crate::faults::ConfigFault;
 use crate::keys::check_keys;
 use crate::maps::maps_of;
 use crate::numbers::number_or;
-use crate::own_node::NODE_ADDRESS;
+use crate::own_node::{LEAST_ADDRESS, MOST_ADDRESS, NODE_ADDRESS};
 use crate::places::NumberKey;
 use crate::tables::OWN;
 use bver::MapSizes;
@@ -65,8 +65,8 @@ pub fn configuration_of(alloc: Global, table: &Table) -> Result<Configuration, C
         table,
         OWN,
         NumberKey::Address,
-        0,
-        255,
+        u32::from(LEAST_ADDRESS),
+        u32::from(MOST_ADDRESS),
         u32::from(NODE_ADDRESS),
     )?;
     let ports = number_or(table, OWN, NumberKey::Ports, 1, u32::from(PORTS), 1)?;

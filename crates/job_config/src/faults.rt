@@ -49,7 +49,7 @@ impl Word {
 }
 
 /// Why a file beside a node's file does not serve.
-#[derive(Clone, Copy, Debug, PartialEq, Eq)]
+#[derive(Clone, Copy, Debug)]
 pub enum Trouble {
     /// It cannot be read.
     Unread,
@@ -60,8 +60,8 @@ pub enum Trouble {
         /// How many are wanted at most.
         most: usize,
     },
-    /// It is no image.
-    NoImage(ImageFault),
+    /// It is no image; the line of a text or a table, if it is one, or no line.
+    NoImage(ImageFault, &'static str),
     /// Its program may not judge on the node's maps.
     Refused(Refused),
 }
@@ -100,8 +100,10 @@ pub enum ConfigFault {
     },
     /// The key `peak` of a map holds neither true nor false.
     BadPeak(Place),
-    /// What stands there is no table; with the number 0 it is no list of tables.
+    /// What the file has there is no table.
     NoTable(Place),
+    /// What the file has under the key of a kind is no list of tables.
+    NoList(Kind),
     /// So many tables of a kind are too many, or too few.
     BadCount {
         /// The kind.
@@ -127,15 +129,6 @@ pub enum ConfigFault {
         /// Why.
         trouble: Trouble,
     },
-    /// A load was not carried out.
-    NotLoaded {
-        /// Its number, from 1.
-        number: usize,
-        /// The first status of its packets that is not 0; 0 where there is none.
-        status: u8,
-        /// The first byte of the load result.
-        load: u8,
-    },
 }
 
 /// What faults of the tables of a kind are.
@@ -146,7 +139,7 @@ fn code_of_kind(kind: Kind) -> NodeCode
         Kind::Node => NodeCode::Text,
         Kind::Bank => NodeCode::Bank,
         Kind::Map => NodeCode::Map,
-        Kind::Load => NodeCode::Load,
+        Kind::Publish => NodeCode::Load,
     }
 }
 
@@ -186,11 +179,12 @@ impl ConfigFault {
             ConfigFault::BadNumber { key, .. } => Some(code_of_number(*key)),
             ConfigFault::BadPeak(_) => Some(NodeCode::Map),
             ConfigFault::NoTable(place) => Some(code_of_kind(place.kind)),
-            ConfigFault::BadCount { kind, .. } => Some(code_of_kind(*kind)),
+            ConfigFault::NoList(kind) | ConfigFault::BadCount { kind, .. } => {
+                Some(code_of_kind(*kind))
+            }
             ConfigFault::NoName { key, .. } | ConfigFault::BadFile { key, .. } => {
                 Some(code_of_name(*key))
             }
-            ConfigFault::NotLoaded { .. } => Some(NodeCode::Load),
         }
     }
 }
@@ -211,15 +205,28 @@ impl<T: Drop> From<AllocFailed<T>> for ConfigFault {
     }
 }
 
+/// Prints why bytes are no image, and what else they are, if that is known.
+fn print_no_image<W: fmt::Write>(
+    f: &mut fmt::Formatter<W>,
+    fault: ImageFault,
+    form: &str,
+) -> fmt::Result {
+    let (code, slot) = (fault.code(), fault.slot());
+    write!(f, ": image fault {code} slot {slot}")?;
+    let form = form.trim_end();
+    if form.is_empty() {
+        Ok(())
+    } else {
+        write!(f, ": {form}")
+    }
+}
+
 impl fmt::Display for Trouble {
     fn fmt<W: fmt::Write>(&self, f: &mut fmt::Formatter<W>) -> fmt::Result {
         match self {
             Trouble::Unread => write!(f, ": cannot be read"),
             Trouble::TooLong { bytes, most } => write!(f, " {bytes} bytes: wanted at most {most}"),
-            Trouble::NoImage(fault) => {
-                let (code, slot) = (fault.code(), fault.slot());
-                write!(f, ": image fault {code} slot {slot}")
-            }
+            Trouble::NoImage(fault, form) => print_no_image(f, *fault, form),
             Trouble::Refused(refused) => {
                 let (code, slot) = (refused.number(), refused.slot);
                 write!(f, ": refused V{code} slot {slot}")
@@ -232,17 +239,18 @@ impl fmt::Display for Trouble {
 fn wanted(kind: Kind) -> &'static str {
     match kind {
         Kind::Bank => "1 to 8",
-        Kind::Node | Kind::Map | Kind::Load => "at most 8",
+        Kind::Node | Kind::Map => "at most 8",
+        Kind::Publish => "at most 4294967295",
     }
 }
 
 /// The keys that a table of a kind may have, for the user.
 fn keys(kind: Kind) -> &'static str {
     match kind {
-        Kind::Node => "address, bank, load, map, ports or program",
+        Kind::Node => "address, bank, map, ports, program or publish",
         Kind::Bank => "base, contents, journal or size",
         Kind::Map => "cells or peak",
-        Kind::Load => "image or slot",
+        Kind::Publish => "image or slot",
     }
 }
 
@@ -256,12 +264,19 @@ impl fmt::Display for Found {
     }
 }
 
+/// What the file had in the place of `[[publish]]` before 1.0+6, for the user.
+const LOADS: &str = "\
+[[load]] is [[publish]] since 1.0+6, without packets (CHANGELOG); packets of a load are lines of packet load";
+
 /// Prints that a table has a key that it may not have.
 fn print_unknown<W: fmt::Write>(
     f: &mut fmt::Formatter<W>,
     place: &Place,
     key: &Word,
 ) -> fmt::Result {
+    if place.kind == Kind::Node && key.text.as_str() == "load" {
+        return write!(f, "key load: {LOADS}");
+    }
     let (key, keys) = (key.text.escape_debug(), keys(place.kind));
     write!(f, "{place}key {key}: wanted {keys}")
 }
@@ -269,15 +284,24 @@ fn print_unknown<W: fmt::Write>(
 /// Prints that there are too many tables of a kind, or too few.
 fn print_count<W: fmt::Write>(f: &mut fmt::Formatter<W>, kind: Kind, count: usize) -> fmt::Result {
     let (word, wanted) = (kind.word(), wanted(kind));
-    write!(f, "{count} {word}s: wanted {wanted}")
+    let plural = if kind == Kind::Publish { "es" } else { "s" };
+    write!(f, "{count} {word}{plural}: wanted {wanted}")
 }
 
-/// Prints that a table stands where none may, or that a list of tables is none.
-fn print_no_table<W: fmt::Write>(f: &mut fmt::Formatter<W>, place: &Place) -> fmt::Result {
-    let (word, number) = (place.kind.word(), place.number);
-    match number {
-        0 => write!(f, "{word} is no list of tables: wanted [[{word}]]"),
-        _ => write!(f, "{word} {number} is no table: wanted [[{word}]]"),
+/// Prints that a number is none that is wanted; of a logical address also the digits that a packet has.
+fn print_number<W: fmt::Write>(
+    f: &mut fmt::Formatter<W>,
+    place: &Place,
+    key: NumberKey,
+    found: &Found,
+    least: u32,
+    most: u32,
+) -> fmt::Result {
+    let word = key.word();
+    write!(f, "{place}{word}{found}: wanted {least} to {most}")?;
+    match key {
+        NumberKey::Address => write!(f, ", {least:02X} to {most:02X} hexadecimal"),
+        _ => Ok(()),
     }
 }
 
@@ -296,12 +320,16 @@ impl fmt::Display for ConfigFault {
                 found,
                 least,
                 most,
-            } => {
-                let key = key.word();
-                write!(f, "{place}{key}{found}: wanted {least} to {most}")
-            }
+            } => { print_number(f, place, *key, found, *least, *most) }
             ConfigFault::BadPeak(place) => write!(f, "{place}peak: wanted true or false"),
-            ConfigFault::NoTable(place) => print_no_table(f, place),
+            ConfigFault::NoTable(place) => {
+                let word = place.kind.word();
+                write!(f, "{place}is no table: wanted [[{word}]]")
+            }
+            ConfigFault::NoList(kind) => {
+                let word = kind.word();
+                write!(f, "{word} is no list of tables: wanted [[{word}]]")
+            }
             ConfigFault::BadCount { kind, count } => print_count(f, *kind, *count),
             ConfigFault::NoName { place, key } => {
                 let key = key.word();
@@ -316,11 +344,6 @@ impl fmt::Display for ConfigFault {
                 let (key, name) = (key.word(), name.text.escape_debug());
                 write!(f, "{place}{key} {name}{trouble}")
             }
-            ConfigFault::NotLoaded {
-                number,
-                status,
-                load,
-            } => write!(f, "load {number}: status {status}, load fault {load}"),
         }
     }
 }

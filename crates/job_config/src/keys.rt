@@ -45,10 +45,10 @@ fn check_list(alloc: Global, list: &[Value], kind: Kind) -> Result<(), ConfigFau
 {
     let mut number = 0;
     for item in list {
-        number += 1;
         if let Some(table) = item.as_table() {
             check_table(alloc, table, Place { kind, number })?;
         }
+        number += 1;
     }
     Ok(())
 }
@@ -67,7 +67,7 @@ fn check_kind(alloc: Global, table: &Table, kind: Kind) -> Result<(), ConfigFaul
     }
 }
 
-/// Refuses a file of which a table has a key that it may not have: the node's own first, then those of banks, maps and loads.
+/// Refuses a file of which a table has a key that it may not have: the node's own first, then those of banks, maps and publishes.
 pub fn check_keys(alloc: Global, table: &Table) -> Result<(), ConfigFault>
     ensures ok { IfOk result (λ _. unknown_at_all (table_view table.now) ≡ None) }
     ensures err { IfErr result (IsKeyFault (unknown_at_all (table_view table.now))) }
@@ -75,5 +75,5 @@ pub fn check_keys(alloc: Global, table: &Table) -> Result<(), ConfigFault>
     check_table(alloc, table, OWN)?;
     check_kind(alloc, table, Kind::Bank)?;
     check_kind(alloc, table, Kind::Map)?;
-    check_kind(alloc, table, Kind::Load)
+    check_kind(alloc, table, Kind::Publish)
 }

@@ -17,7 +17,7 @@ use std::alloc::Global;
 use toml::{Table, Value};
 
 /// The kind of the map that a table is of: of the greatest numbers where `peak` is true, and counting without it.
-fn kind_of(table: &Table, place: Place) -> Result<MapKind, ConfigFault>
+pub(crate) fn kind_of(table: &Table, place: Place) -> Result<MapKind, ConfigFault>
     ensures { result ≡ kind_in place (get_member (codes "peak") (table_view table.now)) }
 {
     let Some(value) = held(table, "peak") else {
@@ -58,7 +58,7 @@ fn maps_in(alloc: Global, list: &[Value]) -> Result<Vec<(u16, MapKind)>, ConfigF
     let mut maps = Vec::new(alloc);
     let mut left = MAX_CELLS;
     for item in list {
-        let map = map_in(item, maps.len() + 1, left)?;
+        let map = map_in(item, maps.len(), left)?;
         left -= map.0;
         maps.push(map)?;
     }

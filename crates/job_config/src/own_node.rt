@@ -1,18 +1,23 @@
 //! What a node takes of its configuration.
 
-ghost use Rattle.std.specs.Prelude.{◌≡◌, ◌<◌, ◌≤◌, [], ◌∷◌, IfOk, length, slice_index_or, true};
-ghost use Rattle.job_config.specs.OwnNodes.{IsConfigOf, fit, load, own_bank, own_node, plain_node};
+ghost use Rattle.std.specs.Prelude.{◌≡◌, ◌<◌, ◌≤◌, [], ◌∷◌, All, IfOk, length, slice_index_or, true};
+ghost use Rattle.job_config.specs.OwnNodes.{IsConfigOf, IsPublish, fit, own_bank, own_node, plain_node};
 ghost use Rattle.machine.specs.Sizes.{listed_maps};
 ghost use Rattle.node_parts.specs.Nodes.{are_within};
-ghost use Rattle.rmap.specs.declared.boot.TheConstants.{STAGING_SIZE};
 
-use bver::MapSizes;
+use bver::{Accepted, MapSizes};
 use node_parts::{BankConfig, NodeConfig};
 use std::alloc::{AllocError, Global};
 use std::marker::Model;
 
 /// The logical address of a node of which nothing else is said.
 pub const NODE_ADDRESS: u8 = 0xFE;
+
+/// The least logical address: those below it are path addresses (ECSS-E-ST-50-12C).
+pub const LEAST_ADDRESS: u8 = 0x20;
+
+/// The greatest logical address: FF is reserved.
+pub const MOST_ADDRESS: u8 = 0xFE;
 
 /// The first address of the bank of such a node.
 pub const BANK_BASE: u32 = 0xA000_0000;
@@ -60,54 +65,10 @@ impl Contents {
     }
 }
 
-/// An image that is loaded before the first packet, as by the packets of a load. Contracts see the slot and the bytes.
-#[derive(Debug, Drop)]
-pub struct OwnLoad {
-    slot: u8,
-    image: Vec<u8>,
-}
-
-impl Model for OwnLoad {
-    ghost use Rattle.std.specs.Prelude.{◌≤◌, length};
-    ghost use Rattle.job_config.specs.OwnNodes.{LoadValue, load};
-    ghost use Rattle.rmap.specs.declared.boot.TheConstants.{STAGING_SIZE};
-
-    ghost Value = { LoadValue };
-
-    ghost view = { λ l. load l.slot l.image.items };
-
-    ghost invariant = { λ l. length l.image.items ≤ STAGING_SIZE };
-}
-
-impl OwnLoad {
-    /// The load of these bytes into that slot. The condition is no more bytes than the staging has.
-    pub fn new(slot: u8, image: Vec<u8>) -> OwnLoad
-        requires { length image.items ≤ STAGING_SIZE }
-        ensures { result ≡ load slot image.items }
-    {
-        OwnLoad { slot, image }
-    }
-
-    /// The slot, 0 to 3.
-    pub fn slot(&self) -> u8
-        ensures { result ≡ self.now.slot }
-    {
-        self.slot
-    }
-
-    /// The bytes of the image, no more than the staging has.
-    pub fn image(&self) -> &[u8]
-        ensures image { result.now ≡ self.now.image }
-        ensures short { length result.now ≤ STAGING_SIZE }
-    {
-        self.image.as_slice()
-    }
-}
-
 /// What a node takes of its configuration, beside the program that judges in all slots at first: its logical address; its ports,
 /// which [`single_node`] and `target` want to be 1 to 32; 1 to 8 banks within their limits, the extended address of each being
-/// its place; for each bank the bytes at its beginning, no more than it has; its maps; and what is loaded before the first
-/// packet, in this order. Contracts see a record of these.
+/// its place; for each bank the bytes at its beginning, no more than it has; its maps; and the programs that are published before
+/// the first packet, in this order: each with its slot, 0 to 3, and accepted for the maps. Contracts see a record of these.
 #[derive(Debug, Drop)]
 pub struct OwnNode {
     address: u8,
@@ -115,7 +76,7 @@ pub struct OwnNode {
     banks: Vec<BankConfig>,
     contents: Vec<Contents>,
     sizes: MapSizes,
-    loads: Vec<OwnLoad>,
+    publishes: Vec<(u8, Accepted)>,
 }
 
 impl Model for OwnNode {
@@ -123,14 +84,14 @@ impl Model for OwnNode {
 
     ghost Value = { OwnNodeValue };
 
-    ghost view = { λ n. own_node n.address n.ports n.banks.items n.contents.items n.sizes n.loads.items };
+    ghost view = { λ n. own_node n.address n.ports n.banks.items n.contents.items n.sizes n.publishes.items };
 
-    ghost invariant = { λ n. IsOwnNode (own_node n.address n.ports n.banks.items n.contents.items n.sizes n.loads.items) };
+    ghost invariant = { λ n. IsOwnNode (own_node n.address n.ports n.banks.items n.contents.items n.sizes n.publishes.items) };
 }
 
 impl OwnNode {
     /// The node of which no file says anything: address FE, one bank of 65,536 zero bytes at A0000000 whose journal has room
-    /// for 1,024 entries, so many ports and these maps. Nothing is loaded into it.
+    /// for 1,024 entries, so many ports and these maps. Nothing is published for it.
     pub fn plain(alloc: Global, ports: u8, sizes: MapSizes) -> Result<OwnNode, AllocError>
         ensures { IfOk result (λ node. node ≡ plain_node ports sizes) }
     {
@@ -144,22 +105,25 @@ impl OwnNode {
             banks,
             contents,
             sizes,
-            loads: Vec::new(alloc),
+            publishes: Vec::new(alloc),
         })
     }
 
-    /// The node of these: banks within their limits, and for each the bytes at its beginning, no more than it has.
+    /// The node of these: banks within their limits, for each the bytes at its beginning, no more than it has; and programs that
+    /// were accepted for the maps, each with a slot of 0 to 3, at most 4,294,967,295.
     pub fn of_parts(
         address: u8,
         ports: u8,
         banks: Vec<BankConfig>,
         contents: Vec<Contents>,
         sizes: MapSizes,
-        loads: Vec<OwnLoad>,
+        publishes: Vec<(u8, Accepted)>,
     ) -> OwnNode
         requires within { are_within banks.items ≡ true }
         requires fits { fit banks.items contents.items ≡ true }
-        ensures { result ≡ own_node address ports banks.items contents.items sizes loads.items }
+        requires publishes { All (IsPublish sizes) publishes.items }
+        requires few { length publishes.items ≤ 4294967295 }
+        ensures { result ≡ own_node address ports banks.items contents.items sizes publishes.items }
     {
         OwnNode {
             address,
@@ -167,7 +131,7 @@ impl OwnNode {
             banks,
             contents,
             sizes,
-            loads,
+            publishes,
         }
     }
 
@@ -220,10 +184,12 @@ impl OwnNode {
         self.sizes
     }
 
-    /// What is loaded before the first packet, in this order.
-    pub fn loads(&self) -> &[OwnLoad]
-        ensures { result.now ≡ self.now.loads }
+    /// The programs that are published before the first packet, in this order, each with its slot.
+    pub fn publishes(&self) -> &[(u8, Accepted)]
+        ensures publishes { result.now ≡ self.now.publishes }
+        ensures each { All (IsPublish self.now.sizes) self.now.publishes }
+        ensures few { length self.now.publishes ≤ 4294967295 }
     {
-        self.loads.as_slice()
+        self.publishes.as_slice()
     }
 }

@@ -15,8 +15,8 @@ pub enum Kind {
     Bank,
     /// That of a map.
     Map,
-    /// That of a load.
-    Load,
+    /// That of a publish.
+    Publish,
 }
 
 impl Kind {
@@ -28,7 +28,7 @@ impl Kind {
             Kind::Node => "",
             Kind::Bank => "bank",
             Kind::Map => "map",
-            Kind::Load => "load",
+            Kind::Publish => "publish",
         }
     }
 
@@ -40,7 +40,7 @@ impl Kind {
             Kind::Node => is_node_key(key),
             Kind::Bank => key == "base" || key == "contents" || key == "journal" || key == "size",
             Kind::Map => key == "cells" || key == "peak",
-            Kind::Load => key == "image" || key == "slot",
+            Kind::Publish => key == "image" || key == "slot",
         }
     }
 }
@@ -49,13 +49,13 @@ impl Kind {
 fn is_node_key(key: &str) -> bool
     ensures { result ≡ knows Node key.now }
 {
-    if key == "address" || key == "bank" || key == "load" {
+    if key == "address" || key == "bank" || key == "map" {
         return true;
     }
-    key == "map" || key == "ports" || key == "program"
+    key == "ports" || key == "program" || key == "publish"
 }
 
-/// A table of a node's file: its kind, and its number, from 1, among those of its kind; that of the node's own is 0.
+/// A table of a node's file: its kind, and its number, from 0, among those of its kind; that of the node's own is 0.
 #[derive(Clone, Copy, Debug, PartialEq, Eq)]
 pub struct Place {
     /// Which kind of table it is.
@@ -70,7 +70,12 @@ impl fmt::Display for Place {
         let number = self.number;
         match self.kind {
             Kind::Node => Ok(()),
-            Kind::Bank | Kind::Map | Kind::Load => write!(f, "{word} {number} "),
+            Kind::Bank | Kind::Map => write!(f, "{word} {number} "),
+            // A publish has the number of its generation, from 1.
+            Kind::Publish => {
+                let number = number.saturating_add(1);
+                write!(f, "{word} {number} ")
+            }
         }
     }
 }
@@ -90,7 +95,7 @@ pub enum NumberKey {
     Journal,
     /// How many cells a map has.
     Cells,
-    /// The slot of a load.
+    /// The slot of a publish.
     Slot,
 }
 
@@ -118,7 +123,7 @@ pub enum NameKey {
     Contents,
     /// The image that judges in all slots at first.
     Program,
-    /// The image of a load.
+    /// The image that is published.
     Image,
 }
 

@@ -1,15 +1,16 @@
 //! A node by its file and the files beside it.
 
-ghost use Rattle.std.specs.Prelude.{◌≡◌, ◌≤◌, ◌⊎◌, ◌∷◌, [], IfErr, IfOk, IfSome, None, Ok, Some, length, option_map, string_bytes, true};
-ghost use Rattle.job_config.specs.Configured.{IsConfiguration, banks_at};
+ghost use Rattle.std.specs.Prelude.{◌≡◌, ◌≤◌, ◌⊎◌, ◌∷◌, [], All, IfErr, IfOk, IfSome, None, Ok, Some, length, option_map, string_bytes, true};
+ghost use Rattle.job_config.specs.Configured.{IsBadConfiguration, IsConfiguration, banks_at};
 ghost use Rattle.job_config.specs.Faults.{code_of};
-ghost use Rattle.job_config.specs.Names.{IsPathOf};
-ghost use Rattle.job_config.specs.Reads.{BeginWith, BeginsWith, Ends, HoldLoads, HoldsBanks, HoldsBeside, HoldsFirst, HoldsLoad, HoldsLoads, HoldsParts, IsBadNode, IsBadText, IsNoTable, ReadsConfiguration, ReadsNoConfiguration, ReadsNoNode, ReadsNode, SomeRead};
-ghost use Rattle.job_config.specs.OwnNodes.{fit};
+ghost use Rattle.job_config.specs.Numbers.{number_at};
+ghost use Rattle.job_config.specs.Reads.{BeginWith, BeginsWith, Ends, EndsBy, HoldPublishes, HoldsBanks, HoldsBeside, HoldsFirst, HoldsImageAt, HoldsParts, HoldsProgramOf, HoldsPublish, HoldsPublishes, IsBadNode, IsBadText, IsNoTable, ReadsConfiguration, ReadsNoConfiguration, ReadsNoNode, ReadsNode, SomeRead};
+ghost use Rattle.job_config.specs.OwnNodes.{IsPublish, fit};
 ghost use Rattle.job_config.specs.declared.faults.ConfigFault.TheVariants.{Memory};
+ghost use Rattle.job_config.specs.declared.places.NumberKey.TheVariants.{Slot};
 ghost use Rattle.bver.specs.Justified.{IsJustified};
-ghost use Rattle.job_parts.specs.Arguments.{name_in};
-ghost use Rattle.job_parts.specs.Given.{HoldsProgram};
+ghost use Rattle.bpf.specs.Program.{IsProgram, image_bytes};
+ghost use Rattle.job_parts.specs.Factory.{factory};
 ghost use Rattle.job_parts.specs.Reading.{TextUnread};
 ghost use Rattle.std.specs.Str.{IsUtf8};
 ghost use Rattle.machine.specs.Runs.{IsSafe};
@@ -21,16 +22,19 @@ ghost use Rattle.toml.specs.Parse.{parse_document};
 ghost use Rattle.toml.specs.View.{items_view, table_view, view};
 
 use crate::configuration::{Configuration, configuration_of};
+use crate::every_fault::Faults;
 use crate::faults::{ConfigFault, Trouble, Word};
 use crate::names::{beside, name_at, name_in};
 use crate::numbers::number_at;
-use crate::own_node::{Contents, OwnLoad, OwnNode};
+use crate::own_node::{Contents, OwnNode};
 use crate::places::{Kind, NameKey, NumberKey, Place};
 use crate::tables::{OWN, list_at, table_in};
 use bpf::{Image, ImageFault};
 use bver::{Accepted, MapSizes, Refusal, verify};
-use job_parts::factory::judging_program;
+use job_parts::factory::factory_program;
 use job_parts::faults::Fault;
+use job_parts::forms::form_line;
+use job_parts::node_codes::NodeCode;
 use job_parts::programs::{bytes_in, text_in};
 use job_parts::storage::Files;
 use node_parts::BankConfig;
@@ -50,7 +54,7 @@ pub struct ReadNode {
 /// Whether a trouble is want of memory.
 fn is_memory(trouble: Trouble) -> bool {
     match trouble {
-        Trouble::NoImage(fault) => fault == ImageFault::Memory,
+        Trouble::NoImage(fault, _) => fault == ImageFault::Memory,
         Trouble::Refused(refused) => refused.code == Refusal::Memory,
         Trouble::Unread | Trouble::TooLong { .. } => false,
     }
@@ -114,7 +118,7 @@ fn bytes_beside<F: Files>(
 }
 
 /// The bytes that a bank of a table begins with.
-fn contents_in<F: Files>(
+pub(crate) fn contents_in<F: Files>(
     alloc: Global,
     file: &str,
     files: &mut F,
@@ -154,7 +158,7 @@ fn contents_of<F: Files>(
     for index in 0..banks.len() {
         let place = Place {
             kind: Kind::Bank,
-            number: index + 1,
+            number: index,
         };
         let size = banks[index].size;
         let own = contents_in(alloc, file, files, &list[index], place, size)?;
@@ -193,59 +197,67 @@ fn all_contents<F: Files>(
     }
 }
 
-/// The path of the file that a name is of, if there is a name.
-fn path_of(alloc: Global, file: &str, name: Option<&str>) -> Result<Option<String>, AllocError>
-    ensures { IfOk result (λ path. IsPathOf file.now (option_map (λ n. n.now) name.entry)
-        (option_map string_bytes path)) }
-{
-    match name {
-        Some(name) => Ok(Some(beside(alloc, file, name)?)),
-        None => Ok(None),
-    }
-}
-
-/// Why a program does not judge; `None` where memory was refused.
-fn trouble_of(fault: &Fault<'_>) -> Option<Trouble> {
-    match fault {
-        Fault::CannotRead(_) => Some(Trouble::Unread),
-        Fault::BadImage(fault) => Some(Trouble::NoImage(*fault)),
-        Fault::Refused(refused) => Some(Trouble::Refused(*refused)),
-        _ => None,
-    }
-}
-
-/// What is wrong with a node's file of which a program has that fault.
-fn bad_program(
-    alloc: Global,
-    name: Option<&str>,
-    fault: &Fault<'_>,
-) -> Result<ConfigFault, AllocError> {
-    match (name, trouble_of(fault)) {
-        (Some(name), Some(trouble)) => bad_file(alloc, OWN, NameKey::Program, name, trouble),
-        // Memory alone can be refused to the factory program.
-        _ => Ok(ConfigFault::Memory),
-    }
-}
-
-/// The program of the image file of this name, or the factory program where there is no name.
-fn read_program<'a, F: Files>(
-    alloc: Global,
-    files: &mut F,
-    path: Option<&'a str>,
-    sizes: MapSizes,
-) -> Result<Accepted, Fault<'a>>
-    ensures held { IfOk result (λ program.
-        HoldsProgram F.reads files.old (name_in path.entry) program.program files.new) }
+/// The program that bytes spell, which may judge on a node with these maps; or why it may not.
+fn accepted(alloc: Global, bytes: &[u8], sizes: MapSizes) -> Result<Accepted, Trouble>
+    ensures spelled { IfOk result (λ program. bytes.now ≡ image_bytes program.program) }
+    ensures limits { IfOk result (λ program. IsProgram program.program) }
     ensures sizes { IfOk result (λ program. program.sizes ≡ sizes) }
-    ensures justified { IfOk result (λ program. IsJustified program.program sizes) }
-    ensures safe { IfOk result (λ program. IsSafe program.program sizes) }
+    ensures justified { IfOk result (λ program. IsJustified program.program program.sizes) }
+    ensures safe { IfOk result (λ program. IsSafe program.program program.sizes) }
+{
+    let image = match Image::read(alloc, bytes) {
+        Ok(image) => image,
+        Err(fault) => {
+            let form = form_line(alloc, bytes);
+            return Err(Trouble::NoImage(fault, form));
+        }
+    };
+    match verify(alloc, image, &sizes) {
+        Ok(program) => Ok(program),
+        Err(refused) => Err(Trouble::Refused(refused)),
+    }
+}
+
+/// The program of the image file that a key names, of at most so many bytes, which may judge on a node with these maps. It is
+/// verified here, and nowhere after.
+fn program_beside<F: Files>(
+    alloc: Global,
+    file: &str,
+    files: &mut F,
+    place: Place,
+    key: NameKey,
+    name: &str,
+    most: usize,
+    sizes: MapSizes,
+) -> Result<Accepted, ConfigFault>
+    ensures held { IfOk result (λ program.
+        HoldsProgramOf F.reads file.now name.now most files.old program files.new) }
+    ensures sizes { IfOk result (λ program. program.sizes ≡ sizes) }
     ensures read { SomeRead F.reads files.old files.new }
 {
-    judging_program(alloc, files, path, sizes)
+    let bytes = bytes_beside(alloc, file, files, place, key, name, most)?;
+    match accepted(alloc, bytes.as_slice(), sizes) {
+        Ok(program) => Ok(program),
+        Err(trouble) => Err(bad_file(alloc, place, key, name, trouble)?),
+    }
+}
+
+/// The factory program, for these maps.
+fn first_of_none(alloc: Global, sizes: MapSizes) -> Result<Accepted, ConfigFault>
+    ensures program { IfOk result (λ program. program.program ≡ factory) }
+    ensures sizes { IfOk result (λ program. program.sizes ≡ sizes) }
+    ensures justified { IfOk result (λ program. IsJustified program.program program.sizes) }
+    ensures safe { IfOk result (λ program. IsSafe program.program program.sizes) }
+{
+    // Memory alone can be refused to it.
+    match factory_program(alloc, sizes) {
+        Ok(program) => Ok(program),
+        Err(_) => Err(ConfigFault::Memory),
+    }
 }
 
 /// The program that judges in all slots at first.
-fn first_program<F: Files>(
+pub(crate) fn first_program<F: Files>(
     alloc: Global,
     file: &str,
     files: &mut F,
@@ -257,91 +269,116 @@ fn first_program<F: Files>(
     ensures sizes { IfOk result (λ program. program.sizes ≡ sizes) }
     ensures read { SomeRead F.reads files.old files.new }
 {
-    let name = name_at(table, OWN, NameKey::Program)?;
-    let path = path_of(alloc, file, name)?;
-    match read_program(alloc, files, path.as_deref(), sizes) {
-        Ok(program) => Ok(program),
-        Err(fault) => Err(bad_program(alloc, name, &fault)?),
+    let key = NameKey::Program;
+    match name_at(table, OWN, key)? {
+        Some(name) => program_beside(alloc, file, files, OWN, key, name, usize::MAX, sizes),
+        None => first_of_none(alloc, sizes),
     }
 }
 
-/// Why bytes are no image that may judge on a node with these maps, if they are none.
-fn trouble_in(alloc: Global, bytes: &[u8], sizes: MapSizes) -> Option<Trouble> {
-    let image = match Image::read(alloc, bytes) {
-        Ok(image) => image,
-        Err(fault) => return Some(Trouble::NoImage(fault)),
-    };
-    match verify(alloc, image, &sizes) {
-        Ok(_) => None,
-        Err(refused) => Some(Trouble::Refused(refused)),
-    }
+/// The slot that the table of a publish names.
+pub(crate) fn slot_in(table: &Table, place: Place) -> Result<u8, ConfigFault>
+    ensures value { number_at (table_view table.now) place Slot 0 3 ≡ result }
+    ensures few { IfOk result (λ slot. slot ≤ 3) }
+{
+    let slot = number_at(table, place, NumberKey::Slot, 0, u32::from(LAST_SLOT))?;
+    Ok(slot as u8)
 }
 
-/// The load of a table.
-fn load_in<F: Files>(
+/// The program of the image that the table of a publish names.
+pub(crate) fn image_in<F: Files>(
+    alloc: Global,
+    file: &str,
+    files: &mut F,
+    table: &Table,
+    place: Place,
+    sizes: MapSizes,
+) -> Result<Accepted, ConfigFault>
+    ensures held { IfOk result (λ program.
+        HoldsImageAt F.reads file.now place (table_view table.now) files.old program files.new) }
+    ensures sizes { IfOk result (λ program. program.sizes ≡ sizes) }
+    ensures read { SomeRead F.reads files.old files.new }
+{
+    let key = NameKey::Image;
+    let name = name_in(table, place, key)?;
+    let most = STAGING_SIZE as usize;
+    program_beside(alloc, file, files, place, key, name, most, sizes)
+}
+
+/// The publish of a table.
+fn publish_in<F: Files>(
     alloc: Global,
     file: &str,
     files: &mut F,
     item: &Value,
     place: Place,
     sizes: MapSizes,
-) -> Result<OwnLoad, ConfigFault>
-    ensures held { IfOk result (λ load.
-        HoldsLoad F.reads file.now place (view item.now) files.old load files.new) }
+) -> Result<(u8, Accepted), ConfigFault>
+    ensures held { IfOk result (λ publish.
+        HoldsPublish F.reads file.now place (view item.now) files.old publish files.new) }
+    ensures each { IfOk result (IsPublish sizes) }
     ensures read { SomeRead F.reads files.old files.new }
 {
     let table = table_in(item, place)?;
-    let slot = number_at(table, place, NumberKey::Slot, 0, u32::from(LAST_SLOT))?;
-    let name = name_in(table, place, NameKey::Image)?;
-    let most = STAGING_SIZE as usize;
-    let key = NameKey::Image;
-    let image = bytes_beside(alloc, file, files, place, key, name, most)?;
-    match trouble_in(alloc, image.as_slice(), sizes) {
-        Some(trouble) => Err(bad_file(alloc, place, key, name, trouble)?),
-        None => Ok(OwnLoad::new(slot as u8, image)),
-    }
+    let slot = slot_in(table, place)?;
+    let program = image_in(alloc, file, files, table, place, sizes)?;
+    Ok((slot, program))
 }
 
-/// The loads of a list of tables.
-fn loads_in<F: Files>(
+/// The publishes of a list of tables.
+fn publishes_in<F: Files>(
     alloc: Global,
     file: &str,
     files: &mut F,
     list: &[Value],
     sizes: MapSizes,
-) -> Result<Vec<OwnLoad>, ConfigFault>
-    ensures held { IfOk result (λ loads.
-        HoldLoads F.reads file.now 0 (items_view list.now) files.old loads.items files.new) }
+) -> Result<Vec<(u8, Accepted)>, ConfigFault>
+    ensures held { IfOk result (λ publishes.
+        HoldPublishes F.reads file.now 0 (items_view list.now) files.old publishes.items files.new) }
+    ensures each { IfOk result (λ publishes. All (IsPublish sizes) publishes.items) }
+    ensures count { IfOk result (λ publishes. length publishes.items ≤ length list.now) }
     ensures read { SomeRead F.reads files.old files.new }
 {
-    let mut loads = Vec::new(alloc);
+    let mut publishes = Vec::new(alloc);
     for index in 0..list.len() {
         let place = Place {
-            kind: Kind::Load,
-            number: index + 1,
+            kind: Kind::Publish,
+            number: index,
         };
-        let load = load_in(alloc, file, files, &list[index], place, sizes)?;
-        loads.push(load)?;
+        let publish = publish_in(alloc, file, files, &list[index], place, sizes)?;
+        publishes.push(publish)?;
     }
-    Ok(loads)
+    Ok(publishes)
 }
 
-/// What is loaded before the first packet.
-fn loads_of<F: Files>(
+/// The most publishes of a file: each has a generation of its own.
+const MOST_PUBLISHES: usize = u32::MAX as usize;
+
+/// What is published before the first packet.
+fn publishes_of<F: Files>(
     alloc: Global,
     file: &str,
     files: &mut F,
     table: &Table,
     sizes: MapSizes,
-) -> Result<Vec<OwnLoad>, ConfigFault>
-    ensures held { IfOk result (λ loads. HoldsLoads F.reads file.now (table_view table.now)
-        files.old loads.items files.new) }
+) -> Result<Vec<(u8, Accepted)>, ConfigFault>
+    ensures held { IfOk result (λ publishes. HoldsPublishes F.reads file.now (table_view table.now)
+        files.old publishes.items files.new) }
+    ensures each { IfOk result (λ publishes. All (IsPublish sizes) publishes.items) }
+    ensures few { IfOk result (λ publishes. length publishes.items ≤ 4294967295) }
     ensures read { SomeRead F.reads files.old files.new }
 {
-    match list_at(table, Kind::Load)? {
-        Some(list) => loads_in(alloc, file, files, list, sizes),
-        None => Ok(Vec::new(alloc)),
+    let Some(list) = list_at(table, Kind::Publish)? else {
+        return Ok(Vec::new(alloc));
+    };
+    let count = list.len();
+    if count > MOST_PUBLISHES {
+        return Err(ConfigFault::BadCount {
+            kind: Kind::Publish,
+            count,
+        });
     }
+    publishes_in(alloc, file, files, list, sizes)
 }
 
 /// The node of this configuration, which is that of the table, with what stands in the files that the table names.
@@ -367,8 +404,8 @@ fn node_with<F: Files>(
     } = configuration;
     let contents = all_contents(alloc, file, files, table, banks.as_slice())?;
     let program = first_program(alloc, file, files, table, sizes)?;
-    let loads = loads_of(alloc, file, files, table, sizes)?;
-    let node = OwnNode::of_parts(address, ports, banks, contents, sizes, loads);
+    let publishes = publishes_of(alloc, file, files, table, sizes)?;
+    let node = OwnNode::of_parts(address, ports, banks, contents, sizes, publishes);
     Ok(ReadNode { node, program })
 }
 
@@ -410,45 +447,141 @@ fn table_of(alloc: Global, text: &str) -> Result<Table, ConfigFault>
     }
 }
 
-/// The configuration that a text says.
-fn configuration_of_text(alloc: Global, text: &str) -> Result<Configuration, ConfigFault>
-    ensures says { IfOk result (λ c. (table : Members) × (parse_document text.now ≡ Some table)
-        × IsConfiguration table c) }
-    ensures bad { IfErr result (IsBadText text.now) }
-    ensures within { IfOk result (λ c. are_within c.banks.items ≡ true) }
+/// What ends a job whose node's file has a fault with that code, or for `None` one to which memory was refused; each of its faults
+/// is in that text, if there was memory for it.
+fn ended<'a>(code: Option<NodeCode>, text: Result<String, AllocError>) -> Fault<'a>
+    ensures { Ends code result }
 {
-    let table = table_of(alloc, text)?;
-    configuration_of(alloc, &table)
-}
-
-/// The node that a text says, whose file has this name, with what stands in the files that it names.
-fn node_of_text<F: Files>(
-    alloc: Global,
-    file: &str,
-    text: &str,
-    files: &mut F,
-) -> Result<ReadNode, ConfigFault>
-    ensures held { IfOk result (λ made. (table : Members) × (parse_document text.now ≡ Some table)
-        × HoldsParts F.reads file.now table files.old made.node made.program files.new) }
-    ensures bad { IfErr result (λ fault. IsBadNode F.reads text.now files.old fault files.new) }
-    ensures read { SomeRead F.reads files.old files.new }
-{
-    let table = table_of(alloc, text)?;
-    let configuration = configuration_of(alloc, &table)?;
-    node_with(alloc, file, files, &table, configuration)
+    let (Some(code), Ok(place)) = (code, text) else {
+        return Fault::NoMemory;
+    };
+    Fault::BadNode { code, place }
 }
 
 /// What ends a job whose node's file, which has this name, has that fault.
-pub fn fault_of<'a>(alloc: Global, name: &str, fault: &ConfigFault) -> Fault<'a>
+fn fault_of<'a>(alloc: Global, name: &str, fault: &ConfigFault) -> Fault<'a>
     ensures { Ends (code_of fault.now) result }
 {
-    let Some(code) = fault.code() else {
-        return Fault::NoMemory;
-    };
-    match format!(in alloc; "{name} {fault}") {
-        Ok(place) => Fault::BadNode { code, place },
-        Err(_) => Fault::NoMemory,
+    ended(fault.code(), format!(in alloc; "{name} {fault}"))
+}
+
+/// The faults of the numbers of that table, which is the node's file of this name, of which that is the first.
+fn number_faults(
+    alloc: Global,
+    name: &str,
+    table: &Table,
+    fault: &ConfigFault,
+) -> Result<String, AllocError> {
+    let mut faults = Faults::new(alloc, name);
+    faults.note_numbers(alloc, table)?;
+    if faults.is_empty() {
+        faults.add(fault)?;
     }
+    Ok(faults.into_text())
+}
+
+/// The faults of the files that the table of the node's file of this name names, of which that is the first that was found.
+fn named_faults<F: Files>(
+    alloc: Global,
+    name: &str,
+    files: &mut F,
+    table: &Table,
+    fault: &ConfigFault,
+) -> Result<String, AllocError>
+    ensures read { SomeRead F.reads files.old files.new }
+{
+    let mut faults = Faults::new(alloc, name);
+    faults.note_named(alloc, files, table)?;
+    if faults.is_empty() {
+        // A file that it names has changed since it was read.
+        faults.add(fault)?;
+    }
+    Ok(faults.into_text())
+}
+
+/// The configuration of that table, which is the node's file of this name; or what ends the job.
+fn configured<'a>(alloc: Global, name: &str, table: &Table) -> Result<Configuration, Fault<'a>>
+    ensures says { IfOk result (IsConfiguration (table_view table.now)) }
+    ensures bad { IfErr result (λ end. EndsBy end (IsBadConfiguration (table_view table.now))) }
+    ensures banks { IfOk result (λ c. banks_at (table_view table.now) ≡ Ok c.banks.items) }
+    ensures within { IfOk result (λ c. are_within c.banks.items ≡ true) }
+{
+    match configuration_of(alloc, table) {
+        Ok(configuration) => Ok(configuration),
+        Err(fault) => {
+            let faults = number_faults(alloc, name, table, &fault);
+            Err(ended(fault.code(), faults))
+        }
+    }
+}
+
+/// The table of that text, which is the node's file of this name; or what ends the job.
+fn tabled<'a>(alloc: Global, name: &str, text: &str) -> Result<Table, Fault<'a>>
+    ensures table { IfOk result (λ table. parse_document text.now ≡ Some (table_view table)) }
+    ensures bad { IfErr result (λ end. EndsBy end (IsNoTable text.now)) }
+{
+    match table_of(alloc, text) {
+        Ok(table) => Ok(table),
+        Err(fault) => Err(fault_of(alloc, name, &fault)),
+    }
+}
+
+/// The node of that table, which is the node's file of this name, and of the files that it names; or what ends the job.
+fn noded<'a, F: Files>(
+    alloc: Global,
+    name: &str,
+    files: &mut F,
+    table: &Table,
+    configuration: Configuration,
+) -> Result<ReadNode, Fault<'a>>
+    requires configured { IsConfiguration (table_view table.now) configuration }
+    requires banks { banks_at (table_view table.now) ≡ Ok configuration.banks.items }
+    requires within { are_within configuration.banks.items ≡ true }
+    ensures held { IfOk result (λ made. HoldsParts F.reads name.now (table_view table.now)
+        files.old made.node made.program files.new) }
+    ensures bad { IfErr result (λ end. EndsBy end (λ _. Unit {0})) }
+    ensures read { SomeRead F.reads files.old files.new }
+{
+    match node_with(alloc, name, files, table, configuration) {
+        Ok(node) => Ok(node),
+        Err(fault) => {
+            let faults = named_faults(alloc, name, files, table, &fault);
+            Err(ended(fault.code(), faults))
+        }
+    }
+}
+
+/// The configuration that a text says, which is that of the node's file of this name.
+fn configuration_of_text<'a>(
+    alloc: Global,
+    name: &str,
+    text: &str,
+) -> Result<Configuration, Fault<'a>>
+    ensures says { IfOk result (λ c. (table : Members) × (parse_document text.now ≡ Some table)
+        × IsConfiguration table c) }
+    ensures bad { IfErr result (λ end. EndsBy end (IsBadText text.now)) }
+    ensures within { IfOk result (λ c. are_within c.banks.items ≡ true) }
+{
+    let table = tabled(alloc, name, text)?;
+    configured(alloc, name, &table)
+}
+
+/// The node that a text says, which is that of the node's file of this name, with what is in the files that it names.
+fn node_of_text<'a, F: Files>(
+    alloc: Global,
+    name: &str,
+    text: &str,
+    files: &mut F,
+) -> Result<ReadNode, Fault<'a>>
+    ensures held { IfOk result (λ made. (table : Members) × (parse_document text.now ≡ Some table)
+        × HoldsParts F.reads name.now table files.old made.node made.program files.new) }
+    ensures bad { IfErr result (λ end.
+        EndsBy end (λ fault. IsBadNode F.reads text.now files.old fault files.new)) }
+    ensures read { SomeRead F.reads files.old files.new }
+{
+    let table = tabled(alloc, name, text)?;
+    let configuration = configured(alloc, name, &table)?;
+    noded(alloc, name, files, &table, configuration)
 }
 
 /// The text of the file of this name.
@@ -465,7 +598,8 @@ fn read_text<'a, F: Files>(alloc: Global, files: &mut F, name: &'a str) -> Resul
 /// in all slots at first.
 ///
 /// Faults are found in this order: the file (`CannotRead`, also where it is not UTF-8), that it is no TOML, a key that is
-/// unknown, the address, the ports, the banks, the maps, the contents of banks, the program, and the loads (`BadNode`).
+/// unknown, the address, the ports, the banks, the maps, the contents of banks, the program, and the publishes (`BadNode`). The text
+/// beside the first has a line for each; for those of the files that the file names only if it has no other.
 pub fn node_in<'a, F: Files>(
     alloc: Global,
     files: &mut F,
@@ -476,16 +610,13 @@ pub fn node_in<'a, F: Files>(
     ensures none { IfErr result (λ fault. ReadsNoNode F.reads name.now files.old fault files.new) }
 {
     let text = read_text(alloc, files, name)?;
-    match node_of_text(alloc, name, text.as_str(), files) {
-        Ok(node) => Ok(node),
-        Err(fault) => Err(fault_of(alloc, name, &fault)),
-    }
+    node_of_text(alloc, name, text.as_str(), files)
 }
 
 /// The configuration of the node's file of this name. Of the files that it names none is read.
 ///
 /// Faults are found in this order: the file (`CannotRead`, also where it is not UTF-8), that it is no TOML, a key that is
-/// unknown, the address, the ports, the banks and the maps (`BadNode`).
+/// unknown, the address, the ports, the banks and the maps (`BadNode`). The text beside the first has a line for each.
 pub fn configuration_in<'a, F: Files>(
     alloc: Global,
     files: &mut F,
@@ -497,8 +628,5 @@ pub fn configuration_in<'a, F: Files>(
     ensures within { IfOk result (λ c. are_within c.banks.items ≡ true) }
 {
     let text = read_text(alloc, files, name)?;
-    match configuration_of_text(alloc, text.as_str()) {
-        Ok(configuration) => Ok(configuration),
-        Err(fault) => Err(fault_of(alloc, name, &fault)),
-    }
+    configuration_of_text(alloc, name, text.as_str())
 }

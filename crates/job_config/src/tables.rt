@@ -33,7 +33,7 @@ pub fn list_at(table: &Table, kind: Kind) -> Result<Option<&[Value]>, ConfigFaul
     };
     match value.as_array() {
         Some(list) => Ok(Some(list.as_slice())),
-        None => Err(ConfigFault::NoTable(Place { kind, number: 0 })),
+        None => Err(ConfigFault::NoList(kind)),
     }
 }
 

@@ -20,6 +20,12 @@ use Rattle.linking.specs.declared.link.Broken.{Broken}
 use Rattle.linking.specs.declared.link.Broken.TheVariants.{Unread, Unsent, Untold, NoMemory as NoRoom}
 use Rattle.job_frames.specs.Answering.{Answers, AnsweringValue, EndsWith, Refuses, first_answering}
 
+-- the exit status of a link that was held to its end: between two packets, and without a text that was lost, or not
+abbrev pub status_of : (is_whole has_lost : Bool) → Status
+status_of true true = Failed
+status_of true false = Done
+status_of false has_lost = Failed
+
 -- whether bytes ended between two frames, and no packet goes on
 abbrev pub ends_whole : Reading → AnsweringValue → Bool
 ends_whole read behind = is_between read && not behind.is_open
@@ -134,13 +140,18 @@ module _ {S L : Type 0} (reads : Reads S) (came sent told : Moves L) (unread : F
     pub unheld : IsUnheld before after start broken (Ended fault)
     pub lost : TellsLast untold fault broken stop
 
-  -- the exit status is 0 where a link was held to its end between two packets, and 1 where it ended within a frame or a
-  -- packet, or a fault cut it off
-  abbrev pub LivesFrames : (before after : S) (start stop : L) → Status → Type 0
-  LivesFrames before after start stop Done = HoldsFrames before after start stop true
-  LivesFrames before after start stop Failed =
-      HoldsFrames before after start stop false ⊎ TellsFault before after start stop
-  LivesFrames before after start stop Misused = ⊥
+  -- a link was held to its end, but it ended within a frame or a packet, or a text was lost
+  abbrev pub HoldsBadly : (lost : L → Bool) (before after : S) (start stop : L) → Type 0
+  HoldsBadly lost before after start stop =
+      HoldsFrames before after start stop false ⊎ (HoldsFrames before after start stop true × (lost stop ≡ true))
+
+  -- the exit status is 0 where a link was held to its end between two packets and no text was lost, and 1 where it ended within
+  -- a frame or a packet, a text was lost, or a fault cut it off
+  abbrev pub LivesFrames : (lost : L → Bool) (before after : S) (start stop : L) → Status → Type 0
+  LivesFrames lost before after start stop Done = HoldsFrames before after start stop true × (lost stop ≡ false)
+  LivesFrames lost before after start stop Failed =
+      HoldsBadly lost before after start stop ⊎ TellsFault before after start stop
+  LivesFrames lost before after start stop Misused = ⊥
 
   -- the last bytes could not be sent, or the last text not be told: of a frame, of the end, or of a fault
   abbrev pub IsFramesUnsent : (before after : S) (start stop : L) → WriteFault → Type 0

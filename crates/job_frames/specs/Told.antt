@@ -30,6 +30,6 @@ served_text frame Unread = []
 served_text frame (Done applied) = []
 served_text frame (Window status) = []
 
--- a text is behind what was told before, or it is counted as one more that could not be told
+-- a text is behind what was told before, or it is counted as one more that could not be told: then the talk ends with status 1
 abbrev pub IsTold : (old new : Option (List ℕ)) → List ℕ → (before after : ℕ) → Type 0
 IsTold old new text before after = (Appends old new text × (after ≡ before)) ⊎ (after ≡ min (before + 1) (2 ^ 64 - 1))

@@ -1,9 +1,8 @@
 //! The job `live --frames`.
 
-ghost use Rattle.std.specs.Prelude.{◌≡◌, IfErr, IfOk, OnOk, if◌then◌else◌};
-ghost use Rattle.job_parts.specs.declared.status.Status.TheVariants.{Done, Failed};
+ghost use Rattle.std.specs.Prelude.{◌≡◌, IfErr, IfOk, OnOk};
 ghost use Rattle.job_live.specs.LiveJob.{TellsLast};
-ghost use Rattle.job_frames.specs.FramesJob.{AreReady, HoldsFrames, HoldsLink, IsEndUntold, IsFramesUnsent, IsHalt, IsNoLink, IsUnheld, LivesFrames, StopsLink, TellsEnd};
+ghost use Rattle.job_frames.specs.FramesJob.{AreReady, HoldsFrames, HoldsLink, IsEndUntold, IsFramesUnsent, IsHalt, IsNoLink, IsUnheld, LivesFrames, StopsLink, TellsEnd, status_of};
 
 use crate::answering::Answering;
 use frames::FrameReader;
@@ -118,24 +117,29 @@ fn tell<L: Link>(alloc: Global, fault: &Fault<'_>, link: &mut L) -> Result<(), W
 }
 
 /// The exit status of a link that was held to its end.
-fn status_of(is_whole: bool) -> Status
-    ensures { result ≡ (if is_whole then Done else Failed) }
+fn status_of(is_whole: bool, has_lost: bool) -> Status
+    ensures { result ≡ status_of is_whole has_lost }
 {
     if is_whole {
-        Status::Done
+        if has_lost {
+            Status::Failed
+        } else {
+            Status::Done
+        }
     } else {
         Status::Failed
     }
 }
 
 /// Answers the frames of a link as they come, at port 0 of the node of these words, and gives the exit status:
-/// `Failed` where the input ended within a frame or a packet, or a fault cut the link off, else `Done`. The reply to a
-/// packet is sent before other bytes are asked for, and what is told of it after that.
+/// `Failed` where the input ended within a frame or a packet, a text was lost, or a fault cut the link off, else `Done`. The
+/// reply to a packet is sent before other bytes are asked for, and what is told of it after that.
 ///
 /// What cuts it off is told last: what [`node_from`] refuses, `CannotRead` where bytes cannot be read, `NoMemory`.
 ///
 /// `WriteFault` where a reply could not be sent, or a text be told; nothing is sent or told after that. Where a node's file is
 /// bad, `place` is then where, for the user.
+#[tactic(auto, using(crate::proofs::Ended::ends))]
 pub fn live_frames<F: Files, L: Link>(
     alloc: Global,
     words: &LiveWords,
@@ -144,12 +148,12 @@ pub fn live_frames<F: Files, L: Link>(
     place: &mut Option<String>,
 ) -> Result<Status, WriteFault>
     ensures lives { IfOk result (LivesFrames F.reads L.came L.sent L.told L.unread L.unsent L.untold
-        words.now files.old files.new link.old link.new) }
+        words.now L.lost files.old files.new link.old link.new) }
     ensures unsent { IfErr result (IsFramesUnsent F.reads L.came L.sent L.told L.unread L.unsent
         L.untold words.now files.old files.new link.old link.new) }
 {
     match hold_on(alloc, words, files, link) {
-        Ok(is_whole) => Ok(status_of(is_whole)),
+        Ok(is_whole) => Ok(status_of(is_whole, link.has_lost())),
         Err(halt) => {
             let fault = halt.fault()?;
             tell(alloc, &fault, link)?;

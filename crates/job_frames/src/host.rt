@@ -8,7 +8,7 @@ use std::io::{self, Read, Write};
 
 /// A link over a reader and a writer, and a writer for what is told, as standard error. It asks the reader for what there is: a
 /// buffer that waits to be filled would hold a command back. If what is told cannot be written, nothing ends: how many such
-/// texts there were is counted.
+/// texts there were is counted, and the talk then ends with status 1.
 #[derive(Drop)]
 pub struct HostLink<I: Read + Drop, W: Write + Drop, E: Write + Drop> {
     input: I,
@@ -59,7 +59,7 @@ impl<I: Read + Drop, W: Write + Drop, E: Write + Drop> HostLink<I, W, E> {
 }
 
 impl<I: Read + Drop, W: Write + Drop, E: Write + Drop> Link for HostLink<I, W, E> {
-    ghost use Rattle.std.specs.Prelude.{ℕ, List, Option, ⊤};
+    ghost use Rattle.std.specs.Prelude.{ℕ, List, Option, nat_lt, ⊤};
     ghost use Rattle.std.specs.Io.KnownBytes.{Appends, Consumes, Keeps};
     ghost use Rattle.job_frames.specs.Told.{IsTold};
 
@@ -77,6 +77,8 @@ impl<I: Read + Drop, W: Write + Drop, E: Write + Drop> Link for HostLink<I, W, E
     ghost unsent = { λ _ _ _. ⊤ };
 
     ghost untold = { λ _ _ _. ⊥ };
+
+    ghost lost = { λ link. nat_lt 0 link.untold };
 
     fn receive(&mut self, room: &mut [u8]) -> Result<usize, Cannot> {
         self.input.read(room).map_err(|_| Cannot)
@@ -98,5 +100,9 @@ impl<I: Read + Drop, W: Write + Drop, E: Write + Drop> Link for HostLink<I, W, E
                 Ok(())
             }
         }
+    }
+
+    fn has_lost(&self) -> bool {
+        0 < self.untold
     }
 }

@@ -58,19 +58,19 @@ abbrev pub programs_units : ImageSize → ℕ
 programs_units size =
     5 * kept_units size.slots + block size.slots + block (2 * size.slots) + block (1368 * size.entries)
 
--- the gaps that programs of several sizes leave if there are loads: one as long as the longest list of a program, and some more for each
--- of up to eight loads
-abbrev pub gaps_units : (loads : ℕ) → ImageSize → ℕ
-gaps_units loads size = min loads 1 * block (32 * size.slots) + min loads 8 * block (4 * size.slots)
+-- the gaps that programs of several sizes leave if some are published: one as long as the longest list of a program, and some more for
+-- each of up to eight publishes
+abbrev pub gaps_units : (publishes : ℕ) → ImageSize → ℕ
+gaps_units publishes size = min publishes 1 * block (32 * size.slots) + min publishes 8 * block (4 * size.slots)
 
 -- all of a node with images of at most that size, and one packet more than its journals have room for
 abbrev pub node_units : OwnNodeValue → ImageSize → ℕ
 node_units own size =
     546 + banks_units own.ports own.banks + ports_units own.ports (length own.banks) + maps_units own.sizes
-    + programs_units size + gaps_units (length own.loads) size
+    + programs_units size + gaps_units (length own.publishes) size
 
 -- the bytes of the pool of a node whose slots have at first that program
 pub record IsPool (own : OwnNodeValue) (program : AcceptedValue) (bytes : ℕ) : Type 0 where
   pub size : ImageSize
-  pub largest : AreLargest program.program own.loads size
+  pub largest : AreLargest program.program own.publishes size
   pub is : bytes ≡ 16 * node_units own size

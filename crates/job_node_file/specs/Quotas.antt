@@ -12,7 +12,7 @@ use Rattle.policy_table.specs.declared.rules.Quota.{Quota}
 use Rattle.policy_table.specs.declared.text_faults.TextFault.{TextFault}
 use Rattle.spw.specs.Line.{lines_of}
 use Rattle.machine.specs.Sizes.{Maps}
-use Rattle.job_config.specs.OwnNodes.{LoadValue, OwnNodeValue}
+use Rattle.job_config.specs.OwnNodes.{OwnNodeValue}
 use Rattle.job_config.specs.Reads.{Ends}
 use Rattle.job_parts.specs.Files.{Reads}
 use Rattle.job_parts.specs.Reading.{TextUnread}
@@ -32,14 +32,18 @@ abbrev pub quotas_in : List PortRule → List Quota
 quotas_in [] = []
 quotas_in (own ∷ rules) = quota_list own.rule.quota ++ quotas_in rules
 
--- whether an image is that of a load
-abbrev pub is_loaded : (image : List ℕ) → List LoadValue → Bool
-is_loaded image [] = false
-is_loaded image (load ∷ loads) = bytes_eq image load.image || is_loaded image loads
+-- whether bytes are the image of a program
+abbrev pub is_image : (image : List ℕ) → AcceptedValue → Bool
+is_image image program = bytes_eq image (image_bytes program.program)
 
--- whether an image is that of the program that judges at first, or of a load
-abbrev pub is_flown : (image first : List ℕ) → List LoadValue → Bool
-is_flown image first loads = bytes_eq image first || is_loaded image loads
+-- whether bytes are the image of a program that is published
+abbrev pub is_published : (image : List ℕ) → List (ℕ × AcceptedValue) → Bool
+is_published image [] = false
+is_published image (publish ∷ publishes) = is_image image publish.1 || is_published image publishes
+
+-- whether bytes are the image of the program that judges at first, or of one that is published
+abbrev pub is_flown : (image : List ℕ) → (first : AcceptedValue) → List (ℕ × AcceptedValue) → Bool
+is_flown image first publishes = is_image image first || is_published image publishes
 
 -- why lines are no table that compiles for these maps: they are no table, or it has this fault, or memory was refused
 abbrev pub IsTableFault : Maps → (lines : List (List ℕ)) → TextFault → Type 0
@@ -58,7 +62,7 @@ pub record AreQuotas (own : OwnNodeValue) (program : AcceptedValue) (text : List
   pub policy : PolicyValue
   pub compiled : Program
   pub table : HasTable own text policy compiled
-  pub flown : is_flown (image_bytes compiled) (image_bytes program.program) own.loads ≡ true
+  pub flown : is_flown (image_bytes compiled) program own.publishes ≡ true
   pub are : quotas ≡ quotas_in policy.rules
 
 -- the text is that of such a table, of which the node's file does not name the image
@@ -66,7 +70,7 @@ pub record IsOtherTable (own : OwnNodeValue) (program : AcceptedValue) (text : L
   pub policy : PolicyValue
   pub compiled : Program
   pub table : HasTable own text policy compiled
-  pub other : is_flown (image_bytes compiled) (image_bytes program.program) own.loads ≡ false
+  pub other : is_flown (image_bytes compiled) program own.publishes ≡ false
 
 -- why a text has no quotas: its table has a fault, the node's file does not name its image, or memory was refused after the table
 abbrev pub IsNoQuotas : OwnNodeValue → AcceptedValue → (text : List ℕ) → Fault → Type 0

@@ -1,12 +1,11 @@
 //! How large the images of a node are, by which its pool is reckoned.
 
 ghost use Rattle.std.specs.Prelude.{◌≡◌, IfOk};
-ghost use Rattle.job_node_file.specs.Images.{AreLargest, HasEntries, IsSizeOf, IsSizeOfLoad, larger};
+ghost use Rattle.job_node_file.specs.Images.{AreLargest, HasEntries, IsSizeOf, larger};
 
 use bpf::Image;
 use bver::Accepted;
 use bver_form::{NOWHERE, kept_slots, number_slots};
-use job_config::own_node::OwnLoad;
 use std::alloc::{AllocError, Global};
 
 /// How large an image is.
@@ -48,26 +47,24 @@ fn size_of(alloc: Global, image: &Image) -> Result<ImageSize, AllocError>
     Ok(ImageSize { slots, entries })
 }
 
-/// How large the image of a load is.
-fn size_of_load(alloc: Global, load: &OwnLoad) -> Result<ImageSize, AllocError>
-    ensures { IfOk result (IsSizeOfLoad load.now) }
+/// How large the image of a publish is.
+fn size_of_publish(alloc: Global, publish: &(u8, Accepted)) -> Result<ImageSize, AllocError>
+    ensures { IfOk result (IsSizeOf publish.now.1.program) }
 {
-    // The node's file was read with an image that may judge: memory alone can be refused to it.
-    let image = Image::read(alloc, load.image()).map_err(|_| AllocError)?;
-    size_of(alloc, &image)
+    size_of(alloc, publish.1.image())
 }
 
-/// The most slots of the program and of the images that are loaded, and the most at which the verifier keeps what is known.
+/// The most slots of the program and of the programs that are published, and the most at which the verifier keeps what is known.
 pub fn largest(
     alloc: Global,
     program: &Accepted,
-    loads: &[OwnLoad],
+    publishes: &[(u8, Accepted)],
 ) -> Result<ImageSize, AllocError>
-    ensures { IfOk result (AreLargest program.now.program loads.now) }
+    ensures { IfOk result (AreLargest program.now.program publishes.now) }
 {
     let mut most = size_of(alloc, program.image())?;
-    for load in loads {
-        let size = size_of_load(alloc, load)?;
+    for publish in publishes {
+        let size = size_of_publish(alloc, publish)?;
         most = most.with(size);
     }
     Ok(most)

@@ -14,10 +14,9 @@ ghost use Rattle.job_parts.specs.Inputs.{AreInputs};
 
 use crate::pool::pool_of;
 use crate::quotas::{add_header_end, add_quota_lines, asked_quotas, asked_text};
-use bpf::Image;
 use bver::Accepted;
 use clap::{ArgMatches, Command};
-use job_config::own_node::{OwnLoad, OwnNode};
+use job_config::own_node::OwnNode;
 use job_config::reading::{ReadNode, node_in};
 use job_parts::arguments::{file, flag, is_set, name_of, option};
 use job_parts::inputs::{Content, InputFile, Inputs};
@@ -63,17 +62,17 @@ const HEAD: &str = "\
 
 ";
 
-/// Adds the address of the node, and how many ports, banks, maps and loads it has.
+/// Adds the address of the node, and how many ports, banks, maps and publishes it has.
 fn add_c_numbers(text: &mut String, node: &OwnNode) -> Result<(), AllocError> {
     let (address, ports, banks) = (node.address(), node.ports(), node.banks().len());
-    let (maps, loads) = (node.sizes().maps(), node.loads().len());
+    let (maps, publishes) = (node.sizes().maps(), node.publishes().len());
     write!(
         text,
         "#define NODE_ADDRESS 0x{address:02X}\n#define NODE_PORTS {ports}\n#define NODE_BANKS {banks}\n"
     )?;
     write!(
         text,
-        "#define NODE_MAPS {maps}\n#define NODE_LOADS {loads}\n"
+        "#define NODE_MAPS {maps}\n#define NODE_PUBLISHES {publishes}\n"
     )
 }
 
@@ -120,20 +119,22 @@ fn add_contents(text: &mut String, node: &OwnNode) -> Result<(), AllocError> {
     text.push_str("};\n")
 }
 
-/// Adds the images that are loaded, and a row for each load.
-fn add_loads(text: &mut String, node: &OwnNode) -> Result<(), AllocError> {
-    let loads = node.loads();
-    for place in 0..loads.len() {
-        writeln!(text, "\nstatic const uint8_t node_load_{place}[] = {{")?;
-        add_c_bytes(text, loads[place].image())?;
+/// Adds the images that are published, and a row for each publish.
+fn add_publishes(text: &mut String, node: &OwnNode) -> Result<(), AllocError> {
+    let publishes = node.publishes();
+    for place in 0..publishes.len() {
+        let image = publishes[place].1.image().write()?;
+        writeln!(text, "\nstatic const uint8_t node_publish_{place}[] = {{")?;
+        add_c_bytes(text, image.as_slice())?;
     }
     text.push_str("\nstatic const struct { uint8_t slot; const uint8_t *image; ")?;
-    text.push_str("size_t length; } node_loads[] = {\n")?;
-    for place in 0..loads.len() {
-        let (slot, count) = (loads[place].slot(), loads[place].image().len());
-        writeln!(text, "  {{{slot}, node_load_{place}, {count}}},")?;
+    text.push_str("size_t length; } node_publishes[] = {\n")?;
+    for place in 0..publishes.len() {
+        let (slot, image) = (publishes[place].0, publishes[place].1.image().write()?);
+        let count = image.len();
+        writeln!(text, "  {{{slot}, node_publish_{place}, {count}}},")?;
     }
-    if loads.is_empty() {
+    if publishes.is_empty() {
         text.push_str("  {0, 0, 0},\n")?;
     }
     text.push_str("};\n")
@@ -149,7 +150,7 @@ fn header_text(alloc: Global, node: &OwnNode, program: &Accepted) -> Result<Stri
     text.push_str("\nstatic const uint8_t node_image[] = {\n")?;
     add_c_bytes(&mut text, image.as_slice())?;
     add_contents(&mut text, node)?;
-    add_loads(&mut text, node)?;
+    add_publishes(&mut text, node)?;
     Ok(text)
 }
 
@@ -211,21 +212,19 @@ fn add_maps(text: &mut String, sizes: &MapSizes) -> Result<(), AllocError> {
     Ok(())
 }
 
-/// Adds a load: `load N slot N weight N`.
-fn add_load(
+/// Adds a publish: `publish N slot N weight N`, with its generation.
+fn add_publish(
     text: &mut String,
-    alloc: Global,
-    number: usize,
-    load: &OwnLoad,
+    generation: usize,
+    slot: u8,
+    program: &Accepted,
 ) -> Result<(), AllocError> {
-    // The node's file was read with an image that may judge: memory alone can be refused to it.
-    let image = Image::read(alloc, load.image()).map_err(|_| AllocError)?;
-    let (slot, weight) = (load.slot(), image.weight());
-    writeln!(text, "load {number} slot {slot} weight {weight}")
+    let weight = program.image().weight();
+    writeln!(text, "publish {generation} slot {slot} weight {weight}")
 }
 
 /// The lines of a node: its logical address, how many ports it has, its banks and maps, what the program costs at most that judges
-/// at first, and what is loaded before the first packet.
+/// at first, and the programs that are published before the first packet.
 fn node_text(alloc: Global, node: &OwnNode, program: &Accepted) -> Result<String, AllocError> {
     let mut text = String::new(alloc);
     let (address, ports) = (node.address(), node.ports());
@@ -234,10 +233,10 @@ fn node_text(alloc: Global, node: &OwnNode, program: &Accepted) -> Result<String
     add_maps(&mut text, &node.sizes())?;
     let weight = program.image().weight();
     writeln!(text, "program weight {weight}")?;
-    let mut number: usize = 0;
-    for load in node.loads() {
-        number = number.saturating_add(1);
-        add_load(&mut text, alloc, number, load)?;
+    let mut generation: usize = 0;
+    for (slot, program) in node.publishes() {
+        generation = generation.saturating_add(1);
+        add_publish(&mut text, generation, *slot, program)?;
     }
     Ok(text)
 }

@@ -127,12 +127,12 @@ fn programs_units(size: ImageSize) -> u64
 }
 
 /// The units of the gaps that programs of several sizes leave.
-fn gaps_units(loads: usize, size: ImageSize) -> u64
-    ensures units { result ≡ gaps_units loads size }
+fn gaps_units(publishes: usize, size: ImageSize) -> u64
+    ensures units { result ≡ gaps_units publishes size }
     ensures few { result < 2 ^ 20 }
 {
     let slots = u64::from(size.slots);
-    loads.min(1) as u64 * block(32 * slots) + loads.min(8) as u64 * block(4 * slots)
+    publishes.min(1) as u64 * block(32 * slots) + publishes.min(8) as u64 * block(4 * slots)
 }
 
 /// The bytes of a pool over which a node with images of at most that size serves without want of memory.
@@ -145,7 +145,7 @@ fn node_bytes(node: &OwnNode, size: ImageSize) -> u64
         + ports_units(node.ports(), banks.len())
         + maps_units(&node.sizes())
         + programs_units(size)
-        + gaps_units(node.loads().len(), size);
+        + gaps_units(node.publishes().len(), size);
     16 * units
 }
 
@@ -154,6 +154,6 @@ fn node_bytes(node: &OwnNode, size: ImageSize) -> u64
 pub fn pool_of(alloc: Global, node: &OwnNode, program: &Accepted) -> Result<u64, AllocError>
     ensures { IfOk result (IsPool node.now program.now) }
 {
-    let size = largest(alloc, program, node.loads())?;
+    let size = largest(alloc, program, node.publishes())?;
     Ok(node_bytes(node, size))
 }

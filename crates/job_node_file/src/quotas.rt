@@ -3,7 +3,7 @@
 ghost use Rattle.std.specs.Prelude.{◌≡◌, ◌++◌, IfErr, IfOk, OnOk, Some, length, option_map, string_bytes};
 ghost use Rattle.std.specs.List.{flat_map};
 ghost use Rattle.job_config.specs.Reads.{Ends};
-ghost use Rattle.job_node_file.specs.Quotas.{AreAsked, AreNotAsked, AreQuotas, IsNoQuotas, IsTableFault, ReadsAsked, ReadsNotAsked, c_asked, c_quotas, header_end, is_flown, is_loaded, lines_asked, quota_line, quota_list, quota_row, quota_rows, quotas_head, quotas_in};
+ghost use Rattle.job_node_file.specs.Quotas.{AreAsked, AreNotAsked, AreQuotas, IsNoQuotas, IsTableFault, ReadsAsked, ReadsNotAsked, c_asked, c_quotas, header_end, is_flown, is_published, lines_asked, quota_line, quota_list, quota_row, quota_rows, quotas_head, quotas_in};
 ghost use Rattle.job_parts.specs.declared.node_codes.NodeCode.TheVariants.{Program as NoImage};
 ghost use Rattle.policy.specs.Compiled.{IsPortCompiled};
 ghost use Rattle.policy_table.specs.Policies.{WritesPolicy};
@@ -11,7 +11,7 @@ ghost use Rattle.spw.specs.Line.{lines_of};
 
 use bpf::Image;
 use bver::Accepted;
-use job_config::own_node::{OwnLoad, OwnNode};
+use job_config::own_node::OwnNode;
 use job_parts::faults::Fault;
 use job_parts::node_codes::NodeCode;
 use job_parts::programs::text_in;
@@ -34,23 +34,38 @@ fn quotas_in(alloc: Global, rules: &[PortRule]) -> Result<Vec<Quota>, AllocError
     Ok(quotas)
 }
 
-/// Whether an image is that of a load.
-fn is_loaded(image: &[u8], loads: &[OwnLoad]) -> bool
-    ensures { result ≡ is_loaded image.now loads.now }
+/// Whether these bytes are the image of a program.
+fn is_image(image: &[u8], program: &Accepted) -> Result<bool, AllocError>
+    ensures { IfOk result (λ is. is ≡ is_image image.now program.now) }
 {
-    for load in loads {
-        if image == load.image() {
-            return true;
-        }
-    }
-    false
+    let bytes = program.image().write()?;
+    Ok(image == bytes.as_slice())
 }
 
-/// Whether an image is that of the program that judges at first, or of a load.
-fn is_flown(image: &[u8], first: &[u8], loads: &[OwnLoad]) -> bool
-    ensures { result ≡ is_flown image.now first.now loads.now }
+/// Whether these bytes are the image of a program that is published.
+fn is_published(image: &[u8], publishes: &[(u8, Accepted)]) -> Result<bool, AllocError>
+    ensures { IfOk result (λ is. is ≡ is_published image.now publishes.now) }
 {
-    image == first || is_loaded(image, loads)
+    for publish in publishes {
+        if is_image(image, &publish.1)? {
+            return Ok(true);
+        }
+    }
+    Ok(false)
+}
+
+/// Whether these bytes are the image of the program that judges at first, or of one that is published.
+fn is_flown(
+    image: &[u8],
+    first: &Accepted,
+    publishes: &[(u8, Accepted)],
+) -> Result<bool, AllocError>
+    ensures { IfOk result (λ is. is ≡ is_flown image.now first.now publishes.now) }
+{
+    if is_image(image, first)? {
+        return Ok(true);
+    }
+    is_published(image, publishes)
 }
 
 /// The table that a text writes, and its image on a node with these maps.
@@ -91,8 +106,8 @@ fn quotas_of<'a>(
         Ok(made) => made,
         Err(fault) => return Err(Fault::BadTable(fault.fault())),
     };
-    let (bytes, first) = (image.write()?, program.image().write()?);
-    if !is_flown(bytes.as_slice(), first.as_slice(), node.loads()) {
+    let bytes = image.write()?;
+    if !is_flown(bytes.as_slice(), program, node.publishes())? {
         return Err(no_image(alloc));
     }
     Ok(quotas_in(alloc, table.rules())?)
@@ -117,7 +132,7 @@ pub fn asked_text<'a, F: Files>(
     }
 }
 
-/// The quotas of the table that a text writes, if there is one, and a node flies: its own program or a load is the image to which the
+/// The quotas of the table that a text writes, if there is one, and a node flies: its own program or a publish is the image to which the
 /// table compiles on the node's maps.
 ///
 /// Faults: the table (`BadTable`, also where memory is refused to it or to its image), and `BadNode` of the program where the node's

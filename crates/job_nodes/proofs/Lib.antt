@@ -3,8 +3,7 @@ mod Continuing
 mod Guarding
 mod LiveMaking
 mod LiveTaking
-mod Loaded
+mod Made
 pub mod Scheduled
-mod SettledNodes
 pub mod Simulating
 mod FirstWorlds

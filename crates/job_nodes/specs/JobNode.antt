@@ -1,5 +1,5 @@
 -- The node that the jobs run, with its ports.
-use Rattle.std.specs.Prelude.{◌≡◌, ℕ, List, [], ◌∷◌, length, map, nat_le, ◌≤◌, true, slice_get, slice_index_or}
+use Rattle.std.specs.Prelude.{◌≡◌, ℕ, List, [], ◌∷◌, length, map, nat_le, ◌≤◌, true, slice_get}
 use Rattle.std.specs.Prelude.{replicate, Bool, false, Option, None, Some}
 use Rattle.std.specs.List.{list_all, range_with_len}
 use base.Stored.{Gv, gnil}
@@ -8,13 +8,13 @@ use Rattle.bver.specs.Justified.{AcceptedValue}
 use Rattle.machine.specs.Sizes.{Maps}
 use Rattle.spw.specs.Cargo.{Cargo}
 use Rattle.node_programs.specs.declared.publishes.Publish.{Publish}
-use Rattle.node_programs.specs.Staged.{Staged}
+use Rattle.node_programs.specs.Histories.{longer_history}
 use Rattle.node_parts.specs.declared.config.NodeConfig.{NodeConfig}
 use Rattle.node_parts.specs.declared.served.Served.{Served}
 use Rattle.node_parts.specs.Nodes.{bank_of, first_pass, first_passes as all_first_passes, first_programs, fresh_banks}
 use Rattle.node_parts.specs.Passes.{PassValue}
 use Rattle.plain_cells.specs.Words.{zero_words}
-use Rattle.single_node.specs.Nodes.{Rotates, SetsMemory, SingleNodeValue, room_in, single_node, staging_in}
+use Rattle.single_node.specs.Nodes.{Rotates, SetsMemory, SingleNodeValue, room_in, single_node}
 use Rattle.single_node.specs.Serving.{Serves as ServesAlone}
 use Rattle.job_nodes.specs.Feeds.{IsFed, IsNotFed}
 pub use Rattle.job_config.specs.OwnNodes.{own_bank}
@@ -86,6 +86,11 @@ pub record Serves (served : Served) (port : ℕ) (packet : Cargo) (before after 
 abbrev pub with_held : JobNodeValue → List (List ℕ) → JobNodeValue
 with_held node held = job_node node.banks node.words node.programs node.passes held node.reply
 
+-- the node with one program more that was published for that slot, and that is the same otherwise
+abbrev pub with_publish : JobNodeValue → (slot : ℕ) → AcceptedValue → JobNodeValue
+with_publish node slot program =
+    job_node node.banks node.words (longer_history node.programs slot program) node.passes node.held node.reply
+
 -- a port holds the line's piece, and no packet came, or the packet of a port came
 pub record FeedsLine (line : List ℕ) (came : Option (ℕ × Cargo)) (before after : JobNodeValue) : Type 0 where
   pub held : List (List ℕ)
@@ -123,15 +128,6 @@ journal_of (Some b) = b.journal
 abbrev pub first_of : Option BankValue → ℕ
 first_of None = 0
 first_of (Some b) = b.first
-
--- the first byte of the load result of a port, if there is one, in which its reason is
-abbrev pub reason_of : Option Staged → ℕ
-reason_of None = 0
-reason_of (Some staged) = slice_index_or staged.load_result 0 0
-
--- that of port 0
-abbrev pub load_reason : JobNodeValue → ℕ
-load_reason node = reason_of (staging_in (slice_get node.passes 0))
 
 -- the journal of a bank, if there is one, has room for no more entries
 abbrev pub is_full : Option BankValue → Bool

@@ -2,7 +2,7 @@
 use Rattle.std.specs.Prelude.{◌≡◌, ◌⊎◌, ℕ, suc, List, [], ◌∷◌, ◌++◌, length, Option}
 use Rattle.std.specs.Io.KnownBytes.{Appends}
 use Rattle.spw.specs.Line.{lines_of}
-use Rattle.sched.specs.History.{History, history_from}
+use Rattle.sched.specs.History.{History, Start, history_from}
 use Rattle.sched.specs.Looking.{Node}
 use Rattle.sched.specs.Worlds.{GoesOn, IsLawfulWorld, WorldValue}
 use Rattle.sched.specs.declared.event.Event.{Event}
@@ -77,14 +77,13 @@ IsStuck line before after old new end = IsNotStepped (length before.ports) line 
 -- ---- the whole job
 
 module _ {S : Type 0} (reads : Reads S) (args : NodeLines) where
-  -- each line of the file was simulated on that node, behind the history at which its schedules begin
+  -- each line of the file was simulated on that node, from its beginning on
   pub record SimulatesFile (before after : S) (old new : Option (List ℕ)) : Type 0 where
     pub text : List ℕ
     pub node : Node
-    pub begun : History
     pub left : WorldValue
-    pub scheduled : IsScheduled reads args before text node begun after
-    pub all : SimulatesFrom node begun (lines_of text) left old new
+    pub scheduled : IsScheduled reads args before text node after
+    pub all : SimulatesFrom node Start (lines_of text) left old new
 
   -- what `sim` reads and prints where no fault ends it, with its exit status: 2 where a bank begins with bytes
   abbrev pub DoesSim : (before after : S) → (old new : Option (List ℕ)) → Status → Type 0
@@ -96,9 +95,8 @@ module _ {S : Type 0} (reads : Reads S) (args : NodeLines) where
   pub record StopsShort (before after : S) (old new : Option (List ℕ)) (fault : Fault) : Type 0 where
     pub text : List ℕ
     pub node : Node
-    pub begun : History
-    pub scheduled : IsScheduled reads args before text node begun after
-    pub cut_short : IsCutShort node begun (lines_of text) old new fault
+    pub scheduled : IsScheduled reads args before text node after
+    pub cut_short : IsCutShort node Start (lines_of text) old new fault
 
   -- why not all lines were simulated: nothing was printed where lines or node cannot be read
   abbrev pub IsNotSimulated : (before after : S) → (old new : Option (List ℕ)) → Fault → Type 0

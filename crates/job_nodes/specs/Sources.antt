@@ -4,7 +4,7 @@ use Rattle.bpf.specs.Program.{Program}
 use Rattle.bver.specs.Justified.{AcceptedValue, IsJustified}
 use Rattle.machine.specs.Runs.{IsSafe}
 use Rattle.job_config.specs.OwnNodes.{OwnNodeValue}
-use Rattle.job_config.specs.Reads.{Ends, ReadsNoNode, ReadsNode}
+use Rattle.job_config.specs.Reads.{ReadsNoNode, ReadsNode}
 use Rattle.job_config.specs.declared.sources.NodeSource.{NodeSource}
 use Rattle.job_config.specs.declared.sources.NodeSource.TheVariants.{File, Words}
 use Rattle.job_parts.specs.Files.{Reads}
@@ -12,17 +12,9 @@ use Rattle.job_parts.specs.Given.{HoldsNoProgram, HoldsProgram}
 use Rattle.job_parts.specs.Options.{image_name}
 use Rattle.job_parts.specs.declared.faults.Fault.{Fault}
 use Rattle.job_parts.specs.declared.faults.Fault.TheVariants.{NoMemory}
-use Rattle.job_parts.specs.declared.node_codes.NodeCode.TheVariants.{Load}
 use Rattle.job_parts.specs.declared.options.NodeWords.{NodeWords}
 use Rattle.job_nodes.specs.JobNode.{IsFresh, JobNodeValue}
-use Rattle.job_nodes.specs.Making.{IsNodeOf, IsUnmade}
-use Rattle.job_nodes.specs.declared.making.Unmade.{Unmade}
-use Rattle.job_nodes.specs.declared.making.Unmade.TheVariants.{Memory as NoRoom, Refused}
-
--- what ends a job whose node was not made: the node's file is bad, or memory was refused
-abbrev pub EndsUnmade : Unmade → Fault → Type 0
-EndsUnmade NoRoom fault = fault ≡ NoMemory
-EndsUnmade (Refused number status reason) fault = Ends (Some Load) fault
+use Rattle.job_nodes.specs.Making.{IsNodeOf}
 
 module _ {S : Type 0} (reads : Reads S) where
   -- the node is a fresh one of these words, whose commands the program judges that its files give, which is justified on it,
@@ -53,16 +45,14 @@ module _ {S : Type 0} (reads : Reads S) where
     pub read : ReadsNode reads name before own program after
     pub made : IsNodeOf own program node
 
-  -- the node's file was read, but there is no node of it: a load was not done, or memory was refused
+  -- the node's file was read, but memory was refused to its node
   pub record IsFileUnmade (name : List ℕ) (before after : S) (fault : Fault) : Type 0 where
     pub own : OwnNodeValue
     pub program : AcceptedValue
-    pub why : Unmade
     pub read : ReadsNode reads name before own program after
-    pub unmade : IsUnmade own program why
-    pub ends : EndsUnmade why fault
+    pub is_fault : fault ≡ NoMemory
 
-  -- there is no node of the node's file of this name: it says none, or a load was not done, or memory was refused
+  -- there is no node of the node's file of this name: it says none, or memory was refused to it
   abbrev pub IsNoFileNode : (name : List ℕ) (before after : S) → Fault → Type 0
   IsNoFileNode name before after fault = ReadsNoNode reads name before fault after ⊎ IsFileUnmade name before after fault
 

@@ -1,7 +1,9 @@
 //! The node that the jobs run.
 
 ghost use Rattle.std.specs.Prelude.{◌≡◌, ◌≤◌, ◌<◌, ◌+◌, ◌↔◌, IfErr, IfOk, IfSome, IsSome, length, slice_get, true};
-ghost use Rattle.job_nodes.specs.JobNode.{FeedsLine, IsConfig, IsFreshOf, IsJobNode, RefusesLine, Serves, SetsBytes, TakesLine, alone, first_of, is_full, journal_of, load_reason};
+ghost use Rattle.job_config.specs.OwnNodes.{IsPublish};
+ghost use Rattle.job_nodes.specs.JobNode.{FeedsLine, IsConfig, IsFreshOf, IsJobNode, RefusesLine, Serves, SetsBytes, TakesLine, alone, first_of, is_full, journal_of, with_publish};
+ghost use Rattle.node_programs.specs.Published.{sizes_of};
 ghost use Rattle.single_node.specs.Nodes.{covers_in};
 
 use crate::feeds::Feeds;
@@ -166,13 +168,6 @@ impl JobNode {
         self.node.turn_and_set(bank, address, bytes, room);
     }
 
-    /// The first byte of the load result of port 0, in which its reason is.
-    pub fn load_reason(&self) -> u8
-        ensures { result ≡ load_reason self.now }
-    {
-        self.node.staging(0).load_result()[0]
-    }
-
     /// The node alone, and what its ports hold. The last reply ends.
     pub fn into_parts(self) -> (SingleNode, Feeds)
         ensures node { result.0 ≡ alone self }
@@ -187,10 +182,22 @@ impl JobNode {
         (node, feeds)
     }
 
-    /// How many programs were loaded.
-    pub fn loaded(&self) -> u32
-        ensures { result + 1 ≡ length self.now.programs }
+    /// Publishes a program for a slot, without a command that asks for it ([`SingleNode::publish`]). The conditions are a slot
+    /// below 4, a program that was accepted for the maps of the node, and a generation that is left.
+    pub(crate) fn publish(
+        &mut self,
+        alloc: Global,
+        slot: u8,
+        program: Accepted,
+    ) -> Result<(), AllocError>
+        requires publish { IsPublish (sizes_of self.old.programs) (slot, program) }
+        requires few { length self.old.programs < 4294967296 }
+        ensures { OnOk result (self.new ≡ with_publish self.old slot program) }
     {
-        self.node.loaded()
+        // Memory alone can be refused to it: a generation is left.
+        match self.node.publish(alloc, slot, program) {
+            Ok(_generation) => Ok(()),
+            Err(_) => Err(AllocError),
+        }
     }
 }

@@ -108,8 +108,8 @@ impl TakesLines for Simulating {
     }
 }
 
-/// Steps through the events of a file, in order, from the beginning of the node of these arguments, or behind what its file
-/// loads. What each event comes to is printed before the next line is read. `Misused`, with the line `bad option`, where a bank
+/// Steps through the events of a file, in order, from the beginning of the node of these arguments, after what its file
+/// publishes. What each event comes to is printed before the next line is read. `Misused`, and nothing is printed, if a bank
 /// begins with bytes, which no schedule does.
 ///
 /// Faults are found in the order of [`lines_and_world`], and then each line.
@@ -127,7 +127,6 @@ pub fn sim_file<'a, F: Files, W: Write>(
 {
     let (text, made) = lines_and_world(alloc, args, files)?;
     let Some(world) = made else {
-        writeln!(out, "bad option")?;
         return Ok(Status::Misused);
     };
     let mut simulating = Simulating { world };

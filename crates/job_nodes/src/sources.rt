@@ -1,17 +1,14 @@
 //! The node that a job runs on: that of the words of its command line, or that of a file.
 
 ghost use Rattle.std.specs.Prelude.{IfErr, IfOk, MatchOption, string_bytes};
-ghost use Rattle.sched.specs.History.{History};
 ghost use Rattle.sched.specs.Looking.{Node};
 ghost use Rattle.job_nodes.specs.Beginning.{BeginsWithBytes, GivesNoWorld, GivesSchedule, HasContents, HoldsWorld, IsBegun, IsFileBeginning, IsNoFileWorld, IsPlainBeginning, IsUnscheduled};
-ghost use Rattle.job_nodes.specs.Sources.{EndsUnmade, HoldsNoNode, HoldsNode, IsFileNode, IsNoFileNode, IsNoPlainNode, IsPlainNode};
+ghost use Rattle.job_nodes.specs.Sources.{HoldsNoNode, HoldsNode, IsFileNode, IsNoFileNode, IsNoPlainNode, IsPlainNode};
 
-use crate::making::Unmade;
 use crate::node::{JobNode, node_config};
 use crate::worlds::{are_empty, world_of};
-use job_config::faults::ConfigFault;
 use job_config::node_lines::NodeLines;
-use job_config::reading::{ReadNode, fault_of, node_in};
+use job_config::reading::{ReadNode, node_in};
 use job_config::sources::NodeSource;
 use job_parts::factory::judging_program;
 use job_parts::faults::Fault;
@@ -35,27 +32,6 @@ fn plain_node<'a, F: Files>(
     Ok(JobNode::new(alloc, words.ports, program)?)
 }
 
-/// What ends a job whose node was not made of the node's file of this name.
-pub fn unmade<'a>(alloc: Global, name: &str, why: Unmade) -> Fault<'a>
-    ensures { EndsUnmade why result }
-{
-    match why {
-        Unmade::Memory => Fault::NoMemory,
-        Unmade::Refused {
-            number,
-            status,
-            reason,
-        } => {
-            let fault = ConfigFault::NotLoaded {
-                number,
-                status: status.code(),
-                load: reason,
-            };
-            fault_of(alloc, name, &fault)
-        }
-    }
-}
-
 /// Where the node's file is bad that ended a job, for the user, if one did.
 pub fn place_of(fault: Fault<'_>) -> Option<String> {
     if let Fault::BadNode { place, .. } = fault {
@@ -75,16 +51,12 @@ fn file_node<'a, F: Files>(
     ensures none { IfErr result (IsNoFileNode F.reads name.now files.old files.new) }
 {
     let ReadNode { node: own, program } = node_in(alloc, files, name)?;
-    match JobNode::of(alloc, &own, program) {
-        Ok(node) => Ok(node),
-        Err(why) => Err(unmade(alloc, name, why)),
-    }
+    Ok(JobNode::of(alloc, &own, program)?)
 }
 
 /// The node of the words or of the file that a command line names.
 ///
-/// Faults of words are those of [`judging_program`], those of a file those of [`node_in`]; `BadNode` also where a load was not
-/// carried out, and `NoMemory`.
+/// Faults of words are those of [`judging_program`], those of a file those of [`node_in`]; and `NoMemory`.
 pub fn node_from<'a, F: Files>(
     alloc: Global,
     source: &'a NodeSource,
@@ -106,8 +78,8 @@ fn plain_world<'a, F: Files>(
     words: &'a NodeWords,
     files: &mut F,
 ) -> Result<World, Fault<'a>>
-    ensures world { IfOk result (IsBegun (λ (n : Node) (begun : History).
-        IsPlainBeginning F.reads words.now files.old n begun files.new)) }
+    ensures world { IfOk result (IsBegun (λ (n : Node).
+        IsPlainBeginning F.reads words.now files.old n files.new)) }
     ensures refused { IfErr result (IsNoPlainNode F.reads words.now files.old files.new) }
 {
     let image = words.image.as_deref();
@@ -120,7 +92,7 @@ fn plain_world<'a, F: Files>(
     }
 }
 
-/// The world of the node's file of this name behind what it loads, or `None` where a bank begins with bytes.
+/// The world of the node's file of this name behind what it publishes, or `None` where a bank begins with bytes.
 fn file_world<'a, F: Files>(
     alloc: Global,
     name: &'a str,
@@ -128,22 +100,19 @@ fn file_world<'a, F: Files>(
 ) -> Result<Option<World>, Fault<'a>>
     ensures world { IfOk result (λ made. MatchOption made
         (BeginsWithBytes F.reads name.now files.old files.new)
-        (IsBegun (λ (n : Node) (begun : History).
-        IsFileBeginning F.reads name.now files.old n begun files.new))) }
+        (IsBegun (λ (n : Node).
+        IsFileBeginning F.reads name.now files.old n files.new))) }
     ensures none { IfErr result (IsNoFileWorld F.reads name.now files.old files.new) }
 {
     let ReadNode { node: own, program } = node_in(alloc, files, name)?;
     if !are_empty(own.contents()) {
         return Ok(None);
     }
-    match world_of(alloc, &own, program) {
-        Ok(world) => Ok(Some(world)),
-        Err(why) => Err(unmade(alloc, name, why)),
-    }
+    Ok(Some(world_of(alloc, &own, program)?))
 }
 
-/// The world of the words or of the file that a command line names, behind what the file loads; or `None` where a bank begins
-/// with bytes, which no world does.
+/// The world of the words or of the file that a command line names, behind what the file publishes; or `None` where a bank
+/// begins with bytes, which no world does.
 ///
 /// Faults are those of [`node_from`].
 fn world_from<'a, F: Files>(
@@ -163,7 +132,7 @@ fn world_from<'a, F: Files>(
 }
 
 /// The text of the file of lines, and the world of these arguments: that of their words at its beginning, or that of a file
-/// behind what it loads. `None` in place of a world where a bank begins with bytes, which no world does.
+/// after what it publishes. `None` in place of a world where a bank begins with bytes, which no world does.
 ///
 /// Faults are found in this order: the file of lines (`CannotRead`, also where it is not UTF-8), and those of [`node_from`].
 pub fn lines_and_world<'a, F: Files>(

@@ -98,10 +98,10 @@ module _ {S : Type 0} (reads : Reads S) where
     pub made : IsMade words before (Some text) after
     pub printed : Appends old new text
 
-  -- there are no such packets, which was told
+  -- there are no such packets, and nothing was printed
   pub record MakesNone (words : PacketWords) (before after : S) (old new : Option (List ℕ)) : Type 0 where
     pub unmade : IsMade words before None after
-    pub line : Appends old new (codes "bad option" ++ 10 ∷ [])
+    pub silent : new ≡ old
 
   -- the file of the data or the image cannot be read
   pub record ContentUnread (words : PacketWords) (before after : S) (fault : Fault) : Type 0 where

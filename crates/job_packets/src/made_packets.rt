@@ -172,7 +172,7 @@ fn packets<'a, F: Files>(
     Ok(made_text(alloc, words, content.as_slice())?)
 }
 
-/// Prints the packet lines of the packets that the words order. `Misused`, with the line `bad option`, where there are no
+/// Prints the packet lines of the packets that the words order. `Misused`, and nothing is printed, where there are no
 /// such packets: one would be longer than 4,200 bytes, or an image is larger than the staging.
 ///
 /// The faults are `CannotRead` of the file of the data or the image, and `NoMemory`.
@@ -188,7 +188,6 @@ pub fn packet_file<'a, F: Files, W: Write>(
     ensures quiet { IfErr result (StopsBy (λ _. W.contents out.new ≡ W.contents out.old)) }
 {
     let Some(text) = packets(alloc, words, files)? else {
-        writeln!(out, "bad option")?;
         return Ok(Status::Misused);
     };
     print_text(out, text.as_str())?;

@@ -28,13 +28,13 @@ abbrev down : ℕ → ℕ → ℕ
 down a b = a / 2 ^ b
 
 abbrev lane : ℕ → ℕ
-lane number = added number (cond (top 7 (below number 10)) 48 55)
+lane number = added (added number 48) (cond (top 7 (below 9 number)) 7 0)
 
 lane_is : (number : ℕ) → number < 16 → lane number ≡ digit_of number
 lane_is number small = eqb-true _ _ (agree_below_at (λ k. eqb (lane k) (digit_of k)) (λ _. true) 16 number refl small)
 
 pub lanes_are : (n : ℕ) (v : List ℕ) → length v ≡ n → All IsHalf v
-    → zip2 added v (sel_l (map (top 7) (zip2 below v (replicate n 10))) (replicate n 48) (replicate n 55)) ≡ map digit_of v
+    → zip2 added (zip2 added v (replicate n 48)) (sel_l (map (top 7) (zip2 below (replicate n 9) v)) (replicate n 7) (replicate n 0)) ≡ map digit_of v
 lanes_are zero [] long small = refl
 lanes_are zero (a ∷ v) long small = absurd (omega (arith, long))
 lanes_are (suc n) [] long small = absurd (omega (arith, long))

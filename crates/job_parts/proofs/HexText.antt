@@ -21,7 +21,7 @@ unfolding encode_with
 one_byte byte = refl
 
 -- The text of bytes is twice as long.
-text_long : (bytes : List ℕ) → length (encode_upper bytes) ≡ 2 * length bytes
+pub text_long : (bytes : List ℕ) → length (encode_upper bytes) ≡ 2 * length bytes
 unfolding encode_with
 text_long [] = refl
 text_long (byte ∷ bytes) =

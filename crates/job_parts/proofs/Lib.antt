@@ -1,7 +1,9 @@
+mod Decimals
 mod FactoryImage
 mod FactoryJustified
 mod HexLanes
-mod HexPrinted
 pub mod HexText
 mod InTurn
+mod Joined
 pub mod MapLists
+mod ReplyLines

@@ -13,5 +13,6 @@ pub mod Reading
 pub mod Replies
 pub mod Statuses
 pub mod Stops
+pub mod Forms
 pub mod Turns
 pub mod TwoFiles

@@ -15,8 +15,9 @@ fn digits(numbers: u8x16) -> u8x16
     requires { All (λ number. number < 16) numbers }
     ensures { result ≡ map (λ number. slice_index upper_digits number) numbers }
 {
-    let is_decimal = numbers.simd_lt(u8x16::splat(10));
-    numbers + is_decimal.select(u8x16::splat(b'0'), u8x16::splat(b'A' - 10))
+    let is_letter = u8x16::splat(9).simd_lt(numbers);
+    let more = is_letter.select(u8x16::splat(b'A' - b'0' - 10), u8x16::splat(0));
+    numbers + u8x16::splat(b'0') + more
 }
 
 /// What is in two vectors, one of each in turn.

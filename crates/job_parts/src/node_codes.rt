@@ -6,27 +6,30 @@ ghost use Rattle.job_parts.specs.NodeCodes.{node_code, node_code_of};
 use thiserror::Error;
 
 const TEXT: &str = "\
-The node's file is no TOML: its line, and what is there that TOML does not have, are printed on standard error.
-Keys of the node are before the first `[[bank]]`, `[[map]]` or `[[load]]`; a name of a file is in quotes.";
+The node's file is no TOML 1.1: its line, and what is there that TOML does not have, are printed on standard
+error. Keys of the node are before the first `[[bank]]`, `[[map]]` or `[[publish]]`; a name of a file is in
+quotes.";
 
 const KEY: &str = "\
-The node's file has a key that a node has not: of the node, of a bank, of a map or of a load. The first by its
-bytes is printed. A node has address, ports, program, bank, map and load; a bank base, size, journal and contents;
-a map cells and peak; a load slot and image.";
+The node's file has a key that a node has not: of the node, of a bank, of a map or of a publish. Each is printed
+on standard error. A node has address, ports, program, bank, map and publish; a bank base, size, journal and
+contents; a map cells and peak; a publish slot and image. Before 1.0+6 a file had `[[load]]` in the place of
+`[[publish]]`.";
 
 const ADDRESS: &str = "\
-The key address of a node's file is no number from 0 to 255: it is the logical address of the target, 254
-without it. Give the address of the instrument, as 0x42 or 66.";
+The key address of a node's file is no logical address: a number from 32 to 254, 20 to FE hexadecimal. Without
+the key it is 254. A number below 32 is a path address. Give the address of the instrument, as 0x42 or 66.";
 
 const PORTS: &str = "\
 The key ports of a node's file is no number from 1 to 32. Without it there is one port. Give as many ports as
 the instrument has links.";
 
 const BANK: &str = "\
-A node's file has no bank or more than 8, or a bank without a base, a size or a journal in their limits: a base
-is an address of 32 bits, a size 1 to 1,048,576 bytes of which none is past the last address, a journal 1 to
-65,536 entries. Give each `[[bank]]` the three; two banks may have the same addresses, since the extended
-address names them.";
+A node's file has an empty list of banks or more than 8, or a bank without a base, a size or a journal in their
+limits: a base is an address of 32 bits, a size 1 to 1,048,576 bytes of which none is past the last address, a
+journal 1 to 65,536 entries. Give each `[[bank]]` the three; two banks may have the same addresses, since the
+extended address names them. A file without `[[bank]]` has the one bank of `judge`: 65,536 bytes at A0000000,
+with a journal of 1,024 entries.";
 
 const MAP: &str = "\
 A node's file has more than 8 maps, or a map without cells, or more than 256 cells in all; or peak is not true
@@ -42,9 +45,9 @@ name in quotes. Its name is beside the node's file. `rmapctl why FILE --maps LIS
 refused.";
 
 const LOAD: &str = "\
-A load of a node's file has no slot from 0 to 3, or its image cannot be read or is longer than 16,384 bytes, or
-it was not carried out: the status of its reply, and the code of its load result, are printed on standard error.
-The image's name is beside the node's file. A program in slot 3 that was loaded before judges each load.";
+A publish of a node's file has no slot from 0 to 3, or its image cannot be read, is longer than 16,384 bytes, is
+no image, or may not judge on the node's maps. The image's name is beside the node's file. `rmapctl why FILE
+--node FILE` prints why an image is refused.";
 
 /// What is wrong with a node's file: the first of these that is found.
 #[derive(Clone, Copy, Debug, PartialEq, Eq, Error)]
@@ -73,8 +76,8 @@ pub enum NodeCode {
     /// The program may not judge.
     #[error("bad program of a node")]
     Program,
-    /// A load was not carried out.
-    #[error("bad load of a node")]
+    /// A program cannot be published.
+    #[error("bad publish of a node")]
     Load,
 }
 

@@ -6,18 +6,10 @@ use Rattle.job_config.specs.OwnNodes.{OwnNodeValue, plain_node}
 use Rattle.job_config.specs.Reads.{ReadsNode}
 use Rattle.job_config.specs.declared.sources.NodeSource.{NodeSource}
 use Rattle.job_config.specs.declared.sources.NodeSource.TheVariants.{File, Words}
-use Rattle.job_nodes.specs.Making.{IsUnmade}
-use Rattle.job_nodes.specs.Sources.{EndsUnmade}
-use Rattle.job_nodes.specs.declared.making.Unmade.{Unmade}
 use Rattle.job_parts.specs.Files.{Reads}
 use Rattle.job_parts.specs.Given.{HoldsProgram}
 use Rattle.job_parts.specs.Options.{image_name}
-use Rattle.job_parts.specs.declared.faults.Fault.{Fault}
 use Rattle.job_parts.specs.declared.options.NodeWords.{NodeWords}
-
--- a load of the node is not carried out, or memory was refused
-abbrev pub IsRefusedLoad : OwnNodeValue → AcceptedValue → Fault → Type 0
-IsRefusedLoad own program fault = (why : Unmade) × IsUnmade own program why × EndsUnmade why fault
 
 module _ {S : Type 0} (reads : Reads S) where
   -- the node is that of the words, with the program that its files give, which is justified on it, and so safe

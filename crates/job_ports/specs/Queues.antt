@@ -1,5 +1,5 @@
 -- Packets that wait in the queues of ports, and the workers that serve them.
-use Rattle.std.specs.Prelude.{◌≡◌, ◌<◌, ◌≤◌, ◌-◌, ℕ, List, [], ◌∷◌, ◌++◌, length, map, slice_index_or, slice_set}
+use Rattle.std.specs.Prelude.{◌≡◌, ◌<◌, ◌≤◌, ◌-◌, ℕ, List, [], ◌∷◌, ◌++◌, length, map, slice_index_or}
 use Rattle.annals.specs.declared.deed.Link.{Link}
 use Rattle.bver.specs.Justified.{AcceptedValue}
 use Rattle.cells.specs.Seats.{CellsValue, cells}
@@ -16,11 +16,11 @@ use Rattle.ports.specs.declared.worker.Worker.{Worker}
 use Rattle.ports.specs.Due.{Standing}
 use Rattle.ports.specs.Worked.{standing_of}
 use Rattle.target.specs.Passes.{PortPass}
-use Rattle.job_config.specs.OwnNodes.{LoadValue, OwnNodeValue}
+use Rattle.job_config.specs.OwnNodes.{OwnNodeValue}
 use Rattle.job_ports.specs.Ends.{PortEnd}
 use Rattle.job_ports.specs.Quotas.{IsSeated, QuotasAreKept}
 use Rattle.job_ports.specs.ServedFile.{BeginOneHistory, EndsSo, no_replies, report_of}
-use Rattle.job_ports.specs.Starts.{AreStarts, KeepsDesk, ServesLoads}
+use Rattle.job_ports.specs.Starts.{AreStarts}
 
 -- no port has over 1,023 packets
 abbrev pub AreFew : List (List Cargo) → Type 0
@@ -83,17 +83,6 @@ pub record IsOwnDesk {J : Type 0} (own : OwnNodeValue) (program : AcceptedValue)
   pub cells_are : own_cells ≡ cells own.sizes own_cells.home (256 - own.ports) []
   pub seats : (port : ℕ) → IsSeated own_cells (starts port).pass.seat
   pub desk : IsDesk starts own.ports by_port banks queues puts workers
-
--- the first worker served the packets of what is loaded, and stands at its own queue; the others are as they were
-pub record LoadsFirst {J : Type 0} (address : ℕ) (loads : List LoadValue) (banks : ℕ)
-    (before after : List (Worker J SinkValue)) : Type 0 where
-  pub old : Worker J SinkValue
-  pub new : Worker J SinkValue
-  pub some : 0 < length before
-  pub old_is : (worker : Worker J SinkValue) → slice_index_or before 0 worker ≡ old
-  pub after_is : after ≡ slice_set before 0 new
-  pub served : ServesLoads address loads (standing_of old) (standing_of new)
-  pub keeps : KeepsDesk banks old new
 
 -- the first list is a beginning of the second
 pub record IsBeginning (taken put : List Item) : Type 0 where

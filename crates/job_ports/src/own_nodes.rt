@@ -3,14 +3,11 @@
 ghost use Rattle.std.specs.Prelude.{◌≡◌, IfErr, IfOk};
 ghost use Rattle.job_config.specs.Reads.{ReadsNode};
 ghost use Rattle.job_nodes.specs.Sources.{HoldsNoNode, IsNoFileNode, IsNoPlainNode};
-ghost use Rattle.job_ports.specs.OwnNodes.{HoldsOwn, IsPlainOwn, IsRefusedLoad};
+ghost use Rattle.job_ports.specs.OwnNodes.{HoldsOwn, IsPlainOwn};
 
-use bver::Accepted;
 use job_config::own_node::OwnNode;
 use job_config::reading::{ReadNode, node_in};
 use job_config::sources::NodeSource;
-use job_nodes::node::JobNode;
-use job_nodes::sources::unmade;
 use job_parts::factory::judging_program;
 use job_parts::faults::Fault;
 use job_parts::options::NodeWords;
@@ -34,28 +31,7 @@ fn plain_own<'a, F: Files>(
     Ok(ReadNode { node, program })
 }
 
-/// Finds out whether the loads of the node's file of this name are carried out: at a node of one thread, before any thread is
-/// started.
-fn try_loads<'a>(
-    alloc: Global,
-    name: &str,
-    own: &OwnNode,
-    program: &Accepted,
-) -> Result<(), Fault<'a>>
-    requires { program.now.sizes ≡ own.now.sizes }
-    ensures { IfErr result (IsRefusedLoad own.now program.now) }
-{
-    if own.loads().is_empty() {
-        return Ok(());
-    }
-    let again = program.copy()?;
-    let Err(why) = JobNode::of(alloc, own, again) else {
-        return Ok(());
-    };
-    Err(unmade(alloc, name, why))
-}
-
-/// The node of the node's file of this name, whose loads are carried out.
+/// The node of the node's file of this name.
 fn file_own<'a, F: Files>(
     alloc: Global,
     name: &'a str,
@@ -66,15 +42,12 @@ fn file_own<'a, F: Files>(
     ensures sizes { IfOk result (λ made. made.program.sizes ≡ made.node.sizes) }
     ensures none { IfErr result (IsNoFileNode F.reads name.now files.old files.new) }
 {
-    let read = node_in(alloc, files, name)?;
-    try_loads(alloc, name, &read.node, &read.program)?;
-    Ok(read)
+    node_in(alloc, files, name)
 }
 
 /// The node of the words or of the file that a command line names, and the program that judges in all slots at first.
 ///
-/// Faults of words are those of [`judging_program`], those of a file those of [`node_in`]; `BadNode` also where a load is not
-/// carried out, and `NoMemory`.
+/// Faults of words are those of [`judging_program`], those of a file those of [`node_in`]; and `NoMemory`.
 pub(crate) fn own_from<'a, F: Files>(
     alloc: Global,
     source: &'a NodeSource,

@@ -4,13 +4,13 @@ ghost use Rattle.std.specs.Prelude.{◌≡◌, ◌<◌, ◌≤◌, ◌↔◌, �
 ghost use Rattle.cells.specs.Seats.{IsWhole};
 ghost use Rattle.machine.specs.Sizes.{kind_of_map};
 ghost use Rattle.machine.specs.declared.kinds.MapKind.TheVariants.{Counter};
-ghost use Rattle.job_ports.specs.Queues.{AreBeginnings, AreFew, AreFilled, AreOfPorts, IsFilled, IsOwnDesk, LoadsFirst, ServeOwn, new_worker};
+ghost use Rattle.job_ports.specs.Queues.{AreBeginnings, AreFew, AreFilled, AreOfPorts, IsFilled, IsOwnDesk, ServeOwn, new_worker};
 ghost use Rattle.job_ports.specs.Quotas.{AreAllNumbered, AreNumberedIn, AreSeated, AreTakenBack, IsNumberedAt, IsSeated, IsTakenBack};
 ghost use Rattle.ports.specs.Serves.{AreServed};
 ghost use Rattle.ports.specs.Sinks.{SinkValue};
 
 use crate::arrivals::Arrivals;
-use crate::starts::{load_all, set_all};
+use crate::starts::set_all;
 use bver::{Accepted, MapSizes};
 use cells::Cells;
 use job_config::own_node::OwnNode;
@@ -190,30 +190,8 @@ struct Desks<J: Family, R: Wait + Drop> {
     workers: Vec<Worker<J, Replies>>,
 }
 
-/// Lets the worker of port 0 serve the packets of what is loaded. The condition is that each worker has a share of each bank.
-fn load_first<R: Wait, J: Family, Q: Wait + Drop>(
-    rt: &R,
-    alloc: Global,
-    node: &Node<J, Q>,
-    workers: &mut Vec<Worker<J, Replies>>,
-    own: &OwnNode,
-) -> Result<(), AllocError>
-    requires { (k : ℕ) (worker : Worker J SinkValue) → k < length workers.old.items
-        → length (slice_index_or workers.old.items k worker).pass.pass.shares ≡ node.now }
-    ensures { OnOk result (LoadsFirst own.now.address own.now.loads node.now workers.old.items
-        workers.new.items) }
-{
-    // A node has a port.
-    if workers.is_empty() {
-        return Err(AllocError);
-    }
-    let first = &mut workers[0];
-    load_all(rt, alloc, node, first, own.address(), own.loads())?;
-    Ok(())
-}
-
-/// A node of that configuration, at each of whose ports the program judges at first, whose banks begin with their contents, at
-/// whose port 0 what is loaded was, and whose ports hold the packets that came to them.
+/// A node of that configuration, at each of whose ports the program judges at first and behind that those that are published, whose
+/// banks begin with their contents, and whose ports hold the packets that came to them.
 fn own_desks<'r, J: Family, R: Wait>(
     rt: &'r R,
     alloc: Global,
@@ -231,11 +209,15 @@ fn own_desks<'r, J: Family, R: Wait>(
     ensures served { IfOk result (λ made.
         AreServed made.node (vec_len made.workers) made.ports.items made.workers.items) }
 {
-    workers_shares_count();
     let config = own.config();
     // Memory alone can be refused to it: a configuration has no other number of ports than a node has.
-    let Ok((node, cells, passes, mut line)) = Node::<J, _>::with_cells(
-        alloc, rt, opened, &config, program,
+    let Ok((node, cells, passes, mut line)) = Node::<J, _>::with_programs(
+        alloc,
+        rt,
+        opened,
+        &config,
+        program,
+        own.publishes(),
     ) else {
         return Err(AllocError);
     };
@@ -250,8 +232,7 @@ fn own_desks<'r, J: Family, R: Wait>(
         own.contents(),
     )?;
     let (ports, put_passes, serve_passes) = fill(rt, alloc, arrivals)?;
-    let mut workers = workers_of(alloc, &known, passes, serve_passes)?;
-    load_first(rt, alloc, &node, &mut workers, own)?;
+    let workers = workers_of(alloc, &known, passes, serve_passes)?;
     Ok(Desks {
         node,
         cells,

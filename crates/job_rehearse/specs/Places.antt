@@ -7,14 +7,11 @@ use Rattle.job_config.specs.OwnNodes.{OwnNodeValue}
 use Rattle.job_config.specs.Reads.{ReadsNoNode, ReadsNode}
 use Rattle.job_config.specs.declared.own_node.TheConstants.{NODE_ADDRESS}
 use Rattle.job_nodes.specs.JobNode.{JobNodeValue, alone}
-use Rattle.job_nodes.specs.Making.{IsNodeOf, IsUnmade}
-use Rattle.job_nodes.specs.Sources.{EndsUnmade}
-use Rattle.job_nodes.specs.declared.making.Unmade.{Unmade}
+use Rattle.job_nodes.specs.Making.{IsNodeOf}
 use Rattle.job_parts.specs.Files.{Reads}
 use Rattle.job_parts.specs.Inputs.{InputValue, input}
 use Rattle.job_parts.specs.Options.{GivesSizes, IsBadList}
 use Rattle.job_parts.specs.declared.faults.Fault.{Fault}
-use Rattle.job_parts.specs.declared.faults.Fault.TheVariants.{NoMemory}
 use Rattle.job_parts.specs.declared.inputs.Content.TheVariants.{ImageOrText, Node}
 use Rattle.job_parts.specs.declared.usage.UsageFault.{UsageFault}
 use Rattle.job_parts.specs.declared.usage.UsageFault.TheVariants.{Parse, BadOption, Memory}
@@ -84,7 +81,7 @@ abbrev pub loader_on : Place → Option Loader → Loader
 loader_on (Plain sizes) named = loader_in named
 loader_on (Own own) named = record (loader_in named) { target = own.address }
 
--- the node is that of the configuration behind what it loads, with that program in all slots at first
+-- the node is that of the configuration behind what it publishes, with that program in all slots at first
 pub record IsBegunOwn (own : OwnNodeValue) (program : AcceptedValue) (r : Rehearsing) : Type 0 where
   pub made : JobNodeValue
   pub is_made : IsNodeOf own program made
@@ -101,11 +98,6 @@ loaded_at (Own own) = record { target = own.address; ports = min own.ports 32 }
 abbrev pub IsBegunAt : Place → AcceptedValue → (named : Option Loader) → Rehearsing → Type 0
 IsBegunAt (Plain sizes) program named r = IsBegun program (ports_in named) r
 IsBegunAt (Own own) program named r = IsBegunOwn own program r
-
--- why there is no such node: a load of its file is not carried out, or memory was refused
-abbrev pub IsUnbegun : Place → AcceptedValue → Fault → Type 0
-IsUnbegun (Plain sizes) program fault = fault ≡ NoMemory
-IsUnbegun (Own own) program fault = (why : Unmade) × IsUnmade own program why × EndsUnmade why fault
 
 module _ {S : Type 0} (reads : Reads S) where
   -- the node is that of the node's file of this name, whose program is not used

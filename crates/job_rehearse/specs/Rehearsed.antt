@@ -12,7 +12,7 @@ use Rattle.job_parts.specs.declared.status.Status.TheVariants.{Done, Failed, Mis
 use Rattle.job_rehearse.specs.Loaders.{loader_text}
 use Rattle.job_rehearse.specs.Loads.{Loads, StopsLoad}
 use Rattle.job_rehearse.specs.OpenPorts.{TellsAskers}
-use Rattle.job_rehearse.specs.Places.{HoldsNoPlace, HoldsPlace, IsBegunAt, IsUnbegun, has_port, loaded_at, loader_on, sizes_at}
+use Rattle.job_rehearse.specs.Places.{HoldsNoPlace, HoldsPlace, IsBegunAt, has_port, loaded_at, loader_on, sizes_at}
 use Rattle.job_parts.specs.TwoFiles.{TellsNamedFault}
 use Rattle.job_rehearse.specs.Policies.{HoldsAsked, HoldsBoth, HoldsNotAsked, HoldsNotBoth}
 use Rattle.job_rehearse.specs.declared.loads.Ending.{Ending}
@@ -98,10 +98,10 @@ module _ (place : Place) (slots : List ℕ) (named : Option Loader) (policies : 
     pub there : LoadsNew Loaded middle old between
     pub stop : StopsLoad (codes "OLD") (loader_on place named) slots policies.old.items middle between new fault
 
-  -- why a rehearsal was not ended: there is no such node, or memory was refused before it; or a fault ended one of the loads
+  -- why a rehearsal was not ended: memory was refused before it; or a fault ended one of the loads
   abbrev pub IsStuck : (old new : Option (List ℕ)) → Fault → Type 0
   IsStuck old new fault =
-      (((fault ≡ NoMemory) ⊎ IsUnbegun place policies.program fault) × (new ≡ old))
+      ((fault ≡ NoMemory) × (new ≡ old))
       ⊎ (StopsThere old new fault ⊎ StopsBack old new fault)
 
 -- ---- of the loads of any
@@ -147,13 +147,13 @@ module _ {S : Type 0} (reads : Reads S) (words : RehearseWords) where
       pub port : has_port place named ≡ true
       pub does : DoesAt place named between after old new status
 
-  -- the node of the words was read, and does not have the port of the one that is named, which was refused
+  -- the node of the words was read, and does not have the port of the one that is named, which was refused: nothing was printed
   pub record RefusesPort (named : Option Loader) (before after : S) (old new : Option (List ℕ)) (status : Status) : Type 0
     where
       pub place : Place
       pub placed : HoldsPlace reads words.place before place after
       pub no_port : has_port place named ≡ false
-      pub told : Appends old new (codes "bad option" ++ 10 ∷ [])
+      pub silent : new ≡ old
       pub misused : status ≡ Misused
 
   -- what was read and printed of the loads of one where no fault ended it

@@ -3,7 +3,7 @@
 ghost use Rattle.std.specs.Prelude.{◌≡◌, ◌≤◌, IfErr, IfOk};
 ghost use Rattle.clap.specs.Walk.{rows_of};
 ghost use Rattle.clap.specs.Matches.{found_of};
-ghost use Rattle.job_rehearse.specs.Places.{GivesPlace, HoldsNoPlace, HoldsPlace, IsBegunAt, IsUnbegun, RefusesPlace, has_port, loaded_at, loader_on, sizes_at};
+ghost use Rattle.job_rehearse.specs.Places.{GivesPlace, HoldsNoPlace, HoldsPlace, IsBegunAt, RefusesPlace, has_port, loaded_at, loader_on, sizes_at};
 
 use crate::loaders::{Loader, loader_in, ports_in};
 use crate::open_ports::LoadedNode;
@@ -13,7 +13,6 @@ use clap::ArgMatches;
 use job_config::own_node::{NODE_ADDRESS, OwnNode};
 use job_config::reading::node_in;
 use job_nodes::node::JobNode;
-use job_nodes::sources::unmade;
 use job_parts::arguments::text_of;
 use job_parts::faults::Fault;
 use job_parts::options::sizes_of;
@@ -21,12 +20,12 @@ use job_parts::storage::Files;
 use job_parts::usage::UsageFault;
 use machine::MapSizes;
 use spw::PORTS;
-use std::alloc::Global;
+use std::alloc::{AllocError, Global};
 
 /// What the words say of the node.
 #[derive(Debug, Drop)]
 pub enum PlaceWords {
-    /// Its maps; it has logical address FE and one bank, and nothing is loaded.
+    /// Its maps; it has logical address FE and one bank, and nothing is published.
     Maps(MapSizes),
     /// The name of its file.
     File(String),
@@ -35,7 +34,7 @@ pub enum PlaceWords {
 /// The node.
 #[derive(Debug, Drop)]
 pub enum Place {
-    /// One with these maps, logical address FE and one bank, into which nothing is loaded.
+    /// One with these maps, logical address FE and one bank, for which nothing is published.
     Plain(MapSizes),
     /// That of a file.
     Own(OwnNode),
@@ -126,32 +125,19 @@ impl Place {
     }
 }
 
-/// The name of the node's file, if it has one.
-fn file_of(words: &PlaceWords) -> &str {
-    match words {
-        PlaceWords::Maps(_) => "",
-        PlaceWords::File(name) => name.as_str(),
-    }
-}
-
-/// The node before the first load, where this program judges in all slots at first: behind what its file loads. The condition
-/// is a program that was accepted for its maps.
-pub(crate) fn begun_at<'a>(
+/// The node before the first load, where this program judges in all slots at first: behind what its file publishes. The condition is
+/// a program that was accepted for its maps.
+pub(crate) fn begun_at(
     alloc: Global,
-    words: &PlaceWords,
     place: &Place,
     program: Accepted,
     named: Option<Loader>,
-) -> Result<Rehearsing, Fault<'a>>
+) -> Result<Rehearsing, AllocError>
     requires { program.sizes ≡ sizes_at place.now }
-    ensures begun { IfOk result (IsBegunAt place.now program named) }
-    ensures none { IfErr result (IsUnbegun place.now program) }
+    ensures { IfOk result (IsBegunAt place.now program named) }
 {
     match place {
-        Place::Plain(_) => Ok(Rehearsing::new(alloc, program, ports_in(named))?),
-        Place::Own(own) => match JobNode::of(alloc, own, program) {
-            Ok(node) => Ok(Rehearsing::at(node)),
-            Err(why) => Err(unmade(alloc, file_of(words), why)),
-        },
+        Place::Plain(_) => Rehearsing::new(alloc, program, ports_in(named)),
+        Place::Own(own) => Ok(Rehearsing::at(JobNode::of(alloc, own, program)?)),
     }
 }

@@ -201,7 +201,7 @@ fn rehearse<'a, W: Write>(
         (W.contents out.old) (W.contents out.new))) }
 {
     let who = loader_text(alloc, named)?;
-    let mut rehearsing = begun_at(alloc, &words.place, place, policies.program, named)?;
+    let mut rehearsing = begun_at(alloc, place, policies.program, named)?;
     let loader = place.loader(named);
     let slots = words.slots.as_slice();
     let new = LoadOf {
@@ -261,7 +261,7 @@ fn rehearse_at<'a, F: Files, W: Write>(
     }
 }
 
-/// The same at the node of the words. `Misused`, with the line `bad option`, where the node of a file does not have the port of the
+/// The same at the node of the words. `Misused`, and nothing is printed, where the node of a file does not have the port of the
 /// one that is named.
 fn rehearse_one<'a, F: Files, W: Write>(
     alloc: Global,
@@ -277,7 +277,6 @@ fn rehearse_one<'a, F: Files, W: Write>(
 {
     let place = place_in(alloc, &words.place, files)?;
     if !place.has_port(named) {
-        writeln!(out, "bad option")?;
         return Ok(Status::Misused);
     }
     rehearse_at(alloc, words, &place, named, files, out)

@@ -2,7 +2,7 @@
 use Rattle.std.specs.Prelude.{◌≡◌, ◌⊎◌, ℕ, suc, List, [], ◌∷◌, ◌++◌, length, replicate, Option, Some}
 use Rattle.spw.specs.Cargo.{Cargo}
 use Rattle.spw.specs.Line.{lines_of}
-use Rattle.sched.specs.History.{History}
+use Rattle.sched.specs.History.{History, Start}
 use Rattle.sched.specs.Looking.{Node}
 use Rattle.sched.specs.Worlds.{IsLawfulWorld, WorldValue}
 use Rattle.job_config.specs.declared.node_lines.NodeLines.{NodeLines}
@@ -73,18 +73,17 @@ IsStuck line before after old new end = IsUntraced line before.feeds after.feeds
 -- ---- the whole job
 
 module _ {S : Type 0} (reads : Reads S) (args : NodeLines) where
-  -- each line of the file was traced on that node, behind the history at which its schedules begin, and what became of its
+  -- each line of the file was traced on that node, from its beginning on, and what became of its
   -- packets is lawful
   pub record TracesFile (before after : S) (old new : Option (List ℕ)) : Type 0 where
     pub text : List ℕ
     pub node : Node
-    pub begun : History
     pub later : History
     pub world : WorldValue
     pub left : List (List ℕ)
-    pub scheduled : IsScheduled reads args before text node begun after
+    pub scheduled : IsScheduled reads args before text node after
     pub lawful : IsLawfulWorld node later world
-    pub all : TracesLines node (lines_of text) begun (replicate node.ports []) later left old new
+    pub all : TracesLines node (lines_of text) Start (replicate node.ports []) later left old new
 
   -- what `trace` reads and prints where no fault ends it, with its exit status: 2 where a bank begins with bytes
   abbrev pub DoesTrace : (before after : S) → (old new : Option (List ℕ)) → Status → Type 0
@@ -96,16 +95,14 @@ module _ {S : Type 0} (reads : Reads S) (args : NodeLines) where
   pub record StopsShort (before after : S) (old new : Option (List ℕ)) (fault : Fault) : Type 0 where
     pub text : List ℕ
     pub node : Node
-    pub begun : History
-    pub scheduled : IsScheduled reads args before text node begun after
-    pub cut_short : IsCutShort node (lines_of text) begun (replicate node.ports []) old new fault
+    pub scheduled : IsScheduled reads args before text node after
+    pub cut_short : IsCutShort node (lines_of text) Start (replicate node.ports []) old new fault
 
   -- lines and node were read, and memory was refused to what takes the lines
   pub record LacksRoom (before after : S) (fault : Fault) : Type 0 where
     pub text : List ℕ
     pub node : Node
-    pub begun : History
-    pub scheduled : IsScheduled reads args before text node begun after
+    pub scheduled : IsScheduled reads args before text node after
     pub no_memory : fault ≡ OutOfMemory
 
   -- why not all lines were traced: nothing was printed where lines or node cannot be read

@@ -82,9 +82,9 @@ fn tracing_on(alloc: Global, world: World) -> Result<Tracing, AllocError>
     Ok(Tracing { world, feeds })
 }
 
-/// Judges the packet lines of a file, in order, on the node of these arguments, at its beginning or behind what its file loads.
+/// Judges the packet lines of a file, in order, on the node of these arguments, after what its file publishes.
 /// Of each packet that a program judges it prints the steps of the run, and then the reply; of any other its line alone.
-/// `Misused`, with the line `bad option`, where a bank begins with bytes, which no schedule does.
+/// `Misused`, and nothing is printed, where a bank begins with bytes, which no schedule does.
 ///
 /// Faults are found in the order of [`lines_and_world`], and then each line.
 #[tactic(auto, using(crate::proofs::Scheduled::refuses_contents))]
@@ -101,7 +101,6 @@ pub fn trace_file<'a, F: Files, W: Write>(
 {
     let (text, made) = lines_and_world(alloc, args, files)?;
     let Some(world) = made else {
-        writeln!(out, "bad option")?;
         return Ok(Status::Misused);
     };
     let mut tracing = tracing_on(alloc, world)?;

@@ -3,7 +3,7 @@ use Rattle.std.proofs.Common.{◌≡◌, ◌==◌, ◌+◌, ◌<◌, ◌≤◌, 
 use Rattle.std.specs.Prelude.{slice_get}
 use Rattle.std.specs.List.{range_with_len}
 use Rattle.std.proofs.lemmas.Bool.Decides.{nat_tests}
-use Rattle.std.proofs.lemmas.List.{append-nil}
+use Rattle.std.proofs.lemmas.List.{append-nil, length-map}
 use Rattle.std.proofs.lemmas.Option.{slice_get_within}
 use mathlib.Core.List.{IsPrefix}
 use Rattle.spw.specs.Cargo.{Cargo}
@@ -13,7 +13,6 @@ use Rattle.rmap.specs.declared.status.Status.{Status}
 use Rattle.rmap.specs.Windows.{WindowsValue}
 use Rattle.bank.specs.Records.{EntryValue, is_bank_place, numbers_of}
 use Rattle.bpf.specs.Laws.{ImagesAreRead}
-use Rattle.bpf.specs.Program.{Program}
 use Rattle.machine.specs.Laws.{RunsFromTheFront}
 use Rattle.node_programs.specs.declared.publishes.Publish.{Publish}
 use Rattle.node_programs.specs.Laws.{IsSetByNext}
@@ -32,6 +31,7 @@ use Rattle.sched.specs.declared.event.Outcome.TheVariants.{Done, Taken}
 use Rattle.sched.specs.History.{History, Start, Then, Open, port_of}
 use Rattle.sched.specs.Looking.{Node, entries, staged_behind, staging}
 use Rattle.sched.specs.Turns.{answers_of}
+use Rattle.sched.specs.Agreement.{PublishedAgrees, slot_and_program}
 use Rattle.lawful.specs.Alone.{AreDealtInFull, IsDealtInFull, IsFreshPort, IsJudgedInFull, IsOwnBank, OnePortIsLawful}
 use Rattle.lawful.specs.ButTold.{IsOutcomeAtButTold}
 use Rattle.lawful.specs.Happenings.{Happening, HappenBy, ending, happened_at, happening, told_calls}
@@ -182,6 +182,7 @@ pub record Laws : Type 0 where
   pub images : ImagesAreRead
   pub next : IsSetByNext
   pub counts : WorkersSharesCount
+  pub agrees : PublishedAgrees
 
 judged_dealt : Laws → (n : Node) (port : ℕ) (start whole : List Link) (p : Cargo) (j : Judging) (h : History) (s after : Standing) → port < n.ports → AreOwn n port whole → IsIdle n port start h s
     → (is : IsJudged j p s after) → IsJudgedInFull s after j → length after.pass.programs ≤ length s.pass.programs + made j.loaded → IsPrefix after.front whole → HasDealt n port start (Judged j) p h after
@@ -301,14 +302,14 @@ gone laws n port start whole (p ∷ ps) (d ∷ ds) h s last w there own idle ful
 
 -- ---- the law
 
-fresh_idle : (n : Node) (s : Standing) → IsFreshPort n s → IsIdle n s.pass.port s.front Start s
-fresh_idle n s fresh = record {
+fresh_idle : Laws → (n : Node) (s : Standing) → IsFreshPort n s → IsIdle n s.pass.port s.front Start s
+fresh_idle laws n s fresh = record {
   lawful = tt;
   closed = refl;
   staging_is = sym fresh.staging_is;
   known = subst (λ (xs : List Publish). IsKnown n Start xs) (sym fresh.programs) (record {
-    shown = λ slot. ap (λ (x : Program). Some (x, 0)) fresh.program;
-    count = omega arith;
+    shown = λ slot. laws.agrees n Start (fresh.factory ∷ fresh.firsts) slot (fresh.program, fresh.firsts_are);
+    count = (let many = length-map slot_and_program fresh.firsts in let same = ap length fresh.firsts_are in omega (arith, many, same));
     sizes = fresh.sizes;
   });
   port_is = refl;
@@ -338,9 +339,7 @@ pub one_port_is_lawful : Laws → OnePortIsLawful
 one_port_is_lawful laws = λ n first last ps ds whole served.
     let port = first.pass.port in
     let fresh = served.fresh in
-    let few : length last.pass.programs ≤ length first.pass.programs + length (loaded_by (judgings ds)) =
-    (let loads = served.loads in let one = ap length fresh.programs in omega (arith, loads, one)) in
-    let all = gone laws n port first.front whole ps ds Start first last served.worked fresh.there served.banks (fresh_idle n first fresh) served.in_full few served.begins in
+    let all = gone laws n port first.front whole ps ds Start first last served.worked fresh.there served.banks (fresh_idle laws n first fresh) served.in_full served.loads served.begins in
     record {
       history = all.after;
       lawful = all.idle.lawful;

@@ -1,6 +1,6 @@
 -- The law of one port: what a thread did at a port, while nobody else changed what it met, is a lawful history of the node but
 -- for what cells told.
-use Rattle.std.specs.Prelude.{◌≡◌, ◌<◌, ◌≤◌, ◌+◌, ◌^◌, ℕ, true, List, [], ◌∷◌, length, slice_get, Some, None, option_map}
+use Rattle.std.specs.Prelude.{◌≡◌, ◌<◌, ◌≤◌, ◌+◌, ◌^◌, ℕ, true, List, [], ◌∷◌, length, map, slice_get, Some, None, option_map}
 use mathlib.Core.List.{IsPrefix}
 use Rattle.spw.specs.Cargo.{Cargo}
 use Rattle.rmap.specs.declared.places.Place.TheVariants as places
@@ -26,7 +26,7 @@ use Rattle.target.specs.Lines.{CountsAllOf}
 use Rattle.ports.specs.Due.{Deed, Judging, Standing, Worked, judgings}
 use Rattle.ports.specs.Due.Deed.{Dropped, Answered, Judged}
 use Rattle.ports.specs.Laws.{loaded_by, number_at}
-use Rattle.sched.specs.Agreement.{program_and_generation}
+use Rattle.sched.specs.Agreement.{program_and_generation, slot_and_program}
 use Rattle.sched.specs.History.{History, opened}
 use Rattle.sched.specs.Looking.{Node, entries, published, staging, windows_in}
 use Rattle.lawful.specs.ButTold.{IsLawfulButTold}
@@ -34,13 +34,16 @@ use Rattle.lawful.specs.Happenings.{HappenBy, happened_at}
 
 -- ---- premises
 
--- a port of the node that was not served yet: it knows of the factory program, its staging is the first, and it left no entry
+-- a port of the node that was not served yet: it knows of the factory program and of those that were published before the first
+-- packet, its staging is the first, and it left no entry
 pub record IsFreshPort (n : Node) (s : Standing) : Type 0 where
   pub there : s.pass.port < n.ports
   pub windows : s.pass.windows ≡ windows_in n
   pub factory : Publish
-  pub programs : s.pass.programs ≡ factory ∷ []
+  pub firsts : List Publish
+  pub programs : s.pass.programs ≡ factory ∷ firsts
   pub program : factory.program.program ≡ n.factory
+  pub firsts_are : map slot_and_program firsts ≡ n.firsts
   pub sizes : factory.program.sizes ≡ n.sizes
   pub staging_is : s.pass.staging ≡ first_staging
   pub shares : length s.pass.shares ≡ length n.banks
@@ -108,7 +111,7 @@ pub record IsServedAlone (n : Node) (first : Standing) (ps : List Cargo) (ds : L
   pub banks : (k : ℕ) (bank : BankConfig) → slice_get n.banks k ≡ Some bank → IsOwnBank first.pass.port k bank whole
   pub begins : IsPrefix last.front whole
   pub counted : CountsAllOf last.pass whole
-  pub loads : length last.pass.programs ≤ 1 + length (loaded_by (judgings ds))
+  pub loads : length last.pass.programs ≤ length first.pass.programs + length (loaded_by (judgings ds))
   pub in_full : AreDealtInFull n first ps ds last worked
 
 -- ---- the law

@@ -8,6 +8,7 @@ use bpf::image_laws;
 use machine::runs_from_the_front;
 use node_programs::published_programs;
 use ports::workers_shares_count;
+use sched::published_agrees;
 
 /// A law and no work: a history whose answers are words is lawful exactly if it is lawful apart from what cells answered, and
 /// cells answered what looking back gives.
@@ -16,7 +17,7 @@ pub fn told_apart()
 {}
 
 /// A law and no work: what a thread did at a fresh port, the only one that was served, is a lawful history of the node, apart
-/// from what cells answered. At the port happened, in order, what became of its packets: a command was taken, each helper that its run
+/// from what cells answered. Programs may be published before the first packet, of all of which the port knows. At the port happened, in order, what became of its packets: a command was taken, each helper that its run
 /// asked was answered, and it was done with the reply that was due. The entries of each bank are those of the node's one list.
 pub fn one_port_is_lawful()
     ensures { OnePortIsLawful }
@@ -25,6 +26,7 @@ pub fn one_port_is_lawful()
     image_laws();
     published_programs();
     workers_shares_count();
+    published_agrees();
 }
 
 /// A law and no work: what threads did at the fresh ports of a node, which they served side by side, is a lawful history of the node,

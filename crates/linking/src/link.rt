@@ -1,6 +1,6 @@
 //! A link, and what answers the packets that come over it.
 
-ghost use Rattle.std.specs.Prelude.{ℕ, List, ◌≤◌, length, take, IfOk, OnErr, OnOk};
+ghost use Rattle.std.specs.Prelude.{◌≡◌, ℕ, Bool, List, ◌≤◌, length, take, IfOk, OnErr, OnOk};
 ghost use Rattle.frames.specs.declared.came.Came.{Came};
 
 use frames::Came;
@@ -43,6 +43,9 @@ pub trait Link {
     /// What is left where this text could not be told.
     ghost untold: { Self → List ℕ → Self → Type 0 };
 
+    /// Whether a text was lost that was told: the link went on all the same.
+    ghost lost: { Self → Bool };
+
     /// Puts bytes that came in the place of the first of the room's, and answers how many; 0 where no more come. It waits
     /// for one. `Cannot` where they cannot be read.
     fn receive(&mut self, room: &mut [u8]) -> Result<usize, Cannot>
@@ -59,6 +62,10 @@ pub trait Link {
     fn tell(&mut self, text: &[u8]) -> Result<(), Cannot>
         ensures ok { OnOk result (told self.old text.now self.new) }
         ensures err { OnErr result (untold self.old text.now self.new) };
+
+    /// Whether a text was lost that was told.
+    fn has_lost(&self) -> bool
+        ensures { result ≡ lost self.now };
 }
 
 /// What is due for a frame: the bytes that are sent, and the text that is told behind them; of either maybe nothing.

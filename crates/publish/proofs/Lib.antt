@@ -1,3 +1,4 @@
 pub mod Fronts
 pub mod Shelves
 pub mod Families
+pub mod Firsts

@@ -2,3 +2,4 @@ pub mod Reached
 pub mod Tables
 pub mod Sights
 pub mod Lines
+pub mod Firsts

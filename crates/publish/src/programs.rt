@@ -1,9 +1,10 @@
 //! A node's table of programs, as it is made.
 
-ghost use Rattle.std.specs.Prelude.{◌≡◌, ◌<◌, ◌∷◌, [], length, None, IfOk, replicate};
+ghost use Rattle.std.specs.Prelude.{◌≡◌, ◌<◌, ◌≤◌, ◌+◌, ◌∷◌, ◌++◌, [], All, length, map, None, IfOk, OnOk, replicate};
 ghost use Rattle.annals.specs.Publishes.{line_loading, publishes_chain, publishes_of};
 ghost use Rattle.node_programs.specs.Histories.{entry};
 ghost use Rattle.node_programs.specs.Published.{sizes_of};
+ghost use Rattle.publish.specs.Firsts.{IsFirst, first_entry, line_with_firsts, programs_with};
 ghost use Rattle.publish.specs.Reached.{known};
 ghost use Rattle.publish.specs.Lines.{opening_line};
 
@@ -50,13 +51,16 @@ impl Programs {
             shown_count,
             &mut line,
             factory,
+            &[],
             readers,
         )?;
         Ok((publisher, readers, line))
     }
 
-    /// The programs of a node whose history has chains of banks as well, as [`Programs::new`] makes them. The line asks for the
-    /// factory program. The condition is the chain of its publishes, in which nothing was published.
+    /// The programs of a node whose history has chains of banks as well, as [`Programs::new`] makes them, behind which these were
+    /// published in order, each for its slot: the readers know of all of them. The line asks for the factory program and for
+    /// these. Conditions: the chain of its publishes, in which nothing was published; programs that were accepted for the maps of
+    /// the factory program, slots of 0 to 3, and at most 4,294,967,295 publishes.
     ///
     /// # Errors
     ///
@@ -68,14 +72,19 @@ impl Programs {
         shown_count: ShownCount<J>,
         line: &mut Line<J>,
         factory: Accepted,
+        firsts: &[(u8, Accepted)],
         readers: u8,
     ) -> Result<(Publisher<J, R>, Vec<Reader<J>>), AllocError>
         requires number { chain.number ≡ publishes_chain }
         requires none { publishes_of chain.log ≡ [] }
-        ensures publisher { IfOk result (λ made. made.0 ≡ entry 0 factory ∷ []) }
-        ensures readers { IfOk result
-            (λ made. made.1.items ≡ replicate readers (known (entry 0 factory ∷ []) None)) }
-        ensures asked { IfOk result (λ _. line.new ≡ line_loading line.old (entry 0 factory)) }
+        requires firsts { All (IsFirst factory.sizes) firsts.now }
+        requires few { length firsts.now ≤ 4294967295 }
+        ensures publisher { IfOk result (λ made. made.0 ≡ programs_with factory firsts.now) }
+        ensures readers { IfOk result (λ made.
+            made.1.items ≡ replicate readers (known (programs_with factory firsts.now) None)) }
+        ensures asked { IfOk result (λ _. line.new
+            ≡ line_with_firsts (line_loading line.old (entry 0 factory)) firsts.now) }
+        ensures owner { IfOk result (λ _. line.new.port ≡ line.old.port) }
     {
         let sizes = factory.sizes();
         let shown_count = Arc::new(alloc, shown_count)?;
@@ -99,16 +108,42 @@ impl Programs {
         };
         publisher.make_room()?;
         publisher.history.show(&publisher.shown_count);
+        install_all(&mut publisher, line, firsts)?;
         let entrances = entrances(
             alloc,
             &publisher.writer,
             &publisher.shown_count,
-            &front,
+            publisher.front(),
             sizes,
             readers,
         )?;
         Ok((publisher, entrances))
     }
+}
+
+/// Publishes programs in order, each for its slot, as the line asks. The conditions are those of [`Publisher::install`], for each of
+/// them.
+fn install_all<J: Family, R: Wait + Drop>(
+    publisher: &mut Publisher<J, R>,
+    line: &mut Line<J>,
+    firsts: &[(u8, Accepted)],
+) -> Result<(), AllocError>
+    requires some { 0 < length publisher.old }
+    requires firsts { All (IsFirst (sizes_of publisher.old)) firsts.now }
+    requires few { length publisher.old + length firsts.now ≤ 4294967296 }
+    ensures published { OnOk result (publisher.new ≡ publisher.old ++ map first_entry firsts.now) }
+    ensures asked { OnOk result (line.new ≡ line_with_firsts line.old firsts.now) }
+    ensures owner { OnOk result (line.new.port ≡ line.old.port) }
+{
+    for index in 0..firsts.len() {
+        let first = &firsts[index];
+        let program = first.1.copy()?;
+        // Memory alone can be refused to it: the slot is one of four, and a generation is left.
+        let Ok(_told) = publisher.install(line, first.0, program) else {
+            return Err(AllocError);
+        };
+    }
+    Ok(())
 }
 
 /// So many readers of a table.

@@ -5,10 +5,11 @@ use Rattle.std.proofs.lemmas.List.{length-append, length-map}
 use Rattle.bpf.specs.Program.{Program}
 use Rattle.node_programs.specs.declared.publishes.Publish.{Publish}
 use Rattle.node_programs.specs.Laws.{IsSetByNext}
-use Rattle.node_programs.specs.Published.{judging_program}
+use Rattle.bver.specs.Justified.{AcceptedValue}
+use Rattle.node_programs.specs.Published.{judging_from, judging_program}
 use Rattle.sched.specs.Agreement.{with_published, all_published, slot_and_program, ArePublishesOf, program_and_generation, PublishedAgrees}
 use Rattle.sched.specs.History.{History, Start, Then}
-use Rattle.sched.specs.Looking.{Node, counted, published_at, published_behind, published, publishes}
+use Rattle.sched.specs.Looking.{Node, counted, published_after, published_at, published_behind, published, publishes}
 
 -- as many as are counted
 counts : (n : Node) (h : History) → length (all_published n h) ≡ publishes n h
@@ -67,9 +68,27 @@ agrees_by law n h first rest (Some made) slot factory is before =
     let longer = agrees_longer law n h first ends.front ends.last made slot (factory, ends.fronts) ends.lasts shorter in
     subst (λ (l : List Publish). option_map program_and_generation (judging_program (first ∷ l) slot) ≡ Some (published_behind (Some made) (publishes n h) slot (published n h slot))) (sym ends.parts) longer
 
+-- what judges behind the factory program is what was published before the first event
+starts_from : (rest : List Publish) (count slot : ℕ) (best : AcceptedValue × ℕ)
+    → program_and_generation (judging_from best (count + 1) rest slot) ≡ published_after (map slot_and_program rest) count slot (program_and_generation best)
+starts_from [] count slot best = refl
+starts_from (p ∷ ps) count slot best =
+    starts_from ps (count + 1) slot (cond (p.slot == slot) (p.program, count + 1) best)
+    ∙ ap (published_after (map slot_and_program ps) (count + 1) slot) (by (p.slot == slot))
+  where
+    by : (own : Bool) → program_and_generation (cond own (p.program, count + 1) best) ≡ (if own then (p.program.program, count + 1) else program_and_generation best)
+    by true = refl
+    by false = refl
+
+starts : (n : Node) (first : Publish) (rest : List Publish) (slot : ℕ) → ArePublishesOf n Start (first ∷ rest)
+    → option_map program_and_generation (judging_program (first ∷ rest) slot) ≡ Some (published n Start slot)
+starts n first rest slot is =
+    ap (λ (x : Program × ℕ). Some x) (starts_from rest 0 slot (first.program, 0))
+    ∙ ap (λ (l : List (ℕ × Program)). Some (published_after l 0 slot (first.program.program, 0))) is.1
+    ∙ ap (λ (p : Program). Some (published_after n.firsts 0 slot (p, 0))) is.0
+
 pub published_agrees : IsSetByNext → PublishedAgrees
 published_agrees law n h [] slot is = absurd is
-published_agrees law n Start (first ∷ []) slot is = ap (λ (p : Program). Some (p, 0)) is.0
-published_agrees law n Start (first ∷ (next ∷ rest)) slot is = let clash = is.1 in absurd cc
+published_agrees law n Start (first ∷ rest) slot is = starts n first rest slot is
 published_agrees law n (Then h event outcome) (first ∷ rest) slot is =
     agrees_by law n h first rest (published_at n h event outcome) slot is.0 is.1 (λ all are. published_agrees law n h all slot are)

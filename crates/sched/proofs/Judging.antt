@@ -27,7 +27,8 @@ use Rattle.sched.specs.declared.event.Event.{Event}
 use Rattle.sched.specs.declared.event.Event.TheVariants.{Take, Count, Ticket, Peak, Effect, Publish}
 use Rattle.sched.specs.declared.event.Outcome.{Outcome}
 use Rattle.sched.specs.declared.event.Outcome.TheVariants.{Refused, Discarded, Answered, Taken, Told, Done}
-use Rattle.sched.specs.Headline.{HasBytes, LeadsTo, same, further}
+use Rattle.sched.specs.Headline.{HasBytes, IsNode, LeadsTo, same, further}
+use Rattle.sched.proofs.Firsts.{justified_after}
 use Rattle.sched.specs.History.{History, Start, Then, Open, port_of, taken_by, after_told, opened_by, opened}
 use Rattle.sched.specs.Lawful.{IsLawful, IsOutcome, IsOutcomeAt, IsControlled, IsDecided, IsLoaded, IsPublishedAt, IsPublishedBy, IsPublishOutcome, effect_at_place, effect_at_turn, effect_outcome, header_outcome, packet_outcome, take_outcome, told_on}
 use Rattle.sched.specs.Looking.{Node, windows_in, place_in, slot_of_packet, argument_asked, cell_asked, turn_at, turn_of, staging, published_at, published_behind, publishes, published}
@@ -190,10 +191,10 @@ made_justified law n h event (Done status reply loaded) made is e =
     ended_justified law n h event (Done status reply loaded) made (lawful_end n h event (Done status reply loaded) tt is) e
 
 -- the program of a slot is justified
-pub published_justified : (law : ImagesAreRead) (n : Node) (h : History) (slot : ℕ) → IsJustified n.factory n.sizes → IsLawful n h → IsJustified (published n h slot).0 n.sizes
-published_justified law n Start slot factory lawful = factory
-published_justified law n (Then h event outcome) slot factory lawful =
-    by (published_at n h event outcome) refl (published_justified law n h slot factory lawful.0)
+pub published_justified : (law : ImagesAreRead) (n : Node) (h : History) (slot : ℕ) → IsNode n → IsLawful n h → IsJustified (published n h slot).0 n.sizes
+published_justified law n Start slot node lawful = justified_after n n.firsts 0 slot (n.factory, 0) node.firsts node.factory
+published_justified law n (Then h event outcome) slot node lawful =
+    by (published_at n h event outcome) refl (published_justified law n h slot node lawful.0)
   where
     by : (made : Option (ℕ × Program)) → published_at n h event outcome ≡ made → IsJustified (published n h slot).0 n.sizes → IsJustified (published_behind made (publishes n h) slot (published n h slot)).0 n.sizes
     by None e before = before

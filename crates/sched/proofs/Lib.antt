@@ -15,6 +15,7 @@ pub mod Small
 pub mod Headlines
 pub mod Events
 pub mod Finishing
+pub mod Firsts
 pub mod Making
 pub mod EffectEvents
 pub mod PublishEvents

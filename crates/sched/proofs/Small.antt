@@ -179,7 +179,7 @@ module _ (law : ImagesAreRead) (safety : JustifiedIsSafe) (paths : TurnsArePaths
   turn_argument h port o (Some (turns.Ask question)) there bytes lawful is words stands =
       let leads = opened_taken h port o is in
       let first = began_lawful n port _ h leads lawful in
-      let justified = published_justified law n o.before (slot_of_packet n o.packet) node.factory first.0 in
+      let justified = published_justified law n o.before (slot_of_packet n o.packet) node first.0 in
       let kept = taken_kept n o.before port o.packet o.generation first.1 in
       let header = header_of_command o.packet kept (began_bytes port _ h leads bytes).1 in
       let low : port < 32 = omega (arith, there, node.few_ports) in

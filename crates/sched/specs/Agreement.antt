@@ -12,9 +12,9 @@ abbrev pub with_published : Option (ℕ × Program) → List (ℕ × Program) �
 with_published None made = made
 with_published (Some next) made = made ++ next ∷ []
 
--- all that was published, in order: each program with its slot
+-- all that was published, in order: each program with its slot; first what was published before the first event
 abbrev pub all_published : Node → History → List (ℕ × Program)
-all_published n Start = []
+all_published n Start = n.firsts
 all_published n (Then h event outcome) = with_published (published_at n h event outcome) (all_published n h)
 
 -- the slot and the program of a publish

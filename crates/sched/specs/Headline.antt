@@ -30,10 +30,12 @@ use Rattle.sched.specs.Turns.{AreWords, HasEnded}
 
 -- ---- premises
 
--- a node has at most 32 ports, and its factory program is justified for its maps
+-- a node has at most 32 ports, and its factory program and those that were published before the first event are justified for
+-- its maps
 pub record IsNode (n : Node) : Type 0 where
   pub few_ports : n.ports ≤ 32
   pub factory : IsJustified n.factory n.sizes
+  pub firsts : All (λ (made : ℕ × Program). IsJustified made.1 n.sizes) n.firsts
 
 -- the packet that an event brings, if it brings one, has bytes alone
 abbrev pub BringsBytes : Event → Type 0

@@ -9,4 +9,5 @@ pub mod Ends
 pub mod Headline
 pub mod Agreement
 pub mod Begins
+pub mod Firsts
 pub mod Standing

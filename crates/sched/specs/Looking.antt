@@ -38,13 +38,15 @@ use Rattle.sched.specs.declared.event.Outcome.TheVariants.{Refused, Discarded, A
 use Rattle.sched.specs.History.{History, Start, Then, Open, port_of, opened}
 use Rattle.sched.specs.Turns.{turn_after}
 
--- the node of a history: its logical address, how many ports it has, its banks, its maps, and its factory program
+-- the node of a history: its logical address, how many ports it has, its banks, its maps, its factory program, and what was
+-- published before the first event, in order: each slot with its program
 pub record Node : Type 0 where
   pub address : ℕ
   pub ports : ℕ
   pub banks : List BankConfig
   pub sizes : Maps
   pub factory : Program
+  pub firsts : List (ℕ × Program)
 
 -- the windows of a node
 abbrev pub windows_in : Node → WindowsValue
@@ -140,9 +142,9 @@ abbrev pub counted : Option (ℕ × Program) → ℕ → ℕ
 counted None count = count
 counted (Some made) count = count + 1
 
--- how many programs were published
+-- how many programs were published, with those before the first event
 abbrev pub publishes : Node → History → ℕ
-publishes n Start = 0
+publishes n Start = length n.firsts
 publishes n (Then h event outcome) = counted (published_at n h event outcome) (publishes n h)
 
 -- the program of a slot with its generation, behind what was published as number `count + 1`
@@ -150,9 +152,15 @@ abbrev pub published_behind : Option (ℕ × Program) → (count : ℕ) → (slo
 published_behind None count slot before = before
 published_behind (Some made) count slot before = if made.0 == slot then (made.1, count + 1) else before
 
+-- the same behind several in order, the first as number `count + 1`
+abbrev pub published_after : List (ℕ × Program) → (count : ℕ) → (slot : ℕ) → Program × ℕ → Program × ℕ
+published_after [] count slot before = before
+published_after (made ∷ more) count slot before =
+    published_after more (count + 1) slot (published_behind (Some made) count slot before)
+
 -- the program of a slot with its generation: the last that was published for it, else the factory program and 0
 abbrev pub published : Node → History → (slot : ℕ) → Program × ℕ
-published n Start slot = (n.factory, 0)
+published n Start slot = published_after n.firsts 0 slot (n.factory, 0)
 published n (Then h event outcome) slot =
     published_behind (published_at n h event outcome) (publishes n h) slot (published n h slot)
 

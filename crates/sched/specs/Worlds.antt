@@ -39,15 +39,20 @@ use Rattle.sched.specs.Looking.{cell_word, room_of, entries, first_memory, memor
 use Rattle.sched.specs.Lawful.{IsLawful}
 use Rattle.sched.specs.Turns.{answers_of}
 
--- the node of that configuration, with that factory program
-abbrev pub node_of : NodeConfig → Program → Node
-node_of config factory = record {
+-- the node of that configuration, with that factory program, and with those programs published before the first event
+abbrev pub node_with : NodeConfig → Program → (firsts : List (ℕ × Program)) → Node
+node_with config factory firsts = record {
   address = config.address;
   ports = config.ports;
   banks = config.banks.now;
   sizes = config.sizes;
   factory = factory;
+  firsts = firsts;
 }
+
+-- the same without such programs
+abbrev pub node_of : NodeConfig → Program → Node
+node_of config factory = node_with config factory []
 
 -- ---- what a world has
 

@@ -1,15 +1,16 @@
 //! The world: the state of a node as plain values.
 
-ghost use Rattle.std.specs.Prelude.{◌≡◌, ◌<◌, ◌≤◌, ℕ, length, map, replicate, option_map, slice_get, Some, None, IfOk, IfErr, IfSome, IfNone};
+ghost use Rattle.std.specs.Prelude.{◌≡◌, ◌<◌, ◌≤◌, ℕ, length, map, replicate, option_map, slice_get, All, Some, None, IfOk, IfErr, IfSome, IfNone, OnOk};
 ghost use Rattle.std.specs.Arc.{arc_value};
 ghost use Rattle.std.specs.List.{range_with_len};
 ghost use Rattle.machine.specs.Sizes.{IsInside};
 ghost use Rattle.node_parts.specs.Nodes.{ArePortShares, AreSharesOf, fresh_banks, limit_fault};
+ghost use Rattle.sched.specs.Firsts.{AddsFirst, IsFirst, slot_with_program};
 ghost use Rattle.sched.specs.Headline.{IsNode};
 ghost use Rattle.sched.specs.History.{History, Start, opened};
 ghost use Rattle.sched.specs.Standing.{IsLent};
 ghost use Rattle.sched.specs.Looking.{Node};
-ghost use Rattle.sched.specs.Worlds.{IsUnmade, IsWorldFault, IsWorldOf, first_port, generation_in, node_of, shown_in_all, staging_in};
+ghost use Rattle.sched.specs.Worlds.{IsUnmade, IsWorldFault, IsWorldOf, first_port, generation_in, node_of, node_with, shown_in_all, staging_in};
 ghost use Rattle.plain_cells.specs.Words.{word_at, word_in};
 
 use crate::faults::WorldFault;
@@ -128,6 +129,61 @@ impl World {
     {
         let (banks, by_port) = Banks::new(alloc, config)?;
         Ok(World::of(alloc, config, banks, by_port, factory)?)
+    }
+
+    /// The world of a node before its first event, as [`World::with_factory`] makes it, for which these programs were then published,
+    /// in order: each for its slot, with the next generation, the first with 1. Stagings, load results, banks and words are those of a
+    /// world without them. Conditions: programs that were accepted for the maps of the configuration, slots of 0 to 3, and at most
+    /// 4,294,967,295 publishes.
+    ///
+    /// # Errors
+    ///
+    /// `Config` where ports or banks are outside their limits; `Memory` where memory was refused: there is no world then.
+    pub fn with_programs(
+        alloc: Global,
+        config: &NodeConfig,
+        factory: Accepted,
+        firsts: &[(u8, Accepted)],
+    ) -> Result<World, WorldFault>
+        requires factory { factory.sizes ≡ config.now.sizes }
+        requires firsts { All (IsFirst config.now.sizes) firsts.now }
+        requires few { length firsts.now ≤ 4294967295 }
+        ensures world { IfOk result
+            (IsWorldOf (node_with config.now factory.program (map slot_with_program firsts.now)) Start) }
+        ensures limits { IfOk result (λ _. limit_fault config.now ≡ None) }
+        ensures node { IfOk result (λ _.
+            IsNode (node_with config.now factory.program (map slot_with_program firsts.now))) }
+        ensures fault { IfErr result (IsUnmade (limit_fault config.now)) }
+    {
+        let mut world = World::with_factory(alloc, config, factory)?;
+        for index in 0..firsts.len() {
+            let first = &firsts[index];
+            let program = first.1.copy()?;
+            world.publish_first(alloc, first.0, program)?;
+        }
+        Ok(world)
+    }
+
+    /// Publishes a program for a slot before the first event. The conditions are a slot below 4, a program that was accepted for
+    /// the maps of the world, and a generation that is left.
+    fn publish_first(
+        &mut self,
+        alloc: Global,
+        slot: u8,
+        program: Accepted,
+    ) -> Result<(), AllocError>
+        requires first { IsFirst self.old.sizes (slot, program) }
+        requires few { self.old.count < 4294967295 }
+        ensures { OnOk result (AddsFirst (slot, program) self.old self.new) }
+    {
+        let _justified = program.image();
+        let shown = Shown {
+            program: Arc::new(alloc, program)?,
+            generation: self.count + 1,
+        };
+        self.count = shown.generation;
+        self.programs[usize::from(slot)] = shown;
+        Ok(())
     }
 
     /// The world of a node behind no event, of its banks, its ports' shares of them, and its factory program.

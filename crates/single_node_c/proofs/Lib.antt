@@ -2,3 +2,4 @@ pub mod Values
 pub mod Faults
 mod Found
 mod Unread
+pub mod Unpublished

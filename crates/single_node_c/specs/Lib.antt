@@ -7,4 +7,5 @@ pub mod Serving
 pub mod Journals
 pub mod Memory
 pub mod Opening
+pub mod Publishing
 pub mod Words

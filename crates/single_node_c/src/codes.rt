@@ -50,3 +50,9 @@ pub const DAMAGED: u32 = 15;
 
 /// The number is no part of a node that is scrubbed.
 pub const NO_PART: u32 = 16;
+
+/// There is no such slot: a slot is 0 to 3.
+pub const BAD_SLOT: u32 = 17;
+
+/// No generation is left: 4,294,967,295 programs were published.
+pub const NO_GENERATION: u32 = 18;

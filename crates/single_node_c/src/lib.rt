@@ -15,6 +15,7 @@ mod memory;
 mod numbers;
 mod opening;
 mod parts;
+mod publishing;
 mod scrubbing;
 mod serving;
 mod unfit;

@@ -1,6 +1,6 @@
 -- Digits in lanes: the characters of a block, and the bytes that they write.
 use Rattle.std.proofs.Common.{◌≡◌, ◌≢◌, ℕ, zero, suc, ◌+◌, ◌-◌, ◌*◌, ◌%◌, ◌^◌, ◌<◌, ◌≤◌, Bool, true, false, cond, eqb, leb, ltb, List, [], ◌∷◌, ◌++◌, map, length, take, drop, replicate, get_or, refl, sym, ap, ap₂, ◌∙◌, arith, w8, Fits}
-use Rattle.std.specs.Prelude.{bit_or}
+use Rattle.std.specs.Prelude.{bit_and, bit_or}
 use Rattle.std.specs.Char.{digit_value}
 use Rattle.std.specs.Str.Parse.{AllDigits}
 use Rattle.std.specs.Simd.Lanes.{zip2, sel_l, mask_l, top, Each1}
@@ -26,26 +26,38 @@ up a b = a * 2 ^ b % 2 ^ 8
 abbrev below : ℕ → ℕ → ℕ
 below a b = cond (ltb a b) 255 0
 
+-- the smaller and the larger of two
+abbrev least : ℕ → ℕ → ℕ
+least a b = cond (top 7 (below a b)) a b
+
+abbrev most : ℕ → ℕ → ℕ
+most a b = cond (top 7 (below a b)) b a
+
 -- what a lane makes of a character
 abbrev lane : ℕ → ℕ
 lane c =
-    let number = sub c 48 in
-    let letter = sub (bit_or c 32) 97 in
-    cond (top 7 (below number 10)) number (cond (top 7 (below letter 6)) (add letter 10) 16)
+    let number = add (most (add c 198) 6) 10 in
+    let letter = add (least (sub (bit_and c 223) 65) 245) 10 in
+    least (least number letter) 16
 
 lane_reads : (c : ℕ) → c < 256 → lane c ≡ digit_of c
 lane_reads c small = eqb-true _ _ (agree_below_at (λ d. eqb (lane d) (digit_of d)) (λ _. true) 256 c refl small)
 
+abbrev leasts : List ℕ → List ℕ → List ℕ
+leasts xs ys = sel_l (map (top 7) (zip2 below xs ys)) xs ys
+
+abbrev raised : ℕ → List ℕ → List ℕ
+raised n v = zip2 add v (replicate n 198)
+
 abbrev numbers : ℕ → List ℕ → List ℕ
-numbers n v = zip2 sub v (replicate n 48)
+numbers n v =
+    zip2 add (sel_l (map (top 7) (zip2 below (raised n v) (replicate n 6))) (replicate n 6) (raised n v)) (replicate n 10)
 
 abbrev letters : ℕ → List ℕ → List ℕ
-letters n v = zip2 sub (zip2 bit_or v (replicate n 32)) (replicate n 97)
+letters n v = zip2 add (leasts (zip2 sub (zip2 bit_and v (replicate n 223)) (replicate n 65)) (replicate n 245)) (replicate n 10)
 
 abbrev lanes : ℕ → List ℕ → List ℕ
-lanes n v =
-    sel_l (map (top 7) (zip2 below (numbers n v) (replicate n 10))) (numbers n v)
-    (sel_l (map (top 7) (zip2 below (letters n v) (replicate n 6))) (zip2 add (letters n v) (replicate n 10)) (replicate n 16))
+lanes n v = leasts (leasts (numbers n v) (letters n v)) (replicate n 16)
 
 pub lanes_read : (n : ℕ) (v : List ℕ) → length v ≡ n → Each1 (Fits w8) v → lanes n v ≡ map digit_of v
 lanes_read zero [] long fit = refl

@@ -8,3 +8,4 @@ pub mod DigitPairs
 pub mod BlockLanes
 pub mod DigitBlocks
 pub mod WordCuts
+pub mod SpaceCuts

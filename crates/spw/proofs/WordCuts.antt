@@ -1,16 +1,14 @@
 -- The words on both sides of a space.
-use Rattle.std.proofs.Common.{◌≡◌, ◌≢◌, ℕ, zero, suc, ◌<◌, Bool, true, false, cond, not, List, [], ◌∷◌, ◌++◌, length, take, drop, get_or, filter, refl, sym, subst, ap, ap₂, ◌∙◌, arith, eqb, Some, append_assoc, append-nil, lit<, inl, inr}
+use Rattle.std.proofs.Common.{◌≡◌, ℕ, zero, suc, ◌<◌, Bool, true, false, cond, not, List, [], ◌∷◌, ◌++◌, length, filter, refl, sym, subst, ap, ◌∙◌, arith, eqb, append_assoc, append-nil, inl, inr}
 use Rattle.std.specs.Prelude.{All}
 use Rattle.std.specs.Char.{digit_value}
 use Rattle.std.specs.Str.Parse.{AllDigits}
 use Rattle.std.specs.List.{flat_map, onto_first, slice_split}
-use Rattle.std.specs.Str.Pattern.{RFindsChar}
 use Rattle.std.proofs.lemmas.Bool.{eqb-true, ne_eqb}
-use Rattle.std.proofs.lemmas.List.{take-append-drop}
 use Rattle.std.proofs.lemmas.List.Elements.{All-cons, All-head, All-nil, All-tail, filter-append}
 use Rattle.std.proofs.lemmas.List.Splits.{slice_split-cons_no, length-slice_split}
-use Rattle.std.proofs.lemmas.Str.Pattern.{NoCharPasses-char, drop_at_char}
 use Rattle.spw.specs.Line.{words_of, IsHex, IsHexFault, WriteBytes, bytes_written}
+use Rattle.spw.specs.Spaces.{HasNoSpace}
 use Rattle.spw.specs.declared.faults.LineFault.{LineFault}
 
 abbrev is_space : ℕ → Bool
@@ -42,9 +40,6 @@ words_at_space front back =
 
 -- ---- a word alone
 
-abbrev pub HasNoSpace : List ℕ → Type 0
-HasNoSpace text = (i : ℕ) → i < length text → get_or text i 0 ≢ 32
-
 split_alone : (text : List ℕ) → HasNoSpace text → slice_split is_space text ≡ text ∷ []
 split_alone [] none = refl
 split_alone (code ∷ text) none =
@@ -71,15 +66,6 @@ first_is_none text [] behind parts empty = ap words_of parts
 first_is_none text (code ∷ word) behind parts empty = absurd (omega (arith, eqb-true _ _ empty))
 
 -- ---- the last word, where the last space stands before it
-
--- the parts of a text at its last space
-pub parts_at_last : (text before word : List ℕ) (i j : ℕ) → RFindsChar 32 text (Some (i, j)) → before ≡ take i text → word ≡ drop j text
-    → (text ≡ before ++ 32 ∷ word) × HasNoSpace word
-parts_at_last text before word i j found front back =
-    let at : drop i text ≡ 32 ∷ drop j text = drop_at_char 32 text i j found.1 (lit< tt) in (
-      sym (take-append-drop i text) ∙ ap₂ (λ (xs ys : List ℕ). xs ++ ys) (sym front) (at ∙ ap (λ (xs : List ℕ). 32 ∷ xs) (sym back)),
-      subst HasNoSpace (sym back) (λ k below. NoCharPasses-char 32 (drop j text) k found.0 (lit< tt) below),
-    )
 
 pub last_is : (text before word : List ℕ) → text ≡ before ++ 32 ∷ word → HasNoSpace word → eqb (length word) 0 ≡ false → words_of text ≡ words_of before ++ word ∷ []
 last_is text before word parts none some =

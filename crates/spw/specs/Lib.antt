@@ -5,4 +5,5 @@ pub mod Feeding
 pub mod Line
 pub mod Paths
 pub mod Rooms
+pub mod Spaces
 pub mod Written

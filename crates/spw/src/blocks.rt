@@ -11,6 +11,9 @@ use std::simd::prelude::*;
 /// How many characters are read at a time.
 pub(crate) const BLOCK: usize = 32;
 
+/// How many bytes they write.
+pub(crate) const WRITTEN: usize = 16;
+
 /// What stands for a character that is no hexadecimal digit: a bit that no digit has.
 const NONE: u8 = 16;
 
@@ -19,13 +22,18 @@ const NONE: u8 = 16;
 fn digits_of(characters: u8x16) -> u8x16
     ensures { result ≡ map (λ c. min (digit_value c) 16) characters }
 {
+    // Of '0' to '9' 246 to 255, which wrap to 0 to 9, and of no other character below 16.
+    let raised = characters + u8x16::splat(255 - b'9');
+    let six = u8x16::splat(6);
     let ten = u8x16::splat(10);
-    let number = characters - u8x16::splat(b'0');
-    let letter = (characters | u8x16::splat(0x20)) - u8x16::splat(b'a');
-    let of_letter = letter
-        .simd_lt(u8x16::splat(6))
-        .select(letter + ten, u8x16::splat(NONE));
-    number.simd_lt(ten).select(number, of_letter)
+    let number = raised.simd_lt(six).select(six, raised) + ten;
+    // Of 'A' to 'F' in either case 10 to 15, and of no other character below 16.
+    let letter = (characters & u8x16::splat(0xDF)) - u8x16::splat(b'A');
+    let most = u8x16::splat(245);
+    let of_letter = letter.simd_lt(most).select(letter, most) + ten;
+    let digit = number.simd_lt(of_letter).select(number, of_letter);
+    let none = u8x16::splat(NONE);
+    digit.simd_lt(none).select(digit, none)
 }
 
 /// The characters at even places of two vectors: the high halves of bytes.
@@ -53,7 +61,7 @@ fn lows(first: u8x16, second: u8x16) -> u8x16
 /// The bytes that a block of digits writes, or `None` if a character is none: one test serves them all, since no
 /// digit has the bit that stands for none.
 #[inline(always)]
-pub(crate) fn block_bytes(block: &[u8; BLOCK]) -> Option<[u8; 16]>
+pub(crate) fn block_bytes(block: &[u8; BLOCK]) -> Option<[u8; WRITTEN]>
     ensures { MatchOption result (¬ AllDigits 16 block.now)
         (λ bytes. AllDigits 16 block.now × (bytes ≡ bytes_written block.now)) }
 {

@@ -1,13 +1,15 @@
 //! Pairs of hexadecimal digits.
 
-ghost use Rattle.std.specs.Prelude.{◌≡◌, min, true, ◌++◌, IfOk};
+ghost use Rattle.std.specs.Prelude.{◌≡◌, ◌≤◌, ◌+◌, ◌*◌, length, min, true, vec_len, ◌++◌, IfOk};
 ghost use Rattle.std.specs.Bool.{Decides};
 ghost use Rattle.std.specs.List.{concat};
 ghost use Rattle.std.specs.Char.{digit_value};
 ghost use Rattle.std.specs.Str.Parse.{AllDigits};
+ghost use Rattle.std.specs.Vec.{vec_capacity};
 ghost use Rattle.spw.specs.Line.{IsHex, bytes_written};
+ghost use Rattle.spw.specs.declared.blocks.TheConstants.{BLOCK, WRITTEN};
 
-use crate::blocks::{BLOCK, block_bytes};
+use crate::blocks::{BLOCK, WRITTEN, block_bytes};
 use std::alloc::AllocError;
 
 /// What stands for a character that is no hexadecimal digit: a bit that no digit has.
@@ -35,30 +37,44 @@ fn digit(character: u8) -> u8
     DIGITS[character as usize]
 }
 
+/// Puts the bytes of a block behind others. The condition is that there is room for them.
+#[inline(always)]
+fn push_block(bytes: &mut Vec<u8>, block: &[u8; WRITTEN])
+    requires { vec_len bytes.old + WRITTEN ≤ vec_capacity bytes.old }
+    ensures items { bytes.new.items ≡ bytes.old.items ++ block.now }
+    ensures len { vec_len bytes.new ≡ vec_len bytes.old + WRITTEN }
+    ensures room { vec_capacity bytes.old ≤ vec_capacity bytes.new }
+{
+    bytes.extend_from_slice(block).unwrap();
+}
+
 /// Puts the bytes that blocks of digits write behind others, as far as all characters of a block are digits, and tells
-/// whether all are.
-fn append_blocks(bytes: &mut Vec<u8>, blocks: &[[u8; BLOCK]]) -> Result<bool, AllocError>
-    ensures digits { IfOk result (λ all. Decides all (AllDigits 16 (concat blocks.now))) }
-    ensures bytes { IfOk result (λ all. all ≡ true
-        → bytes.new.items ≡ bytes.old.items ++ bytes_written (concat blocks.now)) }
+/// whether all are. The condition is that there is room for them.
+fn append_blocks(bytes: &mut Vec<u8>, blocks: &[[u8; BLOCK]]) -> bool
+    requires { vec_len bytes.old + length blocks.now * WRITTEN ≤ vec_capacity bytes.old }
+    ensures digits { Decides result (AllDigits 16 (concat blocks.now)) }
+    ensures bytes { result ≡ true
+        → bytes.new.items ≡ bytes.old.items ++ bytes_written (concat blocks.now) }
+    ensures len { result ≡ true → vec_len bytes.new ≡ vec_len bytes.old + length blocks.now * WRITTEN }
+    ensures room { vec_capacity bytes.old ≤ vec_capacity bytes.new }
 {
     for block in blocks {
         let Some(written) = block_bytes(block) else {
-            return Ok(false);
+            return false;
         };
-        bytes.extend_from_slice(&written)?;
+        push_block(bytes, &written);
     }
-    Ok(true)
+    true
 }
 
 /// Puts the bytes that pairs of digits write behind others, and tells whether all are digits: one test serves
-/// them all, since no digit has the bit that stands for none.
-fn append_pairs(bytes: &mut Vec<u8>, pairs: &[[u8; 2]]) -> Result<bool, AllocError>
-    ensures digits { IfOk result (λ all. Decides all (AllDigits 16 (concat pairs.now))) }
-    ensures bytes { IfOk result (λ all. all ≡ true
-        → bytes.new.items ≡ bytes.old.items ++ bytes_written (concat pairs.now)) }
+/// them all, since no digit has the bit that stands for none. The condition is that there is room for them.
+fn append_pairs(bytes: &mut Vec<u8>, pairs: &[[u8; 2]]) -> bool
+    requires { vec_len bytes.old + length pairs.now ≤ vec_capacity bytes.old }
+    ensures digits { Decides result (AllDigits 16 (concat pairs.now)) }
+    ensures bytes { result ≡ true
+        → bytes.new.items ≡ bytes.old.items ++ bytes_written (concat pairs.now) }
 {
-    bytes.reserve(pairs.len())?;
     let mut digits = 0;
     for pair in pairs {
         let [high, low] = *pair;
@@ -66,7 +82,7 @@ fn append_pairs(bytes: &mut Vec<u8>, pairs: &[[u8; 2]]) -> Result<bool, AllocErr
         digits |= high | low;
         bytes.push_reserved(high.wrapping_mul(16).wrapping_add(low));
     }
-    Ok(digits < NONE)
+    digits < NONE
 }
 
 /// Puts the bytes that a word of hexadecimal digits writes behind others, and tells whether it is one: an even number
@@ -81,8 +97,9 @@ pub(crate) fn append_hex(bytes: &mut Vec<u8>, word: &[u8]) -> Result<bool, Alloc
     if !odd.is_empty() {
         return Ok(false);
     }
-    if !append_blocks(bytes, blocks)? {
+    bytes.reserve(word.len() / 2)?;
+    if !append_blocks(bytes, blocks) {
         return Ok(false);
     }
-    append_pairs(bytes, pairs)
+    Ok(append_pairs(bytes, pairs))
 }

@@ -1,6 +1,6 @@
 //! Packet lines: text that writes a port, the bytes of a packet and its end marker.
 
-ghost use Rattle.std.specs.Prelude.{◌≡◌, ◌≤◌, ◌++◌, map, length, All, IfOk, IfErr, OnOk, MatchResult};
+ghost use Rattle.std.specs.Prelude.{◌≡◌, ◌≤◌, ◌++◌, map, length, All, IfOk, IfErr, IfSome, OnOk, MatchResult};
 ghost use Rattle.spw.specs.Line.{words_of as words_in, AreNoParts, AreParts, IsBytesFault, IsHex, IsHexFault, IsNoMark, IsNoPort, IsReading, IsUnambiguous, WriteBytes, WritesPort, bytes_written, mark_word, marker_word};
 
 use crate::digits::append_hex;
@@ -23,10 +23,25 @@ pub fn words_of(alloc: Global, line: &str) -> Result<Vec<&str>, AllocError>
         .collect(alloc)
 }
 
+/// The port that a word of one digit writes; `None` of other words.
+#[inline(always)]
+fn port_of_digit(word: &[u8]) -> Option<u8>
+    ensures { IfSome result (WritesPort word.now) }
+{
+    let [digit] = word else {
+        return None;
+    };
+    let port = digit.wrapping_sub(b'0');
+    if port < 10 { Some(port) } else { None }
+}
+
 /// The port that a word writes: a decimal number from 0 to 31 without a sign, or `NoPort`.
 pub fn read_port(word: &str) -> Result<u8, LineFault>
     ensures { MatchResult result (WritesPort word.now) (IsNoPort word.now) }
 {
+    if let Some(port) = port_of_digit(word.as_bytes()) {
+        return Ok(port);
+    }
     if word.starts_with('+') {
         return Err(LineFault::NoPort);
     }
@@ -40,6 +55,7 @@ pub fn read_port(word: &str) -> Result<u8, LineFault>
 
 /// A line taken apart: the port that its first word writes, the text between that word and the last, and the
 /// last word. `NoPort` where the first word writes none, or there is none; `BadMarker` where there is no other.
+#[inline(always)]
 fn parts_of(line: &str) -> Result<(u8, &str, &str), LineFault>
     ensures { MatchResult result
         (λ p. AreParts (words_in line.now) p.0 (words_in p.1.now) p.2.now)
@@ -52,6 +68,7 @@ fn parts_of(line: &str) -> Result<(u8, &str, &str), LineFault>
 }
 
 /// The marker that a word writes, or `BadMarker`.
+#[inline(always)]
 fn end_of(word: &str) -> Result<End, LineFault>
     ensures { MatchResult result (λ end. word.now ≡ marker_word end) (IsNoMark marker_word word.now) }
 {
@@ -63,6 +80,7 @@ fn end_of(word: &str) -> Result<End, LineFault>
 }
 
 /// What a piece ends in by its last word: a marker, or `None` for `PART`; or `BadMarker`.
+#[inline(always)]
 fn mark_of(word: &str) -> Result<Option<End>, LineFault>
     ensures { MatchResult result (λ mark. word.now ≡ mark_word mark) (IsNoMark mark_word word.now) }
 {
@@ -87,6 +105,7 @@ fn append_word(bytes: &mut Vec<u8>, word: &str) -> Result<(), LineFault>
 
 /// The bytes that the words of a text write, joined. Most texts are one word, which is read without a search for
 /// spaces: no space is a digit.
+#[inline(always)]
 fn bytes_of(alloc: Global, text: &str) -> Result<Vec<u8>, LineFault>
     ensures ok { IfOk result (λ bytes. WriteBytes (words_in text.now) bytes.items) }
     ensures err { IfErr result (IsHexFault (All IsHex (words_in text.now))) }
@@ -105,6 +124,7 @@ fn bytes_of(alloc: Global, text: &str) -> Result<Vec<u8>, LineFault>
 }
 
 /// The bytes of a packet, or of a piece of one, that the words of a text write: at most [`MAX_PACKET`].
+#[inline(always)]
 fn packet_bytes(alloc: Global, hex: &str) -> Result<Vec<u8>, LineFault>
     ensures { MatchResult result
         (λ bytes. WriteBytes (words_in hex.now) bytes.items × (length bytes.items ≤ MAX_PACKET))

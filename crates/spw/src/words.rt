@@ -2,6 +2,33 @@
 
 ghost use Rattle.std.specs.Prelude.{◌≡◌, [], ◌∷◌, ◌++◌, MatchOption};
 ghost use Rattle.spw.specs.Line.{words_of};
+ghost use Rattle.spw.specs.Spaces.{HasNoSpace, IsCut};
+
+use memchr::{memchr, memrchr};
+
+/// A text at its first space: what stands before it and behind it. `None` if it has no space.
+#[inline(always)]
+fn at_first_space(text: &str) -> Option<(&str, &str)>
+    ensures { MatchOption result (HasNoSpace text.now)
+        (λ r. IsCut text.now r.0.now r.1.now × HasNoSpace r.0.now) }
+{
+    match memchr(b' ', text.as_bytes()) {
+        Some(place) => Some((&text[..place], &text[place + 1..])),
+        None => None,
+    }
+}
+
+/// A text at its last space, in the same way.
+#[inline(always)]
+fn at_last_space(text: &str) -> Option<(&str, &str)>
+    ensures { MatchOption result (HasNoSpace text.now)
+        (λ r. IsCut text.now r.0.now r.1.now × HasNoSpace r.1.now) }
+{
+    match memrchr(b' ', text.as_bytes()) {
+        Some(place) => Some((&text[..place], &text[place + 1..])),
+        None => None,
+    }
+}
 
 /// The first word of a text and what stands behind it, or `None` where there is no word.
 pub fn first_word(text: &str) -> Option<(&str, &str)>
@@ -9,7 +36,7 @@ pub fn first_word(text: &str) -> Option<(&str, &str)>
         (λ r. words_of text.now ≡ r.0.now ∷ words_of r.1.now) }
 {
     let mut rest = text;
-    while let Some((word, behind)) = rest.split_once(' ') {
+    while let Some((word, behind)) = at_first_space(rest) {
         if !word.is_empty() {
             return Some((word, behind));
         }
@@ -23,12 +50,13 @@ pub fn first_word(text: &str) -> Option<(&str, &str)>
 }
 
 /// What stands before the last word of a text, and that word, or `None` where there is no word.
+#[inline(always)]
 pub(crate) fn last_word(text: &str) -> Option<(&str, &str)>
     ensures { MatchOption result (words_of text.now ≡ [])
         (λ r. words_of text.now ≡ words_of r.0.now ++ r.1.now ∷ []) }
 {
     let mut rest = text;
-    while let Some((before, word)) = rest.rsplit_once(' ') {
+    while let Some((before, word)) = at_last_space(rest) {
         if !word.is_empty() {
             return Some((before, word));
         }

@@ -1,6 +1,6 @@
 //! A node, as threads share it.
 
-ghost use Rattle.std.specs.Prelude.{◌≡◌, ◌<◌, ◌≤◌, ◌+◌, ◌-◌, [], length, IfOk, IfErr, None};
+ghost use Rattle.std.specs.Prelude.{◌≡◌, ◌<◌, ◌≤◌, ◌+◌, ◌-◌, [], All, length, IfOk, IfErr, None};
 ghost use base.Stored.{Gv};
 ghost use Rattle.std.specs.List.{All};
 ghost use Rattle.annals.specs.Banks.{IsFresh};
@@ -9,7 +9,8 @@ ghost use Rattle.annals.specs.Publishes.{publishes_chain, publishes_of};
 ghost use Rattle.cells.specs.Seats.{cells};
 ghost use Rattle.node_parts.specs.Nodes.{IsNodeFault, first_passes, limit_fault};
 ghost use Rattle.publish.specs.Lines.{opening_line};
-ghost use Rattle.target.specs.Nodes.{AreNumbered};
+ghost use Rattle.publish.specs.Firsts.{IsFirst, line_with_firsts};
+ghost use Rattle.target.specs.Nodes.{AreNumbered, informed_passes};
 ghost use Rattle.target.specs.Passes.{unasked};
 
 use crate::lock::BankLock;
@@ -155,6 +156,40 @@ impl<J: Family, R: Wait + Drop> Node<J, R> {
         ensures limits { IfOk result (λ _. limit_fault config.now ≡ None) }
         ensures fault { IfErr result (IsNodeFault (limit_fault config.now)) }
     {
+        Node::with_programs(alloc, rt, opened, config, factory, &[])
+    }
+
+    /// A node as [`Node::with_cells`] makes it, for which these programs were then published, in order: each for its slot, with the
+    /// next generation, the first with 1. The instrument's line asks for them, and each port knows of all. Stagings, load results,
+    /// cells and journals are those of a node without them. Conditions: programs that were accepted for the maps of the
+    /// configuration, slots of 0 to 3, and at most 4,294,967,295 publishes.
+    ///
+    /// # Errors
+    ///
+    /// Those of [`Node::new`]. There is no node if a program is not published.
+    pub fn with_programs(
+        alloc: Global,
+        rt: R,
+        opened: Opened,
+        config: &NodeConfig,
+        factory: Accepted,
+        firsts: &[(u8, Accepted)],
+    ) -> Result<(Node<J, R>, Cells, Vec<Pass<J>>, Line<J>), NodeFault>
+        requires family { opened ≡ J.book }
+        requires sizes { factory.sizes ≡ config.now.sizes }
+        requires firsts { All (IsFirst config.now.sizes) firsts.now }
+        requires few { length firsts.now ≤ 4294967295 }
+        ensures banks { IfOk result (λ made. made.0 ≡ length config.now.banks.now) }
+        ensures cells { IfOk result
+            (λ made. made.1 ≡ cells config.now.sizes made.1.home (256 - config.now.ports) []) }
+        ensures passes { IfOk result (λ made.
+            made.2.items ≡ unasked (informed_passes config.now factory firsts.now made.1.home)) }
+        ensures line { IfOk result (λ made.
+            made.3 ≡ line_with_firsts (opening_line factory) firsts.now) }
+        ensures instrument { IfOk result (λ made. made.3.port ≡ instrument) }
+        ensures limits { IfOk result (λ _. limit_fault config.now ≡ None) }
+        ensures fault { IfErr result (IsNodeFault (limit_fault config.now)) }
+    {
         let mut history = opened.into_chains();
         let front = history.front();
         let (banks, mut by_port) = Banks::new(alloc, config)?;
@@ -167,6 +202,7 @@ impl<J: Family, R: Wait + Drop> Node<J, R> {
             history,
             config,
             factory,
+            firsts,
             &mut by_port,
         )?;
         let publisher = Mutex::new(publisher);

@@ -1,14 +1,15 @@
 //! What is made beside the banks of a node: the cells of its maps, what publishes its programs, and the passes of its ports.
 
-ghost use Rattle.std.specs.Prelude.{◌≡◌, ◌≤◌, ◌+◌, ◌-◌, [], length, IfOk};
+ghost use Rattle.std.specs.Prelude.{◌≡◌, ◌≤◌, ◌+◌, ◌-◌, ℕ, List, [], All, length, IfOk};
 ghost use base.Stored.{Gv};
 ghost use Rattle.annals.specs.Publishes.{line_loading, publishes_chain, publishes_of};
 ghost use Rattle.bver.specs.Justified.{AcceptedValue};
 ghost use Rattle.cells.specs.Seats.{cells};
-ghost use Rattle.node_parts.specs.Nodes.{AreSharesOf, first_passes, first_programs};
+ghost use Rattle.node_parts.specs.Nodes.{AreSharesOf};
 ghost use Rattle.node_programs.specs.Histories.{entry};
 ghost use Rattle.target.specs.Lines.{fresh_lines};
-ghost use Rattle.target.specs.Nodes.{AreFirst};
+ghost use Rattle.publish.specs.Firsts.{IsFirst, line_with_firsts, programs_with};
+ghost use Rattle.target.specs.Nodes.{AreFirst, informed_passes};
 ghost use Rattle.target.specs.Passes.{unasked};
 
 use crate::pass::Pass;
@@ -58,12 +59,13 @@ fn passes<J: Family>(
     requires banks { length config.now.banks.now ≤ MAX_BANKS }
     requires ports { config.now.ports ≤ PORTS }
     requires by_port { AreSharesOf config.now by_port.old.items }
-    requires made { (factory : AcceptedValue) × (home : Gv)
-        × AreFirst factory home config.now.ports seats.items readers.items }
+    requires made { (factory : AcceptedValue) × (firsts : List (ℕ × AcceptedValue)) × (home : Gv)
+        × AreFirst factory firsts home config.now.ports seats.items readers.items }
     requires lines { lines.items ≡ fresh_lines config.now.ports }
-    ensures { (factory : AcceptedValue) (home : Gv)
-        → AreFirst factory home config.now.ports seats.items readers.items
-        → IfOk result (λ passes. passes.items ≡ unasked (first_passes config.now factory home)) }
+    ensures { (factory : AcceptedValue) (firsts : List (ℕ × AcceptedValue)) (home : Gv)
+        → AreFirst factory firsts home config.now.ports seats.items readers.items
+        → IfOk result (λ passes.
+        passes.items ≡ unasked (informed_passes config.now factory firsts home)) }
 {
     let mut passes = Vec::with_capacity(alloc, by_port.len())?;
     for line in lines {
@@ -83,8 +85,9 @@ fn passes<J: Family>(
 }
 
 /// The cells of a node's maps, each 0, what publishes its programs in that chain of its history, and a pass for each port, in
-/// order, with its shares of the banks and its line of the history. The line that is lent asks for the factory program. The conditions are a chain of publishes that has none, the
-/// chains of lines, and numbers within their limits.
+/// order, with its shares of the banks and its line of the history. Behind the factory program these were published. The line that
+/// is lent asks for all of them. The conditions are a chain of publishes that has none, the chains of lines, programs that may be
+/// published, and numbers within their limits.
 pub(crate) fn cells_and_passes<J: Family, R: Wait + Drop>(
     alloc: Global,
     rt: R,
@@ -93,6 +96,7 @@ pub(crate) fn cells_and_passes<J: Family, R: Wait + Drop>(
     history: annals::Opened,
     config: &NodeConfig,
     factory: Accepted,
+    firsts: &[(u8, Accepted)],
     by_port: &mut Vec<PortShares>,
 ) -> Result<(Cells, Publisher<J, R>, Vec<Pass<J>>), AllocError>
     requires number { chain.number ≡ publishes_chain }
@@ -100,15 +104,19 @@ pub(crate) fn cells_and_passes<J: Family, R: Wait + Drop>(
     requires family { history.0 ≡ J.book }
     requires chains { history.1 ≡ 32 }
     requires sizes { factory.sizes ≡ config.now.sizes }
+    requires firsts { All (IsFirst config.now.sizes) firsts.now }
+    requires few { length firsts.now ≤ 4294967295 }
     requires banks { length config.now.banks.now ≤ MAX_BANKS }
     requires ports { config.now.ports ≤ PORTS }
     requires by_port { AreSharesOf config.now by_port.old.items }
     ensures cells { IfOk result
         (λ made. made.0 ≡ cells config.now.sizes made.0.home (256 - config.now.ports) []) }
-    ensures publisher { IfOk result (λ made. made.1 ≡ first_programs factory) }
-    ensures passes { IfOk result
-        (λ made. made.2.items ≡ unasked (first_passes config.now factory made.0.home)) }
-    ensures asked { IfOk result (λ _. line.new ≡ line_loading line.old (entry 0 factory)) }
+    ensures publisher { IfOk result (λ made. made.1 ≡ programs_with factory firsts.now) }
+    ensures passes { IfOk result (λ made.
+        made.2.items ≡ unasked (informed_passes config.now factory firsts.now made.0.home)) }
+    ensures asked { IfOk result (λ _. line.new
+        ≡ line_with_firsts (line_loading line.old (entry 0 factory)) firsts.now) }
+    ensures owner { IfOk result (λ _. line.new.port ≡ line.old.port) }
 {
     let (cells, seats) = Cells::new(alloc, &config.sizes, config.ports)?;
     let (lines, shown_count) = lines(alloc, config.ports, history)?;
@@ -119,6 +127,7 @@ pub(crate) fn cells_and_passes<J: Family, R: Wait + Drop>(
         shown_count,
         line,
         factory,
+        firsts,
         config.ports,
     )?;
     let passes = passes(alloc, config, by_port, seats, readers, lines)?;

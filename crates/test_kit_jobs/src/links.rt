@@ -1,6 +1,6 @@
 //! Links over bytes in memory.
 
-ghost use Rattle.std.specs.Prelude.{⊤};
+ghost use Rattle.std.specs.Prelude.{false, ⊤};
 
 use linking::{Cannot, Link};
 use std::alloc::{AllocError, Global};
@@ -72,6 +72,8 @@ impl Link for Wire<'_> {
 
     ghost untold = { λ _ _ _. ⊤ };
 
+    ghost lost = { λ _. false };
+
     fn receive(&mut self, room: &mut [u8]) -> Result<usize, Cannot> {
         self.note(RECEIVED)?;
         let mut some = self.input.by_ref().take(self.most);
@@ -87,5 +89,9 @@ impl Link for Wire<'_> {
     fn tell(&mut self, text: &[u8]) -> Result<(), Cannot> {
         let text = str::from_utf8(text).map_err(|_| Cannot)?;
         self.note(text)
+    }
+
+    fn has_lost(&self) -> bool {
+        false
     }
 }

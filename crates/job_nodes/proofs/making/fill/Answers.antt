@@ -1,5 +1,5 @@
 use Rattle.std.proofs.Common.{◌∙◌}
-use Rattle.job_nodes.proofs.Loaded.{fills_more}
+use Rattle.job_nodes.proofs.Made.{fills_more}
 use Rattle.job_nodes.proofs.making.fill.Goals as goal
 
 pub loop-bank-preserved : goal.loop-bank-preserved

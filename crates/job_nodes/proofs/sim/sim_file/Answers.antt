@@ -1,6 +1,7 @@
 use Rattle.std.proofs.Common.{◌≡◌, ℕ, List, Option, Some, inr, subst}
 use Rattle.std.proofs.lemmas.Result.{err_from_is_err_and}
 use Rattle.spw.specs.Line.{lines_of}
+use Rattle.sched.specs.History.{Start}
 use Rattle.sched.specs.Worlds.{WorldValue}
 use Rattle.job_config.specs.declared.node_lines.NodeLines.{NodeLines}
 use Rattle.job_parts.specs.Files.{Reads}
@@ -22,11 +23,10 @@ simulates_file reads args before after old new text shown made first last gives 
     record {
       text = text;
       node = held.node;
-      begun = held.begun;
       left = last;
       scheduled = scheduled reads args before text made after first gives is;
-      all = subst (λ (t : List ℕ). SimulatesFrom held.node held.begun (lines_of t) last old new) same
-          (simulates_from held.node held.begun (lines_of shown) first last old new held.lawful all);
+      all = subst (λ (t : List ℕ). SimulatesFrom held.node Start (lines_of t) last old new) same
+          (simulates_from held.node Start (lines_of shown) first last old new (record { lawful = tt; world = held.is_world }) all);
     }
 
 -- a stop at a line of the text that was read
@@ -39,10 +39,9 @@ stops_short reads args before after old new text shown made first last (Ended fa
     inr (record {
       text = text;
       node = held.node;
-      begun = held.begun;
       scheduled = scheduled reads args before text made after first gives is;
-      cut_short = subst (λ (t : List ℕ). IsCutShort held.node held.begun (lines_of t) old new fault) same
-          (cuts_short held.node held.begun (lines_of shown) first last old new fault held.lawful stop);
+      cut_short = subst (λ (t : List ℕ). IsCutShort held.node Start (lines_of t) old new fault) same
+          (cuts_short held.node Start (lines_of shown) first last old new fault (record { lawful = tt; world = held.is_world }) stop);
     })
 
 pub returns-clause-done : goal.returns-clause-done

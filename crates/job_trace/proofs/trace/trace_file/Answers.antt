@@ -1,6 +1,7 @@
 use Rattle.std.proofs.Common.{◌≡◌, ◌∙◌, ℕ, List, [], Option, Some, ap, length, replicate, subst, sym, inl, inr, refl}
 use Rattle.std.proofs.lemmas.Result.{err_from_is_err_and}
 use Rattle.spw.specs.Line.{lines_of}
+use Rattle.sched.specs.History.{Start}
 use Rattle.sched.specs.Worlds.{IsLawfulWorld, WorldValue}
 use Rattle.job_config.specs.declared.node_lines.NodeLines.{NodeLines}
 use Rattle.job_nodes.specs.Beginning.{GivesSchedule, HoldsWorld}
@@ -27,20 +28,19 @@ module _ {S : Type 0} (reads : Reads S) (args : NodeLines) (before after : S) (o
       → AreTaken TracesLineFrom (lines_of shown) first last old new → TracesFile reads args before after old new
   traces_file shown first last on empty same all =
       let n = held.node in
-      let lawful = subst (λ (w : WorldValue). IsLawfulWorld n held.begun w) (sym on) held.lawful in
-      let traced = traces_all n held.begun (lines_of shown) first last old new lawful all in
-      let feeds = empty ∙ ap (λ (k : ℕ). replicate k []) held.lawful.world.ports_are.count in
+      let lawful = subst (λ (w : WorldValue). IsLawfulWorld n Start w) (sym on) (record { lawful = tt; world = held.is_world }) in
+      let traced = traces_all n Start (lines_of shown) first last old new lawful all in
+      let feeds = empty ∙ ap (λ (k : ℕ). replicate k []) held.is_world.ports_are.count in
       record {
         text = text;
         node = n;
-        begun = held.begun;
         later = traced.0;
         world = last.world;
         left = last.feeds;
         scheduled = scheduled reads args before text made after world gives is;
         lawful = traced.1;
-        all = subst (λ (t : List ℕ). TracesLines n (lines_of t) held.begun (replicate n.ports []) traced.0 last.feeds old new) same
-            (subst (λ (f : List (List ℕ)). TracesLines n (lines_of shown) held.begun f traced.0 last.feeds old new) feeds traced.2);
+        all = subst (λ (t : List ℕ). TracesLines n (lines_of t) Start (replicate n.ports []) traced.0 last.feeds old new) same
+            (subst (λ (f : List (List ℕ)). TracesLines n (lines_of shown) Start f traced.0 last.feeds old new) feeds traced.2);
       }
 
   -- a stop at a line of the text that was read
@@ -49,16 +49,15 @@ module _ {S : Type 0} (reads : Reads S) (args : NodeLines) (before after : S) (o
   stops_short shown first last (Unwritten refused) on empty same stop = tt
   stops_short shown first last (Ended fault) on empty same stop =
       let n = held.node in
-      let lawful = subst (λ (w : WorldValue). IsLawfulWorld n held.begun w) (sym on) held.lawful in
-      let cut = cuts_short n held.begun (lines_of shown) first last old new fault lawful stop in
-      let feeds = empty ∙ ap (λ (k : ℕ). replicate k []) held.lawful.world.ports_are.count in
+      let lawful = subst (λ (w : WorldValue). IsLawfulWorld n Start w) (sym on) (record { lawful = tt; world = held.is_world }) in
+      let cut = cuts_short n Start (lines_of shown) first last old new fault lawful stop in
+      let feeds = empty ∙ ap (λ (k : ℕ). replicate k []) held.is_world.ports_are.count in
       inr (record {
         text = text;
         node = n;
-        begun = held.begun;
         scheduled = scheduled reads args before text made after world gives is;
-        cut_short = subst (λ (t : List ℕ). IsCutShort n (lines_of t) held.begun (replicate n.ports []) old new fault) same
-            (subst (λ (f : List (List ℕ)). IsCutShort n (lines_of shown) held.begun f old new fault) feeds cut);
+        cut_short = subst (λ (t : List ℕ). IsCutShort n (lines_of t) Start (replicate n.ports []) old new fault) same
+            (subst (λ (f : List (List ℕ)). IsCutShort n (lines_of shown) Start f old new fault) feeds cut);
       })
 
   -- memory was refused to what takes them
@@ -68,7 +67,6 @@ module _ {S : Type 0} (reads : Reads S) (args : NodeLines) (before after : S) (o
     inr (record {
       text = text;
       node = held.node;
-      begun = held.begun;
       scheduled = scheduled reads args before text made after world gives is;
       no_memory = none;
     }),

@@ -15,7 +15,9 @@ use Rattle.target.proofs.Lining.{new_line}
 use Rattle.bank.specs.Records.{ShareValue, first_share}
 use Rattle.node_parts.specs.Passes.{PassValue, RunContextValue}
 use Rattle.target.specs.Passes.{port_pass, unasked}
-use Rattle.node_parts.specs.Nodes.{range_of, first_pass, first_programs}
+use Rattle.node_parts.specs.Nodes.{range_of}
+use Rattle.publish.specs.Firsts.{programs_with}
+use Rattle.target.specs.Nodes.{informed_pass}
 use Rattle.target.proofs.parts.passes.Goals as goal
 
 -- the line of a port beside its shares, of which nothing was asked
@@ -67,7 +69,7 @@ invariant_of-pass g c =
     let shares : c.take.result.items ≡ replicate (length banks) (first_share port) =
     taken c.loop-line.by_port.items (length banks) ports port c.from.result c.take.result.items c.index_mut.result.now c.loop-line.invariant.count below (c.from.ensures ∙ number) c.take.ensures.shares c.index_mut.ensures.value c.loop-line.invariant.rest in
     let made = c.requires.made in
-    let first = c.loop-line.invariant.parts made.0 made.1 made.2 in
+    let first = c.loop-line.invariant.parts made.0 made.1 made.2 made.3 in
     let seat = last_of ports port _ c.in-Some-Some.seat c.loop-line.seats.items _ below first.seats_are c.in-Some-Some.ensures.items in
     let reader = last_of ports port _ c.in-Some-Some.reader c.loop-line.readers.items _ below first.readers_are c.in-Some-Some.ensures'.items in (
       record {
@@ -95,17 +97,17 @@ loop-line-preserved g c =
     let next : length (c.loop-line.yielded ++ c.in-Some.line ∷ []) ≡ port + 1 = length-append c.loop-line.yielded (c.in-Some.line ∷ []) in
     record {
       count = search rules;
-      parts = λ factory home begins. rw next (record {
-        seats_are = (last_of ports port _ c.in-Some-Some.seat c.loop-line.seats.items _ below (first factory home begins).seats_are c.in-Some-Some.ensures.items).0;
-        readers_are = (last_of ports port _ c.in-Some-Some.reader c.loop-line.readers.items _ below (first factory home begins).readers_are c.in-Some-Some.ensures'.items).0;
+      parts = λ factory firsts home begins. rw next (record {
+        seats_are = (last_of ports port _ c.in-Some-Some.seat c.loop-line.seats.items _ below (first factory firsts home begins).seats_are c.in-Some-Some.ensures.items).0;
+        readers_are = (last_of ports port _ c.in-Some-Some.reader c.loop-line.readers.items _ below (first factory firsts home begins).readers_are c.in-Some-Some.ensures'.items).0;
       });
-      passes = λ factory home begins.
-          let seat = last_of ports port _ c.in-Some-Some.seat c.loop-line.seats.items _ below (first factory home begins).seats_are c.in-Some-Some.ensures.items in
-          let reader = last_of ports port _ c.in-Some-Some.reader c.loop-line.readers.items _ below (first factory home begins).readers_are c.in-Some-Some.ensures'.items in
-          let more = map-range_with_len_more (first_pass c.args.config.now.address banks factory home) 0 port port (omega arith) in
+      passes = λ factory firsts home begins.
+          let seat = last_of ports port _ c.in-Some-Some.seat c.loop-line.seats.items _ below (first factory firsts home begins).seats_are c.in-Some-Some.ensures.items in
+          let reader = last_of ports port _ c.in-Some-Some.reader c.loop-line.readers.items _ below (first factory firsts home begins).readers_are c.in-Some-Some.ensures'.items in
+          let more = map-range_with_len_more (informed_pass c.args.config.now factory firsts home) 0 port port (omega arith) in
           let asked = ap (λ (l : LineValue). l.asked) here.1 in
-          let all = ap unasked more ∙ map_push (λ (h : PassValue). port_pass h []) (map (first_pass c.args.config.now.address banks factory home) (range_with_len 0 port)) (first_pass c.args.config.now.address banks factory home port) in
-          rw next (c.in_ok-push.ensures.items ∙ rw (c.loop-line.invariant.passes factory home begins, c.new.ensures, number, seat.1, c.windows.ensures, reader.1, shares, c.in_ok-new.ensures, asked) (sym all));
+          let all = ap unasked more ∙ map_push (λ (h : PassValue). port_pass h []) (map (informed_pass c.args.config.now factory firsts home) (range_with_len 0 port)) (informed_pass c.args.config.now factory firsts home port) in
+          rw next (c.in_ok-push.ensures.items ∙ rw (c.loop-line.invariant.passes factory firsts home begins, c.new.ensures, number, seat.1, c.windows.ensures, reader.1, shares, c.in_ok-new.ensures, asked) (sym all));
       rest = rw next (later c.loop-line.by_port.items (length banks) ports port c.from.result _ (c.from.ensures ∙ number) c.loop-line.invariant.rest);
     }
 
@@ -120,9 +122,9 @@ unreachable-requires g c =
     let below : place < ports = here.0 in
     let number : c.port-port.result ≡ place = c.port-port.ensures ∙ ap (λ (l : LineValue). l.port) here.1 in
     let made = c.requires.made in
-    let first = c.loop-line.invariant.parts made.0 made.1 made.2 in
-    let seats : 0 < length c.loop-line.seats.items = omega (arith, below, ap (λ (l : List CellSeatValue). length l) first.seats_are, length-replicate (ports - place) (seat made.0.sizes made.1 [])) in
-    let readers : 0 < length c.loop-line.readers.items = omega (arith, below, ap (λ (l : List Known). length l) first.readers_are, length-replicate (ports - place) (known (first_programs made.0) None)) in
+    let first = c.loop-line.invariant.parts made.0 made.1 made.2 made.3 in
+    let seats : 0 < length c.loop-line.seats.items = omega (arith, below, ap (λ (l : List CellSeatValue). length l) first.seats_are, length-replicate (ports - place) (seat made.0.sizes made.2 [])) in
+    let readers : 0 < length c.loop-line.readers.items = omega (arith, below, ap (λ (l : List Known). length l) first.readers_are, length-replicate (ports - place) (known (programs_with made.0 made.1) None)) in
     search rules
 
 pub new-requires : goal.new-requires
@@ -144,7 +146,7 @@ index_mut-requires g c =
     omega (arith, c.from.ensures, number, here.0, c.loop-line.invariant.count)
 
 pub returns : goal.returns
-returns g c = λ factory home begins.
+returns g c = λ factory firsts home begins.
     let ports = c.args.config.now.ports in
     let banks = c.args.config.now.banks.now in
     let fresh : ℕ → LineValue = λ port. record { port = port; asked = [] } in
@@ -152,4 +154,4 @@ returns g c = λ factory home begins.
     let road = YieldsList-from_vec {s = c.into_iter-line-iterator.result} (vec_items c.args.lines) began.0 (began.1 ∙ c.args.lines.ok.0) in
     let end = YieldsList-end road c.loop-line.yielded c.loop-line.line-iterator c.loop-line.yielded_by c.next.result c.next.new.self c.in-None.is c.next.ensures.steps in
     let many : length c.loop-line.yielded ≡ ports = end.1 ∙ (ap (λ (ls : List LineValue). length ls) c.requires.lines ∙ length-map-range_with_len fresh 0 ports) in
-    c.loop-line.invariant.passes factory home begins ∙ ap (λ (n : ℕ). unasked (map (first_pass c.args.config.now.address banks factory home) (range_with_len 0 n))) many
+    c.loop-line.invariant.passes factory firsts home begins ∙ ap (λ (n : ℕ). unasked (map (informed_pass c.args.config.now factory firsts home) (range_with_len 0 n))) many

@@ -1,9 +1,8 @@
-use Rattle.std.proofs.Common.{◌≡◌, ◌<◌, ◌≤◌, ◌+◌, ◌-◌, ℕ, [], length, get_or}
+use Rattle.std.proofs.Common.{◌≡◌, ◌<◌, ◌≤◌, ◌+◌, ◌-◌, ℕ, List, [], length, get_or}
 use Rattle.std.specs.Prelude.{map, replicate}
 use Rattle.std.specs.List.{range_with_len}
 use Rattle.bver.specs.Justified.{AcceptedValue}
-use Rattle.node_parts.specs.Nodes.{first_pass}
-use Rattle.target.specs.Nodes.{AreFirst}
+use Rattle.target.specs.Nodes.{AreFirst, informed_pass}
 use Rattle.target.specs.Passes.{unasked}
 use base.Stored.{Gv}
 use Rattle.bank.specs.Records.{first_share}
@@ -12,7 +11,7 @@ use Rattle.target.proofs.parts.passes.Given as goal
 abbrev pub invariant-loop-line : goal.invariant-loop-line
 invariant-loop-line g l = record {
   count : length l.by_port.items ≡ l.config.ports;
-  parts : (factory : AcceptedValue) (home : Gv) → AreFirst factory home l.config.ports l.initial.seats.items l.initial.readers.items → AreFirst factory home (l.config.ports - length l.yielded) l.seats.items l.readers.items;
-  passes : (factory : AcceptedValue) (home : Gv) → AreFirst factory home l.config.ports l.initial.seats.items l.initial.readers.items → l.passes.items ≡ unasked (map (first_pass l.config.address l.config.banks.now factory home) (range_with_len 0 (length l.yielded)));
+  parts : (factory : AcceptedValue) (firsts : List (ℕ × AcceptedValue)) (home : Gv) → AreFirst factory firsts home l.config.ports l.initial.seats.items l.initial.readers.items → AreFirst factory firsts home (l.config.ports - length l.yielded) l.seats.items l.readers.items;
+  passes : (factory : AcceptedValue) (firsts : List (ℕ × AcceptedValue)) (home : Gv) → AreFirst factory firsts home l.config.ports l.initial.seats.items l.initial.readers.items → l.passes.items ≡ unasked (map (informed_pass l.config factory firsts home) (range_with_len 0 (length l.yielded)));
   rest : (k : ℕ) → length l.yielded ≤ k → k < l.config.ports → get_or l.by_port.items k [] ≡ replicate (length l.config.banks.now) (first_share k);
 }

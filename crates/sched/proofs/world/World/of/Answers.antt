@@ -1,4 +1,6 @@
-use Rattle.std.proofs.Common.{length, refl, ap, subst, ◌∙◌}
+use Rattle.std.proofs.Common.{ℕ, length, refl, ap, subst, ◌∙◌}
+use Rattle.std.proofs.lemmas.List.Elements.{All-nil}
+use Rattle.bpf.specs.Program.{Program}
 use Rattle.machine.specs.Sizes.{Maps}
 use Rattle.node_parts.specs.contracts.banks.Banks.{the_view}
 use Rattle.bver.specs.Justified.{IsJustified}
@@ -49,3 +51,12 @@ returns-clause-world c =
       justified = subst (λ (maps : Maps). IsJustified a.program maps) c.requires.factory c.image-justified.ensures.justified;
     } in
     made_of config factory w a made
+
+pub returns-clause-node : goal.returns-clause-node
+returns-clause-node c =
+    let a = c.args.factory in
+    record {
+      few_ports = c.requires.few_ports;
+      factory = subst (λ (maps : Maps). IsJustified a.program maps) c.requires.factory c.image-justified.ensures.justified;
+      firsts = All-nil (λ (made : ℕ × Program). IsJustified made.1 c.args.config.now.sizes);
+    }

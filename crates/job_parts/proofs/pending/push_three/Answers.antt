@@ -1,0 +1,15 @@
+use Rattle.std.proofs.Common.{ℕ, List, [], ◌∷◌, ◌++◌, ◌+◌, ◌/◌, ◌%◌, ap, sym, ◌∙◌, append_assoc, arith}
+use Rattle.job_parts.proofs.Decimals.{three_digits}
+use Rattle.job_parts.proofs.pending.push_three.Goals as goal
+
+pub returns-clause-text : goal.returns-clause-text
+returns-clause-text c =
+    let n = c.args.number in
+    let old = c.args.text.now.items in
+    let first : List ℕ = (48 + n / 100) ∷ [] in
+    let second : List ℕ = (48 + n / 10 % 10) ∷ [] in
+    let last : List ℕ = (48 + n % 10) ∷ [] in
+    c.push-3.ensures.items
+    ∙ ap (λ (t : List ℕ). t ++ last) (c.push-2.ensures.items ∙ ap (λ (t : List ℕ). t ++ second) c.push.ensures.items ∙ append_assoc old first second)
+    ∙ append_assoc old (first ++ second) last
+    ∙ ap (λ (t : List ℕ). old ++ t) (sym (three_digits n c.requires.large (omega arith)))
