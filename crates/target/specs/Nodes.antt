@@ -21,8 +21,8 @@ pub record AreFirst (factory : AcceptedValue) (firsts : List (ℕ × AcceptedVal
 abbrev pub AreNumbered : List ℕ → Type 0
 AreNumbered numbers = (k : ℕ) → k < length numbers → slice_index numbers k ≡ k
 
--- what a port of a node has of it at first, if these programs are published after the factory program: it knows of all of them;
--- all else is as without them
+-- what a port of a node has of it at first, where those programs were published behind the factory program, of all of which it
+-- knows; all else is as without them
 abbrev pub informed_pass : NodeConfig → AcceptedValue → List (ℕ × AcceptedValue) → Gv → ℕ → PassValue
 informed_pass config factory firsts home port =
     record (first_pass config.address config.banks.now factory home port) { programs = programs_with factory firsts }
