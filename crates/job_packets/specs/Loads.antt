@@ -6,15 +6,15 @@ use Rattle.initiator.specs.Loads.{control_bytes, control_request, further, part_
 use Rattle.job_packets.specs.Requests.{line_of}
 use Rattle.job_packets.specs.declared.packet_options.HeaderWords.{HeaderWords}
 
--- the line of the write of a part to the staging, if the image has such a part, and the load begins with this transaction
--- identifier
+-- the line of the write of a part to the staging, where the image has such a part, and the load begins with this
+-- transaction identifier
 unfoldable pub part_text : HeaderWords → (transaction : ℕ) → (image : List ℕ) → (number : ℕ) → List ℕ
 part_text h transaction image number =
     if nat_lt (MAX_DATA * number) (length image)
     then line_of h (stage_request transaction (part_of image number) number) (with_crc (part_of image number))
     else []
 
--- the lines of a load after others: those of the image's four parts, of the control write, and of the read
+-- the lines of a load behind others: those of the image's four parts, of the control write, and of the read
 abbrev pub with_load : (front : List ℕ) → HeaderWords → (transaction slot : ℕ) → (image : List ℕ) → List ℕ
 with_load front h transaction slot image =
     front ++ part_text h transaction image 0 ++ part_text h transaction image 1 ++ part_text h transaction image 2
