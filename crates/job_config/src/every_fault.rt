@@ -202,7 +202,6 @@ impl<'a> Faults<'a> {
     }
 
     /// Adds what is wrong with the bytes that each of these banks begins with, by the list of their tables.
-    #[tactic(auto, using(crate::proofs::Chains::some_read))]
     fn note_contents<F: Files>(
         &mut self,
         alloc: Global,
@@ -239,7 +238,6 @@ impl<'a> Faults<'a> {
     }
 
     /// Adds what is wrong with the publishes of a list of tables.
-    #[tactic(auto, using(crate::proofs::Chains::some_read))]
     fn note_publishes<F: Files>(
         &mut self,
         alloc: Global,
@@ -306,7 +304,6 @@ impl<'a> Faults<'a> {
 
     /// Adds what is wrong with the files that a table of that configuration names: the contents of banks, the program and the
     /// publishes.
-    #[tactic(auto, using(crate::proofs::Chains::some_read))]
     fn note_files<F: Files>(
         &mut self,
         alloc: Global,

@@ -527,7 +527,6 @@ fn tabled<'a>(alloc: Global, name: &str, text: &str) -> Result<Table, Fault<'a>>
 }
 
 /// The node of that table, which is the node's file of this name, and of the files that it names; or what ends the job.
-#[tactic(auto, using(crate::proofs::Chains::some_read))]
 fn noded<'a, F: Files>(
     alloc: Global,
     name: &str,
