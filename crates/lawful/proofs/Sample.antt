@@ -177,7 +177,7 @@ module _ (images : ImagesAreRead) (x : Sample) (is : IsSample x) where
       (inl (record {
         generation = 1;
         published = record {
-          slot = 1;
+          slot = 0;
           program = x.program;
           load = (is.prepared, omega arith);
           extends = refl;
@@ -459,8 +459,8 @@ module _ (images : ImagesAreRead) (x : Sample) (is : IsSample x) where
   staging_now : staging n (staged_history x) 0 ≡ sample_staging x
   staging_now = ap (λ (place : Option Place). staged_at place stage_status (command_of x.stage) first_staging) is.stage.lies
 
-  prepared_now : IsPrepared (control_of (command_of x.load).body) (staging n (taken_history x) 0).bytes x.program.sizes 1 x.program
-  prepared_now = subst (λ (st : Staged). IsPrepared (control_of (command_of x.load).body) st.bytes x.program.sizes 1 x.program) (sym staging_now) is.prepared
+  prepared_now : IsPrepared (control_of (command_of x.load).body) (staging n (taken_history x) 0).bytes x.program.sizes 0 x.program
+  prepared_now = subst (λ (st : Staged). IsPrepared (control_of (command_of x.load).body) st.bytes x.program.sizes 0 x.program) (sym staging_now) is.prepared
 
   none_published : publishes n (taken_history x) ≡ 0
   none_published = refl
@@ -469,7 +469,7 @@ module _ (images : ImagesAreRead) (x : Sample) (is : IsSample x) where
   load_controlled =
       subst (λ (line : Option Status). IsControlled n (taken_history x) 0 (command_of x.load) line load_done) (sym is.load_line)
       (record {
-        load = loads.Published 1 x.program;
+        load = loads.Published 0 x.program;
         decides = (prepared_now, subst (λ (k : ℕ). k + 1 < 2 ^ 32) (sym none_published) (omega arith));
         told = refl;
       })
@@ -580,12 +580,12 @@ module _ (images : ImagesAreRead) (x : Sample) (is : IsSample x) where
       ∙ ap (λ (turn : Option Turn). checked_entry 1 0 x.read 0 (verdict_at turn) Success ∷ []) (is.stands (header_in x.read) 1))
   entries_all (suc k) bank at = absurd (cc (at))
 
-  published_now : published_at n (taken_history x) (PublishEvent 0) load_done ≡ Some (1, x.program.program)
-  published_now = loaded_program images n (taken_history x) 0 1 load_open x.program (load_judging x).reply (published_result 1) refl prepared_now
+  published_now : published_at n (taken_history x) (PublishEvent 0) load_done ≡ Some (0, x.program.program)
+  published_now = loaded_program images n (taken_history x) 0 0 load_open x.program (load_judging x).reply (published_result 1) refl prepared_now
 
   programs_all : (slot : ℕ) → option_map program_and_generation (judging_program (publishes_of (sample_list x)) slot) ≡ Some (published n (sample_history x) slot)
   programs_all slot =
-      by (1 == slot) ∙ ap (λ (made : Option (ℕ × Program)). Some (published_behind made 0 slot (x.program.program, 0))) (sym published_now)
+      by (0 == slot) ∙ ap (λ (made : Option (ℕ × Program)). Some (published_behind made 0 slot (x.program.program, 0))) (sym published_now)
     where
       by : (own : Bool) → Some (program_and_generation (cond own (x.program, 1) (x.program, 0))) ≡ Some (if own then (x.program.program, 0 + 1) else (x.program.program, 0))
       by true = refl

@@ -1,4 +1,4 @@
--- A worked example of the law of all ports: two ports serve a bank. Port 0 stages a program and loads it for writes. Port 1 reads the
+-- A worked example of the law of all ports: two ports serve a bank. Port 0 stages a program and loads it for reads. Port 1 reads the
 -- bank, and sends a packet that a check of its header answers. The read is taken when the publish of the load is in the list and
 -- readers do not see it yet. So in the history it comes before the load, and the factory program judges it.
 use Rattle.std.specs.Prelude.{◌≡◌, ℕ, zero, suc, true, false, List, [], ◌∷◌, Some, None}
@@ -48,7 +48,7 @@ use Rattle.lawful.specs.Together.{Account, AreServedTogether, HaveLawfulHistory}
 
 -- ---- what is given
 
--- a program, which judges at first and is then loaded for writes; the packets, in the order of the text above; and the status with
+-- a program, which judges at first and is then loaded for reads; the packets, in the order of the text above; and the status with
 -- which the last is answered
 pub record Sample : Type 0 where
   pub program : AcceptedValue
@@ -90,7 +90,7 @@ pub record IsSample (x : Sample) : Type 0 where
   pub stage : IsPlacedBy (windows_in (sample_node x)) x.stage Staging
   pub load : IsPlacedBy (windows_in (sample_node x)) x.load Control
   pub load_line : judged_line (command_of x.load) 0 ≡ None
-  pub prepared : IsPrepared (control_of (command_of x.load).body) (sample_staging x).bytes x.program.sizes 1 x.program
+  pub prepared : IsPrepared (control_of (command_of x.load).body) (sample_staging x).bytes x.program.sizes 0 x.program
   pub read : IsPlacedBy (windows_in (sample_node x)) x.read (Bank 0)
   pub read_kind : command_kind (command_of x.read) ≡ Read
   pub read_line : judged_line (command_of x.read) 0 ≡ None
@@ -103,7 +103,7 @@ abbrev pub factory_publish : Sample → Publish
 factory_publish x = entry 0 x.program
 
 abbrev pub load_publish : Sample → Publish
-load_publish x = entry 1 x.program
+load_publish x = entry 0 x.program
 
 -- the bank begins
 abbrev pub opening_link : Link
