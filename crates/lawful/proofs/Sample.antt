@@ -20,7 +20,7 @@ use Rattle.brun.specs.Runs.{header}
 use Rattle.brun.specs.declared.turns.Turn.{Turn}
 use Rattle.bank.specs.Admission.{IsPlacedBy}
 use Rattle.bank.specs.Answer.{answer, effect_at, is_success, judged_line, status_with}
-use Rattle.bank.specs.Effect.{Memory, effect, effect_of}
+use Rattle.bank.specs.Effect.{Memory, effect, effect_of, memory_at}
 use Rattle.bank.specs.Records.{BankValue, EntryValue, IsBank, JudgedValue, after_command, checked_entry, entry_of, first_share, memory_of, replay}
 use Rattle.node_programs.specs.declared.publishes.Publish.{Publish}
 use Rattle.node_programs.specs.Published.{judging_program}
@@ -90,6 +90,21 @@ listed_none before begins = by before begins
     by : (before : List Link) → IsPrefix before [] → shown_in before ≤ length (publishes_of before)
     by [] begins = omega arith
     by (l ∷ ls) begins = absurd (cc (begins.1))
+
+few_seen : (ls : List Link) (seen published_count : ℕ) → shown_in ls ≡ seen → length (publishes_of ls) ≡ published_count → seen ≤ published_count → shown_in ls ≤ length (publishes_of ls)
+few_seen ls seen published_count a b few = omega (arith, a, b, few)
+
+all_seen : (ls : List Link) (count : ℕ) → shown_in ls ≡ count → length (publishes_of ls) ≡ count → length (publishes_of ls) ≤ shown_in ls
+all_seen ls count a b = omega (arith, a, b)
+
+two_few : 2 ≤ 32
+two_few = omega arith
+
+first_there : 0 < 2
+first_there = omega arith
+
+second_there : 1 < 2
+second_there = omega arith
 
 -- the bank at first
 abbrev bank_before : BankValue
@@ -261,7 +276,7 @@ module _ (images : ImagesAreRead) (x : Sample) (is : IsSample x) where
   served_at_0 : IsServedBeside n (sample_list x) 0 (sample_accounts x 0)
   served_at_0 = record {
     worked = worked_at_0;
-    fresh = fresh_at 0 (omega arith);
+    fresh = fresh_at 0 first_there;
     port_is = refl;
     asked = refl;
     begins = (load_link x ∷ showing ∷ entry_link x ∷ [], refl);
@@ -304,7 +319,7 @@ module _ (images : ImagesAreRead) (x : Sample) (is : IsSample x) where
   memory_left =
       let m = memory_of bank_before in
       let kept = read_keeps m (command_of x.read) (status_with true (judged_line (command_of x.read) 0)) is.read_kind in
-      ap (λ (y : Memory). record { first = m.first; bytes = y.bytes }) kept ∙ sym kept
+      ap (λ (y : Memory). memory_at m.first y.bytes) kept ∙ sym kept
 
   read_finished : IsFinishedAt (record { bank = bank_before; chain = record { number = 0; log = list_before_entry x } }) (record { bank = after_command bank_before (first_share 1) read_judged; chain = record { number = 0; log = sample_list x } })
       (list_at_load x) (sample_list x) read_between (pass_entered x) read_judged (record { status = Success; number = Some 0 }) (read_judging x).reply
@@ -363,7 +378,7 @@ module _ (images : ImagesAreRead) (x : Sample) (is : IsSample x) where
   served_at_1 : IsServedBeside n (sample_list x) 1 (sample_accounts x 1)
   served_at_1 = record {
     worked = (read_last, read_is, (read_last, wrong_is, refl));
-    fresh = fresh_at 1 (omega arith);
+    fresh = fresh_at 1 second_there;
     port_is = refl;
     asked = refl;
     begins = ([], refl);
@@ -400,16 +415,16 @@ module _ (images : ImagesAreRead) (x : Sample) (is : IsSample x) where
 
   listed : AreListed (sample_list x)
   listed =
-      let a = listed_more [] opening_link listed_none (omega arith) in
-      let b = listed_more (opening_link ∷ []) (factory_link x) a (omega arith) in
-      let c = listed_more (opening_link ∷ factory_link x ∷ []) showing b (omega arith) in
-      let d = listed_more (list_at_first x) (load_link x) c (omega arith) in
-      let e = listed_more (list_at_load x) showing d (omega arith) in
-      listed_more (list_before_entry x) (entry_link x) e (omega arith)
+      let a = listed_more [] opening_link listed_none (few_seen (opening_link ∷ []) 0 0 refl refl (omega arith)) in
+      let b = listed_more (opening_link ∷ []) (factory_link x) a (few_seen (opening_link ∷ factory_link x ∷ []) 0 1 refl refl (omega arith)) in
+      let c = listed_more (opening_link ∷ factory_link x ∷ []) showing b (few_seen (list_at_first x) 1 1 refl refl (omega arith)) in
+      let d = listed_more (list_at_first x) (load_link x) c (few_seen (list_at_load x) 1 2 refl refl (omega arith)) in
+      let e = listed_more (list_at_load x) showing d (few_seen (list_before_entry x) 2 2 refl refl (omega arith)) in
+      listed_more (list_before_entry x) (entry_link x) e (few_seen (sample_list x) 2 2 refl refl (omega arith))
 
   all_served : AreServedTogether n (sample_accounts x) (sample_list x)
   all_served = record {
-    few = omega arith;
+    few = two_few;
     each = served_at;
     banks = banks_are;
     factory = factory_publish x;
@@ -420,7 +435,7 @@ module _ (images : ImagesAreRead) (x : Sample) (is : IsSample x) where
     opening = refl;
     others = nobody;
     listed = listed;
-    shown = omega arith;
+    shown = all_seen (sample_list x) 2 refl refl;
   }
 
   -- ---- the history
@@ -490,21 +505,21 @@ module _ (images : ImagesAreRead) (x : Sample) (is : IsSample x) where
 
   lawful_staged : IsLawfulButTold n (staged_history x)
   lawful_staged = (
-    (tt, outcome_here n Start (Take 0 x.stage) (Taken 0) 0 refl (omega arith) (took Start 0 x.stage places.Staging refl is.stage refl)),
-    outcome_here n taken_stage (EffectEvent 0) (Done stage_status (stage_judging x).reply None) 0 refl (omega arith)
+    (tt, outcome_here n Start (Take 0 x.stage) (Taken 0) 0 refl first_there (took Start 0 x.stage places.Staging refl is.stage refl)),
+    outcome_here n taken_stage (EffectEvent 0) (Done stage_status (stage_judging x).reply None) 0 refl first_there
         (sym (effect_told n taken_stage 0 0 stage_open places.Staging refl (is.stands (header_in x.stage) 0) is.stage.lies)),
   )
 
   lawful_taken : IsLawfulButTold n (taken_history x)
   lawful_taken = (
-    (lawful_staged, outcome_here n (staged_history x) (Take 0 x.load) (Taken 0) 0 refl (omega arith) (took (staged_history x) 0 x.load places.Control refl is.load refl)),
-    outcome_here n taken_load (Take 1 x.read) (Taken 0) 1 refl (omega arith) (took taken_load 1 x.read (places.Bank 0) refl is.read refl),
+    (lawful_staged, outcome_here n (staged_history x) (Take 0 x.load) (Taken 0) 0 refl first_there (took (staged_history x) 0 x.load places.Control refl is.load refl)),
+    outcome_here n taken_load (Take 1 x.read) (Taken 0) 1 refl second_there (took taken_load 1 x.read (places.Bank 0) refl is.read refl),
   )
 
   lawful_loaded : IsLawfulButTold n (loaded_history x)
   lawful_loaded = (
     lawful_taken,
-    outcome_here n (taken_history x) (PublishEvent 0) load_done 0 refl (omega arith)
+    outcome_here n (taken_history x) (PublishEvent 0) load_done 0 refl first_there
         (publish_told n (taken_history x) 0 0 load_open load_done refl (is.stands (header_in x.load) 0) is.load.lies load_controlled),
   )
 
@@ -512,10 +527,10 @@ module _ (images : ImagesAreRead) (x : Sample) (is : IsSample x) where
   lawful_all = (
     (
       lawful_loaded,
-      outcome_here n (loaded_history x) (EffectEvent 1) (Done Success (read_judging x).reply None) 1 refl (omega arith)
+      outcome_here n (loaded_history x) (EffectEvent 1) (Done Success (read_judging x).reply None) 1 refl second_there
           (read_told ∙ sym (effect_told n (loaded_history x) 1 0 read_open (places.Bank 0) refl (is.stands (header_in x.read) 1) is.read.lies)),
     ),
-    outcome_here n entered_history (Take 1 x.wrong) (Answered x.status (wrong_reply x)) 1 refl (omega arith)
+    outcome_here n entered_history (Take 1 x.wrong) (Answered x.status (wrong_reply x)) 1 refl second_there
         (sym (ap (packet_outcome n entered_history x.wrong) is.wrong ∙ ap (header_outcome n entered_history x.wrong) is.wrong_line)),
   )
 
