@@ -31,6 +31,7 @@ use Rattle.node_parts.specs.Loads.{IsPrepared, published_result}
 use Rattle.node_parts.specs.Nodes.{bank_of, first_staging}
 use Rattle.node_parts.specs.Outcomes as loads
 use Rattle.node_parts.specs.Passes.{PassValue, pass_after}
+use Rattle.node_parts.specs.Slots.{slot_of}
 use Rattle.node_parts.specs.Stagings.{answer_staged}
 use Rattle.node_parts.specs.Steps.{IsJudgement}
 use Rattle.annals.specs.declared.deed.Act.TheVariants.{Leaves, Publishes}
@@ -48,14 +49,14 @@ use Rattle.ports.specs.Laws.{number_at}
 use Rattle.sched.specs.Agreement.{program_and_generation}
 use Rattle.sched.specs.declared.event.Event.TheVariants.{Take, Effect as EffectEvent, Publish as PublishEvent}
 use Rattle.sched.specs.declared.event.Outcome.{Outcome}
-use Rattle.sched.specs.declared.event.Outcome.TheVariants.{Answered, Taken, Done}
+use Rattle.sched.specs.declared.event.Outcome.TheVariants.{Refused, Answered, Taken, Done}
 use Rattle.sched.specs.History.{History, Start, Then, Open, opened, taken}
 use Rattle.sched.specs.Lawful.{IsControlled, done, effect_at_place, header_outcome, packet_outcome, take_outcome}
-use Rattle.sched.specs.Looking.{Node, counted, entered, entries, first_memory, has_room, header_in, published, published_at, published_behind, publishes, slot_of_packet, staged_at, staging, verdict_at, windows_in}
+use Rattle.sched.specs.Looking.{Node, counted, entered, entries, first_memory, has_room, header_in, published, published_at, published_behind, publishes, slot_at, slot_of_packet, staged_at, staging, verdict_at, windows_in}
 use Rattle.lawful.specs.Alone.{IsFreshPort}
 use Rattle.lawful.specs.ButTold.{IsLawfulButTold}
 use Rattle.lawful.specs.Happenings.{HappenBy, happened_at, happening}
-use Rattle.lawful.specs.Sample.{HasSampleHistory, IsSample, Sample, SampleIsLawful, entry_link, factory_link, factory_publish, first_pass, judged_yes, list_at_first, list_at_load, list_before_entry, load_judging, load_link, load_publish, loaded_history, opening_link, pass_entered, pass_loaded, pass_staged, read_judging, sample_accounts, sample_bank, sample_history, sample_list, sample_node, sample_staging, stage_judging, staged_history, taken_history, wrong_reply}
+use Rattle.lawful.specs.Sample.{HasSampleHistory, IsSample, Sample, SampleIsLawful, WrongOnesAreRefused, entry_link, factory_link, factory_publish, first_pass, judged_yes, list_at_first, list_at_load, list_before_entry, load_judging, load_link, load_publish, loaded_alone, loaded_history, opening_link, pass_entered, pass_loaded, pass_staged, read_judging, sample_accounts, sample_bank, sample_history, sample_list, sample_node, sample_staging, stage_judging, staged_history, taken_history, wrong_reply}
 use Rattle.lawful.specs.Together.{AreServedTogether, IsBankOf, IsLoadPlaced, IsServedBeside}
 use Rattle.lawful.proofs.Keeping.{happened_elsewhere, opened_elsewhere}
 use Rattle.lawful.proofs.Links.{done_same, none_opens, none_other, none_shows, size_more}
@@ -99,6 +100,9 @@ all_seen ls count a b = omega (arith, a, b)
 
 two_few : 2 ≤ 32
 two_few = omega arith
+
+two_apart : 2 ≡ 0 + 1 → ⊥
+two_apart same = absurd (omega (arith, same))
 
 first_there : 0 < 2
 first_there = omega arith
@@ -627,5 +631,39 @@ module _ (images : ImagesAreRead) (x : Sample) (is : IsSample x) where
     is = refl;
   }
 
+  -- ---- wrong histories
+
+  done_refused : (status : Status) (reply : List ℕ) → Done status reply None ≡ Refused → ⊥
+  done_refused status reply same = cc (same)
+
+  taken_same : (a b : ℕ) → Taken a ≡ Taken b → a ≡ b
+  taken_same a b same = cc (same)
+
+  published_alone : published_at n taken_load (PublishEvent 0) load_done ≡ Some (0, x.program.program)
+  published_alone =
+      loaded_program images n taken_load 0 0 load_open x.program (load_judging x).reply (published_result 1) refl
+      (subst (λ (st : Staged). IsPrepared (control_of (command_of x.load).body) st.bytes x.program.sizes 0 x.program) (sym staging_now) is.prepared)
+
+  -- behind the load the program of reads has the generation 1
+  read_slot : slot_of_packet n x.read ≡ 0
+  read_slot = ap (slot_at (command_of x.read)) is.read.lies ∙ ap (λ (k : Kind). slot_of k (places.Bank 0)) is.read_kind
+
+  shown_alone : (published n (loaded_alone x) (slot_of_packet n x.read)).1 ≡ 1
+  shown_alone =
+      ap (λ (slot : ℕ). (published n (loaded_alone x) slot).1) read_slot
+      ∙ ap (λ (made : Option (ℕ × Program)). (published_behind made 0 0 (x.program.program, 0)).1) published_alone
+
+  wrong_ones : WrongOnesAreRefused x
+  wrong_ones = record {
+    late = λ lawful. done_refused Success (read_judging x).reply (lawful.0.1.here second_there);
+    early = λ lawful.
+        let told : Taken 0 ≡ Taken (published n (loaded_alone x) (slot_of_packet n x.read)).1 =
+        lawful.1.here second_there ∙ (ap (packet_outcome n (loaded_alone x) x.read) is.read.command ∙ ap (header_outcome n (loaded_alone x) x.read) is.read.allowed) in
+        let same = taken_same 0 (published n (loaded_alone x) (slot_of_packet n x.read)).1 told in
+        let one = shown_alone in
+        absurd (omega (arith, same, one));
+    missing = λ same. two_apart same;
+  }
+
 pub sample_is_lawful : ImagesAreRead → SampleIsLawful
-sample_is_lawful images = λ x is. (all_served images x is, has_sample_history images x is)
+sample_is_lawful images = λ x is. (all_served images x is, has_sample_history images x is, wrong_ones images x is)

@@ -1,7 +1,7 @@
 -- A worked example of the law of all ports: two ports serve a bank. Port 0 stages a program and loads it for reads. Port 1 reads the
 -- bank, and sends a packet that a check of its header answers. The read is taken when the publish of the load is in the list and
 -- readers do not see it yet. So in the history it comes before the load, and the factory program judges it.
-use Rattle.std.specs.Prelude.{◌≡◌, ℕ, zero, suc, true, false, List, [], ◌∷◌, Some, None}
+use Rattle.std.specs.Prelude.{◌≡◌, ◌+◌, ℕ, zero, suc, true, false, List, [], ◌∷◌, length, Some, None}
 use base.Stored.{Gv}
 use Rattle.spw.specs.Cargo.{Cargo}
 use Rattle.rmap.specs.declared.kind.Kind.TheVariants.{Read}
@@ -35,15 +35,16 @@ use Rattle.annals.specs.declared.deed.Deed.TheVariants.{Does, Opens, Shows}
 use Rattle.annals.specs.declared.deed.Link.{Link}
 use Rattle.annals.specs.Banks.{answer_after}
 use Rattle.annals.specs.Chains.{instrument, link}
-use Rattle.annals.specs.Publishes.{publishes_chain}
+use Rattle.annals.specs.Publishes.{publishes_chain, publishes_of}
 use Rattle.annals.specs.Rule.{showing}
 use Rattle.ports.specs.Due.{Judging, Standing, stand}
 use Rattle.ports.specs.Due.Deed.{Answered as Replied, Judged}
 use Rattle.sched.specs.declared.event.Event.TheVariants.{Take, Effect, Publish as PublishEvent}
 use Rattle.sched.specs.declared.event.Outcome.TheVariants.{Answered, Taken, Done}
 use Rattle.sched.specs.History.{History, Start, Then}
-use Rattle.sched.specs.Looking.{Node, windows_in}
+use Rattle.sched.specs.Looking.{Node, publishes, windows_in}
 use Rattle.sched.specs.Turns.{turn_after}
+use Rattle.lawful.specs.ButTold.{IsLawfulButTold}
 use Rattle.lawful.specs.Together.{Account, AreServedTogether, HaveLawfulHistory}
 
 -- ---- what is given
@@ -235,6 +236,35 @@ sample_history x =
     Then (Then (loaded_history x) (Effect 1) (Done Success (read_judging x).reply None)) (Take 1 x.wrong)
     (Answered x.status (wrong_reply x))
 
+-- ---- wrong histories
+
+-- the load is done, and port 1 did nothing yet
+abbrev pub loaded_alone : Sample → History
+loaded_alone x =
+    Then (Then (staged_history x) (Take 0 x.load) (Taken 0)) (PublishEvent 0)
+    (Done Success (load_judging x).reply (Some (published_result 1)))
+
+-- the read is taken after its own end
+abbrev pub late_take : Sample → History
+late_take x =
+    Then (Then (loaded_alone x) (Effect 1) (Done Success (read_judging x).reply None)) (Take 1 x.read) (Taken 0)
+
+-- the load is done at its publish in the list, and not when readers see it
+abbrev pub early_load : Sample → History
+early_load x = Then (loaded_alone x) (Take 1 x.read) (Taken 0)
+
+-- the load is left out
+abbrev pub missing_load : Sample → History
+missing_load x =
+    Then (Then (Then (staged_history x) (Take 1 x.read) (Taken 0)) (Effect 1) (Done Success (read_judging x).reply None))
+    (Take 1 x.wrong) (Answered x.status (wrong_reply x))
+
+-- the first two are not lawful, and the third has not the programs of the list
+pub record WrongOnesAreRefused (x : Sample) : Type 0 where
+  pub late : IsLawfulButTold (sample_node x) (late_take x) → ⊥
+  pub early : IsLawfulButTold (sample_node x) (early_load x) → ⊥
+  pub missing : length (publishes_of (sample_list x)) ≡ publishes (sample_node x) (missing_load x) + 1 → ⊥
+
 -- ---- the law
 
 -- that history is the one that the law speaks of
@@ -242,7 +272,8 @@ pub record HasSampleHistory (x : Sample) : Type 0 where
   pub has : HaveLawfulHistory (sample_node x) (sample_accounts x) (sample_list x)
   pub is : has.history ≡ sample_history x
 
--- the example meets all premises of the law at once, and that is a history of it
+-- the example meets all premises of the law at once, that is a history of it, and those are none
 abbrev pub SampleIsLawful : Type 0
 SampleIsLawful =
     (x : Sample) → IsSample x → AreServedTogether (sample_node x) (sample_accounts x) (sample_list x) × HasSampleHistory x
+    × WrongOnesAreRefused x
