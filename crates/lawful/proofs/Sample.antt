@@ -35,7 +35,7 @@ use Rattle.node_parts.specs.Slots.{slot_of}
 use Rattle.node_parts.specs.Stagings.{answer_staged}
 use Rattle.node_parts.specs.Steps.{IsJudgement}
 use Rattle.annals.specs.declared.deed.Act.TheVariants.{Leaves, Publishes}
-use Rattle.annals.specs.declared.deed.Deed.TheVariants.{Does, Opens, Shows}
+use Rattle.annals.specs.declared.deed.Deed.TheVariants.{Does, Shows}
 use Rattle.annals.specs.declared.deed.Link.{Link}
 use Rattle.annals.specs.Banks.{entries_of, takes}
 use Rattle.annals.specs.Chains.{Due, done_for, instrument}

@@ -31,13 +31,13 @@ use Rattle.node_parts.specs.Nodes.{first_staging}
 use Rattle.node_parts.specs.Passes.{PassValue, seat_at, with_staging}
 use Rattle.node_parts.specs.Stagings.{after_staged, answer_staged}
 use Rattle.annals.specs.declared.deed.Act.TheVariants.{Leaves, Publishes}
-use Rattle.annals.specs.declared.deed.Deed.TheVariants.{Does, Opens, Shows}
+use Rattle.annals.specs.declared.deed.Deed.TheVariants.{Does, Opens}
 use Rattle.annals.specs.declared.deed.Link.{Link}
 use Rattle.annals.specs.Banks.{answer_after}
 use Rattle.annals.specs.Chains.{instrument, link}
 use Rattle.annals.specs.Publishes.{publishes_chain, publishes_of}
 use Rattle.annals.specs.Rule.{showing}
-use Rattle.ports.specs.Due.{Judging, Standing, stand}
+use Rattle.ports.specs.Due.{Judging, stand}
 use Rattle.ports.specs.Due.Deed.{Answered as Replied, Judged}
 use Rattle.sched.specs.declared.event.Event.TheVariants.{Take, Effect, Publish as PublishEvent}
 use Rattle.sched.specs.declared.event.Outcome.TheVariants.{Answered, Taken, Done}
