@@ -116,8 +116,8 @@ bank_before = bank_of 2 sample_bank
 
 is_bank : IsBank bank_before
 is_bank =
-    let bytes = length-replicate 16 0 in
-    let counts = length-replicate 2 0 in
+    let bytes = length-replicate {A = ℕ} 16 0 in
+    let counts = length-replicate {A = ℕ} 2 0 in
     record {
       some = omega (arith, bytes);
       few = omega (arith, bytes);
@@ -287,10 +287,9 @@ module _ (images : ImagesAreRead) (x : Sample) (is : IsSample x) where
     did = refl;
     in_full = (
       record { entered = λ bank. absurd (cc (bank)); loads = λ control. absurd (cc (control)) },
-      record { entered = λ bank. absurd (cc (bank)); loads = λ control line none. absurd (cc (none)) },
-      tt,
+      (record { entered = λ bank. absurd (cc (bank)); loads = λ control line none. absurd (cc (none)) }, tt),
     );
-    placed = ((λ publish it some. absurd (cc (some))), load_placed, tt);
+    placed = ((λ publish it some. absurd (cc (some))), (load_placed, tt));
   }
 
   -- ---- port 1
@@ -401,7 +400,7 @@ module _ (images : ImagesAreRead) (x : Sample) (is : IsSample x) where
   banks_are : (k : ℕ) (bank : BankConfig) → slice_get n.banks k ≡ Some bank → IsBankOf k bank (sample_list x)
   banks_are zero bank at =
       subst (λ (b : BankConfig). IsBankOf 0 b (sample_list x)) (same_some sample_bank bank at)
-      (record { chain = (refl, ((tt, tt), omega arith)); few = omega arith })
+      (record { chain = (refl, (tt, tt), omega arith); few = omega arith })
   banks_are (suc k) bank at = absurd (cc (at))
 
   -- nobody else did anything
