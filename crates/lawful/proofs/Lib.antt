@@ -17,3 +17,4 @@ mod Worlds
 mod Settling
 mod Stepping
 mod Together
+mod Sample

@@ -1,7 +1,6 @@
 -- What one link more changes of what a list tells: who did what, what was published, what readers see, and what a bank's chain has.
 use Rattle.std.proofs.Common.{◌≡◌, ◌==◌, ◌+◌, ◌<◌, ◌≤◌, ℕ, Bool, true, false, cond, List, [], ◌∷◌, ◌++◌, length, refl, sym, ap, ◌∙◌, arith, length-append}
 use Rattle.std.specs.Prelude.{drop, take}
-use Rattle.std.specs.List.{filter}
 use Rattle.std.proofs.lemmas.Bool.Decides.{nat_tests}
 use Rattle.std.proofs.lemmas.List.{append-nil, length-take-le, take-append-drop, take_at}
 use Rattle.std.proofs.lemmas.List.Elements.{filter-append}

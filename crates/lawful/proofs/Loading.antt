@@ -61,7 +61,7 @@ effect_told n h port verdict o place is stands lies =
     ap (effect_outcome n h port) is ∙ (ap (effect_at_turn n h port o) stands ∙ ap (effect_at_place n h port (command_of o.packet) verdict) lies)
 
 -- and its end by a Publish, at a control write, is by what stops it
-publish_told : (n : Node) (h : History) (port verdict : ℕ) (o : Open) (outcome : Outcome) → opened h port ≡ Some o → turn_of n port o ≡ Some (turns.Verdict verdict) → place_in n o.packet ≡ Some places.Control
+pub publish_told : (n : Node) (h : History) (port verdict : ℕ) (o : Open) (outcome : Outcome) → opened h port ≡ Some o → turn_of n port o ≡ Some (turns.Verdict verdict) → place_in n o.packet ≡ Some places.Control
     → IsControlled n h port (command_of o.packet) (judged_line (command_of o.packet) verdict) outcome → IsPublishOutcome n h port (opened h port) outcome
 publish_told n h port verdict o outcome is stands lies told =
     subst (λ (last : Option Open). IsPublishOutcome n h port last outcome) (sym is)
@@ -90,7 +90,7 @@ spelled_program law body bytes sizes slot a is =
     ap (for_slot (control_of body).slot) read ∙ ap (λ (s : ℕ). Some (s, a.program)) (sym is.slot_is)
 
 -- a load of the port's command that succeeded published its program
-loaded_program : (law : ImagesAreRead) (n : Node) (h : History) (port slot : ℕ) (o : Open) (a : AcceptedValue) (reply result : List ℕ) → opened h port ≡ Some o
+pub loaded_program : (law : ImagesAreRead) (n : Node) (h : History) (port slot : ℕ) (o : Open) (a : AcceptedValue) (reply result : List ℕ) → opened h port ≡ Some o
     → IsPrepared (control_of (command_of o.packet).body) (staging n h port).bytes n.sizes slot a → published_at n h (Publishes port) (Done Success reply (Some result)) ≡ Some (slot, a.program)
 loaded_program law n h port slot o a reply result is prepared =
     ap (loaded_by (staging n h port).bytes) is ∙ spelled_program law (command_of o.packet).body (staging n h port).bytes n.sizes slot a prepared

@@ -28,7 +28,7 @@ use Rattle.ports.specs.Due.Deed.{Dropped, Answered as Replied, Judged}
 use Rattle.sched.specs.declared.event.Event.TheVariants.{Take}
 use Rattle.sched.specs.declared.event.Outcome.TheVariants.{Done, Taken}
 use Rattle.sched.specs.History.{History, Then, Open, port_of}
-use Rattle.sched.specs.Looking.{Node, published, staged_behind, staging}
+use Rattle.sched.specs.Looking.{Node, staged_behind, staging}
 use Rattle.sched.specs.Turns.{answers_of}
 use Rattle.lawful.specs.Alone.{AreDealtInFull, IsJudgedInFull, IsRefusedForStaged}
 use Rattle.lawful.specs.ButTold.{IsLawfulButTold}

@@ -2,11 +2,9 @@
 use Rattle.std.proofs.Common.{◌≡◌, ◌==◌, ◌+◌, ◌<◌, ◌≤◌, ℕ, true, false, List, [], ◌∷◌, ◌++◌, length, Option, Some, None, refl, sym, ap, subst, ◌∙◌, inl, inr, arith, append_assoc, eqb-true}
 use Rattle.std.specs.Prelude.{slice_get}
 use Rattle.std.proofs.lemmas.Bool.{cases_Bool, cases_lt}
-use Rattle.std.proofs.lemmas.Bool.Decides.{nat_tests}
 use mathlib.Core.List.{IsPrefix}
 use Rattle.spw.specs.Cargo.{Cargo}
 use Rattle.rmap.specs.declared.places.Place.{Place}
-use Rattle.rmap.specs.declared.places.Place.TheVariants as places
 use Rattle.rmap.specs.Command.{command_of}
 use Rattle.rmap.specs.Reply.{reply_of}
 use Rattle.rmap.specs.Windows.{WindowsValue}
@@ -29,7 +27,7 @@ use Rattle.ports.specs.Due.{stand}
 use Rattle.sched.specs.declared.event.Event.{Event}
 use Rattle.sched.specs.declared.event.Event.TheVariants.{Effect, Publish as Publishing}
 use Rattle.sched.specs.declared.event.Outcome.TheVariants.{Done}
-use Rattle.sched.specs.History.{History, Then, Open, port_of}
+use Rattle.sched.specs.History.{History, Then, Open}
 use Rattle.sched.specs.Looking.{Node, entries, published, staged_behind, staging}
 use Rattle.lawful.specs.Happenings.{Happening, HappenBy, ending, happening}
 use Rattle.lawful.specs.Together.{Account, IsBankOf}

@@ -2,3 +2,4 @@ pub mod ButTold
 pub mod Happenings
 pub mod Alone
 pub mod Together
+pub mod Sample

@@ -2,6 +2,7 @@
 
 ghost use Rattle.lawful.specs.Alone.{OnePortIsLawful};
 ghost use Rattle.lawful.specs.ButTold.{LawfulIsButTold};
+ghost use Rattle.lawful.specs.Sample.{SampleIsLawful};
 ghost use Rattle.lawful.specs.Together.{ThreadsAreLawful};
 
 use bpf::image_laws;
@@ -42,4 +43,13 @@ pub fn threads_are_lawful()
     published_programs();
     workers_shares_count();
     published_agrees();
+}
+
+/// A law and no work: a worked example of [`threads_are_lawful`]. Two ports serve a bank: one loads a program, and the other reads
+/// when the program is published and readers do not see it yet. They meet all premises at once, and the history that the law speaks
+/// of is written out.
+pub fn sample_is_lawful()
+    ensures { SampleIsLawful }
+{
+    image_laws();
 }

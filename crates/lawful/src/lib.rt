@@ -8,4 +8,4 @@
 
 mod laws;
 
-pub use laws::{one_port_is_lawful, threads_are_lawful, told_apart};
+pub use laws::{one_port_is_lawful, sample_is_lawful, threads_are_lawful, told_apart};
