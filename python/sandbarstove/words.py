@@ -50,6 +50,7 @@ _IMAGES = (
     "no memory",
 )
 _CONTROL = {
+    0: "the load was carried out",
     65: "no memory",
     66: "no such slot",
     67: "generations full",
