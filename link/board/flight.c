@@ -55,6 +55,7 @@ static void serve(const sandbar_came *came) {
     return;
   }
   want(code);
+  if (served.found > SANDBAR_WHOLE) flight_tell(FLIGHT_FOUND, served.found, served.found_slot);
   if (served.reply_length != 0) {
     sandbar_frames_head(served.reply_length, head);
     flight_put(head, sizeof head);
