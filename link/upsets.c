@@ -6,11 +6,11 @@
  *   upsets IMAGES scrubs                scrubs packets and sizes that changed, and programs, of which none can be mended
  *
  * IMAGES has the programs of slots 0 to 3, a line of digits each: those of tests/cases/upsets.cases, which `rules` says again.
- * With EACH the program that judges is scrubbed before each packet of so many. Generations are then not compared: a program
- * that is mended has a new one. REGION is a name of the first form, `any` for all of them by their bytes, or `none`: then nothing
- * flips. Each trial is a process, so that it may end as it likes. The node's memory lies between pages that nobody may touch. The
- * same seed gives the same flips. `link/upsets` makes the table of docs/TESTING.md of the lines. It wants a system with fork and
- * signals. */
+ * With EACH the program that judges is scrubbed before each packet of so many. Generations are then not compared, nor what a scrub
+ * found: a program that is mended has a new one. REGION is a name of the first form, `any` for all of them by their bytes, or
+ * `none`: then nothing flips. Each trial is a process, so that it may end as it likes. The node's memory lies between pages that
+ * nobody may touch. The same seed gives the same flips. `link/upsets` makes the table of docs/TESTING.md of the lines. It wants a
+ * system with fork and signals. */
 #include "packets.h"
 #include "sandbarstove_heap.h"
 #ifdef SOURCE
@@ -325,7 +325,7 @@ static struct answer serve(const struct packet *packet) {
   memset(&answer, 0, sizeof answer);
   answer.code = sandbar_serve(node, packet->port, packet->bytes, packet->length, packet->end, reply, SANDBAR_MAX_REPLY,
                               &answer.served);
-  if (each != 0) answer.served.generation = 0;
+  if (each != 0) answer.served.generation = 0, answer.served.found = SANDBAR_UNSCRUBBED;
   uint32_t length = answer.served.reply_length;
   if (length > SANDBAR_MAX_REPLY) length = 0;
   last_reply = length;
@@ -852,10 +852,14 @@ static uint64_t entries_now(void) {
   return count;
 }
 
-/* Flips a bit of each program's operations, or of each image. */
+/* Flips a bit of each program's operations, or of each image: there one of each instruction, which has 32 bytes, since some do not use
+ * the word in which it is. */
 static void flip_each(enum region region) {
-  for (uint32_t k = 0; k < piece_count; k += 1)
-    if (region_of[pieces[k].at] == region) arena[pieces[k].at + 16] ^= 1;
+  for (uint32_t k = 0; k < piece_count; k += 1) {
+    if (region_of[pieces[k].at] != region) continue;
+    uint32_t end = region == IMAGE ? pieces[k].size : 32;
+    for (uint32_t at = 16; at < end; at += 32) arena[pieces[k].at + at] ^= 1;
+  }
 }
 
 /* All four programs change, and there is memory for packets alone: each slot is withdrawn, and nothing that comes is judged. Their
