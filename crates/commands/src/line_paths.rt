@@ -27,8 +27,20 @@ pub fn may_have_paths(lines: &str) -> bool {
     memmem::find(bytes, b" 0").is_some() || memmem::find(bytes, b" 1").is_some()
 }
 
+/// Whether four characters of a line show that it has no piece, and no packet that begins with a path: a digit, a space, a
+/// character above `1`, and at the end neither a space nor the last character of [`GOES_ON`].
+fn is_passed(line: &str) -> bool {
+    let [port, b' ', first, .., last] = line.as_bytes() else {
+        return false;
+    };
+    port.is_ascii_digit() && *first > b'1' && *last != b'T' && *last != b' '
+}
+
 /// Whether a line may be one of a piece, or of a packet that begins with a path.
 fn is_looked_at(line: &str) -> bool {
+    if is_passed(line) {
+        return false;
+    }
     let Some((_port, rest)) = first_word(line) else {
         return false;
     };

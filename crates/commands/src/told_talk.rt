@@ -48,6 +48,14 @@ fn last_line(text: &[u8]) -> &str {
     }
 }
 
+/// Whether the last line of a text may report a fault: its last character is a digit.
+fn may_report_fault(text: &[u8]) -> bool {
+    match text {
+        [.., last, b'\n'] => last.is_ascii_digit(),
+        _ => false,
+    }
+}
+
 /// The number of the line and the fault that a line tells, if it tells one: `line K fault C`.
 fn fault_told(line: &str) -> Option<(&str, BadLine)> {
     let (number, code) = line.strip_prefix("line ")?.split_once(" fault ")?;
@@ -90,6 +98,9 @@ impl<'a, R: Eprint, T: Talk + Drop> ToldTalk<'a, R, T> {
     fn tell(&mut self, text: &[u8])
         ensures { self.new.talk ≡ self.old.talk }
     {
+        if !may_report_fault(text) {
+            return;
+        }
         let Some((number, fault)) = fault_told(last_line(text)) else {
             return;
         };
