@@ -3,14 +3,15 @@
 // Up to how many differences all groups are open at first.
 const MOST_OPEN = 12;
 
-function showCompare(map, compare) {
+// The differences that compare printed, and null if it printed a fault.
+const differencesIn = (compare) => (/^(same$|[-+~]+ )/m.test(compare.text) ? picture.readCompare(compare.text) : null);
+
+function showCompare(map, compare, found) {
   $('compare-text').textContent = compare ? compare.text + compare.told : '';
   $('older').hidden = $('differs').hidden = !compare;
   document.querySelector('.skip[href="#h-differs"]').hidden = !compare;
   if (!compare) return;
-  const is_fault = !/^(same$|[-+~]+ )/m.test(compare.text);
-  const differences = is_fault ? [] : picture.readCompare(compare.text);
-  const count = differences.length;
+  const is_fault = found === null, differences = found ?? [], count = differences.length;
   $('h-differs').textContent = is_fault ? 'Where it differs from old.policy: a table has a fault'
     : count ? `Where it differs from old.policy: ${counted(count, 'place', 'places')}` : 'It decides all commands as old.policy does';
   if (map.status === 0) { shown.differences = differences; if (count > 0) drawMap(); }
@@ -97,9 +98,11 @@ function differenceItem(one) {
   const figure = made('div', { className: 'figure one' });
   differenceOf.set(figure, one);
   nearing.observe(figure);
-  const button = made('button', { type: 'button', className: 'plain witness' }, 'Ask this packet below: ', made('code', { textContent: one.packet }));
+  const packet = packetOf(one);
+  if (packet === null) return made('li', {}, what, figure, made('p', { className: 'small', tabIndex: 0, textContent: noPacket(one) }));
+  const button = made('button', { type: 'button', className: 'plain witness' }, 'Ask this packet below: ', made('code', { textContent: packet }));
   button.setAttribute('aria-describedby', what.id);
-  button.addEventListener('click', () => askPacket(one.packet));
+  button.addEventListener('click', () => askPacket(packet));
   return made('li', {}, what, figure, button);
 }
 

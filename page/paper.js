@@ -67,7 +67,7 @@ function differencesOfPaper() {
   const groups = groupsOf(shown?.differences ?? []).flatMap((group) => [
     made('p', { className: 'rules mono' }, `old.policy ${rulesIn('old', group.old).map(({ text }) => text).join(' / ')}`, made('br', {}),
       `new.policy ${rulesIn('new', group.own).map(({ text }) => text).join(' / ')}`),
-    tableOf('differences', ['', 'Commands', 'Old asks', 'New asks', 'A packet'], group.all.map((one) => [one.sign, picture.wordsOf(one), one.old, one.new, one.packet])),
+    tableOf('differences', ['', 'Commands', 'Old asks', 'New asks', 'A packet'], group.all.map((one) => [one.sign, picture.wordsOf(one), one.old, one.new, packetOf(one) ?? noPacket(one)])),
   ]);
   return [part($('h-differs').textContent, ...groups)];
 }
