@@ -60,6 +60,8 @@ async function sorted(packets, place_) {
 async function showPackets(is_table, stale) {
   const lacking = lackingWords(node.lacking), place_ = is_node() ? place() : [...maps(), '--ports', '32'];
   const { good, bad } = await sorted(textOf('lines') ? packetsOf(textOf('lines')) : [], place_), given = [joined(good)];
+  if (stale()) return;
+  good_packets = good;
   const what = await perform(['show', 'packets'], given), which = await perform(['decide', 'packets', 'new.policy', ...place_], given);
   const judged = is_table && !lacking ? await perform(['judge', 'packets', ...judgePlace()], [...given, ...judgeFiles()]) : null;
   const is_judged = judged !== null && judged.out.length > 0 && !/^(node fault|cannot read|bad option)/.test(judged.text);
@@ -99,7 +101,9 @@ function packetRow(packet, block, which, answer, words) {
   return row;
 }
 
+// The packets without those that are refused, of the last time.
+let good_packets = [];
 async function traced(stale) {
-  const done = await perform(['trace', 'lines.txt', ...judgePlace()], judgeFiles());
+  const done = await perform(['trace', 'packets', ...judgePlace()], [joined(good_packets), ...judgeFiles()]);
   if (!stale()) $('trace-text').textContent = done.text + done.told;
 }

@@ -75,9 +75,17 @@ async function decided(lines) {
   return [old, own].map(({ text }) => blocksOf(text).map(([first]) => first));
 }
 
-// Gives each difference its packet at the node, or why it has none there.
+// For how many differences a packet is looked for, and for how many at once. The others keep that of compare.
+const MOST_FOUND = 2000, MOST_DECIDED = 250;
+
 async function findPackets(differences, stale) {
   const own = partsOfNode(), edges = [...new Set(differences.flatMap(({ ranges }) => ranges.flat()))].sort((a, b) => a - b);
+  for (let from = 0; from < Math.min(differences.length, MOST_FOUND) && !stale(); from += MOST_DECIDED) await findSome(differences.slice(from, from + MOST_DECIDED), own, edges, stale);
+  for (const one of differences.slice(MOST_FOUND)) one.own = one.packet;
+}
+
+// Gives each difference its packet at the node, or why it has none there.
+async function findSome(differences, own, edges, stale) {
   let open = differences.map((one) => ({ one, commands: commandsOf(one, own, edges) }));
   for (const { one, commands } of open) if (commands.length === 0) one.none = 'the node has none of its ports';
   open = open.filter(({ commands }) => commands.length > 0);
