@@ -83,6 +83,6 @@ function partsOfNode() {
 
 // The image that the file publishes last in slot 3: that program judges the loads until another one is there.
 function guardOfNode() {
-  const last = [...node.lines.matchAll(/^publish (\d+) slot 3 /gm)].pop();
+  const last = [...node.lines.matchAll(/^publish (\d+) slot 3\b/gm)].pop();
   return last ? node.named.find(({ where }) => where === `publish ${last[1]} image`)?.name ?? null : null;
 }

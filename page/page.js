@@ -1,8 +1,6 @@
 // ---- what is asked of the module, in turn
 
 let asked = 0, seeing = 0;
-// What came last of each word, for paper.
-const last = {};
 
 async function seen() {
   asked += 1;
@@ -20,12 +18,12 @@ async function seen() {
     keepImage(image, old_image);
     showTable('new', image);
     if (old_image) showTable('old', old_image);
+    await showLoaders(image, old_image, stale);
+    if (stale()) return;
     const map = await perform(['map', 'new.policy', ...place()]);
     if (stale()) return;
     showMap(map);
     if (map.status === 0) addNotes(picture.readMap(map.text).notes, image);
-    await showLoaders(image, old_image, stale);
-    if (stale()) return;
     const compare = $('both').checked ? await perform(['compare', 'old.policy', 'new.policy', ...place()]) : null;
     const differences = compare ? differencesIn(compare) : [];
     if (is_node() && differences) await findPackets(differences, stale);
@@ -35,7 +33,6 @@ async function seen() {
     if (stale()) return;
     await showPackets(image.status === 0, stale);
     if (stale()) return;
-    Object.assign(last, { map, compare, image });
     refresh();
   } catch (fault) {
     if (fault instanceof Stopped && !stale()) $('said-map').textContent = 'It was stopped. Change a table to begin again.';

@@ -86,7 +86,8 @@ function loadsOfPaper() {
 }
 
 function drawPaper() {
-  const said = ['new', 'old', 'node'].map((id) => $(`said-${id}`).textContent).filter(Boolean).map((textContent) => made('p', { className: 'pre', textContent }));
+  const said = ['new', 'old', 'node'].filter((id) => $(`said-${id}`).textContent && (id !== 'old' || $('both').checked))
+    .map((id) => made('p', { className: 'pre' }, made('b', { textContent: `${EDITORS[id]}\n` }), $(`said-${id}`).textContent));
   $('paper').replaceChildren(...headOfPaper(), ...loadsOfPaper(), numberedText('new.policy', textOf('new')), ...($('both').checked ? [numberedText('old.policy', textOf('old'))] : []),
     ...(is_node() ? [numberedText('node.toml', textOf('node')), part('The node', made('p', { className: 'pre mono', textContent: $('node-text').textContent }))] : []),
     ...(said.length ? [part('What is said of them', ...said)] : []), ...differencesOfPaper(), ...mapOfPaper(), ...packetsOfPaper(),

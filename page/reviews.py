@@ -68,9 +68,9 @@ def try_node(browser: Browser, tally: Tally) -> None:
              (("A0000000", "00", "42"), ("80000000", "01", "42"), ("80000000", "01", "67"))]
     begin(browser, TWO_BANKS, ONE_BANK, "".join(lines), node=NODE)
     said = text_of(browser, "#said-node")
-    tally.note("a file that the node's file names and that was not given is named", "science.bin" in said and "flight.img" not in said, said)
+    tally.note("a file that the node's file names and that was not given is named", said.startswith("The node's file names science.bin, which was not given") and "in place of flight.img" in said, said)
     tally.note("what does not need it is drawn", count_of(browser, "#map .frame") > 5 and count_of(browser, "#differences .group") > 0 and len(rows_of(browser)) == 3)
-    tally.note("what needs it says so", "science.bin" in text_of(browser, "#said-judged") and "science.bin" in text_of(browser, "#rehearsed"), text_of(browser, "#said-judged"))
+    tally.note("what needs it says so", "science.bin" in text_of(browser, "#said-judged") and "write of the image: status" in text_of(browser, "#rehearsed"), text_of(browser, "#said-judged"))
     drop(browser, "#node", {"science.bin": "What was seen in flight", "camera.toml": NODE})
     rows = rows_of(browser)
     tally.note("dropped, all packets are answered by that node", all("from 42" in row[4] or "target 42" in row[4] for row in rows), str(rows))
@@ -86,7 +86,7 @@ def try_node(browser: Browser, tally: Tally) -> None:
     begin(browser, TWO_BANKS, ONE_BANK, "0 42 EOP\n3 42 EOP\n", node=NODE)
     tally.note("a packet at a port that the node does not have is marked", browser.run("return [...document.querySelectorAll('#packets li.bad')].map((e) => e.textContent)") == ["2"], text_of(browser, "#said-lines"))
     begin(browser, TWO_BANKS, ONE_BANK, node="address = 300\n")
-    tally.note("a fault of the node's file is at its editor", "wanted 0 to 255" in text_of(browser, "#said-node") and "fault" in text_of(browser, "#loaders"), text_of(browser, "#said-node"))
+    tally.note("a fault of the node's file is at its editor", "wanted 32 to 254" in text_of(browser, "#said-node") and "fault" in text_of(browser, "#loaders"), text_of(browser, "#said-node"))
     drop(browser, "#node", {"camera.toml": NODE})
     drop(browser, "header", {"old.policy": ONE_BANK + "read 20 * 00 00000000 0000FFFF - 0\n"})
     tally.note("a file of an editor's name goes there wherever it is dropped", "0000FFFF" in browser.run("return $('old').value"))
@@ -97,9 +97,9 @@ def try_node(browser: Browser, tally: Tally) -> None:
 def try_witnesses(browser: Browser, tally: Tally) -> None:
     """The packet of each difference is for the node of the file, and is judged otherwise there."""
     found = browser.run("return shown.differences.map((d) => [picture.wordsOf(d), packetOf(d), d.packet])")
-    second = [own for words, own, _ in found if words == "read * 42 01 80000000-8003FFFF"]
-    tally.note("a difference in the second bank has a packet for it", len(second) == 1 and second[0].startswith("0 42014C00420000018000000000000"), str(found))
-    tally.note("compare has none for it", any(words.startswith("read * 42 01") and packet.endswith("unasked") for words, _, packet in found), str(found))
+    second = [(own, packet) for words, own, packet in found if words.endswith(" 42 01 80000000-8003FFFF")]
+    tally.note("a difference in the second bank has a packet for it", len(second) > 0 and all(re.match(r"0 42014C..42000001800000000000", own) and own.endswith(" EOP") for own, _ in second), str(found))
+    tally.note("compare has none for it", all(packet.endswith("unasked") for _, packet in second), str(found))
     begin(browser, TWO_BANKS, ONE_BANK, "".join(f"{own}\n" for _, own, _ in found if own), node=NODE)
     rows = rows_of(browser)
     tally.note(f"none of {len(rows)} packets of differences is answered 10: no place", len(rows) == sum(own is not None for _, own, _ in found) > 1 and not any("no place" in row[3] for row in rows), str(rows))

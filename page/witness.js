@@ -93,26 +93,15 @@ async function findSome(differences, own, edges, stale) {
     const lines = open.map(({ commands }) => lineOf(commands[round], own.address)), [were, are] = await decided(lines);
     if (stale()) return;
     open.forEach(({ one }, k) => {
-      if (isOf(were[k], one.old) && isOf(are[k], one.new)) one.own = lines[k];
+      if (isOf(were[k], one.old) && isOf(are[k], one.new)) one.own = lines[k] + afterOf(one);
       else if (round === 0) one.none = (are[k] ?? 'it is no packet there').replace(/^\d+ /, '');
     });
     open = open.filter(({ one, commands }) => !one.own && round + 1 < commands.length);
   }
-  for (const one of differences.filter((some) => some.own)) {
-    const after = await findTimes(one);
-    if (after) one.own += ` ${after}`;
-  }
 }
 
-// What stands after the packet of a difference: how often it must come, as compare says it, or as decide does if compare asks no table.
-const MOST_TIMES = 1000;
-async function findTimes(one) {
-  const after = one.packet.replace(/^\d+ [0-9A-F]+ E[OE]P */, ''), limits = [one.old, one.new].flatMap((course) => picture.steps(course).map(({ limit }) => Number(limit ?? 0)));
-  if (after !== 'unasked' || Math.max(...limits) === 0) return after === 'unasked' ? '' : after;
-  const count = Math.min(MOST_TIMES, Math.max(...limits) + 1), verdict = (line) => /verdict (\d+)/.exec(line ?? '')?.[1];
-  const [old, own] = await decided(Array(count).fill(one.own)), at = own.findIndex((line, k) => verdict(line) !== verdict(old[k]));
-  return at < 0 ? 'draws' : at === 0 ? '' : `times ${at + 1}`;
-}
+// What stands after the packet of a difference: how often it must come. That no table is asked is of another node.
+const afterOf = (one) => one.packet.replace(/^\d+ [0-9A-F]+ E[OE]P/, '').replace(' unasked', '');
 
 // The packet of a difference, and what is said of it; none if no packet of it comes to the tables of the node.
 const packetOf = (one) => (is_node() ? one.own ?? null : one.packet);
