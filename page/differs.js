@@ -46,6 +46,11 @@ function ruleButtons(id, rules) {
 }
 
 const ruleWords = (rules) => (rules.length === 0 ? 'no rule' : `rule ${rules.join(', ')}`);
+// How many differences of a group no packet can show at the node.
+function lackWords(all) {
+  const count = all.filter((one) => packetOf(one) === null).length;
+  return count === 0 ? '' : count === all.length ? ', not seen at this node' : `, ${count} of them not seen at this node`;
+}
 const signsIn = (all) => [...new Set(all.map((one) => one.sign))].join(' ');
 
 function showDifferences(differences) {
@@ -55,7 +60,7 @@ function showDifferences(differences) {
 
 function groupItem(group, is_open) {
   const summary = made('summary', {}, made('b', { className: 'sign', textContent: signsIn(group.all) }),
-    ` old ${ruleWords(group.old)}, new ${ruleWords(group.own)}: ${counted(group.all.length, 'place', 'places')}`);
+    ` old ${ruleWords(group.old)}, new ${ruleWords(group.own)}: ${counted(group.all.length, 'place', 'places')}${lackWords(group.all)}`);
   const rules = made('div', { className: 'rules' }, made('div', {}, 'old.policy ', ...ruleButtons('old', group.old)),
     made('div', {}, 'new.policy ', ...ruleButtons('new', group.own)));
   const list = made('ul', { className: 'differences' }), item = made('details', { className: 'group', open: is_open }, summary, rules, list);

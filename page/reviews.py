@@ -459,7 +459,7 @@ def try_steps(browser: Browser, tally: Tally, folder: Path | None = None) -> Non
         if folder:
             browser.run("window.scrollTo(0, 0)")
             browser.picture(folder / f"page_step_{number}.png")
-    tally.note("what changed is there", count_of(browser, "#differences .group") > 2, str(count_of(browser, "#differences .group")))
+    tally.note("what changed is there", count_of(browser, "#differences .group") == 2, str(count_of(browser, "#differences .group")))
     tally.note("who can load is there", count_of(browser, "#loaders .answer") == 2, text_of(browser, "#loaders"))
     tally.note("the page was printed", browser.run("return printed_") == 1)
     browser.run("document.activeElement.blur(); window.scrollTo(0, 0); document.querySelector('.skip').focus()")

@@ -1,7 +1,7 @@
 // What the words of the page mean, a line for each, and what the page does not cover.
 const WORDS = {
   tables: [
-    ['slots 93', 'The table becomes a program of 93 instructions, the image new.img. A program has at most 512.'],
+    ['slots of new.img', 'How many instructions the program has that the table becomes. A program has at most 512.'],
     ['QUOTA', 'M:C:L: a ticket of cell C of map M must be below L; - is no quota.'],
     ['VERDICT', '0: the command is authorised. 3: invalid key. 10: not authorised. 12: invalid logical address.'],
   ],
