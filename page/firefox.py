@@ -46,7 +46,10 @@ class Socket:
         """The next text, of one frame or several."""
         whole = b""
         while True:
-            first, second = self.read.read(2)
+            head = self.read.read(2)
+            if len(head) < 2:
+                raise Refused("firefox-esr ended")
+            first, second = head
             length = second & 0x7F
             if length > 125:
                 length = int.from_bytes(self.read.read(2 if length == 126 else 8), "big")
@@ -85,7 +88,7 @@ class Firefox:
             raise
 
     def joined(self) -> Socket:
-        for _ in range(300):
+        for _ in range(1500):
             try:
                 return Socket(PORT, "/session")
             except OSError:

@@ -105,7 +105,7 @@ def differs(seen: dict[str, Any], wanted: dict[str, Any]) -> Optional[str]:
 def try_pairs(browser: Browser, tally: Tally, program: Optional[Path] = None) -> None:
     """Each of the pairs as a hand would put it, and what is drawn of it."""
     chance, printed, count, bad = random.Random(128), by_program(program) if program else by_page(browser), 0, 0
-    for _ in range(PAIRS):
+    for number in range(1, PAIRS + 1):
         old, new = pair(chance)
         files = {"old": old, "new": new}
         wanted = wanted_of(printed(["map", "new", "--maps", MAPS], files), printed(["compare", "old", "new", "--maps", MAPS], files))
@@ -116,6 +116,8 @@ def try_pairs(browser: Browser, tally: Tally, program: Optional[Path] = None) ->
         if why:
             bad += 1
             print(f"of\n{new}and before it\n{old}{why}")
+        if number % 100 == 0:
+            print(f"{number} pairs, {bad} of them drawn otherwise", flush=True)
     of = f"the program {program}" if program else "the page's own module"
     tally.note(f"{PAIRS} random pairs: boxes, rows and words of the screen are the {count:,} rows that {of} prints", bad == 0, str(bad))
     choose_first(browser)
