@@ -78,9 +78,13 @@ const isTyped = () => JSON.stringify(stateNow()) !== clean;
 function replacing() { before = stateNow(); }
 function replaced() { replaced_by = JSON.stringify(stateNow()); }
 
+// Begins a review. Nothing that was put into another one is left: a file of a name that both have might be taken for its own.
 function begin({ texts: own, maps: sizes, both, load = {}, more = [] }) {
+  for (const name of beside) files.delete(name);
+  beside.clear();
+  puts.clear();
   for (const [id, name] of Object.entries(EDITORS)) files.set(name, encoder.encode(own[id] ?? ''));
-  for (const [name, content] of more) files.set(name, content);
+  for (const [name, content] of more) { files.set(name, content); beside.add(name); }
   for (const [name, [id, , first]] of Object.entries(LOAD_FIELDS)) $(id).value = load[name] ?? first;
   $('maps').value = sizes;
   $('both').checked = both;

@@ -90,8 +90,9 @@ def try_node(browser: Browser, tally: Tally) -> None:
     drop(browser, "#node", {"camera.toml": NODE})
     drop(browser, "header", {"old.policy": ONE_BANK + "read 20 * 00 00000000 0000FFFF - 0\n"})
     tally.note("a file of an editor's name goes there wherever it is dropped", "0000FFFF" in browser.run("return $('old').value"))
-    browser.run("files.delete('science.bin')")
+    drop(browser, "#node", {"science.bin": "What was seen in flight"})
     choose_first(browser)
+    tally.note("a file that was put beside is of that review only", browser.run("return !files.has('science.bin') && puts.size === 0"))
 
 
 def try_witnesses(browser: Browser, tally: Tally) -> None:
