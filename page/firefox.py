@@ -68,6 +68,8 @@ class Socket:
 class Firefox:
     """A window of Firefox, with the calls of browser.Browser."""
 
+    NUMBERS_PAGES = False
+
     def __init__(self, page: Path, width: int = 1440):
         self.profile = tempfile.mkdtemp(prefix="page-test-")
         lines = (f"user_pref({json.dumps(name)}, {json.dumps(value)});\n" for name, value in PREFERENCES.items())

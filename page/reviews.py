@@ -9,6 +9,7 @@ import shutil
 import subprocess
 import tempfile
 import time
+import unicodedata
 from pathlib import Path
 from typing import Any
 
@@ -373,7 +374,7 @@ def try_paper(browser: Browser, tally: Tally) -> None:
     for name, width, height in (("A4", 21.0, 29.7), ("letter", 21.59, 27.94)):
         path = folder / f"{name}.pdf"
         browser.printed(path, width, height)
-        text = subprocess.run(["pdftotext", "-raw", path, "-"], capture_output=True, text=True, check=True).stdout
+        text = unicodedata.normalize("NFKC", subprocess.run(["pdftotext", "-raw", path, "-"], capture_output=True, text=True, check=True).stdout)
         count_paper(browser, tally, name, text)
     browser.run("$('fold').value = ''; drawMap()")
     sums = browser.run("return fileRows()")
@@ -394,7 +395,8 @@ def count_paper(browser: Browser, tally: Tally, name: str, text: str) -> None:
     """What is on paper, each once."""
     pages = text.count("\f")
     feet = [int(number) for number in re.findall(rf"^\f?(\d+) of {pages}$", text, re.MULTILINE)]
-    tally.note(f"{name}: {pages} pages for 20 rules, each with its number", feet == list(range(1, pages + 1)), f"{feet}")
+    wanted = list(range(1, pages + 1)) if browser.NUMBERS_PAGES else []
+    tally.note(f"{name}: {pages} pages for 20 rules, each with its number" + ("" if browser.NUMBERS_PAGES else " by the browser's own head"), feet == wanted and pages <= 10, f"{feet}")
     clean = re.sub(rf"^\f?\d+ of {pages}\n", "", text, flags=re.MULTILINE)
     new, old = browser.run("return [$('new').value, $('old').value]")
     for which, table, end in (("new", new, "old.policy"), ("old", old, "What is said of them|Where it differs")):
