@@ -81,7 +81,8 @@ class Firefox:
             self.socket = self.joined()
             accept = {"alwaysMatch": {"unhandledPromptBehavior": {"default": "accept", "beforeUnload": "accept"}}}
             self.ask("session.new", capabilities=accept)
-            self.window = self.ask("browsingContext.getTree")["contexts"][0]["context"]
+            # The first window of a headless Firefox never has the focus; one that is made has it.
+            self.window = self.ask("browsingContext.create", type="window")["context"]
             self.ask("session.subscribe", events=["log.entryAdded"])
             self.resize(width, 1000)
             self.open(page)

@@ -17,7 +17,7 @@ from browser import Browser
 from screen import WIDTHS, Tally, begin, choose_first, count_of, settled, text_of
 
 # What is pressed by WebDriver's keys.
-TAB, ENTER, CONTROL, HOLD = "\ue004", "\ue007", "\ue009", "\ue000"
+TAB, ENTER, CONTROL = "\ue004", "\ue006", "\ue009"
 
 # ---- the node
 
