@@ -42,11 +42,14 @@ function answerLine(head, { words, name }) {
 // Whose loads a policy lets pass in slot 3: loads of the image of another one, at the node.
 const anyLoader = (other, own) => perform(['rehearse', other, own, '--any', ...loadPlace()], judgeFiles());
 
-// The answers, each with its head, what was printed of it, and the table of which it is.
+// The answers, each with its head, what was printed of it, and the table of which it is. A program that the node's file publishes in slot 3
+// comes first.
 async function answers(is_old) {
   const guard = guardOfNode(), other = is_old ? 'old.policy' : 'new.policy', found = [];
-  if (guard && files.has(guard)) found.push({ head: `Until slot 3 is loaded, ${guard} of the node's file judges there:`, done: await anyLoader(other, guard), table: '' });
-  if (guard && !files.has(guard)) found.push({ head: `Until slot 3 is loaded, ${guard} of the node's file judges there:`, answer: { words: 'it was not given, so it is not known who can load.', name: 'warn', askers: 0 } });
+  if (guard) {
+    const head = `Until slot 3 is loaded, ${guard} of the node's file judges there:`, unknown = { words: 'it was not given, so it is not known who can load.', name: 'warn', askers: 0 };
+    found.push(files.has(guard) ? { head, done: await anyLoader(other, guard), table: '' } : { head, answer: unknown });
+  }
   const heads = guard ? ['Once new.policy is in slot 3', 'Once old.policy is in slot 3'] : is_old ? ['After the change', 'Before'] : ['With new.policy in slot 3'];
   found.push({ head: heads[0], done: await anyLoader(other, 'new.policy'), table: textOf('new'), is_after: true });
   if (is_old) found.push({ head: heads[1], done: await anyLoader('new.policy', 'old.policy'), table: textOf('old') });

@@ -28,7 +28,7 @@ async function readNode() {
   if (done.status !== 0) return { ...NO_NODE, is_fault: true, named, text: done.text + done.told };
   const lines = missing.length === 0 ? done.text : done.text.replace(/^program .*\n/gm, '').replace(/ (contents 0|weight \d+)$/gm, '');
   const lacking = missing.filter(({ where }) => where !== 'program');
-  return { is_fault: false, named, lacking, stand_ins, lines, text: [lackingWords(lacking), programWords(named)].filter(Boolean).join('\n') };
+  return { is_fault: false, named, lacking, stand_ins, lines, text: [lackingWords(lacking), programWords(named), ...publishedWords(lines, named)].filter(Boolean).join('\n') };
 }
 
 // In the place of files that were not given: nothing for the bytes of a bank, and a program that says yes.
@@ -51,6 +51,19 @@ function programWords(named) {
   const program = named.find(({ where }) => where === 'program');
   if (!program) return '';
   return `new.policy judges in place of ${program.name}, the node's program${files.has(program.name) ? '' : ', which was not given'}.`;
+}
+
+// What each slot judges, and the image that the file publishes last in a slot, if there is one.
+const JUDGED = ['reads', 'writes', 'read-modify-writes', 'the boot window, and so the loads'];
+function publishedIn(slot, lines, named) {
+  const last = [...lines.matchAll(/^publish (\d+) slot (\d)\b/gm)].filter(([, , own]) => Number(own) === slot).pop();
+  return last ? named.find(({ where }) => where === `publish ${last[1]} image`)?.name ?? null : null;
+}
+function publishedWords(lines, named) {
+  return JUDGED.map((what, slot) => {
+    const name = publishedIn(slot, lines, named);
+    return name && `The node's file publishes ${name} in slot ${slot}: new.policy does not judge ${what}.`;
+  });
 }
 
 // The node since its file was read last.
@@ -81,8 +94,5 @@ function partsOfNode() {
   return { address: parseInt(/^address (\S\S)$/m.exec(node.lines)?.[1] ?? 'FE', 16), ports: Number(/^ports (\d+)$/m.exec(node.lines)?.[1] ?? 32), banks };
 }
 
-// The image that the file publishes last in slot 3: that program judges the loads until another one is there.
-function guardOfNode() {
-  const last = [...node.lines.matchAll(/^publish (\d+) slot 3\b/gm)].pop();
-  return last ? node.named.find(({ where }) => where === `publish ${last[1]} image`)?.name ?? null : null;
-}
+// The program that judges the loads until another one is in slot 3.
+const guardOfNode = () => publishedIn(3, node.lines, node.named);

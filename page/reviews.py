@@ -129,6 +129,7 @@ def try_guard(browser: Browser, tally: Tally) -> None:
     answers = browser.run("return [...document.querySelectorAll('#loaders .answer')].map((e) => [e.className, e.textContent])")
     tally.note("who can load is said of the program in slot 3 first", len(answers) == 3 and answers[0][1] == "Until slot 3 is loaded, guard.img of the node's file judges there: initiator 67 with key 20 at ports 0 to 1 can load."
                and answers[1][1].startswith("Once new.policy is in slot 3"), str(answers))
+    tally.note("which slots new.policy does not judge", "publishes guard.img in slot 3: new.policy does not judge the boot window" in text_of(browser, "#said-node"), text_of(browser, "#said-node"))
     tally.note("the load is judged by it", "NEW is locked out" in text_of(browser, "#rehearsed"), text_of(browser, "#rehearsed"))
     browser.run("files.delete('guard.img')")
 
