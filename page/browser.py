@@ -28,6 +28,9 @@ class Refused(Exception):
 class Browser:
     """A window of a browser: `with Browser(page) as browser`."""
 
+    # Whether the number of a page is on paper by the margin boxes of the style.
+    NUMBERS_PAGES = True
+
     def __init__(self, page: Path, dark: bool = False, width: int = 1440):
         self.profile = tempfile.mkdtemp(prefix="page-test-")
         self.driver = subprocess.Popen(["chromedriver", f"--port={PORT}"], stdout=subprocess.DEVNULL, stderr=subprocess.DEVNULL)

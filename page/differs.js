@@ -3,14 +3,15 @@
 // Up to how many differences all groups are open at first.
 const MOST_OPEN = 12;
 
-function showCompare(map, compare) {
+// The differences that compare printed, and null if it printed a fault.
+const differencesIn = (compare) => (/^(same$|[-+~]+ )/m.test(compare.text) ? picture.readCompare(compare.text) : null);
+
+function showCompare(map, compare, found) {
   $('compare-text').textContent = compare ? compare.text + compare.told : '';
   $('older').hidden = $('differs').hidden = !compare;
   document.querySelector('.skip[href="#h-differs"]').hidden = !compare;
   if (!compare) return;
-  const is_fault = !/^(same$|[-+~]+ )/m.test(compare.text);
-  const differences = is_fault ? [] : picture.readCompare(compare.text);
-  const count = differences.length;
+  const is_fault = found === null, differences = found ?? [], count = differences.length;
   $('h-differs').textContent = is_fault ? 'Where it differs from old.policy: a table has a fault'
     : count ? `Where it differs from old.policy: ${counted(count, 'place', 'places')}` : 'It decides all commands as old.policy does';
   if (map.status === 0) { shown.differences = differences; if (count > 0) drawMap(); }
@@ -45,6 +46,11 @@ function ruleButtons(id, rules) {
 }
 
 const ruleWords = (rules) => (rules.length === 0 ? 'no rule' : `rule ${rules.join(', ')}`);
+// How many differences of a group no packet can show at the node.
+function lackWords(all) {
+  const count = all.filter((one) => packetOf(one) === null).length;
+  return count === 0 ? '' : count === all.length ? ', not seen at this node' : `, ${count} of them not seen at this node`;
+}
 const signsIn = (all) => [...new Set(all.map((one) => one.sign))].join(' ');
 
 function showDifferences(differences) {
@@ -54,7 +60,7 @@ function showDifferences(differences) {
 
 function groupItem(group, is_open) {
   const summary = made('summary', {}, made('b', { className: 'sign', textContent: signsIn(group.all) }),
-    ` old ${ruleWords(group.old)}, new ${ruleWords(group.own)}: ${counted(group.all.length, 'place', 'places')}`);
+    ` old ${ruleWords(group.old)}, new ${ruleWords(group.own)}: ${counted(group.all.length, 'place', 'places')}${lackWords(group.all)}`);
   const rules = made('div', { className: 'rules' }, made('div', {}, 'old.policy ', ...ruleButtons('old', group.old)),
     made('div', {}, 'new.policy ', ...ruleButtons('new', group.own)));
   const list = made('ul', { className: 'differences' }), item = made('details', { className: 'group', open: is_open }, summary, rules, list);
@@ -97,9 +103,11 @@ function differenceItem(one) {
   const figure = made('div', { className: 'figure one' });
   differenceOf.set(figure, one);
   nearing.observe(figure);
-  const button = made('button', { type: 'button', className: 'plain witness' }, 'Ask this packet below: ', made('code', { textContent: one.packet }));
+  const packet = packetOf(one);
+  if (packet === null) return made('li', {}, what, figure, made('p', { className: 'small', tabIndex: 0, textContent: noPacket(one) }));
+  const button = made('button', { type: 'button', className: 'plain witness' }, 'Ask this packet below: ', made('code', { textContent: packet }));
   button.setAttribute('aria-describedby', what.id);
-  button.addEventListener('click', () => askPacket(one.packet));
+  button.addEventListener('click', () => askPacket(packet));
   return made('li', {}, what, figure, button);
 }
 

@@ -3,8 +3,8 @@
 const EDITORS = { new: 'new.policy', old: 'old.policy', node: 'node.toml', lines: 'lines.txt' };
 // A text as it is: the byte order mark is a part of it.
 const exact = new TextDecoder('utf-8', { ignoreBOM: true });
-// What each editor shows, and of each file that was put here its name and its sum.
-const texts = new Map(), puts = new Map();
+// What each editor shows; of each file that was put here its name and its sum; and the names of the files beside those of the editors.
+const texts = new Map(), puts = new Map(), beside = new Set();
 
 const textOf = (id) => exact.decode(files.get(EDITORS[id]) ?? new Uint8Array());
 
@@ -89,6 +89,7 @@ async function putText(id, file) {
 async function putBeside(file) {
   const content = new Uint8Array(await file.arrayBuffer());
   files.set(file.name, content);
+  beside.add(file.name);
   puts.set(file.name, { name: file.name, sum: sumOf(content) });
 }
 

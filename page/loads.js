@@ -9,24 +9,27 @@ function askersIn(text) {
   return [...text.matchAll(line)].map(([, size, low, high, initiator, key, when]) => ({ size, low, high, initiator, key, when }));
 }
 
-function askerWords({ low, high, initiator, key }) {
-  const who = initiator === '*' ? 'each initiator that no rule names' : `initiator ${initiator}`;
-  const how = key === '*' ? 'each key that no rule names' : `key ${key}`;
+// Whether each rule of a table has * for its word of this number, so that no rule names a value there.
+const namesNone = (table, k) => table.split('\n').map((line) => line.split(';')[0].trim()).filter((line) => line && !line.startsWith('.')).every((line) => line.split(/ +/)[k] === '*');
+
+function askerWords({ low, high, initiator, key }, table) {
+  const all = (what, k) => (namesNone(table, k) ? `any ${what}` : `each ${what} that no rule names`);
+  const who = initiator === '*' ? all('initiator', 2) : `initiator ${initiator}`, how = key === '*' ? all('key', 1) : `key ${key}`;
   return `${who} with ${how} at ${low === high ? `port ${low}` : `ports ${low} to ${high}`}`;
 }
 
 // What is said of askers of one kind, and null if there is none.
-function kindWords(askers, when) {
+function kindWords(askers, when, table) {
   const own = askers.filter((asker) => asker.when === when);
   if (own.length === 0) return null;
-  const who = own.length > MOST_ASKERS ? `${own.length} askers` : own.map(askerWords).join('; and ');
+  const who = own.length > MOST_ASKERS ? `${own.length} askers` : own.map((asker) => askerWords(asker, table)).join('; and ');
   return `${who} can load${when ? ` ${when}` : ''}.`;
 }
 
 // The answer of a rehearsal of all askers, as words and as a colour.
-function answerOf(done, is_after) {
+function answerOf(done, is_after, table = '') {
   const askers = askersIn(done.text), told = (done.text + done.told).trimEnd();
-  const kinds = [undefined, 'until quotas are spent', 'only after quotas are spent'].map((when) => kindWords(askers, when)).filter(Boolean);
+  const kinds = [undefined, 'until quotas are spent', 'only after quotas are spent'].map((when) => kindWords(askers, when, table)).filter(Boolean);
   if (kinds.length > 0) return { words: kinds.join(' Also '), name: askers.some(({ when }) => when === undefined) ? 'yes' : 'warn', askers: askers.length };
   if (!/^ *loads .*by nobody$/m.test(done.text)) return { words: `it is not known. ${told}`, name: 'warn', askers: 0 };
   return { words: is_after ? 'nobody can load: the instrument cannot be changed in flight any more.' : 'nobody can load.', name: 'bad', askers: 0 };
@@ -36,37 +39,46 @@ function answerLine(head, { words, name }) {
   return made('p', { className: `answer ${name}` }, made('b', { textContent: head }), ` ${words}`);
 }
 
-// The node of a load: the old policy judges there in place of its program, so the file of that is not asked for.
-const loadPlace = () => (is_node() ? ['--node', 'judged.toml'] : maps());
+// Whose loads a policy lets pass in slot 3: loads of the image of another one, at the node.
+const anyLoader = (other, own) => perform(['rehearse', other, own, '--any', ...loadPlace()], judgeFiles());
 
-// The maps of the node as an option, for a word that takes no node's file.
-function mapsOfNode() {
-  const sizes = [...$('node-text').textContent.matchAll(/^map \d+ cells (\d+)( peak)?$/gm)].map(([, cells, peak]) => `${cells}${peak ? 'p' : ''}`);
-  return sizes.length ? ['--maps', sizes.join(',')] : [];
+// The answers, each with its head, what was printed of it, and the table of which it is. A program that the node's file publishes in slot 3
+// comes first.
+async function answers(is_old) {
+  const guard = guardOfNode(), other = is_old ? 'old.policy' : 'new.policy', found = [];
+  if (guard) {
+    const head = `Until slot 3 is loaded, ${guard} of the node's file judges there:`, unknown = { words: 'it was not given, so it is not known who can load.', name: 'warn', askers: 0 };
+    found.push(files.has(guard) ? { head, done: await anyLoader(other, guard), table: '' } : { head, answer: unknown });
+  }
+  const heads = guard ? ['Once new.policy is in slot 3', 'Once old.policy is in slot 3'] : is_old ? ['After the change', 'Before'] : ['With new.policy in slot 3'];
+  found.push({ head: heads[0], done: await anyLoader(other, 'new.policy'), table: textOf('new'), is_after: true });
+  if (is_old) found.push({ head: heads[1], done: await anyLoader('new.policy', 'old.policy'), table: textOf('old') });
+  return found.map((one) => ({ ...one, answer: one.answer ?? answerOf(one.done, Boolean(one.is_after), one.table) }));
+}
+
+// Of which images it was asked, and at which node.
+function askedWords(new_image, old_image, is_guarded) {
+  const size = (image) => `${image.written[0][1].length} bytes`, is_old = old_image?.status === 0;
+  const own = is_old ? `Asked of the image of old.policy, ${size(old_image)}; before, of that of new.policy, ${size(new_image)}` : `Asked of its own image, ${size(new_image)}`;
+  const guarded = is_guarded ? ' A program of the node\'s file is asked for each initiator with key 00, and for initiator 67 with each key.' : '';
+  return `${own}; at ${is_node() ? 'the node of node.toml' : 'a node of 32 ports'}.${guarded}`;
 }
 
 // Who can load after the change, and before it: of the image of the other table, for that is what is loaded next.
 async function showLoaders(new_image, old_image, stale) {
-  const is_old = old_image?.status === 0;
+  $('all-loaders').hidden = true;
+  $('loaders-text').textContent = '';
   if (new_image.status !== 0) {
     $('loaders').replaceChildren(answerLine('After the change', { words: 'it is not known who can load: new.policy has a fault.', name: 'warn' }));
-    $('all-loaders').hidden = true;
     return;
   }
-  const any = async (old, own) => {
-    const done = await perform(['rehearse', old, own, '--any', ...loadPlace()], judgeFiles());
-    return done.status === 2 && is_node() ? { ...await perform(['rehearse', old, own, '--any', ...mapsOfNode()]), is_wide: true } : done;
-  };
-  const after = await any(is_old ? 'old.policy' : 'new.policy', 'new.policy'), before = is_old ? await any('new.policy', 'old.policy') : null;
+  const found = await answers(old_image?.status === 0);
   if (stale()) return;
-  const own = answerOf(after, true), was = before ? answerOf(before, false) : null, size = (image) => image.written[0][1].length;
-  const asked = `Asked of ${is_old ? `the image of old.policy, ${size(old_image)} bytes` : `its own image, ${size(new_image)} bytes`}`
-    + `${is_old ? `; before, of that of new.policy, ${size(new_image)} bytes` : ''}; at ${after.is_wide ? 'a node of 32 ports with the maps of node.toml' : is_node() ? 'the node of node.toml' : 'a node of 32 ports'}.`;
-  $('loaders').replaceChildren(answerLine(is_old ? 'After the change' : 'With new.policy in slot 3', own), ...(was ? [answerLine('Before', was)] : []),
-    made('p', { className: 'small', textContent: asked }));
-  const is_long = own.askers > MOST_ASKERS || (was?.askers ?? 0) > MOST_ASKERS;
-  $('all-loaders').hidden = !is_long;
-  $('loaders-text').textContent = is_long ? `After:\n${after.text}${before ? `Before:\n${before.text}` : ''}` : '';
+  $('loaders').replaceChildren(...found.map(({ head, answer }) => answerLine(head, answer)),
+    made('p', { className: 'small', textContent: askedWords(new_image, old_image, guardOfNode() !== null) }));
+  if (found.every(({ answer }) => answer.askers <= MOST_ASKERS)) return;
+  $('all-loaders').hidden = false;
+  $('loaders-text').textContent = found.filter(({ done }) => done).map(({ head, done }) => `${head}\n${done.text}`).join('');
 }
 
 const LOAD_FIELDS = { slots: ['slots', '--slot', '3'], port: ['load-port', '--port', '0'], initiator: ['load-initiator', '--initiator', '67'], key: ['load-key', '--key', '00'] };
@@ -77,9 +89,10 @@ function rehearseWords() {
   return words.length ? words : ['--slot', '0,1,2,3'];
 }
 
-async function rehearse(lacking, stale) {
-  if (!$('both').checked || lacking) {
-    $('rehearsed').textContent = lacking || 'A load is rehearsed under an older table: let the page compare the table with one.';
+async function rehearse(stale) {
+  const lacking = node.lacking.filter(({ where }) => where.startsWith('publish'));
+  if (!$('both').checked || lacking.length > 0) {
+    $('rehearsed').textContent = lackingWords(lacking) || 'A load is rehearsed under an older table: let the page compare the table with one.';
     return;
   }
   const done = await perform(['rehearse', 'old.policy', 'new.policy', ...loadPlace(), ...rehearseWords()], judgeFiles());

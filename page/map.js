@@ -1,9 +1,5 @@
 // ---- what new.policy decides, as a picture and as a table
 
-const maps = () => ($('maps').value.trim() ? ['--maps', $('maps').value.trim()] : []);
-const is_node = () => textOf('node').trim() !== '';
-// The node of the words: its file, or its maps.
-const place = () => (is_node() ? ['--node', 'node.toml'] : maps());
 const linesOf = (text) => [...text.matchAll(/^ *(?:\S+ )?(?:line|rule) (\d+)\b/gm)].map((found) => Number(found[1]));
 const roomOf = (id) => Math.max(260, $(id).clientWidth - 4);
 

@@ -40,11 +40,11 @@ function blocksOf(text) {
 const joined = (packets) => ['packets', encoder.encode(packets.map(({ line }) => `${line}\n`).join(''))];
 
 // The packets without those that a word refuses, and of each of these the numbers of its lines and why. A table without a rule asks nothing.
-async function sorted(packets, node) {
+async function sorted(packets, place_) {
   const good = [], bad = [];
   let rest = packets;
   while (rest.length > 0 && bad.length < MOST_BAD) {
-    const done = await perform(['decide', 'packets', 'none', ...node], [joined(rest), ['none', new Uint8Array()]]);
+    const done = await perform(['decide', 'packets', 'none', ...place_], [joined(rest), ['none', new Uint8Array()]]);
     const fault = /^line (\d+) fault \d+$/m.exec(done.text);
     if (!fault) { good.push(...rest); return { good, bad }; }
     const at = Number(fault[1]) - 1, why = done.told.split('\n').find((line) => / fault /.test(line)) ?? fault[0];
@@ -57,11 +57,13 @@ async function sorted(packets, node) {
 }
 
 // What the packets are, which rule decides on each, and what the node answers if new.policy judges in place of its program.
-async function showPackets(is_table, lacking, stale) {
-  const node = is_node() ? ['--node', 'node.toml'] : [...maps(), '--ports', '32'];
-  const { good, bad } = await sorted(textOf('lines') ? packetsOf(textOf('lines')) : [], node), given = [joined(good)];
-  const what = await perform(['show', 'packets'], given), which = await perform(['decide', 'packets', 'new.policy', ...node], given);
-  const judged = is_table && !lacking ? await perform(['judge', 'packets', ...judgeWords()], [...given, ...judgeFiles()]) : null;
+async function showPackets(is_table, stale) {
+  const lacking = lackingWords(node.lacking), place_ = is_node() ? place() : [...maps(), '--ports', '32'];
+  const { good, bad } = await sorted(textOf('lines') ? packetsOf(textOf('lines')) : [], place_), given = [joined(good)];
+  if (stale()) return;
+  good_packets = good;
+  const what = await perform(['show', 'packets'], given), which = await perform(['decide', 'packets', 'new.policy', ...place_], given);
+  const judged = is_table && !lacking ? await perform(['judge', 'packets', ...judgePlace()], [...given, ...judgeFiles()]) : null;
   const is_judged = judged !== null && judged.out.length > 0 && !/^(node fault|cannot read|bad option)/.test(judged.text);
   const replies = is_judged ? await perform(['show', '-'], [['-', judged.out]]) : null;
   if (stale()) return;
@@ -72,17 +74,6 @@ async function showPackets(is_table, lacking, stale) {
   const [words, rules, answers, read] = [what.text, which.text, is_judged ? judged.text : '', replies?.text ?? ''].map(blocksOf);
   $('judged').replaceChildren(...words.map((block, k) => packetRow(good[k], block, is_table ? rules[k] : null, answers[k], read[k])));
   if ($('steps').open) await traced(stale);
-}
-
-// The words and the file of the node under new.policy: that file with another program, or a node of 32 ports.
-const judgeWords = () => (is_node() ? ['--node', 'judged.toml'] : [...(files.has('new.img') ? ['--image', 'new.img'] : []), ...maps(), '--ports', '32']);
-const judgeFiles = () => (is_node() ? [['judged.toml', encoder.encode(withProgram(textOf('node')))]] : []);
-
-// A node's file in which new.img judges in all slots at first. The keys of the node come before its first table.
-function withProgram(text) {
-  const at = /^\s*\[/m.exec(text)?.index ?? text.length, own = 'program = "new.img"';
-  const before = text.slice(0, at), kept = before.replace(/^[ \t]*program[ \t]*=.*$/m, own);
-  return (kept === before && !before.includes(own) ? `${own}\n${before}` : kept) + text.slice(at);
 }
 
 // A cell with a line, and more of it that is shown on demand where it is long.
@@ -110,7 +101,9 @@ function packetRow(packet, block, which, answer, words) {
   return row;
 }
 
+// The packets without those that are refused, of the last time.
+let good_packets = [];
 async function traced(stale) {
-  const done = await perform(['trace', 'lines.txt', ...judgeWords()], judgeFiles());
+  const done = await perform(['trace', 'packets', ...judgePlace()], [joined(good_packets), ...judgeFiles()]);
   if (!stale()) $('trace-text').textContent = done.text + done.told;
 }

@@ -1,8 +1,6 @@
 // ---- what is asked of the module, in turn
 
 let asked = 0, seeing = 0;
-// What came last of each word, for paper.
-const last = {};
 
 async function seen() {
   asked += 1;
@@ -11,30 +9,30 @@ async function seen() {
   if ([...calls.values()].some((call) => performance.now() - call.since > 300)) stop();
   seeing += 1;
   try {
-    const node = await showNode(stale);
+    await showNode(stale);
     if (stale()) return;
     if (node.is_fault) { noAnswers('The node\'s file has a fault: nothing is asked for it.'); return; }
     const image = await perform(['policy', 'new.policy', 'new.img', ...place()]);
     const old_image = $('both').checked ? await perform(['policy', 'old.policy', 'old.img', ...place()]) : null;
     if (stale()) return;
     keepImage(image, old_image);
-    if (node.is_program && image.status === 0) $('node-text').textContent = (await perform(['node', 'judged.toml'], judgeFiles())).text;
     showTable('new', image);
     if (old_image) showTable('old', old_image);
+    await showLoaders(image, old_image, stale);
+    if (stale()) return;
     const map = await perform(['map', 'new.policy', ...place()]);
     if (stale()) return;
     showMap(map);
     if (map.status === 0) addNotes(picture.readMap(map.text).notes, image);
-    await showLoaders(image, old_image, stale);
-    if (stale()) return;
     const compare = $('both').checked ? await perform(['compare', 'old.policy', 'new.policy', ...place()]) : null;
+    const differences = compare ? differencesIn(compare) : [];
+    if (is_node() && differences) await findPackets(differences, stale);
     if (stale()) return;
-    showCompare(map, compare);
-    await rehearse(node.lacking, stale);
+    showCompare(map, compare, differences);
+    await rehearse(stale);
     if (stale()) return;
-    await showPackets(image.status === 0, node.lacking, stale);
+    await showPackets(image.status === 0, stale);
     if (stale()) return;
-    Object.assign(last, { map, compare, image });
     refresh();
   } catch (fault) {
     if (fault instanceof Stopped && !stale()) $('said-map').textContent = 'It was stopped. Change a table to begin again.';
@@ -44,35 +42,6 @@ async function seen() {
 
 // Whether all is drawn that the texts ask for.
 const isStill = () => timer === 0 && seeing === 0 && calls.size === 0;
-
-// The node of a node's file: whether the file has a fault, and what it says of files that were not given.
-async function showNode(stale) {
-  $('maps').disabled = is_node();
-  $('node-lines').hidden = !is_node();
-  if (!is_node()) { mark('node', ''); $('node-text').textContent = ''; return { is_fault: false, lacking: '' }; }
-  const done = await perform(['node', 'node.toml']);
-  if (stale()) return {};
-  const text = (done.text + done.told).trimEnd();
-  $('node-text').textContent = text;
-  if (done.status === 0) { mark('node', done.told.trimEnd()); return { is_fault: false, lacking: '' }; }
-  if (!/: cannot be read$/m.test(done.told)) { mark('node', text, linesOf(text)); return { is_fault: true, lacking: '' }; }
-  const lacking = [...textOf('node').matchAll(/^[ \t]*(contents|image|program)[ \t]*=[ \t]*["']([^"'\n]*)["']/gm)].filter(([, , name]) => !files.has(name));
-  const [own, program] = [lacking.filter(([, key]) => key !== 'program'), lacking.find(([, key]) => key === 'program')];
-  const names = [...new Set(own.map(([, , name]) => name))], is_one = names.length === 1;
-  if (names.length === 0 && program) { mark('node', `${program[2]}, its program, was not given: new.policy judges in its place.`); return { is_fault: false, lacking: '', is_program: true }; }
-  const said = names.length === 0 ? text : `The node's file names ${names.join(', ')}, which ${is_one ? 'was' : 'were'} not given: put ${is_one ? 'it' : 'them'} beside node.toml. `
-    + 'Until then no packet is answered and no load is rehearsed.';
-  mark('node', said);
-  return { is_fault: false, lacking: said };
-}
-
-// What is shown if the node's file has a fault.
-function noAnswers(text) {
-  $('said-map').textContent = text;
-  $('map').classList.add('stale');
-  $('loaders').replaceChildren(answerLine('After the change', { words: 'it is not known who can load: the node\'s file has a fault.', name: 'warn' }));
-  for (const id of ['judged', 'rehearsed', 'said-judged']) $(id).replaceChildren();
-}
 
 // What is wrong in a table, or what is said of it on standard error, at its editor.
 function showTable(id, done) {
@@ -109,9 +78,13 @@ const isTyped = () => JSON.stringify(stateNow()) !== clean;
 function replacing() { before = stateNow(); }
 function replaced() { replaced_by = JSON.stringify(stateNow()); }
 
+// Begins a review. Nothing that was put into another one is left: a file of a name that both have might be taken for its own.
 function begin({ texts: own, maps: sizes, both, load = {}, more = [] }) {
+  for (const name of beside) files.delete(name);
+  beside.clear();
+  puts.clear();
   for (const [id, name] of Object.entries(EDITORS)) files.set(name, encoder.encode(own[id] ?? ''));
-  for (const [name, content] of more) files.set(name, content);
+  for (const [name, content] of more) { files.set(name, content); beside.add(name); }
   for (const [name, [id, , first]] of Object.entries(LOAD_FIELDS)) $(id).value = load[name] ?? first;
   $('maps').value = sizes;
   $('both').checked = both;

@@ -41,17 +41,20 @@ function headOfPaper() {
     tableOf('sums', ['File', 'Bytes', 'SHA-256', 'Of what'], fileRows())];
 }
 
-// The bands of the map, with their numbers, and the lines of each below.
+// The bands of the map, with their numbers, and the lines of each below. The addresses are above the bands of each page.
+const inRow = (band) => made('tr', {}, made('td', {}, band));
 function mapOfPaper() {
   if (!shown) return [part('The map', made('p', { textContent: 'The table has a fault: there is no map.' }))];
   const chart = picture.chartOf(shown.text, PAPER_ROOM, shown.differences, true);
   const rows = chart.bands.map((band, k) => {
     const { svg, signs } = picture.drawnBand(chart, band);
     const words = made('div', { className: 'labels' }, made('b', { textContent: `${k + 1}` }), ` ${band.labels.join(' ')} `, made('b', { textContent: signs.join(' ') }));
-    return made('div', { className: 'band' }, words, svg);
+    return inRow(made('div', { className: 'band' }, words, svg));
   });
+  const axis = made('div', { className: 'band' }, made('div', { className: 'labels' }), picture.drawnAxis(chart));
   const stale = $('map').classList.contains('stale') ? [made('p', { textContent: 'The table has a fault: this is the map of the last one without.' })] : [];
-  return [part(`The map: ${counted(chart.bands.length, 'band', 'bands')} of ${chart.heads.join(' ')}`, ...stale, legendList(chart), made('div', { className: 'band' }, made('div', { className: 'labels' }), picture.drawnAxis(chart)), ...rows), linesOfPaper(chart)];
+  return [part(`The map: ${counted(chart.bands.length, 'band', 'bands')} of ${chart.heads.join(' ')}`, ...stale, legendList(chart),
+    made('table', { className: 'bands' }, made('thead', {}, inRow(axis)), made('tbody', {}, ...rows))), linesOfPaper(chart)];
 }
 
 function linesOfPaper(chart) {
@@ -67,7 +70,7 @@ function differencesOfPaper() {
   const groups = groupsOf(shown?.differences ?? []).flatMap((group) => [
     made('p', { className: 'rules mono' }, `old.policy ${rulesIn('old', group.old).map(({ text }) => text).join(' / ')}`, made('br', {}),
       `new.policy ${rulesIn('new', group.own).map(({ text }) => text).join(' / ')}`),
-    tableOf('differences', ['', 'Commands', 'Old asks', 'New asks', 'A packet'], group.all.map((one) => [one.sign, picture.wordsOf(one), one.old, one.new, one.packet])),
+    tableOf('differences', ['', 'Commands', 'Old asks', 'New asks', 'A packet'], group.all.map((one) => [one.sign, picture.wordsOf(one), one.old, one.new, packetOf(one) ?? noPacket(one)])),
   ]);
   return [part($('h-differs').textContent, ...groups)];
 }
@@ -75,6 +78,7 @@ function differencesOfPaper() {
 function packetsOfPaper() {
   const rows = [...$('judged').rows].map((row) => [...row.cells].map((data) => [...data.querySelectorAll('div')].map((line) => line.textContent.replace(/\n/g, '; ')).join('; ') || data.textContent));
   const said = [$('said-lines').textContent, $('said-judged').textContent].filter(Boolean).map((textContent) => made('p', { className: 'pre', textContent }));
+  if (rows.length === 0 && said.length === 0) return [part('Packets', made('p', { textContent: 'None.' }))];
   return [part('Packets', tableOf('judged', ['Line', 'Port', 'What it is', 'Which rule', 'What the node answers'], rows), ...said)];
 }
 
@@ -86,9 +90,10 @@ function loadsOfPaper() {
 }
 
 function drawPaper() {
-  const said = ['new', 'old', 'node'].map((id) => $(`said-${id}`).textContent).filter(Boolean).map((textContent) => made('p', { className: 'pre', textContent }));
+  const said = ['new', 'old', 'node'].filter((id) => $(`said-${id}`).textContent && (id !== 'old' || $('both').checked))
+    .map((id) => made('p', { className: 'pre' }, made('b', { textContent: `${EDITORS[id]}\n` }), $(`said-${id}`).textContent));
   $('paper').replaceChildren(...headOfPaper(), ...loadsOfPaper(), numberedText('new.policy', textOf('new')), ...($('both').checked ? [numberedText('old.policy', textOf('old'))] : []),
     ...(is_node() ? [numberedText('node.toml', textOf('node')), part('The node', made('p', { className: 'pre mono', textContent: $('node-text').textContent }))] : []),
     ...(said.length ? [part('What is said of them', ...said)] : []), ...differencesOfPaper(), ...mapOfPaper(), ...packetsOfPaper(),
-    numberedText('lines.txt', textOf('lines')), part('What this does not cover', made('ul', {}, ...NOT_COVERED.map((textContent) => made('li', { textContent })))));
+    ...(textOf('lines') ? [numberedText('lines.txt', textOf('lines'))] : []), part('What this does not cover', made('ul', {}, ...NOT_COVERED.map((textContent) => made('li', { textContent })))));
 }

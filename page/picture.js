@@ -389,5 +389,5 @@ const picture = (() => {
     return drawing.done();
   }
 
-  return { chartOf, drawnAxis, drawnBand, drawnDifference, heightOf, legend, readCompare, readMap, rulesOf, wordsOf, SIGNS, FIELDS, HEADS };
+  return { chartOf, drawnAxis, drawnBand, drawnDifference, heightOf, legend, readCompare, readMap, rulesOf, steps, portsIn, bytesOf, wordsOf, SIGNS, FIELDS, HEADS };
 })();

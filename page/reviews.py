@@ -9,6 +9,7 @@ import shutil
 import subprocess
 import tempfile
 import time
+import unicodedata
 from pathlib import Path
 from typing import Any
 
@@ -16,7 +17,7 @@ from browser import Browser
 from screen import WIDTHS, Tally, begin, choose_first, count_of, settled, text_of
 
 # What is pressed by WebDriver's keys.
-TAB, ENTER, CONTROL, HOLD = "\ue004", "\ue007", "\ue009", "\ue000"
+TAB, ENTER, CONTROL = "\ue004", "\ue006", "\ue009"
 
 # ---- the node
 
@@ -68,9 +69,9 @@ def try_node(browser: Browser, tally: Tally) -> None:
              (("A0000000", "00", "42"), ("80000000", "01", "42"), ("80000000", "01", "67"))]
     begin(browser, TWO_BANKS, ONE_BANK, "".join(lines), node=NODE)
     said = text_of(browser, "#said-node")
-    tally.note("a file that the node's file names and that was not given is named", "science.bin" in said and "flight.img" not in said, said)
+    tally.note("a file that the node's file names and that was not given is named", said.startswith("The node's file names science.bin, which was not given") and "in place of flight.img" in said, said)
     tally.note("what does not need it is drawn", count_of(browser, "#map .frame") > 5 and count_of(browser, "#differences .group") > 0 and len(rows_of(browser)) == 3)
-    tally.note("what needs it says so", "science.bin" in text_of(browser, "#said-judged") and "science.bin" in text_of(browser, "#rehearsed"), text_of(browser, "#said-judged"))
+    tally.note("what needs it says so", "science.bin" in text_of(browser, "#said-judged") and "write of the image: status" in text_of(browser, "#rehearsed"), text_of(browser, "#said-judged"))
     drop(browser, "#node", {"science.bin": "What was seen in flight", "camera.toml": NODE})
     rows = rows_of(browser)
     tally.note("dropped, all packets are answered by that node", all("from 42" in row[4] or "target 42" in row[4] for row in rows), str(rows))
@@ -81,15 +82,56 @@ def try_node(browser: Browser, tally: Tally) -> None:
     settled(browser)
     tally.note("the form makes a packet for that node", browser.run("return $('lines').value.trimEnd().split('\\n').pop()").startswith("0 42014C"), browser.run("return $('lines').value"))
     tally.note("a load is rehearsed at that node", "write of the image: status" in text_of(browser, "#rehearsed"), text_of(browser, "#rehearsed"))
+    try_witnesses(browser, tally)
+    try_guard(browser, tally)
     begin(browser, TWO_BANKS, ONE_BANK, "0 42 EOP\n3 42 EOP\n", node=NODE)
     tally.note("a packet at a port that the node does not have is marked", browser.run("return [...document.querySelectorAll('#packets li.bad')].map((e) => e.textContent)") == ["2"], text_of(browser, "#said-lines"))
     begin(browser, TWO_BANKS, ONE_BANK, node="address = 300\n")
-    tally.note("a fault of the node's file is at its editor", "wanted 0 to 255" in text_of(browser, "#said-node") and "fault" in text_of(browser, "#loaders"), text_of(browser, "#said-node"))
+    tally.note("a fault of the node's file is at its editor", "wanted 32 to 254" in text_of(browser, "#said-node") and "fault" in text_of(browser, "#loaders"), text_of(browser, "#said-node"))
     drop(browser, "#node", {"camera.toml": NODE})
     drop(browser, "header", {"old.policy": ONE_BANK + "read 20 * 00 00000000 0000FFFF - 0\n"})
     tally.note("a file of an editor's name goes there wherever it is dropped", "0000FFFF" in browser.run("return $('old').value"))
-    browser.run("files.delete('science.bin')")
+    drop(browser, "#node", {"science.bin": "What was seen in flight"})
     choose_first(browser)
+    tally.note("a file that was put beside is of that review only", browser.run("return !files.has('science.bin') && puts.size === 0"))
+
+
+def try_witnesses(browser: Browser, tally: Tally) -> None:
+    """The packet of each difference is for the node of the file, and is judged otherwise there."""
+    found = browser.run("return shown.differences.map((d) => [picture.wordsOf(d), packetOf(d), d.packet])")
+    second = [(own, packet) for words, own, packet in found if words.endswith(" 42 01 80000000-8003FFFF")]
+    tally.note("a difference in the second bank has a packet for it", len(second) > 0 and all(re.match(r"0 42014C..42000001800000000000", own) and own.endswith(" EOP") for own, _ in second), str(found))
+    tally.note("compare has none for it", all(packet.endswith("unasked") for _, packet in second), str(found))
+    begin(browser, TWO_BANKS, ONE_BANK, "".join(f"{own}\n" for _, own, _ in found if own), node=NODE)
+    rows = rows_of(browser)
+    tally.note(f"none of {len(rows)} packets of differences is answered 10: no place", len(rows) == sum(own is not None for _, own, _ in found) > 1 and not any("no place" in row[3] for row in rows), str(rows))
+    browser.click("#differences .witness")
+    settled(browser)
+    tally.note("a click asks the packet at that node", browser.run("return $('lines').value.trimEnd().split('\\n').pop()").startswith("0 4201"))
+    begin(browser, ".version 2\nread * * 01 80000000 8000000F 0:0:3 0\nrmw * * 02 00000000 FFFFFFFF - 0\nread * * 00 A0000000 A0000FFF - 0 port 9\n", ".version 2\nread * * 01 80000000 8000000F 0:0:2 0\n", node=NODE + "[[map]]\ncells = 1\n")
+    found = browser.run("return shown.differences.map((d) => [picture.wordsOf(d), packetOf(d), d.none])")
+    tally.note("how often a packet must come for the second bank", any(words.startswith("read * * 01") and (own or "").endswith("EOP times 3") for words, own, _ in found), str(found))
+    said = browser.run("return [...document.querySelectorAll('#differences li p.small')].map((e) => e.textContent)")
+    tally.note("a difference that the node cannot show says why", any("the extended address 02 is of no bank" in text for text in said) and any("the node has none of its ports" in text for text in said), str(said))
+
+
+GUARD = "any 20 67 FF 00000000 FFFFFFFF - 0\n"
+
+
+def try_guard(browser: Browser, tally: Tally) -> None:
+    """A node's file that publishes a program of its own in slot 3."""
+    node = NODE.replace('contents = "science.bin"\n', "") + '[[publish]]\nslot = 3\nimage = "guard.img"\n'
+    begin(browser, TWO_BANKS, ONE_BANK, node=node)
+    answers = browser.run("return [...document.querySelectorAll('#loaders .answer')].map((e) => e.textContent)")
+    tally.note("a program in slot 3 that was not given is named", len(answers) == 3 and "guard.img" in answers[0] and "not given" in answers[0] and "guard.img" in text_of(browser, "#rehearsed"), str(answers))
+    browser.later("perform(['policy', 'guard', 'guard.img'], [['guard', encoder.encode(arguments[0])]]).then((d) => { files.set('guard.img', d.written[0][1]); done(1); })", GUARD)
+    begin(browser, TWO_BANKS, ONE_BANK, node=node)
+    answers = browser.run("return [...document.querySelectorAll('#loaders .answer')].map((e) => [e.className, e.textContent])")
+    tally.note("who can load is said of the program in slot 3 first", len(answers) == 3 and answers[0][1] == "Until slot 3 is loaded, guard.img of the node's file judges there: initiator 67 with key 20 at ports 0 to 1 can load."
+               and answers[1][1].startswith("Once new.policy is in slot 3"), str(answers))
+    tally.note("which slots new.policy does not judge", "publishes guard.img in slot 3: new.policy does not judge the boot window" in text_of(browser, "#said-node"), text_of(browser, "#said-node"))
+    tally.note("the load is judged by it", "NEW is locked out" in text_of(browser, "#rehearsed"), text_of(browser, "#rehearsed"))
+    browser.run("files.delete('guard.img')")
 
 
 # ---- who can load
@@ -112,9 +154,11 @@ def try_loads(browser: Browser, tally: Tally) -> None:
                text_of(browser, "#loaders .answer") + text_of(browser, "#loaders-text"))
     for when, name in (("", "yes"), (" until quotas are spent", "warn"), (" only after quotas are spent", "warn")):
         answer = browser.run("return answerOf({ text: arguments[0], told: '' }, true)", f"loads by port 0-31 initiator 67 key *{when}\n")
-        tally.note(f"the answer \"{when.strip() or 'both loads'}\"", answer["name"] == name and answer["words"] == f"initiator 67 with each key that no rule names at ports 0 to 31 can load{when}.", str(answer))
+        tally.note(f"the answer \"{when.strip() or 'both loads'}\"", answer["name"] == name and answer["words"] == f"initiator 67 with any key at ports 0 to 31 can load{when}.", str(answer))
     both = browser.run("return answerOf({ text: arguments[0], told: '' }, true)", "loads by port 2-2 initiator 67 key 77\nloads by port 0-1 initiator 42 key 77 until quotas are spent\n")
     tally.note("two answers in one sentence", both["words"] == "initiator 67 with key 77 at port 2 can load. Also initiator 42 with key 77 at ports 0 to 1 can load until quotas are spent.", str(both))
+    named = browser.run("return answerOf({ text: arguments[0], told: '' }, true, arguments[1])", "loads by port 0-31 initiator * key *\n", "any * * FF 00000000 FFFFFFFF - 0\nread 20 * 00 00000000 FFFFFFFF - 0\n")
+    tally.note("who is any, and who is not named", named["words"] == "any initiator with each key that no rule names at ports 0 to 31 can load.", str(named))
     begin(browser, "wrong\n", "any * 67 FF 00000000 FFFFFFFF - 0\n")
     tally.note("of a table with a fault it is not known", "new.policy has a fault" in text_of(browser, "#loaders"), text_of(browser, "#loaders"))
     choose_first(browser)
@@ -331,7 +375,7 @@ def try_paper(browser: Browser, tally: Tally) -> None:
     for name, width, height in (("A4", 21.0, 29.7), ("letter", 21.59, 27.94)):
         path = folder / f"{name}.pdf"
         browser.printed(path, width, height)
-        text = subprocess.run(["pdftotext", "-raw", path, "-"], capture_output=True, text=True, check=True).stdout
+        text = unicodedata.normalize("NFKC", subprocess.run(["pdftotext", "-raw", path, "-"], capture_output=True, text=True, check=True).stdout)
         count_paper(browser, tally, name, text)
     browser.run("$('fold').value = ''; drawMap()")
     sums = browser.run("return fileRows()")
@@ -352,7 +396,8 @@ def count_paper(browser: Browser, tally: Tally, name: str, text: str) -> None:
     """What is on paper, each once."""
     pages = text.count("\f")
     feet = [int(number) for number in re.findall(rf"^\f?(\d+) of {pages}$", text, re.MULTILINE)]
-    tally.note(f"{name}: {pages} pages for 20 rules, each with its number", feet == list(range(1, pages + 1)), f"{feet}")
+    wanted = list(range(1, pages + 1)) if browser.NUMBERS_PAGES else []
+    tally.note(f"{name}: {pages} pages for 20 rules, each with its number" + ("" if browser.NUMBERS_PAGES else " by the browser's own head"), feet == wanted and pages <= 10, f"{feet}")
     clean = re.sub(rf"^\f?\d+ of {pages}\n", "", text, flags=re.MULTILINE)
     new, old = browser.run("return [$('new').value, $('old').value]")
     for which, table, end in (("new", new, "old.policy"), ("old", old, "What is said of them|Where it differs")):
@@ -418,7 +463,7 @@ def try_steps(browser: Browser, tally: Tally, folder: Path | None = None) -> Non
         if folder:
             browser.run("window.scrollTo(0, 0)")
             browser.picture(folder / f"page_step_{number}.png")
-    tally.note("what changed is there", count_of(browser, "#differences .group") > 2, str(count_of(browser, "#differences .group")))
+    tally.note("what changed is there", count_of(browser, "#differences .group") == 2, str(count_of(browser, "#differences .group")))
     tally.note("who can load is there", count_of(browser, "#loaders .answer") == 2, text_of(browser, "#loaders"))
     tally.note("the page was printed", browser.run("return printed_") == 1)
     browser.run("document.activeElement.blur(); window.scrollTo(0, 0); document.querySelector('.skip').focus()")

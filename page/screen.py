@@ -33,7 +33,8 @@ def settled(browser: Browser) -> int:
     """Waits until the page has drawn what its texts ask for, and answers how many milliseconds that took."""
     took = browser.later("""const since = performance.now(), most = arguments[0]; let still = 0;
       (function look() { still = globalThis.TIMES && isStill() ? still + 1 : 0;
-        const now = performance.now(); if (still > 6 || now - since > most) done(Math.round(now - since)); else setTimeout(look, 50); })();""", LONGEST)
+        const now = performance.now(); if (still > 6 || now - since > most) requestAnimationFrame(() => requestAnimationFrame(() => setTimeout(() => done(Math.round(now - since)), 0)));
+        else setTimeout(look, 50); })();""", LONGEST)
     if took > LONGEST:
         raise Differs("the page stands still")
     return took

@@ -1,5 +1,10 @@
 // What the words of the page mean, a line for each, and what the page does not cover.
 const WORDS = {
+  tables: [
+    ['slots of new.img', 'How many instructions the program has that the table becomes. A program has at most 512.'],
+    ['QUOTA', 'M:C:L: a ticket of cell C of map M must be below L; - is no quota.'],
+    ['VERDICT', '0: the command is authorised. 3: invalid key. 10: not authorised. 12: invalid logical address.'],
+  ],
   loads: [
     ['slots', 'The target has four places for a program, 0 to 3. That of slot 3 judges the loads.'],
     ['maps', 'The counters of the node. --maps 5,1p says two maps: one of 5 cells, and one of 1 cell that keeps the greatest number.'],
@@ -24,7 +29,7 @@ const WORDS = {
     ['-', 'The new table does not let a command pass that the old one did. It is hatched.'],
     ['~', 'The same commands pass. The refusal, or the tickets that are drawn, are others. The frame is dotted.'],
     ['times 3', 'The packet is judged otherwise only when it comes for the third time.'],
-    ['unasked', 'No table is asked: a check of the header answers this packet on the node of one bank.'],
+    ['unasked', 'No table is asked: a check of the header answers this packet on the node of one bank. With a node\'s file the packets are for that node.'],
     ['draws', 'No number of these packets alone shows it: only the tickets that are drawn are others.'],
   ],
   packets: [
