@@ -1,0 +1,6 @@
+mod BankLimits
+mod Beginnings
+mod Loads
+mod Meeting
+mod RangeLists
+mod TrialLists

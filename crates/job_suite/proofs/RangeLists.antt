@@ -1,0 +1,34 @@
+-- The ranges that a list writes.
+use Rattle.std.proofs.Common.{arith, ◌≡◌, ◌≤◌, ◌<◌, ◌++◌, ◌∷◌, ℕ, List, [], All, length, get_or, sym, subst}
+use Rattle.std.proofs.lemmas.List.Elements.{All-get_or}
+use Rattle.std.specs.List.{after_first, before_first}
+use Rattle.job_packets.specs.HexWords.{WritesHex}
+use Rattle.job_suite.specs.Ranges.{IsRange, WriteRanges, WritesRange, is_colon, is_dash}
+use Rattle.job_suite.specs.declared.ranges.Range.{Range}
+
+-- a part of which a word writes no number, or in which LOW is above HIGH, writes no range
+pub no_extended : (part : List ℕ) → ((n : ℕ) → ¬ WritesHex 2 (before_first is_colon part) n) → ¬ IsRange part
+no_extended part none = λ is. none is.extended.0 is.extended.1
+
+pub no_low : (part : List ℕ) → ((n : ℕ) → ¬ WritesHex 8 (before_first is_dash (after_first is_colon part)) n) → ¬ IsRange part
+no_low part none = λ is. none is.low.0 is.low.1
+
+pub no_high : (part : List ℕ) → ((n : ℕ) → ¬ WritesHex 8 (after_first is_dash (after_first is_colon part)) n) → ¬ IsRange part
+no_high part none = λ is. none is.high.0 is.high.1
+
+pub no_order : (part : List ℕ) (low high : ℕ) → WritesHex 8 (before_first is_dash (after_first is_colon part)) low
+    → WritesHex 8 (after_first is_dash (after_first is_colon part)) high → high < low → ¬ IsRange part
+no_order part low high first last below = λ is. let order = is.ordered low high first last in omega arith
+
+-- one more part, and its range
+pub one_more_range : (parts : List (List ℕ)) (part : List ℕ) (ranges : List Range) (range : Range) → WriteRanges parts ranges
+    → WritesRange part range → WriteRanges (parts ++ part ∷ []) (ranges ++ range ∷ [])
+one_more_range [] part [] range before one = (one, tt)
+one_more_range [] part (r ∷ ranges) range before one = absurd before
+one_more_range (p ∷ parts) part [] range before one = absurd before
+one_more_range (p ∷ parts) part (r ∷ ranges) range before one = (before.0, one_more_range parts part ranges range before.1 one)
+
+-- a list with a part that writes no range
+pub no_list : (parts : List (List ℕ)) (place : ℕ) (part : List ℕ) → place < length parts → part ≡ get_or parts place part
+    → ¬ IsRange part → ¬ All (λ p. IsRange p) parts
+no_list parts place part inside is none = λ all. none (subst (λ p. IsRange p) (sym is) (All-get_or (λ p. IsRange p) parts place part inside all))
