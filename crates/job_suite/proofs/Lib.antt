@@ -1,6 +1,5 @@
 mod BankLimits
 mod Beginnings
-mod Loads
 mod Meeting
 mod RangeLists
 mod TrialLists

@@ -6,7 +6,6 @@ use Rattle.machine.specs.Sizes.{listed_maps}
 use Rattle.node_parts.specs.Nodes.{windows_of}
 use Rattle.job_config.specs.OwnNodes.{OwnNodeValue, plain_node}
 use Rattle.job_config.specs.Reads.{ReadsNoNode, ReadsNode}
-use Rattle.job_nodes.specs.Sources.{IsFileUnmade}
 use Rattle.job_parts.specs.Factory.{factory}
 use Rattle.job_parts.specs.Files.{Reads}
 use Rattle.job_parts.specs.declared.faults.Fault.{Fault}
@@ -43,11 +42,10 @@ module _ {S : Type 0} (reads : Reads S) where
   HoldsNode None before own first after = IsPlain own first × (after ≡ before)
   HoldsNode (Some name) before own first after = ReadsNode reads name before own first after
 
-  -- there is no such node: the file says none, or a load of it is not carried out
+  -- there is no such node: memory was refused, or the file says none
   abbrev pub HoldsNoNode : Option (List ℕ) → (before after : S) → Fault → Type 0
   HoldsNoNode None before after fault = (fault ≡ NoMemory) × (after ≡ before)
-  HoldsNoNode (Some name) before after fault =
-      ReadsNoNode reads name before fault after ⊎ IsFileUnmade reads name before after fault
+  HoldsNoNode (Some name) before after fault = ReadsNoNode reads name before fault after
 
   -- the table was read, if one is named, and then the node
   pub record HoldsAll (words : SuiteWords) (before : S) (table : Option (List ℕ)) (own : OwnNodeValue) (first : AcceptedValue)

@@ -1,102 +1,50 @@
 //! The programs that judge at a node before its first packet, and their verdicts on cells that nobody asked.
 
-ghost use Rattle.std.specs.Prelude.{◌≡◌, ◌<◌, IfOk, map};
-ghost use Rattle.bpf.specs.Program.{image_bytes};
+ghost use Rattle.std.specs.Prelude.{◌≡◌, IfOk};
 ghost use Rattle.node_parts.specs.Slots.{slot_of};
 ghost use Rattle.rmap.specs.Command.{command_kind};
-ghost use Rattle.job_suite.specs.Judges.{AreJudges, HasAnswered, judge_among, judge_behind, judge_of, load_of};
+ghost use Rattle.job_suite.specs.Judges.{AreJudges, HasAnswered, judge_among, judge_behind, judge_of};
 
-use bpf::Image;
 use brun::run;
-use bver::{Accepted, verify};
-use job_config::own_node::{OwnLoad, OwnNode};
-use machine::{MapSizes, STACK_SIZE};
+use bver::Accepted;
+use job_config::own_node::OwnNode;
+use machine::STACK_SIZE;
 use node_parts::slot;
 use plain_cells::PlainCells;
 use rmap::{Command, Place};
 use std::alloc::{AllocError, Global};
 
-/// A program that a node's file loads, and its slot.
-#[derive(Debug, Drop)]
-pub struct Loaded {
-    /// The slot.
-    pub slot: u8,
-    /// The program.
-    pub program: Accepted,
-}
-
-/// The program that judges in all slots at first, and those that are loaded before the first packet, in this order.
+/// The program that judges in all slots at first, and the node for which others are published before the first packet.
 #[derive(Debug, Drop)]
 pub struct Judges {
     /// The first.
     pub first: Accepted,
-    /// Those that are loaded.
-    pub loaded: Vec<Loaded>,
+    /// The node.
+    pub own: OwnNode,
 }
 
-/// The image that bytes spell. Memory alone can be refused to it: the node was made, and so each load was carried out.
-fn image_of(alloc: Global, bytes: &[u8]) -> Result<Image, AllocError>
-    ensures { IfOk result (λ image. image_bytes image ≡ bytes.now) }
+/// The program of a slot after a publish, if that one judged before it.
+fn judge_behind<'b>(judge: &'b Accepted, publish: &'b (u8, Accepted), slot: u8) -> &'b Accepted
+    ensures { result.now ≡ judge_behind judge.now publish.now slot }
 {
-    match Image::read(alloc, bytes) {
-        Ok(image) => Ok(image),
-        Err(_) => Err(AllocError),
-    }
-}
-
-/// The program that bytes spell, for a node with these maps. Memory alone can be refused to it, too.
-fn program_of(alloc: Global, bytes: &[u8], sizes: &MapSizes) -> Result<Accepted, AllocError>
-    ensures { IfOk result (λ program. image_bytes program.program ≡ bytes.now) }
-{
-    let image = image_of(alloc, bytes)?;
-    match verify(alloc, image, sizes) {
-        Ok(program) => Ok(program),
-        Err(_) => Err(AllocError),
-    }
-}
-
-/// The program of a load, for a node with the maps of this program.
-#[tactic(auto, using(crate::proofs::Loads::load_is))]
-fn load_in(alloc: Global, first: &Accepted, load: &OwnLoad) -> Result<Loaded, AllocError>
-    ensures { IfOk result (λ loaded. load_of loaded ≡ load.now) }
-{
-    let program = program_of(alloc, load.image(), &first.sizes())?;
-    Ok(Loaded {
-        slot: load.slot(),
-        program,
-    })
-}
-
-/// The programs of loads.
-fn all_loaded(alloc: Global, first: &Accepted, loads: &[OwnLoad]) -> Result<Vec<Loaded>, AllocError>
-    ensures { IfOk result (λ all. map load_of all.items ≡ loads.now) }
-{
-    let mut all = Vec::new(alloc);
-    for load in loads {
-        let own = load_in(alloc, first, load)?;
-        all.push(own)?;
-    }
-    Ok(all)
-}
-
-/// The program of a slot behind a load, where that one judged before it.
-fn judge_behind<'b>(judge: &'b Accepted, load: &'b Loaded, slot: u8) -> &'b Accepted
-    ensures { result.now ≡ judge_behind judge.now load.now slot }
-{
-    if load.slot == slot {
-        &load.program
+    if publish.0 == slot {
+        &publish.1
     } else {
         judge
     }
 }
 
-/// The program of a slot, where these were loaded in turn, and that one judged before them.
-fn judge_among<'b>(first: &'b Accepted, loaded: &'b [Loaded], slot: u8) -> &'b Accepted
-    ensures { result.now ≡ judge_among first.now loaded.now slot }
+/// The program of a slot, if these were published in turn, and that one judged before them.
+fn judge_among<'b>(
+    first: &'b Accepted,
+    publishes: &'b [(u8, Accepted)],
+    slot: u8,
+) -> &'b Accepted
+    ensures { result.now ≡ judge_among first.now publishes.now slot }
 {
     let mut judge = first;
-    for load in loaded {
-        judge = judge_behind(judge, load, slot);
+    for publish in publishes {
+        judge = judge_behind(judge, publish, slot);
     }
     judge
 }
@@ -115,18 +63,17 @@ fn verdict_on(alloc: Global, judge: &Accepted, command: &Command) -> Result<u64,
 
 impl Judges {
     /// The programs of a node, in all slots of which this one judges at first.
-    pub fn of(alloc: Global, own: &OwnNode, first: Accepted) -> Result<Judges, AllocError>
-        ensures { IfOk result (AreJudges own.now first) }
+    pub fn of(own: OwnNode, first: Accepted) -> Judges
+        ensures { AreJudges own first result }
     {
-        let loaded = all_loaded(alloc, &first, own.loads())?;
-        Ok(Judges { first, loaded })
+        Judges { first, own }
     }
 
     /// The program of a slot.
     pub fn judge(&self, slot: u8) -> &Accepted
         ensures { result.now ≡ judge_of self.now slot }
     {
-        judge_among(&self.first, self.loaded.as_slice(), slot)
+        judge_among(&self.first, self.own.publishes(), slot)
     }
 
     /// The verdict on a command that has this place, at port 0, on cells that nobody asked.

@@ -1,8 +1,6 @@
 //! What the job `suite` does.
 
 ghost use Rattle.std.specs.Prelude.{◌≡◌, ◌++◌, IfErr, IfOk, OnOk, Some, false, option_map, string_bytes};
-ghost use Rattle.job_config.specs.Reads.{ReadsNode};
-ghost use Rattle.job_nodes.specs.Making.{IsUnmade};
 ghost use Rattle.job_parts.specs.Statuses.{IsDoneWith};
 ghost use Rattle.job_parts.specs.Stops.{StopsBy};
 ghost use Rattle.node_parts.specs.Nodes.{windows_of};
@@ -29,9 +27,6 @@ use crate::words::{SuiteWords, TableWord};
 use bver::Accepted;
 use job_config::own_node::OwnNode;
 use job_config::reading::{ReadNode, node_in};
-use job_nodes::making::Unmade;
-use job_nodes::node::JobNode;
-use job_nodes::sources::unmade;
 use job_parts::factory::factory_program;
 use job_parts::faults::Fault;
 use job_parts::options::no_maps;
@@ -39,7 +34,6 @@ use job_parts::printing::print_text;
 use job_parts::status::Status;
 use job_parts::stops::Halt;
 use job_parts::storage::Files;
-use machine::MapSizes;
 use node_parts::NodeConfig;
 use rmap::Windows;
 use spw::End;
@@ -56,33 +50,6 @@ fn plain_node(alloc: Global) -> Result<ReadNode, AllocError>
     Ok(ReadNode { node, program })
 }
 
-/// The node of the node's file of this name, where each of its loads is carried out.
-fn file_node<'a, F: Files>(
-    alloc: Global,
-    name: &'a str,
-    files: &mut F,
-) -> Result<ReadNode, Fault<'a>>
-    ensures held { IfOk result (λ made.
-        ReadsNode F.reads name.now files.old made.node made.program files.new) }
-    ensures none { IfErr result (HoldsNoNode F.reads (Some name.now) files.old files.new) }
-{
-    let read = node_in(alloc, files, name)?;
-    match loaded_node(alloc, &read) {
-        Ok(()) => Ok(read),
-        Err(why) => Err(unmade(alloc, name, why)),
-    }
-}
-
-/// Whether a node can be made, or why not.
-fn loaded_node(alloc: Global, read: &ReadNode) -> Result<(), Unmade>
-    requires { read.now.program.sizes ≡ read.now.node.sizes }
-    ensures { IfErr result (IsUnmade read.now.node read.now.program) }
-{
-    let program = read.program.copy()?;
-    JobNode::of(alloc, &read.node, program)?;
-    Ok(())
-}
-
 /// The node of these words, and the program that judges in all slots at first.
 fn node_of<'a, F: Files>(
     alloc: Global,
@@ -95,7 +62,7 @@ fn node_of<'a, F: Files>(
         files.old files.new) }
 {
     match &words.node {
-        Some(name) => file_node(alloc, name.as_str(), files),
+        Some(name) => node_in(alloc, files, name.as_str()),
         None => Ok(plain_node(alloc)?),
     }
 }
@@ -171,10 +138,10 @@ fn first_area(own: &OwnNode) -> Area {
 fn drafts_of(
     alloc: Global,
     words: &SuiteWords,
-    own: &OwnNode,
     bench: &Bench,
     chart: &Option<Chart>,
 ) -> Result<(Vec<Draft>, Findings), AllocError> {
+    let own = &bench.judges.own;
     let mut maker = Maker::new(alloc, own.address(), words.seed);
     let area = first_area(own);
     let findings = findings_of(alloc, bench, &maker, own, chart)?;
@@ -303,15 +270,15 @@ fn windows_of(own: &OwnNode) -> Windows
 fn bench_of(
     alloc: Global,
     words: &SuiteWords,
-    own: &OwnNode,
+    own: OwnNode,
     first: Accepted,
 ) -> Result<Bench, AllocError>
-    ensures { IfOk result (IsBench words.now own.now first) }
+    ensures { IfOk result (IsBench words.now own first) }
 {
     let ranges = Vec::from_slice(alloc, words.within.as_slice())?;
     Ok(Bench {
-        windows: windows_of(own),
-        judges: Judges::of(alloc, own, first)?,
+        windows: windows_of(&own),
+        judges: Judges::of(own, first),
         ranges,
         loads: words.loads,
     })
@@ -342,31 +309,29 @@ fn text_of(
 fn trials_of(
     alloc: Global,
     words: &SuiteWords,
-    own: &OwnNode,
     bench: &Bench,
     chart: &Option<Chart>,
 ) -> Result<(Vec<Trial>, Findings), AllocError>
     ensures { IfOk result (λ made. AreTrials bench.now made.0.items) }
 {
-    let (drafts, findings) = drafts_of(alloc, words, own, bench, chart)?;
+    let (drafts, findings) = drafts_of(alloc, words, bench, chart)?;
     let drafts = wanted_drafts(alloc, words, drafts)?;
     let askers = findings.askers(alloc)?;
     let trials = bench.trials(alloc, drafts.as_slice(), askers.as_slice())?;
     Ok((trials, findings))
 }
 
-/// The text of a suite for that node.
+/// The text of a suite.
 fn suite_text(
     alloc: Global,
     words: &SuiteWords,
-    own: &OwnNode,
     bench: &Bench,
     chart: &Option<Chart>,
 ) -> Result<String, AllocError>
     ensures { IfOk result (IsText words.now bench.now) }
 {
-    let (trials, findings) = trials_of(alloc, words, own, bench, chart)?;
-    let address = own.address();
+    let (trials, findings) = trials_of(alloc, words, bench, chart)?;
+    let address = bench.judges.own.address();
     text_of(alloc, words, address, trials.as_slice(), &findings)
 }
 
@@ -375,18 +340,17 @@ fn chart_of<'a>(
     alloc: Global,
     table: &Option<TableWord>,
     text: &Option<String>,
-    bench: &Bench,
-    sizes: &MapSizes,
+    judges: &Judges,
 ) -> Result<Option<Chart>, Fault<'a>>
-    ensures ok { IfOk result (λ _. AreTableOf bench.now.judges sizes.now table.now
+    ensures ok { IfOk result (λ _. AreTableOf judges.now judges.now.own.sizes table.now
         (option_map string_bytes text.now)) }
-    ensures err { IfErr result (IsNoChart bench.now.judges sizes.now table.now
+    ensures err { IfErr result (IsNoChart judges.now judges.now.own.sizes table.now
         (option_map string_bytes text.now)) }
 {
     match (table, text) {
         (Some(table), Some(text)) => {
             let slots = table.slots.as_slice();
-            let policy = table_of(alloc, text.as_str(), slots, &bench.judges, sizes)?;
+            let policy = table_of(alloc, text.as_str(), slots, judges, &judges.own.sizes())?;
             Ok(Some(Chart::of(alloc, &policy, slots)?))
         }
         (None, _) | (Some(_), None) => Ok(None),
@@ -395,8 +359,7 @@ fn chart_of<'a>(
 
 /// Prints the packet lines of a suite, or its index.
 ///
-/// Faults are those of the table's file, of the node's file, also where a load of it was not carried out, and of the table; then
-/// `NoMemory`.
+/// Faults are those of the table's file, of the node's file, and of the table; then `NoMemory`.
 pub fn suite_file<'a, F: Files, W: Write>(
     alloc: Global,
     words: &'a SuiteWords,
@@ -410,9 +373,9 @@ pub fn suite_file<'a, F: Files, W: Write>(
 {
     let table = asked_text(alloc, files, words.table_name())?;
     let ReadNode { node, program } = node_of(alloc, words, files)?;
-    let bench = bench_of(alloc, words, &node, program)?;
-    let chart = chart_of(alloc, &words.table, &table, &bench, &node.sizes())?;
-    let text = suite_text(alloc, words, &node, &bench, &chart)?;
+    let bench = bench_of(alloc, words, node, program)?;
+    let chart = chart_of(alloc, &words.table, &table, &bench.judges)?;
+    let text = suite_text(alloc, words, &bench, &chart)?;
     print_text(out, text.as_str())?;
     Ok(Status::Done)
 }

@@ -22,8 +22,7 @@ held (Some name) before own first after holds = some_read before after holds.onl
 unheld : (node : Option (List ℕ)) (before after : FolderValue) (fault : Fault) → HoldsNoNode FolderReads node before after fault
     → after ≡ before
 unheld None before after fault none = none.1
-unheld (Some name) before after fault (inl none) = no_node name before after fault none
-unheld (Some name) before after fault (inr unmade) = some_read before after unmade.read.only_reads
+unheld (Some name) before after fault none = no_node name before after fault none
 
 -- the table was read, if one is named
 asked : (name : Option (List ℕ)) (before : FolderValue) (text : Option (List ℕ)) (after : FolderValue)
