@@ -87,7 +87,7 @@ module _ {T : Type 0} (came : Comes T) (sent unsent : Sends T) (missed : Misses 
     pub ended : BreaksShow start broken (Ended fault)
     pub lost : unsent broken (fault_line fault) stop ⊎ (stop ≡ broken)
 
-  -- the exit status is 0 where all lines were told, and 1 where a fault ended it
+  -- the exit status is 0 if all lines were printed, and 1 if a fault ended it
   abbrev pub ShowsTalk : (start stop : T) → Status → Type 0
   ShowsTalk start stop Done = IsShown came sent start stop
   ShowsTalk start stop Failed = TellsLast start stop

@@ -148,7 +148,8 @@ impl<'a> Faults<'a> {
         let most = u32::from(left);
         let cells = self.note(number_at(table, place, NumberKey::Cells, 1, most))?;
         self.note(kind_of(table, place))?;
-        Ok(left.saturating_sub(cells.unwrap_or(0) as u16))
+        let taken = u16::try_from(cells.unwrap_or(0)).unwrap_or(left);
+        Ok(left.saturating_sub(taken))
     }
 
     /// Adds what is wrong with the maps.
@@ -179,6 +180,27 @@ impl<'a> Faults<'a> {
         self.note_maps(table)
     }
 
+    /// Adds what is wrong with the bytes that the bank of that number begins with, by the list of the tables of banks.
+    fn note_own<F: Files>(
+        &mut self,
+        alloc: Global,
+        files: &mut F,
+        list: &[Value],
+        banks: &[BankConfig],
+        number: usize,
+    ) -> Result<(), AllocError>
+        ensures read { SomeRead F.reads files.old files.new }
+    {
+        let (Some(item), Some(bank)) = (list.get(number), banks.get(number)) else {
+            return Ok(());
+        };
+        let kind = Kind::Bank;
+        let place = Place { kind, number };
+        let contents = contents_in(alloc, self.name, files, item, place, bank.size);
+        self.note(contents)?;
+        Ok(())
+    }
+
     /// Adds what is wrong with the bytes that each of these banks begins with, by the list of their tables.
     fn note_contents<F: Files>(
         &mut self,
@@ -189,14 +211,8 @@ impl<'a> Faults<'a> {
     ) -> Result<(), AllocError>
         ensures read { SomeRead F.reads files.old files.new }
     {
-        let kind = Kind::Bank;
         for number in 0..list.len() {
-            if number < banks.len() {
-                let size = banks[number].size;
-                let place = Place { kind, number };
-                let contents = contents_in(alloc, self.name, files, &list[number], place, size);
-                self.note(contents)?;
-            }
+            self.note_own(alloc, files, list, banks, number)?;
         }
         Ok(())
     }
@@ -239,6 +255,53 @@ impl<'a> Faults<'a> {
         Ok(())
     }
 
+    /// Adds what is wrong with the bytes that the banks of a table begin with.
+    fn note_all_contents<F: Files>(
+        &mut self,
+        alloc: Global,
+        files: &mut F,
+        table: &Table,
+        banks: &[BankConfig],
+    ) -> Result<(), AllocError>
+        ensures read { SomeRead F.reads files.old files.new }
+    {
+        let Some(Some(list)) = self.note(list_at(table, Kind::Bank))? else {
+            return Ok(());
+        };
+        self.note_contents(alloc, files, list, banks)
+    }
+
+    /// Adds what is wrong with the program that a table names.
+    fn note_program<F: Files>(
+        &mut self,
+        alloc: Global,
+        files: &mut F,
+        table: &Table,
+        sizes: MapSizes,
+    ) -> Result<(), AllocError>
+        ensures read { SomeRead F.reads files.old files.new }
+    {
+        let program = first_program(alloc, self.name, files, table, sizes);
+        self.note(program)?;
+        Ok(())
+    }
+
+    /// Adds what is wrong with the publishes of a table.
+    fn note_all_publishes<F: Files>(
+        &mut self,
+        alloc: Global,
+        files: &mut F,
+        table: &Table,
+        sizes: MapSizes,
+    ) -> Result<(), AllocError>
+        ensures read { SomeRead F.reads files.old files.new }
+    {
+        let Some(Some(list)) = self.note(list_at(table, Kind::Publish))? else {
+            return Ok(());
+        };
+        self.note_publishes(alloc, files, list, sizes)
+    }
+
     /// Adds what is wrong with the files that a table of that configuration names: the contents of banks, the program and the
     /// publishes.
     fn note_files<F: Files>(
@@ -251,15 +314,9 @@ impl<'a> Faults<'a> {
         ensures read { SomeRead F.reads files.old files.new }
     {
         let sizes = configuration.sizes;
-        if let Some(Some(list)) = self.note(list_at(table, Kind::Bank))? {
-            self.note_contents(alloc, files, list, configuration.banks.as_slice())?;
-        }
-        let program = first_program(alloc, self.name, files, table, sizes);
-        self.note(program)?;
-        if let Some(Some(list)) = self.note(list_at(table, Kind::Publish))? {
-            self.note_publishes(alloc, files, list, sizes)?;
-        }
-        Ok(())
+        self.note_all_contents(alloc, files, table, configuration.banks.as_slice())?;
+        self.note_program(alloc, files, table, sizes)?;
+        self.note_all_publishes(alloc, files, table, sizes)
     }
 
     /// Adds what is wrong with the files that a table names, whose numbers have no fault.

@@ -3,7 +3,7 @@
 ghost use Rattle.std.specs.Prelude.{◌≡◌, ◌++◌, IfErr, IfOk, OnOk, Some, length, option_map, string_bytes};
 ghost use Rattle.std.specs.List.{flat_map};
 ghost use Rattle.job_config.specs.Reads.{Ends};
-ghost use Rattle.job_node_file.specs.Quotas.{AreAsked, AreNotAsked, AreQuotas, IsNoQuotas, IsTableFault, ReadsAsked, ReadsNotAsked, c_asked, c_quotas, header_end, is_flown, is_published, lines_asked, quota_line, quota_list, quota_row, quota_rows, quotas_head, quotas_in};
+ghost use Rattle.job_node_file.specs.Quotas.{AreAsked, AreNotAsked, AreQuotas, IsNoQuotas, IsTableFault, ReadsAsked, ReadsNotAsked, c_asked, c_quotas, header_end, is_flown, is_image, is_published, lines_asked, quota_line, quota_list, quota_row, quota_rows, quotas_head, quotas_in};
 ghost use Rattle.job_parts.specs.declared.node_codes.NodeCode.TheVariants.{Program as NoImage};
 ghost use Rattle.policy.specs.Compiled.{IsPortCompiled};
 ghost use Rattle.policy_table.specs.Policies.{WritesPolicy};

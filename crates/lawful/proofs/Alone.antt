@@ -309,7 +309,7 @@ fresh_idle laws n s fresh = record {
   staging_is = sym fresh.staging_is;
   known = subst (λ (xs : List Publish). IsKnown n Start xs) (sym fresh.programs) (record {
     shown = λ slot. laws.agrees n Start (fresh.factory ∷ fresh.firsts) slot (fresh.program, fresh.firsts_are);
-    count = (let many = length-map slot_and_program fresh.firsts in let same = ap length fresh.firsts_are in omega (arith, many, same));
+    count = (let many = length-map fresh.firsts slot_and_program in let same = ap length fresh.firsts_are in omega (arith, many, same));
     sizes = fresh.sizes;
   });
   port_is = refl;

@@ -176,7 +176,7 @@ record HasEndedQuietly (n : Node) (whole : List Link) (q : ℕ) (a : Account) (p
   elsewhere : StaysElsewhere n q now behind
 
 quiet_end : Laws → (n : Node) (whole : List Link) (q : ℕ) (a : Account) (pre : List Link) (now : History) (x : IsOpen n whole q a) → q < n.ports → IsOpenNow n whole q a now x → IsCommon n pre now → IsKnown n now x.is.between.programs
-    → 0 < shown_in pre → shown_of pre ≡ x.is.between.programs → length (done_for q pre) ≡ length x.s.asked → length pre ≤ length x.is.reached → PublishesNone x.j x.p x.s x.after x.is
+    → length n.firsts < shown_in pre → shown_of pre ≡ x.is.between.programs → length (done_for q pre) ≡ length x.s.asked → length pre ≤ length x.is.reached → PublishesNone x.j x.p x.s x.after x.is
     → HasEndedQuietly n whole q a pre now x.after x.ps x.ds
 quiet_end laws n whole q a pre now x there here common known some seen acts few quiet =
     let j = x.j in
@@ -206,7 +206,7 @@ quiet_end laws n whole q a pre now x there here common known some seen acts few 
       programs_same = refl;
       last_is = refl;
       few = omega (arith, no_more, made_none);
-      refused = λ place line none. refused_then j s first after staging_same (sizes_longer s.pass.programs is.between.programs (taken_longer j x.p s after is) x.mine.some) (x.full_here.loads place line none);
+      refused = λ place line none. refused_then j s first after staging_same (sizes_longer s.pass.programs is.between.programs (taken_longer j x.p s after is) (let knows = x.mine.some in omega (arith, knows))) (x.full_here.loads place line none);
     } in
     let end = window_thus n q now o j is.between at_end laws.images laws.next j.judged.place refl is.between.port s.asked after.asked first after after.pass it.old it.new it.result j.reply around it.begins it.asks_for it.ended in
     let done = Done end.status j.reply end.loaded in
@@ -293,7 +293,7 @@ judged_next laws n whole q a pre h s after p j ps ds there listed stands front i
         let size = ap length seen in
         let longer = prefix_length s.pass.programs is.between.programs (taken_longer j p s after is) in
         let of_some = idle.mine.some in
-        let some : 0 < shown_in pre = omega (arith, count, size, longer, of_some) in
+        let some : length n.firsts < shown_in pre = omega (arith, count, size, longer, of_some) in
         let known : IsKnown n h is.between.programs = subst (λ (xs : List Publish). IsKnown n h xs) seen (common.known some) in
         let now = tell q j.calls (Then h (Take q p) (Taken j.judged.generation)) in
         let verdict = taken laws.front n q p j h s after there common.lawful idle.here.command idle.mine.windows idle.mine.port_is is known in
@@ -425,9 +425,9 @@ settle_below laws n accounts whole pre h waits listed stands begins common ports
     }
 
 -- all ports did all that they do at this place
-pub all_settled : Laws → (n : Node) (accounts : ℕ → Account) (whole : List Link) (factory : Publish) (pre : List Link) (h : History) (waits : ℕ → Option ℕ) → AreListed whole → IsPrefix pre whole
-    → ((q : ℕ) → q < n.ports → IsPrefix (accounts q).last.front whole) → IsWorld n accounts whole factory false pre h waits → (after : History) × IsWorld n accounts whole factory true pre after waits
-all_settled laws n accounts whole factory pre h waits listed stands begins world =
+pub all_settled : Laws → (n : Node) (accounts : ℕ → Account) (whole : List Link) (firsts : List Publish) (pre : List Link) (h : History) (waits : ℕ → Option ℕ) → AreListed whole → IsPrefix pre whole
+    → ((q : ℕ) → q < n.ports → IsPrefix (accounts q).last.front whole) → IsWorld n accounts whole firsts false pre h waits → (after : History) × IsWorld n accounts whole firsts true pre after waits
+all_settled laws n accounts whole firsts pre h waits listed stands begins world =
     let it = settle_below laws n accounts whole pre h waits listed stands begins world.common world.ports n.ports (omega arith) in (
       it.after,
       record {

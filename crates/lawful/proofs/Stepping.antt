@@ -330,7 +330,7 @@ module _ (laws : Laws) (n : Node) (whole : List Link) (q : ℕ) (a : Account) (p
       let longer = prefix_length is.between.programs old it.begins in
       let knows = prefix_length s.pass.programs is.between.programs (taken_longer j o.p s after is) in
       let of_some = o.mine.some in
-      let some : 0 < shown_in pre = omega (arith, longer, knows, of_some, here_now) in
+      let some : length n.firsts < shown_in pre = omega (arith, longer, knows, of_some, here_now) in
       let known : IsKnown n h old = subst (λ (ps : List Publish). IsKnown n h ps) seen (common.known some) in
       let staging_same : is.between.staging ≡ s.pass.staging = ap (λ (y : PassValue). y.staging) is.judgement.asked in
       let packet = is.judgement.judged_for.packet in
@@ -377,7 +377,7 @@ module _ (laws : Laws) (n : Node) (whole : List Link) (q : ℕ) (a : Account) (p
         common = record {
           lawful = (common.lawful, outcome_here n h e outcome q refl there end.outcome);
           known = λ _. subst (λ (ps : List Publish). IsKnown n next ps) (load.programs ∙ sym seen_now) end.known;
-          fresh = λ nothing. absurd (omega (arith, nothing, more));
+          fresh = λ nothing. absurd (omega (arith, nothing, more, some));
           banks = λ m config is_m. end.banks m ∙ (common.banks m config is_m ∙ sym (entries_same m pre l no_entry));
           nowhere = nowhere_moved n q h next there stays common.nowhere;
         };

@@ -1,8 +1,8 @@
 -- What threads did at fresh ports that they served side by side is a lawful history, but for what cells told: link by link of the list.
-use Rattle.std.proofs.Common.{◌≡◌, ◌==◌, ◌+◌, ◌<◌, ◌≤◌, ◌⊎◌, ℕ, Bool, true, false, cond, List, [], ◌∷◌, ◌++◌, length, Option, Some, None, refl, sym, ap, subst, ◌∙◌, inl, inr, arith, append_assoc, eqb-true}
+use Rattle.std.proofs.Common.{◌≡◌, ◌==◌, ◌+◌, ◌<◌, ◌≤◌, ◌⊎◌, ℕ, Bool, true, false, cond, List, [], ◌∷◌, ◌++◌, length, map, Option, Some, None, refl, sym, ap, subst, ◌∙◌, inl, inr, arith, append_assoc, eqb-true}
 use Rattle.std.proofs.lemmas.Bool.{cases_Bool, cases_lt}
 use Rattle.std.proofs.lemmas.Bool.Decides.{nat_tests}
-use Rattle.std.proofs.lemmas.List.{append-nil, take_all}
+use Rattle.std.proofs.lemmas.List.{append-nil, length-map, take_all}
 use mathlib.Core.List.{IsPrefix}
 use Rattle.spw.specs.Cargo.{Cargo}
 use Rattle.bpf.specs.Program.{Program}
@@ -18,10 +18,11 @@ use Rattle.annals.specs.Publishes.{publishes_chain, publishes_of, with_publish}
 use Rattle.annals.specs.Shown.{shown_in, shown_of, shows}
 use Rattle.ports.specs.Due.{Deed, Standing}
 use Rattle.ports.specs.Due.Deed.{Dropped, Answered as Replied, Judged}
+use Rattle.sched.specs.Agreement.{slot_and_program}
 use Rattle.sched.specs.History.{History, Start, opened}
 use Rattle.sched.specs.Looking.{Node, staging}
 use Rattle.lawful.specs.Happenings.{Happening, HappenBy, happened_at}
-use Rattle.lawful.specs.Together.{Account, AreServedTogether, HaveLawfulHistory, ThreadsAreLawful}
+use Rattle.lawful.specs.Together.{Account, AreServedTogether, HaveLawfulHistory, ThreadsAreLawful, published_first}
 use Rattle.lawful.proofs.Accounts.{from_front, from_publish, load_acted, moment_stands}
 use Rattle.lawful.proofs.Alone.{Laws, worked_front}
 use Rattle.lawful.proofs.Growing.{taken_longer}
@@ -30,8 +31,8 @@ use Rattle.lawful.proofs.Keeping.{StaysElsewhere, elsewhere_same}
 use Rattle.lawful.proofs.Links.{not_same, IsNoneOf, at_place, done_few, done_own, done_prefix, done_same, entries_same, front_of, longer_has, none_asks, none_opens, none_other, none_shows, published_few, published_one, published_same, seen_is, seen_same, shown_one, shown_same, size_more}
 use Rattle.lawful.proofs.Settling.{all_settled}
 use Rattle.lawful.proofs.Stepping.{entry_step, from_entry, idle_not, later_not, port_further, publish_step, show_step, shown_not}
-use Rattle.lawful.proofs.Worlds.{IsBegun, IsCommon, IsIdleBy, IsPort, IsPortAt, IsToEnter, IsToPublish, IsToShow, IsUnbegun, IsWaiting, IsWorld, enter_acted, entry_at, front_open, port_moved, waits_for}
-use Rattle.lemmas.proofs.Prefixes.{prefix_length, prefix_trans}
+use Rattle.lawful.proofs.Worlds.{IsBeginning, IsBegun, IsCommon, IsIdleBy, IsPort, IsPortAt, IsToEnter, IsToPublish, IsToShow, IsUnpublished, IsWaiting, IsWorld, enter_acted, entry_at, front_open, port_moved, waits_for}
+use Rattle.lemmas.proofs.Prefixes.{prefix_length, prefix_same, prefix_trans, prefix_whole}
 
 -- ---- what ports wait for
 
@@ -64,19 +65,68 @@ same_owner q r a b eq = sym (ap deed_owner eq)
 -- ---- one link
 
 -- all ports behind that link
-record HaveStepped (n : Node) (accounts : ℕ → Account) (whole : List Link) (factory : Publish) (pre : List Link) (l : Link) : Type 0 where
+record HaveStepped (n : Node) (accounts : ℕ → Account) (whole : List Link) (firsts : List Publish) (pre : List Link) (l : Link) : Type 0 where
   after : History
   waits : ℕ → Option ℕ
-  world : IsWorld n accounts whole factory false (pre ++ l ∷ []) after waits
+  world : IsWorld n accounts whole firsts false (pre ++ l ∷ []) after waits
+
+-- ---- the programs that the node begins with
+
+-- once as many were published, those come first
+all_begun : (firsts : List Publish) (pre : List Link) → IsBeginning firsts pre ⊎ IsBegun firsts pre → length firsts ≤ length (publishes_of pre) → IsPrefix firsts (publishes_of pre)
+all_begun firsts pre (inl x) many = prefix_same firsts (publishes_of pre) (prefix_whole (publishes_of pre) firsts x.programs many)
+all_begun firsts pre (inr x) many = x.programs
+
+-- and by then the instrument did all that it does
+all_did : (firsts : List Publish) (pre : List Link) → IsBeginning firsts pre ⊎ IsBegun firsts pre → length firsts ≤ length (publishes_of pre) → length (done_for instrument pre) ≡ length firsts
+all_did firsts pre (inl x) many = x.did ∙ ap length (prefix_whole (publishes_of pre) firsts x.programs many)
+all_did firsts pre (inr x) many = x.did
+
+-- what the instrument does next is the publish of the next of those
+record IsNextFirst (firsts : List Publish) (done : List Publish) (x : Due) : Type 0 where
+  next : Publish
+  is : x ≡ published_first next
+  begins : IsPrefix (done ++ next ∷ []) firsts
+
+due_same : (x y : Due) (xs ys : List Due) → x ∷ xs ≡ y ∷ ys → x ≡ y
+due_same x y xs ys same = cc same
+
+dues_same : (x y : Due) (xs ys : List Due) → x ∷ xs ≡ y ∷ ys → xs ≡ ys
+dues_same x y xs ys same = cc same
+
+next_first : (firsts done : List Publish) (dues : List Due) (x : Due) → IsPrefix done firsts → IsPrefix (dues ++ x ∷ []) (map published_first firsts) → length dues ≡ length done → IsNextFirst firsts done x
+next_first [] done dues x begins stands same = absurd (let few = prefix_length (dues ++ x ∷ []) [] stands in let size = size_more dues x in omega (arith, few, size))
+next_first (f ∷ fs) [] [] x begins stands same = record { next = f; is = due_same x (published_first f) stands.0 (map published_first fs) stands.1; begins = (fs, refl) }
+next_first (f ∷ fs) [] (d ∷ dues) x begins stands same = absurd (omega (arith, same))
+next_first (f ∷ fs) (e ∷ done) [] x begins stands same = absurd (omega (arith, same))
+next_first (f ∷ fs) (e ∷ done) (d ∷ dues) x begins stands same =
+    let rest = next_first fs done dues x (begins.0, cc (begins.1)) (stands.0, dues_same d (published_first f) ((dues ++ x ∷ []) ++ stands.0) (map published_first fs) stands.1) (omega (arith, same)) in
+    let head : e ≡ f = cc (begins.1) in
+    record { next = rest.next; is = rest.is; begins = (rest.begins.0, cc (head, rest.begins.1)) }
 
 module _ (laws : Laws) (n : Node) (accounts : ℕ → Account) (whole : List Link) (served : AreServedTogether n accounts whole) where
+  abbrev firsts_all : List Publish
+  firsts_all = served.factory ∷ served.firsts
+
+  -- as many as the node begins with, and the factory program
+  firsts_count : length firsts_all ≡ length n.firsts + 1
+  firsts_count = let many = length-map served.firsts slot_and_program in let same = ap length served.firsts_are in omega (arith, many, same)
+
+  -- of a history that published nothing they are all that is known
+  firsts_known : (h : History) → IsUnpublished n h → IsKnown n h firsts_all
+  firsts_known h fresh = record {
+    shown = λ slot. laws.agrees n Start firsts_all slot (served.program, served.firsts_are) ∙ ap (λ (x : Program × ℕ). Some x) (sym (fresh.programs slot));
+    count = (let many = firsts_count in let count = fresh.count in omega (arith, many, count));
+    sizes = served.sizes;
+  }
+
   begins : (q : ℕ) → q < n.ports → IsPrefix (accounts q).last.front whole
   begins q there = (served.each q there).begins
 
   did : (q : ℕ) → q < n.ports → length (done_for q whole) ≤ length (accounts q).last.asked
   did q there = let same = ap length (served.each q there).did in omega (arith, same)
 
-  module _ (pre : List Link) (l : Link) (stands : IsPrefix (pre ++ l ∷ []) whole) (h : History) (waits : ℕ → Option ℕ) (world : IsWorld n accounts whole served.factory true pre h waits) where
+  module _ (pre : List Link) (l : Link) (stands : IsPrefix (pre ++ l ∷ []) whole) (h : History) (waits : ℕ → Option ℕ) (world : IsWorld n accounts whole firsts_all true pre h waits) where
     few_pre : shown_in pre ≤ length (publishes_of pre)
     few_pre = served.listed pre (front_of pre whole l stands)
 
@@ -103,22 +153,22 @@ module _ (laws : Laws) (n : Node) (accounts : ℕ → Account) (whole : List Lin
           nowhere = world.common.nowhere;
         }
 
-    opening_same : IsNoneOf instrument l.deed → with_publish l.deed [] ≡ [] → IsUnbegun (pre ++ l ∷ []) ⊎ IsBegun served.factory (pre ++ l ∷ [])
+    opening_same : IsNoneOf instrument l.deed → with_publish l.deed [] ≡ [] → IsBeginning firsts_all (pre ++ l ∷ []) ⊎ IsBegun firsts_all (pre ++ l ∷ [])
     opening_same none no_publish =
         let acts = ap length (done_same instrument pre l none) in
         let programs = published_same pre l no_publish in
         elim world.opening [
-          | inl x ↦ inl (record { programs = programs ∙ x.programs; did = acts ∙ x.did })
-          | inr x ↦ inr (record { more = x.more; programs = programs ∙ x.programs; did = acts ∙ x.did })
+          | inl x ↦ inl (record { programs = subst (λ (ps : List Publish). IsPrefix ps firsts_all) (sym programs) x.programs; did = acts ∙ (x.did ∙ sym (ap length programs)) })
+          | inr x ↦ inr (record { programs = subst (λ (ps : List Publish). IsPrefix firsts_all ps) (sym programs) x.programs; did = acts ∙ x.did })
         ]
 
-    pending_same : shows l.deed ≡ 0 → with_publish l.deed [] ≡ [] → (number : ℕ) → shown_in (pre ++ l ∷ []) ≤ number → number < length (publishes_of (pre ++ l ∷ [])) → 0 < number → IsWaiting n waits number
+    pending_same : shows l.deed ≡ 0 → with_publish l.deed [] ≡ [] → (number : ℕ) → shown_in (pre ++ l ∷ []) ≤ number → number < length (publishes_of (pre ++ l ∷ [])) → length n.firsts < number → IsWaiting n waits number
     pending_same quiet no_publish number low high some =
         let same = shown_same pre l quiet in
         let programs = ap length (published_same pre l no_publish) in
         world.pending number (omega (arith, low, same)) (omega (arith, high, programs)) some
 
-    quiet_link : shows l.deed ≡ 0 → with_entry l.deed [] ≡ [] → with_publish l.deed [] ≡ [] → ((r : ℕ) → IsNoneOf r l.deed) → HaveStepped n accounts whole served.factory pre l
+    quiet_link : shows l.deed ≡ 0 → with_entry l.deed [] ≡ [] → with_publish l.deed [] ≡ [] → ((r : ℕ) → IsNoneOf r l.deed) → HaveStepped n accounts whole firsts_all pre l
     quiet_link quiet no_entry no_publish none = record {
       after = h;
       waits = waits;
@@ -147,7 +197,7 @@ module _ (laws : Laws) (n : Node) (accounts : ℕ → Account) (whole : List Lin
       others_on after stays r there_r other =
           port_moved n whole q r (accounts r) false (pre ++ l ∷ []) h after (waits r) stays other (further r there_r (not_theirs r other) (still_unseen does_quiet r))
 
-      entered : IsToEnter n whole q (accounts q) pre h → None ≡ waits q → HaveStepped n accounts whole served.factory pre l
+      entered : IsToEnter n whole q (accounts q) pre h → None ≡ waits q → HaveStepped n accounts whole firsts_all pre l
       entered x none =
           let a = accounts q in
           let done = entry_at n whole q a x.open_at x.entry in
@@ -178,7 +228,7 @@ module _ (laws : Laws) (n : Node) (accounts : ℕ → Account) (whole : List Lin
               let that = at_place it.before pre whole it.item l it.stands stands (omega (arith, low, high)) in
               ap (λ (i : Link). with_publish i.deed []) (sym that.item)
 
-      published_now : IsToPublish n whole q (accounts q) pre h → None ≡ waits q → HaveStepped n accounts whole served.factory pre l
+      published_now : IsToPublish n whole q (accounts q) pre h → None ≡ waits q → HaveStepped n accounts whole firsts_all pre l
       published_now x none =
           let a = accounts q in
           let o = x.open_at in
@@ -201,7 +251,8 @@ module _ (laws : Laws) (n : Node) (accounts : ℕ → Account) (whole : List Lin
           let no_entry : with_entry l.deed [] ≡ [] = ap (λ (i : Link). with_entry i.deed []) (sym that.item) ∙ ap (λ (d : LinkDeed). with_entry d []) x.one.placed.deed in
           let next = set_wait q (Some number) waits in
           let acts = ap length (done_same instrument pre l (not_theirs instrument not_instrument)) in
-          let some : 0 < number = old_some x in
+          let some : length n.firsts < number = old_some x in
+          let many : length firsts_all ≤ length (publishes_of pre) = (let count = firsts_count in omega (arith, count, met_count, some)) in
           record {
             after = h;
             waits = next;
@@ -222,18 +273,14 @@ module _ (laws : Laws) (n : Node) (accounts : ℕ → Account) (whole : List Lin
                     let this : number ≡ m = omega (arith, last, below, more, met_count) in
                     record { port = q; there = there; is = set_here q (Some number) waits ∙ ap (λ (i : ℕ). Some i) this }
               ];
-              opening = elim world.opening [
-                | inl x_un ↦ absurd (let nothing = ap length x_un.programs in omega (arith, nothing, met_count, some))
-                | inr begun ↦ inr (record {
-                  more = begun.more ++ x.one.publish ∷ [];
-                  programs = one ∙ ap (λ (ps : List Publish). ps ++ x.one.publish ∷ []) begun.programs;
-                  did = acts ∙ begun.did;
-                })
-              ];
+              opening = inr (record {
+                programs = prefix_trans firsts_all (publishes_of pre) (publishes_of (pre ++ l ∷ [])) (all_begun firsts_all pre world.opening many) (x.one.publish ∷ [], sym one);
+                did = acts ∙ all_did firsts_all pre world.opening many;
+              });
             };
           }
         where
-          old_some : (x : IsToPublish n whole q (accounts q) pre h) → 0 < length x.one.windowed.old
+          old_some : (x : IsToPublish n whole q (accounts q) pre h) → length n.firsts < length x.one.windowed.old
           old_some x =
               let o = x.open_at in
               let longer = prefix_length o.is.between.programs x.one.windowed.old x.one.windowed.begins in
@@ -241,10 +288,10 @@ module _ (laws : Laws) (n : Node) (accounts : ℕ → Account) (whole : List Lin
               let some = o.mine.some in
               omega (arith, longer, knows, some)
 
-      acted : HaveStepped n accounts whole served.factory pre l
+      acted : HaveStepped n accounts whole firsts_all pre l
       acted = by (world.ports q there).at (world.ports q there).wait_is
         where
-          by : (at : IsPortAt n whole q (accounts q) true pre h) → waits_for n whole q (accounts q) true pre h at ≡ waits q → HaveStepped n accounts whole served.factory pre l
+          by : (at : IsPortAt n whole q (accounts q) true pre h) → waits_for n whole q (accounts q) true pre h at ≡ waits q → HaveStepped n accounts whole firsts_all pre l
           by (inl x) wait = absurd (idle_not laws n whole q (accounts q) pre l served.listed stands (begins q there) (did q there) h act is own x)
           by (inr (inl x)) wait = entered x wait
           by (inr (inr (inl x))) wait = published_now x wait
@@ -252,30 +299,27 @@ module _ (laws : Laws) (n : Node) (accounts : ℕ → Account) (whole : List Lin
 
     -- ---- an act of nobody's port
 
-    due_same : (x y : Due) (more : List Due) → x ∷ more ≡ y ∷ [] → x ≡ y
-    due_same x y more same = cc same
-
-    -- the first publish of all is the instrument's, and it does nothing else
-    opened_by_instrument : (act : Act) → l.deed ≡ Does act → owner_of act ≡ instrument → HaveStepped n accounts whole served.factory pre l
+    -- the instrument publishes the programs that the node begins with, before all others, and does nothing else
+    opened_by_instrument : (act : Act) → l.deed ≡ Does act → owner_of act ≡ instrument → HaveStepped n accounts whole firsts_all pre l
     opened_by_instrument act is own = elim world.opening [
-      | inr begun ↦ absurd (let one = begun.did in let more = count in let fewer = few_acts in omega (arith, one, more, fewer))
-      | inl unbegun ↦
-          let due = first_due unbegun.did in
-          let chain : l.chain ≡ publishes_chain = ap (λ (d : Due). d.0) due in
-          let deed : l.deed ≡ Does (Publishes (instrument, served.factory)) = is ∙ ap (λ (d : Due). Does d.1) due in
+      | inr begun ↦ absurd (let all = begun.did in let more = count in let fewer = few_acts in omega (arith, all, more, fewer))
+      | inl beginning ↦
+          let next = next_first firsts_all (publishes_of pre) (done_for instrument pre) (l.chain, act) beginning.programs in_firsts beginning.did in
+          let chain : l.chain ≡ publishes_chain = ap (λ (d : Due). d.0) next.is in
+          let deed : l.deed ≡ Does (Publishes (instrument, next.next)) = is ∙ ap (λ (d : Due). Does d.1) next.is in
           let quiet : shows l.deed ≡ 0 = ap shows deed in
           let no_entry : with_entry l.deed [] ≡ [] = ap (λ (d : LinkDeed). with_entry d []) deed in
-          let one : publishes_of (pre ++ l ∷ []) ≡ publishes_of pre ++ served.factory ∷ [] = published_one pre l instrument served.factory chain deed in
-          let all : publishes_of (pre ++ l ∷ []) ≡ served.factory ∷ [] = one ∙ ap (λ (ps : List Publish). ps ++ served.factory ∷ []) unbegun.programs in
-          let size = ap length all in
+          let one : publishes_of (pre ++ l ∷ []) ≡ publishes_of pre ++ next.next ∷ [] = published_one pre l instrument next.next chain deed in
+          let begin : IsPrefix (publishes_of (pre ++ l ∷ [])) firsts_all = subst (λ (ps : List Publish). IsPrefix ps firsts_all) (sym one) next.begins in
+          let size = ap length one ∙ size_more (publishes_of pre) next.next in
           record {
             after = h;
             waits = waits;
             world = record {
               common = common_same quiet no_entry;
               ports = λ r there. further r there (none_other r l.deed act is (λ same. let few = served.few in absurd (omega (arith, few, there, same, own)))) (still_unseen quiet r);
-              pending = λ m low below some. absurd (omega (arith, below, some, size));
-              opening = inr (record { more = []; programs = all; did = (let none = unbegun.did in let more = count in let fewer = few_acts in omega (arith, none, more)) });
+              pending = λ m low below some. absurd (let few = prefix_length (publishes_of (pre ++ l ∷ [])) firsts_all begin in let many = firsts_count in omega (arith, below, some, few, many));
+              opening = inl (record { programs = begin; did = (let before = beginning.did in let more = count in omega (arith, before, more, size)) });
             };
           }
     ]
@@ -283,26 +327,22 @@ module _ (laws : Laws) (n : Node) (accounts : ℕ → Account) (whole : List Lin
         acts : done_for instrument (pre ++ l ∷ []) ≡ done_for instrument pre ++ (l.chain, act) ∷ []
         acts = done_own instrument pre l act is own
 
-        in_whole : IsPrefix (done_for instrument (pre ++ l ∷ [])) ((publishes_chain, Publishes (instrument, served.factory)) ∷ [])
+        in_whole : IsPrefix (done_for instrument (pre ++ l ∷ [])) (map published_first firsts_all)
         in_whole = subst (λ (ds : List Due). IsPrefix (done_for instrument (pre ++ l ∷ [])) ds) served.opening (done_prefix instrument (pre ++ l ∷ []) whole stands)
+
+        in_firsts : IsPrefix (done_for instrument pre ++ (l.chain, act) ∷ []) (map published_first firsts_all)
+        in_firsts = subst (λ (ds : List Due). IsPrefix ds (map published_first firsts_all)) acts in_whole
 
         count : length (done_for instrument (pre ++ l ∷ [])) ≡ length (done_for instrument pre) + 1
         count = ap length acts ∙ size_more (done_for instrument pre) (l.chain, act)
 
-        few_acts : length (done_for instrument (pre ++ l ∷ [])) ≤ 1
-        few_acts = prefix_length (done_for instrument (pre ++ l ∷ [])) ((publishes_chain, Publishes (instrument, served.factory)) ∷ []) in_whole
+        few_acts : length (done_for instrument (pre ++ l ∷ [])) ≤ length firsts_all
+        few_acts =
+            let few = prefix_length (done_for instrument (pre ++ l ∷ [])) (map published_first firsts_all) in_whole in
+            let many = length-map firsts_all published_first in
+            omega (arith, few, many)
 
-        no_dues : (ds : List Due) → length ds ≡ 0 → ds ≡ []
-        no_dues [] none = refl
-        no_dues (d ∷ ds) none = absurd (omega (arith, none))
-
-        first_due : length (done_for instrument pre) ≡ 0 → ◌≡◌ {A = Due} (l.chain, act) (publishes_chain, Publishes (instrument, served.factory))
-        first_due none =
-            let only : done_for instrument (pre ++ l ∷ []) ≡ (l.chain, act) ∷ [] = acts ∙ ap (λ (ds : List Due). ds ++ (l.chain, act) ∷ []) (no_dues (done_for instrument pre) none) in
-            let front : IsPrefix ((l.chain, act) ∷ []) ((publishes_chain, Publishes (instrument, served.factory)) ∷ []) = subst (λ (ds : List Due). IsPrefix ds ((publishes_chain, Publishes (instrument, served.factory)) ∷ [])) only in_whole in
-            due_same (l.chain, act) (publishes_chain, Publishes (instrument, served.factory)) front.0 front.1
-
-    acted_elsewhere : (act : Act) → l.deed ≡ Does act → n.ports ≤ owner_of act → HaveStepped n accounts whole served.factory pre l
+    acted_elsewhere : (act : Act) → l.deed ≡ Does act → n.ports ≤ owner_of act → HaveStepped n accounts whole firsts_all pre l
     acted_elsewhere act is past = elim (cases_Bool (owner_of act == instrument)) [
       | inl same ↦ opened_by_instrument act is (eqb-true (owner_of act) instrument same)
       | inr apart ↦
@@ -334,42 +374,42 @@ module _ (laws : Laws) (n : Node) (accounts : ℕ → Account) (whole : List Lin
       few_now : shown_in (pre ++ l ∷ []) ≤ length (publishes_of (pre ++ l ∷ []))
       few_now = served.listed (pre ++ l ∷ []) stands
 
-      waits_later : (number : ℕ) → shown_in (pre ++ l ∷ []) ≤ number → number < length (publishes_of (pre ++ l ∷ [])) → 0 < number → IsWaiting n waits number
+      waits_later : (number : ℕ) → shown_in (pre ++ l ∷ []) ≤ number → number < length (publishes_of (pre ++ l ∷ [])) → length n.firsts < number → IsWaiting n waits number
       waits_later number low below some = let more = one_more in let same = programs_same in world.pending number (omega (arith, low, more)) (omega (arith, below, same)) some
 
-      -- the first program: no port waits for it
-      first_shown : shown_in pre ≡ 0 → HaveStepped n accounts whole served.factory pre l
-      first_shown none = elim world.opening [
-        | inl unbegun ↦ absurd (let nothing = ap length unbegun.programs in let few = few_now in let more = one_more in let same = programs_same in omega (arith, nothing, few, more, same))
-        | inr begun ↦
-            let fresh = world.common.fresh none in
-            let more = one_more in
-            let programs : publishes_of (pre ++ l ∷ []) ≡ served.factory ∷ begun.more = published_same pre l no_publish ∙ begun.programs in
-            let seen : shown_of (pre ++ l ∷ []) ≡ served.factory ∷ [] = seen_is (pre ++ l ∷ []) (served.factory ∷ []) (begun.more, sym programs) (omega (arith, none, more)) in
-            let known : IsKnown n h (served.factory ∷ []) = record {
-              shown = λ slot. ap (λ (x : Program). Some (x, 0)) served.program ∙ ap (λ (x : Program × ℕ). Some x) (sym (fresh.programs slot));
-              count = (let count = fresh.count in omega (arith, count));
-              sizes = served.sizes;
-            } in
-            record {
-              after = h;
-              waits = waits;
-              world = record {
-                common = record {
-                  lawful = world.common.lawful;
-                  known = λ some. subst (λ (ps : List Publish). IsKnown n h ps) (sym seen) known;
-                  fresh = λ nothing. absurd (omega (arith, nothing, more));
-                  banks = λ k bank at. world.common.banks k bank at ∙ sym (entries_same k pre l no_entry_left);
-                  nowhere = world.common.nowhere;
-                };
-                ports = λ r there. further r there (none_does r) (λ number waits_is low x. some_number_waits r there number waits_is x (omega (arith, none, more)));
-                pending = waits_later;
-                opening = opening_same (none_does instrument) no_publish;
+      -- a program that the node begins with: no port waits for it
+      first_shown : shown_in pre ≤ length n.firsts → HaveStepped n accounts whole firsts_all pre l
+      first_shown low =
+          let unpublished = world.common.fresh low in
+          let more = one_more in
+          record {
+            after = h;
+            waits = waits;
+            world = record {
+              common = record {
+                lawful = world.common.lawful;
+                known = λ some. subst (λ (ps : List Publish). IsKnown n h ps) (sym (all_seen low some)) (firsts_known h unpublished);
+                fresh = λ _. unpublished;
+                banks = λ k bank at. world.common.banks k bank at ∙ sym (entries_same k pre l no_entry_left);
+                nowhere = world.common.nowhere;
               };
-            }
-      ]
+              ports = λ r there. further r there (none_does r) (λ number waits_is unseen x. some_number_waits r there number waits_is x (omega (arith, low, more)));
+              pending = waits_later;
+              opening = opening_same (none_does instrument) no_publish;
+            };
+          }
         where
-          first_by : (r number : ℕ) → waits r ≡ Some number → shown_in (pre ++ l ∷ []) ≡ 1 → (at : IsPortAt n whole r (accounts r) true pre h) → waits_for n whole r (accounts r) true pre h at ≡ waits r → shown_in (pre ++ l ∷ []) ≤ number
+          -- once the last of them is seen, all are, and nothing else
+          all_seen : shown_in pre ≤ length n.firsts → length n.firsts < shown_in (pre ++ l ∷ []) → shown_of (pre ++ l ∷ []) ≡ firsts_all
+          all_seen low some =
+              let more = one_more in
+              let many = firsts_count in
+              let few = few_now in
+              let same = programs_same in
+              let begun : IsPrefix firsts_all (publishes_of pre) = all_begun firsts_all pre world.opening (omega (arith, many, few, same, some)) in
+              seen_is (pre ++ l ∷ []) firsts_all (subst (λ (ps : List Publish). IsPrefix firsts_all ps) (sym (published_same pre l no_publish)) begun) (omega (arith, more, many, low, some))
+
+          first_by : (r number : ℕ) → waits r ≡ Some number → shown_in (pre ++ l ∷ []) ≤ length n.firsts + 1 → (at : IsPortAt n whole r (accounts r) true pre h) → waits_for n whole r (accounts r) true pre h at ≡ waits r → shown_in (pre ++ l ∷ []) ≤ number
           first_by r number waits_is one (inl y) wait = absurd (none_some (waits r) number (sym wait) waits_is)
           first_by r number waits_is one (inr (inl y)) wait = absurd (none_some (waits r) number (sym wait) waits_is)
           first_by r number waits_is one (inr (inr (inl y))) wait = absurd (none_some (waits r) number (sym wait) waits_is)
@@ -381,8 +421,8 @@ module _ (laws : Laws) (n : Node) (accounts : ℕ → Account) (whole : List Lin
               let some = o.mine.some in
               omega (arith, same, longer, knows, some, one)
 
-          -- a port waits for no program that is the first
-          some_number_waits : (r : ℕ) (there : r < n.ports) (number : ℕ) → waits r ≡ Some number → IsToShow n whole r (accounts r) pre h → shown_in (pre ++ l ∷ []) ≡ 1 → shown_in (pre ++ l ∷ []) ≤ number
+          -- a port waits for none of them
+          some_number_waits : (r : ℕ) (there : r < n.ports) (number : ℕ) → waits r ≡ Some number → IsToShow n whole r (accounts r) pre h → shown_in (pre ++ l ∷ []) ≤ length n.firsts + 1 → shown_in (pre ++ l ∷ []) ≤ number
           some_number_waits r there number waits_is x one = first_by r number waits_is one (world.ports r there).at (world.ports r there).wait_is
 
       -- two ports wait for two programs
@@ -413,7 +453,7 @@ module _ (laws : Laws) (n : Node) (accounts : ℕ → Account) (whole : List Lin
               omega (arith, low, high)
 
       -- a later program: the port that waits for it goes on
-      next_shown : 0 < shown_in pre → HaveStepped n accounts whole served.factory pre l
+      next_shown : length n.firsts < shown_in pre → HaveStepped n accounts whole firsts_all pre l
       next_shown some =
           let few = few_now in
           let more = one_more in
@@ -434,7 +474,7 @@ module _ (laws : Laws) (n : Node) (accounts : ℕ → Account) (whole : List Lin
           same_port : (q r : ℕ) (there : r < n.ports) (x : IsToShow n whole q (accounts q) pre h) → length x.one.windowed.old ≡ shown_in pre → (number : ℕ) → waits r ≡ Some number → number ≡ shown_in pre → r ≡ q
           same_port q r there x number_is number is_r here = port_by q r x number_is number is_r here (world.ports r there).at (world.ports r there).wait_is
 
-          by : (q : ℕ) (there : q < n.ports) → waits q ≡ Some (shown_in pre) → (at : IsPortAt n whole q (accounts q) true pre h) → waits_for n whole q (accounts q) true pre h at ≡ waits q → HaveStepped n accounts whole served.factory pre l
+          by : (q : ℕ) (there : q < n.ports) → waits q ≡ Some (shown_in pre) → (at : IsPortAt n whole q (accounts q) true pre h) → waits_for n whole q (accounts q) true pre h at ≡ waits q → HaveStepped n accounts whole firsts_all pre l
           by q there is_q (inl x) wait = absurd (none_some (waits q) (shown_in pre) (sym wait) is_q)
           by q there is_q (inr (inl x)) wait = absurd (none_some (waits q) (shown_in pre) (sym wait) is_q)
           by q there is_q (inr (inr (inl x))) wait = absurd (none_some (waits q) (shown_in pre) (sym wait) is_q)
@@ -470,17 +510,17 @@ module _ (laws : Laws) (n : Node) (accounts : ℕ → Account) (whole : List Lin
                 };
               }
 
-      shown_link : HaveStepped n accounts whole served.factory pre l
-      shown_link = elim (cases_lt 0 (shown_in pre)) [
+      shown_link : HaveStepped n accounts whole firsts_all pre l
+      shown_link = elim (cases_lt (length n.firsts) (shown_in pre)) [
         | inl some ↦ next_shown some
         | inr none ↦ first_shown (omega (arith, none))
       ]
 
     -- all ports behind the link
-    step : HaveStepped n accounts whole served.factory pre l
+    step : HaveStepped n accounts whole firsts_all pre l
     step = by l.deed refl
       where
-        by : (d : LinkDeed) → l.deed ≡ d → HaveStepped n accounts whole served.factory pre l
+        by : (d : LinkDeed) → l.deed ≡ d → HaveStepped n accounts whole firsts_all pre l
         by (Opens x) is = quiet_link (ap shows is) (ap (λ (d : LinkDeed). with_entry d []) is) (ap (λ (d : LinkDeed). with_publish d []) is) (λ r. none_opens r l.deed x is)
         by (Asks x) is = quiet_link (ap shows is) (ap (λ (d : LinkDeed). with_entry d []) is) (ap (λ (d : LinkDeed). with_publish d []) is) (λ r. none_asks r l.deed x is)
         by Shows is = shown_link is
@@ -492,15 +532,15 @@ module _ (laws : Laws) (n : Node) (accounts : ℕ → Account) (whole : List Lin
   -- ---- all links
 
   -- all ports behind the list, each of which did all that it does
-  walk : (pre post : List Link) (h : History) (waits : ℕ → Option ℕ) → pre ++ post ≡ whole → IsWorld n accounts whole served.factory false pre h waits → (after : History) × (waiting : ℕ → Option ℕ) × IsWorld n accounts whole served.factory true whole after waiting
+  walk : (pre post : List Link) (h : History) (waits : ℕ → Option ℕ) → pre ++ post ≡ whole → IsWorld n accounts whole firsts_all false pre h waits → (after : History) × (waiting : ℕ → Option ℕ) × IsWorld n accounts whole firsts_all true whole after waiting
   walk pre [] h waits all world =
       let here : pre ≡ whole = sym (append-nil pre) ∙ all in
-      let it = all_settled laws n accounts whole served.factory pre h waits served.listed ([], all) begins world in
-      (it.0, waits, subst (λ (xs : List Link). IsWorld n accounts whole served.factory true xs it.0 waits) here it.1)
+      let it = all_settled laws n accounts whole firsts_all pre h waits served.listed ([], all) begins world in
+      (it.0, waits, subst (λ (xs : List Link). IsWorld n accounts whole firsts_all true xs it.0 waits) here it.1)
   walk pre (l ∷ post) h waits all world =
       let all_on : (pre ++ l ∷ []) ++ post ≡ whole = append_assoc pre (l ∷ []) post ∙ all in
       let stands : IsPrefix (pre ++ l ∷ []) whole = (post, all_on) in
-      let it = all_settled laws n accounts whole served.factory pre h waits served.listed (front_of pre whole l stands) begins world in
+      let it = all_settled laws n accounts whole firsts_all pre h waits served.listed (front_of pre whole l stands) begins world in
       let on = step pre l stands it.0 waits it.1 in
       walk (pre ++ l ∷ []) post on.after on.waits all_on on.world
 
@@ -523,7 +563,7 @@ module _ (laws : Laws) (n : Node) (accounts : ℕ → Account) (whole : List Lin
             mine = record {
               port_is = beside.port_is;
               windows = beside.fresh.windows;
-              some = (let one = ap length beside.fresh.programs in omega (arith, one));
+              some = (let count = ap length beside.fresh.programs in let many = length-map beside.fresh.firsts slot_and_program in let same = ap length beside.fresh.firsts_are in omega (arith, count, many, same));
             };
             happened = [];
             here = record { command = refl; staging_is = sym beside.fresh.staging_is; happened = refl };
@@ -534,7 +574,7 @@ module _ (laws : Laws) (n : Node) (accounts : ℕ → Account) (whole : List Lin
         wait_is = refl;
       }
 
-  fresh_world : IsWorld n accounts whole served.factory false [] Start (λ q. None)
+  fresh_world : IsWorld n accounts whole firsts_all false [] Start (λ q. None)
   fresh_world = record {
     common = record {
       lawful = tt;
@@ -545,7 +585,7 @@ module _ (laws : Laws) (n : Node) (accounts : ℕ → Account) (whole : List Lin
     };
     ports = fresh_port;
     pending = λ number low below some. absurd (omega (arith, below));
-    opening = inl (record { programs = refl; did = refl });
+    opening = inl (record { programs = (firsts_all, refl); did = refl });
   }
 
   -- ---- the end
@@ -608,7 +648,7 @@ module _ (laws : Laws) (n : Node) (accounts : ℕ → Account) (whole : List Lin
       let world = end.2 in
       let common = world.common in
       let all = served.shown in
-      let some : 0 < shown_in whole = (let one = begun_whole world.opening in omega (arith, one, all)) in
+      let some : length n.firsts < shown_in whole = (let one = begun_whole world.opening in omega (arith, one, all)) in
       let seen : shown_of whole ≡ publishes_of whole = take_all (shown_in whole) (publishes_of whole) all in
       let known : IsKnown n h (publishes_of whole) = subst (λ (ps : List Publish). IsKnown n h ps) seen (common.known some) in
       record {
@@ -626,10 +666,15 @@ module _ (laws : Laws) (n : Node) (accounts : ℕ → Account) (whole : List Lin
         stagings = λ q there. (done_port q there h (end.1 q) (world.ports q there)).staging_is;
       }
     where
-      -- the instrument published the factory program
-      begun_whole : IsUnbegun whole ⊎ IsBegun served.factory whole → 0 < length (publishes_of whole)
-      begun_whole (inl x) = let one = ap length served.opening in let none = x.did in absurd (omega (arith, one, none))
-      begun_whole (inr x) = let size = ap length x.programs in omega (arith, size)
+      -- the instrument published the programs that the node begins with
+      begun_whole : IsBeginning firsts_all whole ⊎ IsBegun firsts_all whole → length n.firsts < length (publishes_of whole)
+      begun_whole (inl x) =
+          let all = ap length served.opening in
+          let many = length-map firsts_all published_first in
+          let count = firsts_count in
+          let acts = x.did in
+          omega (arith, all, many, count, acts)
+      begun_whole (inr x) = let few = prefix_length firsts_all (publishes_of whole) x.programs in let count = firsts_count in omega (arith, few, count)
 
 pub threads_are_lawful : Laws → ThreadsAreLawful
 threads_are_lawful laws = λ n accounts whole served. together laws n accounts whole served

@@ -16,7 +16,7 @@ use Rattle.annals.specs.Shown.{shown_in, shown_of}
 use Rattle.ports.specs.Due.{Deed, IsJudged, Judging, Standing, Worked, stand}
 use Rattle.ports.specs.Due.Deed.{Dropped, Answered, Judged}
 use Rattle.sched.specs.declared.event.Outcome.TheVariants.{Done}
-use Rattle.sched.specs.History.{History, Open, opened}
+use Rattle.sched.specs.History.{History, Start, Open, opened}
 use Rattle.sched.specs.Looking.{Node, entries, place_in, published, publishes, staging, turn_of, windows_in}
 use Rattle.sched.specs.Turns.{answers_of}
 use Rattle.lawful.specs.Alone.{AreDealtInFull, IsJudgedInFull}
@@ -33,10 +33,10 @@ use Rattle.lemmas.proofs.Prefixes.{prefix_trans}
 
 -- ---- what looking back finds
 
--- nothing was published but the factory program
+-- nothing was published but what the node begins with
 pub record IsUnpublished (n : Node) (h : History) : Type 0 where
-  pub programs : (slot : ℕ) → published n h slot ≡ (n.factory, 0)
-  pub count : publishes n h ≡ 0
+  pub programs : (slot : ℕ) → published n h slot ≡ published n Start slot
+  pub count : publishes n h ≡ length n.firsts
 
 -- nothing happened at a port that the node does not have
 pub record IsNowhere (h : History) (q : ℕ) : Type 0 where
@@ -46,8 +46,8 @@ pub record IsNowhere (h : History) (q : ℕ) : Type 0 where
 -- what looking back finds of the programs and of the banks is what the list has up to there
 pub record IsCommon (n : Node) (pre : List Link) (h : History) : Type 0 where
   pub lawful : IsLawfulButTold n h
-  pub known : 0 < shown_in pre → IsKnown n h (shown_of pre)
-  pub fresh : shown_in pre ≡ 0 → IsUnpublished n h
+  pub known : length n.firsts < shown_in pre → IsKnown n h (shown_of pre)
+  pub fresh : shown_in pre ≤ length n.firsts → IsUnpublished n h
   pub banks : (k : ℕ) (bank : BankConfig) → slice_get n.banks k ≡ Some bank → entries n h k ≡ entries_of k pre
   pub nowhere : (q : ℕ) → n.ports ≤ q → IsNowhere h q
 
@@ -85,11 +85,11 @@ abbrev pub place_from : Bool → List Link → ℕ
 place_from true pre = length pre + 1
 place_from false pre = length pre
 
--- what is said of a port at each place: its number, its windows, and that it knows a program
+-- what is said of a port at each place: its number, its windows, and that it knows the programs that the node begins with
 pub record IsOf (n : Node) (q : ℕ) (s : Standing) : Type 0 where
   pub port_is : s.pass.port ≡ q
   pub windows : s.pass.windows ≡ windows_in n
-  pub some : 0 < length s.pass.programs
+  pub some : length n.firsts < length s.pass.programs
 
 -- no command is open at the port, and those packets are to come
 pub record IsIdleBy (n : Node) (whole : List Link) (q : ℕ) (a : Account) (still : Bool) (pre : List Link) (h : History) (s : Standing) (ps : List Cargo) (ds : List Deed) : Type 0 where
@@ -267,18 +267,18 @@ pub record IsWaiting (n : Node) (waits : ℕ → Option ℕ) (number : ℕ) : Ty
   pub there : port < n.ports
   pub is : waits port ≡ Some number
 
--- nothing was published yet, or first the factory program, by the instrument, which did nothing else
-pub record IsBegun (factory : Publish) (pre : List Link) : Type 0 where
-  pub more : List Publish
-  pub programs : publishes_of pre ≡ factory ∷ more
-  pub did : length (done_for instrument pre) ≡ 1
+-- first the instrument published those, and did nothing else
+pub record IsBegun (firsts : List Publish) (pre : List Link) : Type 0 where
+  pub programs : IsPrefix firsts (publishes_of pre)
+  pub did : length (done_for instrument pre) ≡ length firsts
 
-pub record IsUnbegun (pre : List Link) : Type 0 where
-  pub programs : publishes_of pre ≡ []
-  pub did : length (done_for instrument pre) ≡ 0
+-- nothing was published but by the instrument, which published the first of those, and did nothing else
+pub record IsBeginning (firsts : List Publish) (pre : List Link) : Type 0 where
+  pub programs : IsPrefix (publishes_of pre) firsts
+  pub did : length (done_for instrument pre) ≡ length (publishes_of pre)
 
-pub record IsWorld (n : Node) (accounts : ℕ → Account) (whole : List Link) (factory : Publish) (still : Bool) (pre : List Link) (h : History) (waits : ℕ → Option ℕ) : Type 0 where
+pub record IsWorld (n : Node) (accounts : ℕ → Account) (whole : List Link) (firsts : List Publish) (still : Bool) (pre : List Link) (h : History) (waits : ℕ → Option ℕ) : Type 0 where
   pub common : IsCommon n pre h
   pub ports : (q : ℕ) → q < n.ports → IsPort n whole q (accounts q) still pre h (waits q)
-  pub pending : (number : ℕ) → shown_in pre ≤ number → number < length (publishes_of pre) → 0 < number → IsWaiting n waits number
-  pub opening : IsUnbegun pre ⊎ IsBegun factory pre
+  pub pending : (number : ℕ) → shown_in pre ≤ number → number < length (publishes_of pre) → length n.firsts < number → IsWaiting n waits number
+  pub opening : IsBeginning firsts pre ⊎ IsBegun firsts pre

@@ -1,7 +1,7 @@
 -- The law of all ports: what threads did at the ports of a node, side by side, is a lawful history of the node but for what cells
 -- told. A command is taken at the moment at which readers saw the programs by which it was judged. A command of a bank is done where
 -- its entry stands in the one list of the node, and a load where readers see its program.
-use Rattle.std.specs.Prelude.{◌≡◌, ◌<◌, ◌≤◌, ◌+◌, ◌++◌, ◌^◌, ℕ, List, [], ◌∷◌, length, slice_get, Some, None, option_map}
+use Rattle.std.specs.Prelude.{◌≡◌, ◌<◌, ◌≤◌, ◌+◌, ◌++◌, ◌^◌, ℕ, List, [], ◌∷◌, length, map, slice_get, Some, None, option_map}
 use mathlib.Core.List.{IsPrefix}
 use Rattle.spw.specs.Cargo.{Cargo}
 use Rattle.annals.specs.declared.deed.Act.TheVariants.{Leaves, Sets, Rotates, Publishes}
@@ -9,7 +9,7 @@ use Rattle.annals.specs.declared.deed.Deed.{Deed as LinkDeed}
 use Rattle.annals.specs.declared.deed.Deed.TheVariants.{Opens, Does, Asks, Shows}
 use Rattle.annals.specs.declared.deed.Link.{Link}
 use Rattle.annals.specs.Banks.{entries_of}
-use Rattle.annals.specs.Chains.{chain_of, done_for, instrument}
+use Rattle.annals.specs.Chains.{Due, chain_of, done_for, instrument}
 use Rattle.annals.specs.Publishes.{publishes_chain, publishes_of}
 use Rattle.annals.specs.Shown.{AreListed, shown_in}
 use Rattle.node_programs.specs.declared.publishes.Publish.{Publish}
@@ -17,7 +17,7 @@ use Rattle.node_programs.specs.Published.{judging_program}
 use Rattle.node_parts.specs.declared.config.BankConfig.{BankConfig}
 use Rattle.ports.specs.Due.{Deed, IsJudged, IsWindowed, Judging, Standing, Worked, stand}
 use Rattle.ports.specs.Due.Deed.{Dropped, Answered, Judged}
-use Rattle.sched.specs.Agreement.{program_and_generation}
+use Rattle.sched.specs.Agreement.{program_and_generation, slot_and_program}
 use Rattle.sched.specs.History.{History, opened}
 use Rattle.sched.specs.Looking.{Node, entries, published, publishes, staging}
 use Rattle.lawful.specs.Alone.{AreDealtInFull, IsFreshPort}
@@ -98,16 +98,23 @@ pub record IsBankOf (k : ℕ) (bank : BankConfig) (whole : List Link) : Type 0 w
   pub chain : IsChainOf bank (chain_of k whole)
   pub few : bank.room < 2 ^ 64
 
+-- that the instrument published a program
+abbrev pub published_first : Publish → Due
+published_first publish = (publishes_chain, Publishes (instrument, publish))
+
 -- all ports of the node were served side by side, each fresh at first: the list of the node has what they did, and of others only
--- that the instrument published the factory program; readers saw no program before it was published, and in the end all
+-- that the instrument published the factory program and then those that the node begins with, in their order; readers saw no
+-- program before it was published, and in the end all
 pub record AreServedTogether (n : Node) (accounts : ℕ → Account) (whole : List Link) : Type 0 where
   pub few : n.ports ≤ instrument
   pub each : (port : ℕ) → port < n.ports → IsServedBeside n whole port (accounts port)
   pub banks : (k : ℕ) (bank : BankConfig) → slice_get n.banks k ≡ Some bank → IsBankOf k bank whole
   pub factory : Publish
+  pub firsts : List Publish
   pub program : factory.program.program ≡ n.factory
+  pub firsts_are : map slot_and_program firsts ≡ n.firsts
   pub sizes : factory.program.sizes ≡ n.sizes
-  pub opening : done_for instrument whole ≡ (publishes_chain, Publishes (instrument, factory)) ∷ []
+  pub opening : done_for instrument whole ≡ map published_first (factory ∷ firsts)
   pub others : (owner : ℕ) → n.ports ≤ owner → (owner ≡ instrument → ⊥) → done_for owner whole ≡ []
   pub listed : AreListed whole
   pub shown : length (publishes_of whole) ≤ shown_in whole

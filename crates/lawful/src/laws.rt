@@ -17,8 +17,9 @@ pub fn told_apart()
 {}
 
 /// A law and no work: what a thread did at a fresh port, the only one that was served, is a lawful history of the node, apart
-/// from what cells answered. Programs may be published before the first packet, of all of which the port knows. At the port happened, in order, what became of its packets: a command was taken, each helper that its run
-/// asked was answered, and it was done with the reply that was due. The entries of each bank are those of the node's one list.
+/// from what cells answered. Programs may be published before the first packet, of all of which the port knows. At the port
+/// happened, in order, what became of its packets: a command was taken, each helper that its run asked was answered, and it was
+/// done with the reply that was due. The entries of each bank are those of the node's one list.
 pub fn one_port_is_lawful()
     ensures { OnePortIsLawful }
 {
@@ -30,8 +31,9 @@ pub fn one_port_is_lawful()
 }
 
 /// A law and no work: what threads did at the fresh ports of a node, which they served side by side, is a lawful history of the node,
-/// apart from what cells answered. At each port happened, in order, what became of its packets. The entries of each bank and the
-/// programs are those of the node's one list, in its order.
+/// apart from what cells answered. The instrument may publish programs before the first packet, of all of which each port knows.
+/// At each port happened, in order, what became of its packets. The entries of each bank and the programs are those of the node's
+/// one list, in its order.
 pub fn threads_are_lawful()
     ensures { ThreadsAreLawful }
 {
@@ -39,4 +41,5 @@ pub fn threads_are_lawful()
     image_laws();
     published_programs();
     workers_shares_count();
+    published_agrees();
 }

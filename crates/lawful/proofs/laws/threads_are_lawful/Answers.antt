@@ -7,4 +7,5 @@ returns c = together.threads_are_lawful (record {
   images = c.image_laws.ensures.read;
   next = c.published_programs.ensures.next;
   counts = c.workers_shares_count.ensures;
+  agrees = c.published_agrees.ensures;
 })

@@ -1,0 +1,9 @@
+use Rattle.job_config.proofs.Chains.{some_read}
+use Rattle.job_config.proofs.every_fault.Faults.note_publishes.Goals as goal
+
+pub returns-in_err-note_publish : goal.returns-in_err-note_publish
+returns-in_err-note_publish g c =
+    record { read = some_read g.F.Files.reads _ _ _ c.loop-number.invariant c.in_err-note_publish.ensures.read }
+
+pub loop-number-preserved : goal.loop-number-preserved
+loop-number-preserved g c = some_read g.F.Files.reads _ _ _ c.loop-number.invariant c.in_ok-note_publish.ensures.read
