@@ -13,11 +13,12 @@ sys.dont_write_bytecode = True
 sys.path.insert(0, str(Path(__file__).resolve().parent.parent))
 from generated.own_nodes import File
 from generator import main
+from models.fields import Fields
 from models.images import parsed
-from models.nodes import Bank, OwnNode
+from models.nodes import Bank, OwnNode, Packet
 from models.policies import ADDRESSES, BYTES, CELLS, ENDS, MAPS, rule
 from models.tables import Rule, decide
-from models.world import BASE, CONTROL, MODIFY, SIZE, STAGING, WRITE, Packet
+from models.world import BASE, CONTROL, MODIFY, SIZE, STAGING, WRITE
 from packets import header
 from rmapctl import Differs, Room
 
@@ -109,7 +110,7 @@ def commands() -> list[Packet]:
 
 def verdicts_of(node: OwnNode, rules: list[Rule]) -> set[tuple[int, int]]:
     """The slots and verdicts that commands get on cells that nobody asked, as far as they come to a program."""
-    return {(slot_of(packet), decide(rules, packet, lambda *_: 0)) for packet in commands() if node.header_status(packet) is None}
+    return {(slot_of(packet), decide(rules, Fields(packet.data), lambda *_: 0)) for packet in commands() if node.header_status(packet) is None}
 
 
 def met(node: OwnNode, seen: Counter[str], lines: list[str], rows: list[str]) -> set[tuple[int, int]]:
