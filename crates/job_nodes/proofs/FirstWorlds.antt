@@ -8,7 +8,9 @@ use Rattle.sched.specs.History.{Start}
 use Rattle.sched.specs.Looking.{Node}
 use Rattle.sched.specs.Worlds.{IsWorldOf, WorldValue, node_with}
 use Rattle.job_config.specs.OwnNodes.{IsConfigOf, OwnNodeValue}
-use Rattle.job_nodes.specs.Beginning.{own_schedule}
+use Rattle.job_config.specs.Reads.{ReadsNode}
+use Rattle.job_parts.specs.Files.{Reads}
+use Rattle.job_nodes.specs.Beginning.{AreEmpty, IsBegun, IsFileBeginning, own_schedule}
 
 -- the node of that configuration
 pub own_start : (own : OwnNodeValue) (config : NodeConfig) (program : AcceptedValue) (publishes : List (ℕ × AcceptedValue)) (world : WorldValue) → IsConfigOf own config
@@ -16,3 +18,13 @@ pub own_start : (own : OwnNodeValue) (config : NodeConfig) (program : AcceptedVa
 own_start own config program publishes world is are start =
     let same : node_with config program.program (map slot_with_program publishes) ≡ own_schedule own program.program = rw (is.address, is.ports_are, is.banks_are, is.sizes_are, are) refl in
     subst (λ (n : Node). IsWorldOf n Start world) same start
+
+-- the world of a node's file that was read
+pub file_begun : {S : Type 0} (reads : Reads S) (name : List ℕ) (before after : S) (own : OwnNodeValue) (program : AcceptedValue) (world : WorldValue)
+    → ReadsNode reads name before own program after → AreEmpty own.contents → IsWorldOf (own_schedule own program.program) Start world
+    → IsBegun (λ (n : Node). IsFileBeginning reads name before n after) world
+file_begun reads name before after own program world read zeros start = record {
+  node = own_schedule own program.program;
+  begun = record { own = own; program = program; read = read; zeros = zeros; node = refl };
+  is_world = start;
+}

@@ -1,16 +1,18 @@
 -- Banks that are filled in turn, and programs that are published in turn.
-use Rattle.std.proofs.Common.{◌≡◌, ◌<◌, ◌+◌, ◌∙◌, ℕ, zero, suc, List, [], ◌∷◌, ◌++◌, length, take, get_or, refl, sym, ap, subst, arith}
-use Rattle.std.specs.Prelude.{slice_index_or}
+use Rattle.std.proofs.Common.{◌≡◌, ◌<◌, ◌≤◌, ◌+◌, ◌∙◌, ℕ, zero, suc, Bool, true, false, List, [], ◌∷◌, ◌++◌, length, take, get_or, refl, sym, ap, subst, arith}
+use Rattle.std.specs.Prelude.{All, slice_index_or}
 use Rattle.std.proofs.lemmas.List.{length-append, take_more}
 use Rattle.bver.specs.Justified.{AcceptedValue}
 use Rattle.machine.specs.Sizes.{Maps}
+use Rattle.node_parts.specs.Nodes.{first_programs}
 use Rattle.node_parts.specs.declared.config.NodeConfig.{NodeConfig}
 use Rattle.node_programs.specs.Histories.{entry, longer_history}
 use Rattle.node_programs.specs.Published.{sizes_of}
 use Rattle.node_programs.specs.declared.publishes.Publish.{Publish}
-use Rattle.job_config.specs.OwnNodes.{IsConfigOf, OwnNodeValue, plain_node}
+use Rattle.single_node.specs.Nodes.{SingleNodeValue}
+use Rattle.job_config.specs.OwnNodes.{IsConfigOf, IsPublish, OwnNodeValue, plain_node}
 use Rattle.job_nodes.specs.JobNode.{IsFresh, IsFreshOf, JobNodeValue, with_publish}
-use Rattle.job_nodes.specs.Making.{Fills, FillsOne, IsNodeOf, with_publishes}
+use Rattle.job_nodes.specs.Making.{Begins, Fills, FillsOne, IsFilled, IsNodeOf, with_publishes}
 
 -- one bank more
 pub fills_more : (contents : List (List ℕ)) (count : ℕ) (a b c : JobNodeValue) (bytes : List ℕ) → Fills contents count a b → FillsOne count bytes b c
@@ -18,6 +20,42 @@ pub fills_more : (contents : List (List ℕ)) (count : ℕ) (a b c : JobNodeValu
 fills_more contents count a b c bytes all one is =
     let same : suc count ≡ count + 1 = omega arith in
     subst (λ (n : ℕ). Fills contents n a c) same (b, all, subst (λ (own : List ℕ). FillsOne count own b c) is one)
+
+-- bytes at the beginning of a bank leave the programs
+begin_programs : (covers : Bool) (number : ℕ) (bytes : List ℕ) (a b : JobNodeValue) → Begins covers number bytes a b → b.programs ≡ a.programs
+begin_programs true number bytes a b (journal, sets) = ap (λ (s : SingleNodeValue). s.programs) sets.set.set
+begin_programs false number bytes a b same = ap (λ (s : JobNodeValue). s.programs) same
+
+one_programs : (number : ℕ) (bytes : List ℕ) (a b : JobNodeValue) → FillsOne number bytes a b → b.programs ≡ a.programs
+one_programs number [] a b same = ap (λ (s : JobNodeValue). s.programs) same
+one_programs number (byte ∷ bytes) a b begins = begin_programs _ number (byte ∷ bytes) a b begins
+
+fill_programs : (contents : List (List ℕ)) (count : ℕ) (a b : JobNodeValue) → Fills contents count a b → b.programs ≡ a.programs
+fill_programs contents zero a b same = ap (λ (s : JobNodeValue). s.programs) same
+fill_programs contents (suc count) a b (between, fills, one) =
+    one_programs count (slice_index_or contents count []) between b one ∙ fill_programs contents count a between fills
+
+-- a node whose banks were filled has the programs of a fresh one
+filled_programs : (own : OwnNodeValue) (program : AcceptedValue) (node : JobNodeValue) → IsFilled own program node → node.programs ≡ first_programs program
+filled_programs own program node filled =
+    fill_programs own.contents (length filled.fresh.banks) filled.fresh node filled.fills ∙ ap (λ (s : JobNodeValue). s.programs) filled.is_fresh
+
+-- the programs of a configuration may be published at its node
+pub filled_each : (own : OwnNodeValue) (program : AcceptedValue) (node : JobNodeValue) (publishes : List (ℕ × AcceptedValue)) → IsFilled own program node
+    → program.sizes ≡ own.sizes → publishes ≡ own.publishes → All (IsPublish own.sizes) own.publishes
+    → All (IsPublish (sizes_of node.programs)) publishes
+filled_each own program node publishes filled sizes is each =
+    let same : own.sizes ≡ sizes_of node.programs = sym sizes ∙ ap sizes_of (sym (filled_programs own program node filled)) in
+    subst (λ (l : List (ℕ × AcceptedValue)). All (IsPublish (sizes_of node.programs)) l) (sym is)
+    (subst (λ (m : Maps). All (IsPublish m) own.publishes) same each)
+
+-- and a generation is left for each
+pub filled_few : (own : OwnNodeValue) (program : AcceptedValue) (node : JobNodeValue) (publishes : List (ℕ × AcceptedValue)) → IsFilled own program node
+    → publishes ≡ own.publishes → length own.publishes ≤ 4294967295 → length node.programs + length publishes ≤ 4294967296
+filled_few own program node publishes filled is few =
+    let one : length node.programs ≡ 1 = ap length (filled_programs own program node filled) in
+    let count : length publishes ≡ length own.publishes = ap length is in
+    omega (arith, one, count, few)
 
 -- one publish more, behind the others
 pub publishes_behind : (node : JobNodeValue) (publishes : List (ℕ × AcceptedValue)) (slot : ℕ) (program : AcceptedValue)

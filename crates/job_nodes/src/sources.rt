@@ -16,7 +16,7 @@ use job_parts::options::NodeWords;
 use job_parts::programs::text_in;
 use job_parts::storage::Files;
 use sched::World;
-use std::alloc::Global;
+use std::alloc::{AllocError, Global};
 
 /// A fresh node of these words, whose commands the program of its image file, or the factory program, judges.
 fn plain_node<'a, F: Files>(
@@ -93,6 +93,7 @@ fn plain_world<'a, F: Files>(
 }
 
 /// The world of the node's file of this name behind what it publishes, or `None` where a bank begins with bytes.
+#[tactic(auto, using(crate::proofs::FirstWorlds::file_begun))]
 fn file_world<'a, F: Files>(
     alloc: Global,
     name: &'a str,
@@ -108,7 +109,10 @@ fn file_world<'a, F: Files>(
     if !are_empty(own.contents()) {
         return Ok(None);
     }
-    Ok(Some(world_of(alloc, &own, program)?))
+    match world_of(alloc, &own, program) {
+        Ok(world) => Ok(Some(world)),
+        Err(AllocError) => Err(Fault::NoMemory),
+    }
 }
 
 /// The world of the words or of the file that a command line names, behind what the file publishes; or `None` where a bank

@@ -1,4 +1,4 @@
-use Rattle.std.proofs.Common.{◌≡◌, ◌<◌, get_or, length, take, sym, subst, ap, ◌∙◌, arith}
+use Rattle.std.proofs.Common.{◌≡◌, ◌<◌, ◌+◌, get_or, length, take, sym, subst, ap, ◌∙◌, arith}
 use Rattle.std.proofs.lemmas.Grind.{common_steps}
 use Rattle.std.proofs.lemmas.List.{length-take}
 use Rattle.std.proofs.lemmas.List.Elements.{All-get_or}
@@ -16,9 +16,10 @@ publish-requires-clause-publish c =
     let first = c.index-publishes-index.result in
     let at_first : first ≡ get_or publishes index first = grind (arith, common_steps) in
     let own = All-get_or (IsPublish (sizes_of c.args.node.now.programs)) publishes index first c.loop-index-test.true c.requires.each in
+    let mine : IsPublish (sizes_of c.args.node.now.programs) first = subst (IsPublish (sizes_of c.args.node.now.programs)) (sym at_first) own in
     let same : sizes_of c.loop-index.node.programs ≡ sizes_of c.args.node.now.programs =
     ap (λ n. sizes_of n.programs) c.loop-index.invariant ∙ publishes_sizes c.args.node.now (take index publishes) c.requires.some in
-    search rules
+    (mine.0, ap (λ (a : AcceptedValue). a.sizes) c.in_ok-program.ensures ∙ mine.1 ∙ sym same)
 
 pub publish-requires-clause-few : goal.publish-requires-clause-few
 publish-requires-clause-few c =
