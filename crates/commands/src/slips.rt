@@ -146,6 +146,9 @@ const OF_NODE: [Named; 2] = [
 /// What the node's file of `packet` is beside its data or its image.
 const OWN_FILE: &str = "    --node is -: the name of a file if the data or the image are - too\n";
 
+/// What the node's file of `suite` is beside its table.
+const OWN_NODE: &str = "    --node is -: the name of a file if the table is - too\n";
+
 /// What `--ns` may be.
 const TIMES: &str =
     "four decimal numbers of nanoseconds with commas between them, as 13.5,14,6,2: of a division, a call, a jump and the rest";
@@ -323,6 +326,9 @@ fn suite_line(alloc: Global, found: &ArgMatches) -> Result<String, AllocError> {
     }
     if let Err(UsageFault::BadOption) = within_of(alloc, found) {
         return line_of(alloc, "--within", text_of(found, "within"), WITHIN);
+    }
+    if text_of(found, "node") == Some(STANDARD_INPUT) {
+        return String::from_str(alloc, OWN_NODE);
     }
     Ok(String::new(alloc))
 }
