@@ -9,7 +9,7 @@ use Rattle.rmap.specs.declared.discard.Discard.{Discard}
 use Rattle.rmap.specs.declared.places.Place.{Place}
 use Rattle.rmap.specs.declared.status.Status.{Status}
 use Rattle.spw.specs.Cargo.{Cargo}
-use Rattle.job_suite.specs.Checks.{GoesOn, IsStoppedBy, Meets, check_behind, check_of_discard, check_of_fault, first_check}
+use Rattle.job_suite.specs.Checks.{GoesOn, IsStoppedBy, Meets, check_after, check_of_discard, check_of_fault, first_check}
 use Rattle.job_suite.specs.Comings.{Fits, FitsJudged, FitsStopped}
 use Rattle.job_suite.specs.Judges.{HasAnswered, judge_of}
 use Rattle.job_suite.specs.Trials.{HasCome, IsMet, IsVerdict}
@@ -23,13 +23,13 @@ use Rattle.job_suite.specs.declared.trials.Bench.{Bench}
 -- a packet that is discarded meets the line of the reason
 pub discarded : (w : WindowsValue) (p : Cargo) (reason : Discard) → discard_of p.bytes ≡ Some reason
     → first_check w p ≡ Some (check_of_discard reason)
-discarded w p reason is = ap (λ (d : Option Discard). check_behind d w p) is
+discarded w p reason is = ap (λ (d : Option Discard). check_after d w p) is
 
 -- a command meets the line that is the first of its header
 pub stopped : (w : WindowsValue) (p : Cargo) (c : CommandValue) (check : Check) → discard_of p.bytes ≡ None → c ≡ command_of p
     → IsStoppedBy w c check → first_check w p ≡ Some check
 stopped w p c check kept same is =
-    ap (λ (d : Option Discard). check_behind d w p) kept
+    ap (λ (d : Option Discard). check_after d w p) kept
     ∙ ap (λ (k : CommandValue). option_map check_of_fault (header_check k w)) (sym same) ∙ is
 
 -- a command whose bytes have a place goes on

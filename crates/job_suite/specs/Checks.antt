@@ -33,13 +33,13 @@ abbrev pub IsStoppedBy : WindowsValue → CommandValue → Check → Type 0
 IsStoppedBy w c check = option_map check_of_fault (header_check c w) ≡ Some check
 
 -- the line that holds first, if the packet is discarded for this reason, or is a command
-abbrev pub check_behind : Option Discard → WindowsValue → Cargo → Option Check
-check_behind (Some reason) w p = Some (check_of_discard reason)
-check_behind None w p = option_map check_of_fault (header_check (command_of p) w)
+abbrev pub check_after : Option Discard → WindowsValue → Cargo → Option Check
+check_after (Some reason) w p = Some (check_of_discard reason)
+check_after None w p = option_map check_of_fault (header_check (command_of p) w)
 
 -- the first line of the order of checks before the program that holds of the packet at a node with these windows
 abbrev pub first_check : WindowsValue → Cargo → Option Check
-first_check w p = check_behind (discard_of p.bytes) w p
+first_check w p = check_after (discard_of p.bytes) w p
 
 -- the first line that holds is this one
 abbrev pub Meets : WindowsValue → Cargo → Check → Type 0

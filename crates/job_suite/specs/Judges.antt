@@ -9,13 +9,13 @@ use Rattle.job_config.specs.OwnNodes.{OwnNodeValue}
 use Rattle.job_suite.specs.declared.judges.Judges.{Judges}
 
 -- the program of a slot after a publish, if that one judged before it
-abbrev pub judge_behind : (judge : AcceptedValue) → ℕ × AcceptedValue → (slot : ℕ) → AcceptedValue
-judge_behind judge publish slot = if publish.0 == slot then publish.1 else judge
+abbrev pub judge_after : (judge : AcceptedValue) → ℕ × AcceptedValue → (slot : ℕ) → AcceptedValue
+judge_after judge publish slot = if publish.0 == slot then publish.1 else judge
 
 -- the program of a slot, if these were published in turn, and that one judged before them
 abbrev pub judge_among : (first : AcceptedValue) → List (ℕ × AcceptedValue) → (slot : ℕ) → AcceptedValue
 judge_among first [] slot = first
-judge_among first (publish ∷ more) slot = judge_among (judge_behind first publish slot) more slot
+judge_among first (publish ∷ more) slot = judge_among (judge_after first publish slot) more slot
 
 -- the program of a slot
 abbrev pub judge_of : Judges → (slot : ℕ) → AcceptedValue

@@ -44,7 +44,7 @@ abbrev pub are_within : List Range → Reach → Bool
 are_within [] reach = false
 are_within (range ∷ ranges) reach = if is_in range reach then true else are_within ranges reach
 
--- what is reached may change: it is in the boot window, where that may be, or in one of the ranges
+-- what is reached may change: it is in the boot window, if that may be, or in one of the ranges
 abbrev pub may_reach : List Range → (loads : Bool) → Option Reach → Bool
 may_reach ranges loads None = true
 may_reach ranges loads (Some reach) =

@@ -23,7 +23,7 @@ pub record IsPlain (own : OwnNodeValue) (first : AcceptedValue) : Type 0 where
   pub node : own ≡ plain_node 1 (listed_maps [])
   pub program : first.program ≡ factory
 
--- what the suite is for: the node, in all slots of which that program judges at first, and where memory may change by the words
+-- what the suite is for: the node, in all slots of which that program judges at first, and the places at which memory may change by the words
 pub record IsBench (words : SuiteWords) (own : OwnNodeValue) (first : AcceptedValue) (b : Bench) : Type 0 where
   pub windows : b.windows ≡ windows_of own.address own.banks
   pub judges : AreJudges own first b.judges
@@ -83,7 +83,7 @@ module _ {S : Type 0} (reads : Reads S) where
     pub held : HoldsAll words before table own first bench after
     pub none : IsNoChart bench.judges own.sizes words.table table fault
 
-  -- both were read, and memory was refused behind that
+  -- both were read, and memory was refused after that
   pub record IsUntold (words : SuiteWords) (before after : S) (fault : Fault) : Type 0 where
     pub own : OwnNodeValue
     pub first : AcceptedValue

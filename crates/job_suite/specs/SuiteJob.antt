@@ -27,7 +27,7 @@ rows_app =
     (with_rule (with_rule (new_app (codes "suite")) (option_rule (codes "node"))) (option_rule (codes "seed")))
     (option_rule (codes "rows"))) (option_rule (codes "without"))) (option_rule (codes "table"))
 
--- the same, with `[--within LIST] [--loads] [--index]` behind it
+-- the same, with `[--within LIST] [--loads] [--index]` after it
 abbrev pub suite_app : App
 suite_app =
     with_rule (with_rule (with_rule rows_app (option_rule (codes "within"))) (flag_rule (codes "loads")))
@@ -49,16 +49,16 @@ name_of_table (Some table) = Some (string_bytes table.name)
 
 -- what the job reads first: the table, if one is named, else the node's file
 abbrev pub read_first : (table : Option (List ℕ)) → (node : Option InputValue) → Option InputValue
-read_first None node = node
-read_first (Some name) node = Some (input name Table)
+read_first None own = own
+read_first (Some name) own = Some (input name Table)
 
 abbrev pub first_read : SuiteWords → Option InputValue
 first_read words = read_first (name_of_table words.table) (node_read words)
 
 -- what it reads after that: the node's file, if a table was read
 abbrev pub read_second : (table : Option (List ℕ)) → (node : Option InputValue) → Option InputValue
-read_second None node = None
-read_second (Some name) node = node
+read_second None own = None
+read_second (Some name) own = own
 
 abbrev pub second_read : SuiteWords → Option InputValue
 second_read words = read_second (name_of_table words.table) (node_read words)

@@ -46,7 +46,7 @@ abbrev pub HasCome : Bench → Cargo → Came → Type 0
 HasCome b p (comings.Stopped check) = Meets b.windows p check
 HasCome b p (comings.Judged verdict fault) = IsVerdict b p verdict × (body_line (command_of p) ≡ fault)
 
--- the packet meets its row, and changes memory only where that may be, whatever a target makes of it
+-- the packet meets its row, and changes memory only at places that may be changed, whatever a target makes of it
 pub record IsTrial (b : Bench) (t : Trial) : Type 0 where
   pub met : IsMet b t.packet (wanted_of t.row)
   pub harmless : is_printed b.ranges.items b.loads t.packet.bytes ≡ true
@@ -59,7 +59,7 @@ AreTrials b trials = All (IsTrial b) trials
 abbrev pub trial_line : Trial → List ℕ
 trial_line t = packet_line 0 t.packet ++ 10 ∷ []
 
--- a text, and behind it the packet lines of these packets, in order
+-- a text, and after it the packet lines of these packets, in order
 abbrev pub with_lines : (text : List ℕ) → List Trial → List ℕ
 with_lines text [] = text
 with_lines text (t ∷ trials) = with_lines (text ++ trial_line t) trials

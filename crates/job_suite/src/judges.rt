@@ -3,7 +3,7 @@
 ghost use Rattle.std.specs.Prelude.{◌≡◌, IfOk};
 ghost use Rattle.node_parts.specs.Slots.{slot_of};
 ghost use Rattle.rmap.specs.Command.{command_kind};
-ghost use Rattle.job_suite.specs.Judges.{AreJudges, HasAnswered, judge_among, judge_behind, judge_of};
+ghost use Rattle.job_suite.specs.Judges.{AreJudges, HasAnswered, judge_among, judge_after, judge_of};
 
 use brun::run;
 use bver::Accepted;
@@ -24,27 +24,19 @@ pub struct Judges {
 }
 
 /// The program of a slot after a publish, if that one judged before it.
-fn judge_behind<'b>(judge: &'b Accepted, publish: &'b (u8, Accepted), slot: u8) -> &'b Accepted
-    ensures { result.now ≡ judge_behind judge.now publish.now slot }
+fn judge_after<'b>(judge: &'b Accepted, publish: &'b (u8, Accepted), slot: u8) -> &'b Accepted
+    ensures { result.now ≡ judge_after judge.now publish.now slot }
 {
-    if publish.0 == slot {
-        &publish.1
-    } else {
-        judge
-    }
+    if publish.0 == slot { &publish.1 } else { judge }
 }
 
 /// The program of a slot, if these were published in turn, and that one judged before them.
-fn judge_among<'b>(
-    first: &'b Accepted,
-    publishes: &'b [(u8, Accepted)],
-    slot: u8,
-) -> &'b Accepted
+fn judge_among<'b>(first: &'b Accepted, publishes: &'b [(u8, Accepted)], slot: u8) -> &'b Accepted
     ensures { result.now ≡ judge_among first.now publishes.now slot }
 {
     let mut judge = first;
     for publish in publishes {
-        judge = judge_behind(judge, publish, slot);
+        judge = judge_after(judge, publish, slot);
     }
     judge
 }

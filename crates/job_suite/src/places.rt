@@ -45,7 +45,7 @@ pub fn beside_bank(alloc: Global, maker: &mut Maker, area: Area) -> Result<(), A
     )
 }
 
-/// Commands to extended addresses at which nothing is, where a node has so many banks.
+/// Commands to extended addresses at which nothing is, if a node has so many banks.
 pub fn no_bank(alloc: Global, maker: &mut Maker, area: Area, banks: u8) -> Result<(), AllocError> {
     for extended in [banks, 0x7F, 0xFE] {
         at(alloc, maker, READ, extended, area.base, 4)?;

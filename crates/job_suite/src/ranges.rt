@@ -21,7 +21,7 @@ pub struct Range {
     pub high: u32,
 }
 
-/// What stands before the colon of a word, and behind it.
+/// What is before the colon of a word, and what is after it.
 pub fn at_colon(part: &str) -> (&str, &str)
     ensures before { result.0.now ≡ before_first is_colon part.now }
     ensures behind { result.1.now ≡ after_first is_colon part.now }
@@ -32,7 +32,7 @@ pub fn at_colon(part: &str) -> (&str, &str)
     }
 }
 
-/// What stands before the dash of a part, and behind it.
+/// What is before the dash of a part, and what is after it.
 fn at_dash(part: &str) -> (&str, &str)
     ensures before { result.0.now ≡ before_first is_dash part.now }
     ensures behind { result.1.now ≡ after_first is_dash part.now }
@@ -69,7 +69,7 @@ fn range_written(part: &str) -> Option<Range>
     })
 }
 
-/// The ranges that a list writes, with commas between them. `BadOption` where a part writes none.
+/// The ranges that a list writes, with commas between them. `BadOption` if a part writes none.
 pub fn ranges_written(alloc: Global, text: &str) -> Result<Vec<Range>, UsageFault>
     ensures ok { IfOk result (λ ranges. WriteRanges (list_parts text.now) ranges.items) }
     ensures err { IfErr result (IsValueFault (IsRangeList text.now)) }

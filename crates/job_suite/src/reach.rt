@@ -101,7 +101,7 @@ fn are_within(ranges: &[Range], reach: &Reach) -> bool
     false
 }
 
-/// Whether what is reached may change, where memory may change in these ranges, and in the boot window if it is so.
+/// Whether what is reached may change, if memory may change in these ranges, and in the boot window if it is so.
 fn may_reach(ranges: &[Range], loads: bool, reach: Option<Reach>) -> bool
     ensures { result ≡ may_reach ranges.now loads reach }
 {
@@ -117,7 +117,7 @@ fn may_reach(ranges: &[Range], loads: bool, reach: Option<Reach>) -> bool
     }
 }
 
-/// Whether a packet of these bytes may be printed, where memory may change in these ranges, and in the boot window if it is
+/// Whether a packet of these bytes may be printed, if memory may change in these ranges, and in the boot window if it is
 /// so.
 pub fn is_printed(ranges: &[Range], loads: bool, bytes: &[u8]) -> bool
     ensures { result ≡ is_printed ranges.now loads bytes.now }

@@ -328,7 +328,7 @@ fn suite_text(
     bench: &Bench,
     chart: &Option<Chart>,
 ) -> Result<String, AllocError>
-    ensures { IfOk result (IsText words.now bench.now) }
+    ensures { IfOk result (λ text. IsText words.now bench.now (string_bytes text)) }
 {
     let (trials, findings) = trials_of(alloc, words, bench, chart)?;
     let address = bench.judges.own.address();

@@ -59,7 +59,7 @@ fn other_slot(judges: &Judges, image: &[u8], slots: &[u8]) -> Result<Option<u8>,
 
 /// The table that a text writes, of which the program of each of these slots is the image on a node with these maps.
 ///
-/// Faults: the table (`BadTable`, also where memory is refused to it or to its image), and `BadNode` of the program where a slot has
+/// Faults: the table (`BadTable`, also if memory is refused to it or to its image), and `BadNode` of the program if a slot has
 /// another.
 pub fn table_of<'a>(
     alloc: Global,
@@ -84,7 +84,7 @@ pub fn table_of<'a>(
 
 /// The text of the file of the table that is named, if one is.
 ///
-/// The fault is `CannotRead`, also where the file is not UTF-8.
+/// The fault is `CannotRead`, also if the file is not UTF-8.
 pub fn asked_text<'a, F: Files>(
     alloc: Global,
     files: &mut F,

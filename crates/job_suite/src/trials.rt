@@ -28,7 +28,7 @@ pub struct Trial {
     pub packet: Packet,
 }
 
-/// What a suite is for: the node, its programs, and where memory may change.
+/// What a suite is for: the node, its programs, and the places at which memory may change.
 #[derive(Debug, Drop)]
 pub struct Bench {
     /// The address of the node, and where its banks lie.
