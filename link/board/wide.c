@@ -1,4 +1,5 @@
-/* What compilers call for numbers that are wider than the processor's: GCC's own library for SPARC is not for a LEON3 alone. */
+/* What compilers call for numbers that are wider than the processor's, and to count bits without an instruction for it. In GCC's own
+ * library for SPARC most of these are for v8+, and a program with one of them is no program for a LEON3. */
 #include <stdint.h>
 
 #if UINTPTR_MAX == UINT32_MAX
@@ -20,6 +21,7 @@ int64_t __ashrdi3(int64_t a, int by);
 uint64_t __muldi3(uint64_t a, uint64_t b);
 int __clzdi2(uint64_t a);
 int __clzsi2(uint32_t a);
+int __popcountsi2(uint32_t a);
 uint64_t __udivdi3(uint64_t a, uint64_t b);
 uint64_t __umoddi3(uint64_t a, uint64_t b);
 int64_t __divdi3(int64_t a, int64_t b);
@@ -60,6 +62,12 @@ int __clzsi2(uint32_t a) {
 int __clzdi2(uint64_t a) {
   pair p = {a};
   return p.half.high != 0 ? __clzsi2(p.half.high) : 32 + __clzsi2(p.half.low);
+}
+
+int __popcountsi2(uint32_t a) {
+  int ones = 0;
+  for (uint32_t bit = 0x80000000u; bit != 0; bit >>= 1) ones += (a & bit) != 0;
+  return ones;
 }
 
 /* The quotient, and the rest. */

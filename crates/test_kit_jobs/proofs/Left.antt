@@ -9,7 +9,6 @@ use Rattle.job_texts.specs.Assembled.{Assembles, IsNotAssembled}
 use Rattle.job_texts.specs.Compiled.{CompilesTable, IsNoTable, IsNotCompiled}
 use Rattle.job_texts.specs.Disassembled.{IsNotPrinted}
 use Rattle.bver.specs.Justified.{AcceptedValue}
-use Rattle.sched.specs.History.{History}
 use Rattle.sched.specs.Looking.{Node as Schedule}
 use Rattle.job_config.specs.OwnNodes.{OwnNodeValue}
 use Rattle.job_config.specs.declared.node_lines.NodeLines.{NodeLines}
@@ -93,14 +92,14 @@ unjudged args before after old new fault (inl (same, inr lacks)) = unheld args.n
 unjudged args before after old new fault (inr stops) = ready_all args before stops.text stops.fresh after stops.ready
 
 -- the lines of a schedule, and the node on which they begin
-begun : (source : NodeSource) (before : FolderValue) (n : Schedule) (h : History) (after : FolderValue) → BeginsAt FolderReads source before n h after
+begun : (source : NodeSource) (before : FolderValue) (n : Schedule) (after : FolderValue) → BeginsAt FolderReads source before n after
     → after ≡ before
-begun (Words words) before n h after begins = programmed before _ _ after begins.given
-begun (File name) before n h after begins = some_read before after begins.read.only_reads
+begun (Words words) before n after begins = programmed before _ _ after begins.given
+begun (File name) before n after begins = some_read before after begins.read.only_reads
 
-scheduled_all : (args : NodeLines) (before : FolderValue) (text : List ℕ) (n : Schedule) (h : History) (after : FolderValue)
-    → IsScheduled FolderReads args before text n h after → after ≡ before
-scheduled_all args before text n h after scheduled = begun args.node scheduled.between n h after scheduled.begins ∙ scheduled.read.0
+scheduled_all : (args : NodeLines) (before : FolderValue) (text : List ℕ) (n : Schedule) (after : FolderValue)
+    → IsScheduled FolderReads args before text n after → after ≡ before
+scheduled_all args before text n after scheduled = begun args.node scheduled.between n after scheduled.begins ∙ scheduled.read.0
 
 with_contents : (source : NodeSource) (before after : FolderValue) → HasContents FolderReads source before after → after ≡ before
 with_contents (Words words) before after contents = absurd contents
@@ -122,26 +121,26 @@ unscheduled args before after fault (inr lacks) = no_world args.node lacks.betwe
 
 simulated : (args : NodeLines) (before after : FolderValue) (old new : Option (List ℕ)) (status : Status) → DoesSim FolderReads args before after old new status
     → after ≡ before
-simulated args before after old new Done done = scheduled_all args before done.text done.node done.begun after done.scheduled
+simulated args before after old new Done done = scheduled_all args before done.text done.node after done.scheduled
 simulated args before after old new Failed done = absurd done
 simulated args before after old new Misused done = refused args before after old new done
 
 traced : (args : NodeLines) (before after : FolderValue) (old new : Option (List ℕ)) (status : Status) → DoesTrace FolderReads args before after old new status
     → after ≡ before
-traced args before after old new Done done = scheduled_all args before done.text done.node done.begun after done.scheduled
+traced args before after old new Done done = scheduled_all args before done.text done.node after done.scheduled
 traced args before after old new Failed done = absurd done
 traced args before after old new Misused done = refused args before after old new done
 
 unsimulated : (args : NodeLines) (before after : FolderValue) (old new : Option (List ℕ)) (fault : Fault)
     → IsNotSimulated FolderReads args before after old new fault → after ≡ before
 unsimulated args before after old new fault (inl is) = unscheduled args before after fault is.1
-unsimulated args before after old new fault (inr stops) = scheduled_all args before stops.text stops.node stops.begun after stops.scheduled
+unsimulated args before after old new fault (inr stops) = scheduled_all args before stops.text stops.node after stops.scheduled
 
 untraced : (args : NodeLines) (before after : FolderValue) (old new : Option (List ℕ)) (fault : Fault)
     → IsNotTraced FolderReads args before after old new fault → after ≡ before
 untraced args before after old new fault (inl (same, inl is)) = unscheduled args before after fault is
-untraced args before after old new fault (inl (same, inr lacks)) = scheduled_all args before lacks.text lacks.node lacks.begun after lacks.scheduled
-untraced args before after old new fault (inr stops) = scheduled_all args before stops.text stops.node stops.begun after stops.scheduled
+untraced args before after old new fault (inl (same, inr lacks)) = scheduled_all args before lacks.text lacks.node after lacks.scheduled
+untraced args before after old new fault (inr stops) = scheduled_all args before stops.text stops.node after stops.scheduled
 
 -- the lines of packets of ports, and the node that serves them
 owned : (source : NodeSource) (before : FolderValue) (own : OwnNodeValue) (program : AcceptedValue) (after : FolderValue)
