@@ -2,4 +2,6 @@ mod BankLimits
 mod Beginnings
 mod Meeting
 mod RangeLists
+mod TableWords
+mod TrialLines
 mod TrialLists

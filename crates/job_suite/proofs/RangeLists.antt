@@ -1,5 +1,5 @@
 -- The ranges that a list writes.
-use Rattle.std.proofs.Common.{arith, ◌≡◌, ◌≤◌, ◌<◌, ◌++◌, ◌∷◌, ℕ, List, [], All, length, get_or, sym, subst}
+use Rattle.std.proofs.Common.{arith, ◌≡◌, ◌≤◌, ◌<◌, ◌++◌, ◌∷◌, ◌∙◌, ap, ℕ, List, [], All, length, get_or, sym, subst}
 use Rattle.std.proofs.lemmas.List.Elements.{All-get_or}
 use Rattle.std.specs.List.{after_first, before_first}
 use Rattle.job_packets.specs.HexWords.{WritesHex}
@@ -7,14 +7,18 @@ use Rattle.job_suite.specs.Ranges.{IsRange, WriteRanges, WritesRange, is_colon, 
 use Rattle.job_suite.specs.declared.ranges.Range.{Range}
 
 -- a part of which a word writes no number, or in which LOW is above HIGH, writes no range
-pub no_extended : (part : List ℕ) → ((n : ℕ) → ¬ WritesHex 2 (before_first is_colon part) n) → ¬ IsRange part
-no_extended part none = λ is. none is.extended.0 is.extended.1
+pub no_extended : (part front : List ℕ) → front ≡ before_first is_colon part → ((n : ℕ) → ¬ WritesHex 2 front n) → ¬ IsRange part
+no_extended part front at none = λ is. none is.extended.0 (subst (λ (w : List ℕ). WritesHex 2 w is.extended.0) (sym at) is.extended.1)
 
-pub no_low : (part : List ℕ) → ((n : ℕ) → ¬ WritesHex 8 (before_first is_dash (after_first is_colon part)) n) → ¬ IsRange part
-no_low part none = λ is. none is.low.0 is.low.1
+pub no_low : (part rest first : List ℕ) → rest ≡ after_first is_colon part → first ≡ before_first is_dash rest
+    → ((n : ℕ) → ¬ WritesHex 8 first n) → ¬ IsRange part
+no_low part rest first behind at none = λ is.
+    none is.low.0 (subst (λ (w : List ℕ). WritesHex 8 w is.low.0) (sym (at ∙ ap (before_first is_dash) behind)) is.low.1)
 
-pub no_high : (part : List ℕ) → ((n : ℕ) → ¬ WritesHex 8 (after_first is_dash (after_first is_colon part)) n) → ¬ IsRange part
-no_high part none = λ is. none is.high.0 is.high.1
+pub no_high : (part rest last : List ℕ) → rest ≡ after_first is_colon part → last ≡ after_first is_dash rest
+    → ((n : ℕ) → ¬ WritesHex 8 last n) → ¬ IsRange part
+no_high part rest last behind at none = λ is.
+    none is.high.0 (subst (λ (w : List ℕ). WritesHex 8 w is.high.0) (sym (at ∙ ap (after_first is_dash) behind)) is.high.1)
 
 pub no_order : (part : List ℕ) (low high : ℕ) → WritesHex 8 (before_first is_dash (after_first is_colon part)) low
     → WritesHex 8 (after_first is_dash (after_first is_colon part)) high → high < low → ¬ IsRange part

@@ -5,6 +5,7 @@ pub mod Ranges
 pub mod Judges
 pub mod Comings
 pub mod Trials
+pub mod Marks
 pub mod SuiteJob
 pub mod Tables
 pub mod SuiteFile

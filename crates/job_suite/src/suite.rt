@@ -4,8 +4,10 @@ ghost use Rattle.std.specs.Prelude.{◌≡◌, ◌++◌, IfErr, IfOk, OnOk, Some
 ghost use Rattle.job_parts.specs.Statuses.{IsDoneWith};
 ghost use Rattle.job_parts.specs.Stops.{StopsBy};
 ghost use Rattle.node_parts.specs.Nodes.{windows_of};
+ghost use Rattle.spw.specs.Line.{marker_word};
 ghost use Rattle.job_suite.specs.SuiteFile.{HoldsNoNode, HoldsNode, IsBench, IsNoSuite, IsPlain, IsText, PrintsSuite};
 ghost use Rattle.job_suite.specs.Tables.{AreTableOf, IsNoChart};
+ghost use Rattle.job_suite.specs.Marks.{marked_line};
 ghost use Rattle.job_suite.specs.Trials.{AreTrials, lines_of, trial_line, with_lines};
 
 use crate::bodies::body_rows;
@@ -45,9 +47,11 @@ fn plain_node(alloc: Global) -> Result<ReadNode, AllocError>
     ensures { IfOk result (λ made. IsPlain made.node made.program) }
 {
     let node = OwnNode::plain(alloc, 1, no_maps())?;
-    // Memory alone can be refused to it.
-    let program = factory_program(alloc, no_maps()).map_err(|_| AllocError)?;
-    Ok(ReadNode { node, program })
+    match factory_program(alloc, no_maps()) {
+        Ok(program) => Ok(ReadNode { node, program }),
+        // Memory alone can be refused to it.
+        Err(_) => Err(AllocError),
+    }
 }
 
 /// The node of these words, and the program that judges in all slots at first.
@@ -221,16 +225,32 @@ fn wanted_drafts(
     Ok(wanted)
 }
 
+/// The word of the end of a packet.
+fn mark_of(end: End) -> &'static str
+    ensures { result.now ≡ marker_word end }
+{
+    match end {
+        End::Eop => "EOP",
+        End::Eep => "EEP",
+    }
+}
+
+/// Adds a line of a port, these digits and this word.
+fn add_marked(text: &mut String, port: u8, digits: &str, mark: &str) -> Result<(), AllocError>
+    ensures { OnOk result
+        (string_bytes text.new ≡ string_bytes text.old ++ marked_line port digits.now mark.now) }
+{
+    writeln!(text, "{port} {digits} {mark}")
+}
+
 /// Adds the packet line of a packet at port 0.
 fn add_line(text: &mut String, alloc: Global, trial: &Trial) -> Result<(), AllocError>
     ensures { OnOk result (string_bytes text.new ≡ string_bytes text.old ++ trial_line trial.now) }
 {
     let digits = hex::encode_upper(alloc, trial.packet.bytes())?;
-    let digits = digits.as_str();
-    match trial.packet.end() {
-        End::Eop => writeln!(text, "0 {digits} EOP"),
-        End::Eep => writeln!(text, "0 {digits} EEP"),
-    }
+    let mark = mark_of(trial.packet.end());
+    add_marked(text, 0, digits.as_str(), mark)?;
+    Ok(())
 }
 
 /// Adds the packet lines of these packets.

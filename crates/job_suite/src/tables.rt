@@ -1,6 +1,6 @@
 //! The table of which programs of a node are the image.
 
-ghost use Rattle.std.specs.Prelude.{◌≡◌, IfErr, IfOk, MatchOption, All, Some, option_map, string_bytes};
+ghost use Rattle.std.specs.Prelude.{◌≡◌, IfErr, IfOk, MatchBool, MatchOption, All, Some, option_map, string_bytes};
 ghost use Rattle.job_config.specs.Reads.{Ends};
 ghost use Rattle.job_parts.specs.declared.node_codes.NodeCode.TheVariants.{Program as NoImage};
 ghost use Rattle.policy.specs.Compiled.{IsPortCompiled};
@@ -42,6 +42,15 @@ fn no_image<'a>(alloc: Global, slot: u8) -> Fault<'a>
     }
 }
 
+/// Whether the program of a slot is this image.
+fn is_image_of(judges: &Judges, image: &[u8], slot: u8) -> Result<bool, AllocError>
+    ensures { IfOk result (λ is. MatchBool is (IsImageOf judges.now image.now slot)
+        (¬ IsImageOf judges.now image.now slot)) }
+{
+    let own = judges.judge(slot).image().write()?;
+    Ok(own.as_slice() == image)
+}
+
 /// The first of these slots whose program is not this image.
 fn other_slot(judges: &Judges, image: &[u8], slots: &[u8]) -> Result<Option<u8>, AllocError>
     ensures { IfOk result (λ other. MatchOption other
@@ -49,8 +58,7 @@ fn other_slot(judges: &Judges, image: &[u8], slots: &[u8]) -> Result<Option<u8>,
         (λ _. ¬ All (IsImageOf judges.now image.now) slots.now)) }
 {
     for slot in slots {
-        let own = judges.judge(*slot).image().write()?;
-        if own.as_slice() != image {
+        if !is_image_of(judges, image, *slot)? {
             return Ok(Some(*slot));
         }
     }

@@ -137,16 +137,14 @@ impl Bench {
         self.asked_trial(alloc, draft, askers)
     }
 
-    /// Adds a packet, if there is one.
+    /// Adds a packet.
     #[tactic(auto, using(crate::proofs::TrialLists::one_more_trial))]
-    fn add(&self, trials: &mut Vec<Trial>, came: Option<Trial>) -> Result<(), AllocError>
+    fn add(&self, trials: &mut Vec<Trial>, trial: Trial) -> Result<(), AllocError>
         requires trials { AreTrials self.now trials.old.items }
-        requires came { IfSome came (IsTrial self.now) }
+        requires is { IsTrial self.now trial }
         ensures { OnOk result (AreTrials self.now trials.new.items) }
     {
-        if let Some(trial) = came {
-            trials.push(trial)?;
-        }
+        trials.push(trial)?;
         Ok(())
     }
 
@@ -161,8 +159,9 @@ impl Bench {
     {
         let mut trials = Vec::new(alloc);
         for draft in drafts {
-            let came = self.any_trial(alloc, draft, askers)?;
-            self.add(&mut trials, came)?;
+            if let Some(trial) = self.any_trial(alloc, draft, askers)? {
+                self.add(&mut trials, trial)?;
+            }
         }
         Ok(trials)
     }

@@ -182,6 +182,7 @@ pub fn without_written(alloc: Global, found: &ArgMatches) -> Result<String, Usag
 }
 
 /// The table that a word names: `SLOTS:FILE`.
+#[tactic(auto, using(crate::proofs::TableWords::no_slots))]
 fn table_written(alloc: Global, word: &str) -> Result<TableWord, UsageFault>
     ensures ok { IfOk result (WritesTable word.now) }
     ensures err { IfErr result (IsValueFault (IsTableWord word.now)) }
