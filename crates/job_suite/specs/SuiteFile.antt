@@ -62,7 +62,7 @@ module _ {S : Type 0} (reads : Reads S) where
     pub bench : Bench
     pub table : Option (List ℕ)
     pub held : HoldsAll words before table own first bench after
-    pub of_table : AreTableOf bench.judges own.sizes words.table table
+    pub of_table : AreTableOf bench.judges bench.judges.own.sizes words.table table
     pub text : List ℕ
     pub is_text : IsText words bench text
     pub printed : Appends old new text
@@ -81,7 +81,7 @@ module _ {S : Type 0} (reads : Reads S) where
     pub bench : Bench
     pub table : Option (List ℕ)
     pub held : HoldsAll words before table own first bench after
-    pub none : IsNoChart bench.judges own.sizes words.table table fault
+    pub none : IsNoChart bench.judges bench.judges.own.sizes words.table table fault
 
   -- both were read, and memory was refused after that
   pub record IsUntold (words : SuiteWords) (before after : S) (fault : Fault) : Type 0 where
