@@ -148,6 +148,18 @@ impl Bench {
         Ok(())
     }
 
+    /// Adds a packet, if there is one.
+    fn add_any(&self, trials: &mut Vec<Trial>, came: Option<Trial>) -> Result<(), AllocError>
+        requires trials { AreTrials self.now trials.old.items }
+        requires came { IfSome came (IsTrial self.now) }
+        ensures { OnOk result (AreTrials self.now trials.new.items) }
+    {
+        match came {
+            Some(trial) => self.add(trials, trial),
+            None => Ok(()),
+        }
+    }
+
     /// The packets of these drafts that meet their rows and may be printed, in this order.
     pub fn trials(
         &self,
@@ -159,9 +171,8 @@ impl Bench {
     {
         let mut trials = Vec::new(alloc);
         for draft in drafts {
-            if let Some(trial) = self.any_trial(alloc, draft, askers)? {
-                self.add(&mut trials, trial)?;
-            }
+            let came = self.any_trial(alloc, draft, askers)?;
+            self.add_any(&mut trials, came)?;
         }
         Ok(trials)
     }
