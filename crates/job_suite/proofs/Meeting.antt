@@ -1,5 +1,5 @@
 -- From what the checks and the program of a node say of a packet to what the packet meets.
-use Rattle.std.proofs.Common.{◌≡◌, ◌∙◌, ℕ, Option, Some, None, ap, absurd, subst, sym}
+use Rattle.std.proofs.Common.{◌≡◌, ◌∙◌, ℕ, Option, Some, None, ap, subst, sym}
 use Rattle.std.specs.Prelude.{option_map}
 use Rattle.node_parts.specs.Slots.{slot_of}
 use Rattle.rmap.specs.Checks.{HasPlace, body_line, header_check}

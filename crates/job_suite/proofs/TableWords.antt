@@ -1,5 +1,5 @@
 -- A word that names no table.
-use Rattle.std.proofs.Common.{◌≡◌, ◌∙◌, List, ℕ, absurd, inl, inr, refl, subst, sym}
+use Rattle.std.proofs.Common.{◌≡◌, ◌∙◌, List, ℕ, inl, inr, refl, subst, sym}
 use Rattle.std.specs.List.{before_first}
 use Rattle.job_packets.specs.HexWords.{Has}
 use Rattle.job_packets.specs.Slips.{IsWordFault, usage_fault_of}
@@ -14,7 +14,7 @@ use Rattle.job_suite.specs.SuiteJob.{IsTableWord}
 no_table : (word slots : List ℕ) (fault : PacketFault) → slots ≡ before_first is_colon word → IsWordFault (Has (WritesSlots slots)) fault
     → IsValueFault (IsTableWord word) (usage_fault_of fault)
 no_table word slots Memory at is = inl refl
-no_table word slots (Words slip) at (inl same) = absurd same
+no_table word slots (Words slip) at (inl same) = let no : ⊥ = cc same in absurd no
 no_table word slots (Words slip) at (inr bad) =
     inr (refl, λ table. bad.1 (subst (λ (w : List ℕ). Has (WritesSlots w)) (sym at) table.0))
 

@@ -1,4 +1,4 @@
-use Rattle.std.proofs.Common.{lit<, List, ℕ, inr, refl, sym, subst}
+use Rattle.std.proofs.Common.{lit<, ◌++◌, ◌∷◌, [], List, ℕ, inr, map, refl, sym, subst}
 use Rattle.std.proofs.lemmas.Iterator.Consumers.{YieldsList-at, YieldsList-end, YieldsList-turn}
 use Rattle.std.proofs.lemmas.Iterator.Splits.{YieldsList-from_str_split}
 use Rattle.std.proofs.lemmas.List.{map_push}
@@ -19,8 +19,8 @@ returns-in_default-clause-err c =
 pub loop-part-preserved : goal.loop-part-preserved
 loop-part-preserved c =
     subst (λ (parts : List (List ℕ)). WriteRanges parts c.push.new.self.items) (sym (map_push (λ part. part.now) c.loop-part.yielded c.in-Some.part))
-    (subst (λ (ranges : List Range). WriteRanges _ ranges) (sym c.in_ok-push.ensures.items)
-    (one_more_range _ c.in-Some.part.now _ _ c.loop-part.invariant c.in-Some-range_written.ensures))
+    (subst (λ (ranges : List Range). WriteRanges (map (λ part. part.now) c.loop-part.yielded ++ c.in-Some.part.now ∷ []) ranges) (sym c.in_ok-push.ensures.items)
+    (one_more_range (map (λ part. part.now) c.loop-part.yielded) c.in-Some.part.now c.loop-part.ranges.items _ c.loop-part.invariant c.in-Some-range_written.ensures))
 
 pub returns-clause-ok : goal.returns-clause-ok
 returns-clause-ok c =
