@@ -1,3 +1,4 @@
+use Rattle.std.proofs.Common.{rules}
 use Rattle.std.proofs.lemmas.List.Elements.{All-more}
 use Rattle.job_suite.specs.Tables.{IsImageOf}
 use Rattle.job_suite.proofs.tables.other_slot.Goals as goal
