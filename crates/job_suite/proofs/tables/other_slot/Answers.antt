@@ -5,5 +5,5 @@ use Rattle.job_suite.proofs.tables.other_slot.Goals as goal
 
 pub loop-slot-preserved : goal.loop-slot-preserved
 loop-slot-preserved c =
-    All-more (IsImageOf c.args.judges.now c.args.image.now) c.args.slots.now c.loop-slot.slot-index _ c.loop-slot-test.true c.loop-slot.invariant
+    All-more (IsImageOf c.args.judges.now c.args.image.now) c.args.slots.now c.loop-slot.slot-index 0 c.loop-slot-test.true c.loop-slot.invariant
     (search rules)
