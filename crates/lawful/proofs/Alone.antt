@@ -33,7 +33,7 @@ use Rattle.sched.specs.Looking.{Node, entries, staged_behind, staging}
 use Rattle.sched.specs.Turns.{answers_of}
 use Rattle.sched.specs.Agreement.{PublishedAgrees, slot_and_program}
 use Rattle.lawful.specs.Alone.{AreDealtInFull, IsDealtInFull, IsFreshPort, IsJudgedInFull, IsOwnBank, OnePortIsLawful}
-use Rattle.lawful.specs.ButTold.{IsOutcomeAtButTold}
+use Rattle.sched.specs.Lawful.{IsOutcomeAtButTold}
 use Rattle.lawful.specs.Happenings.{Happening, HappenBy, ending, happened_at, happening, told_calls}
 use Rattle.lawful.proofs.Entering.{bank_staging, bank_thus, finished_front}
 use Rattle.lawful.proofs.Growing.{banked_programs, dealt_grown, judged_grown, loads_first, made, made_by, taken_longer, worked_grown}

@@ -1,4 +1,3 @@
-mod ToldApart
 mod Turning
 mod Keeping
 mod Telling

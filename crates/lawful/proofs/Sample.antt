@@ -51,10 +51,9 @@ use Rattle.sched.specs.declared.event.Event.TheVariants.{Take, Effect as EffectE
 use Rattle.sched.specs.declared.event.Outcome.{Outcome}
 use Rattle.sched.specs.declared.event.Outcome.TheVariants.{Refused, Answered, Taken, Done}
 use Rattle.sched.specs.History.{History, Start, Then, Open, opened, taken}
-use Rattle.sched.specs.Lawful.{IsControlled, done, effect_at_place, header_outcome, packet_outcome, take_outcome}
+use Rattle.sched.specs.Lawful.{IsControlled, IsLawfulButTold, done, effect_at_place, header_outcome, packet_outcome, take_outcome}
 use Rattle.sched.specs.Looking.{Node, counted, entered, entries, first_memory, has_room, header_in, published, published_at, published_behind, publishes, slot_at, slot_of_packet, staged_at, staging, verdict_at, windows_in}
 use Rattle.lawful.specs.Alone.{IsFreshPort}
-use Rattle.lawful.specs.ButTold.{IsLawfulButTold}
 use Rattle.lawful.specs.Happenings.{HappenBy, happened_at, happening}
 use Rattle.lawful.specs.Sample.{HasSampleHistory, IsSample, Sample, SampleIsLawful, WrongOnesAreRefused, entry_link, factory_link, factory_publish, first_pass, judged_yes, list_at_first, list_at_load, list_before_entry, load_judging, load_link, load_publish, loaded_alone, loaded_history, opening_link, pass_entered, pass_loaded, pass_staged, read_judging, sample_accounts, sample_bank, sample_history, sample_list, sample_node, sample_staging, stage_judging, staged_history, taken_history, wrong_reply}
 use Rattle.lawful.specs.Together.{AreServedTogether, IsBankOf, IsLoadPlaced, IsServedBeside}

@@ -31,7 +31,7 @@ use Rattle.sched.specs.History.{History, Then, Open, port_of}
 use Rattle.sched.specs.Looking.{Node, staged_behind, staging}
 use Rattle.sched.specs.Turns.{answers_of}
 use Rattle.lawful.specs.Alone.{AreDealtInFull, IsJudgedInFull, IsRefusedForStaged}
-use Rattle.lawful.specs.ButTold.{IsLawfulButTold}
+use Rattle.sched.specs.Lawful.{IsLawfulButTold}
 use Rattle.lawful.specs.Happenings.{Happening, HappenBy, HappensBy, ending, happening, told_calls}
 use Rattle.lawful.specs.Together.{Account, AreLoadsPlaced, IsLoadPlaced}
 use Rattle.lawful.proofs.Accounts.{IsFrom, PublishesNone, ended, from_front, moment_stands}

@@ -1,4 +1,3 @@
-pub mod ButTold
 pub mod Happenings
 pub mod Alone
 pub mod Together

@@ -42,9 +42,9 @@ use Rattle.ports.specs.Due.Deed.{Answered as Replied, Judged}
 use Rattle.sched.specs.declared.event.Event.TheVariants.{Take, Effect, Publish as PublishEvent}
 use Rattle.sched.specs.declared.event.Outcome.TheVariants.{Answered, Taken, Done}
 use Rattle.sched.specs.History.{History, Start, Then}
+use Rattle.sched.specs.Lawful.{IsLawfulButTold}
 use Rattle.sched.specs.Looking.{Node, publishes, windows_in}
 use Rattle.sched.specs.Turns.{turn_after}
-use Rattle.lawful.specs.ButTold.{IsLawfulButTold}
 use Rattle.lawful.specs.Together.{Account, AreServedTogether, HaveLawfulHistory}
 
 -- ---- what is given

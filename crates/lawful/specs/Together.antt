@@ -21,7 +21,7 @@ use Rattle.sched.specs.Agreement.{program_and_generation, slot_and_program}
 use Rattle.sched.specs.History.{History, opened}
 use Rattle.sched.specs.Looking.{Node, entries, published, publishes, staging}
 use Rattle.lawful.specs.Alone.{AreDealtInFull, IsFreshPort}
-use Rattle.lawful.specs.ButTold.{IsLawfulButTold}
+use Rattle.sched.specs.Lawful.{IsLawfulButTold}
 use Rattle.lawful.specs.Happenings.{HappenBy, happened_at}
 
 -- ---- premises

@@ -1,7 +1,6 @@
 //! The laws of what threads did. Each function does no work: its contract is the law.
 
 ghost use Rattle.lawful.specs.Alone.{OnePortIsLawful};
-ghost use Rattle.lawful.specs.ButTold.{LawfulIsButTold};
 ghost use Rattle.lawful.specs.Sample.{SampleIsLawful};
 ghost use Rattle.lawful.specs.Together.{ThreadsAreLawful};
 
@@ -10,12 +9,6 @@ use machine::runs_from_the_front;
 use node_programs::published_programs;
 use ports::workers_shares_count;
 use sched::published_agrees;
-
-/// A law and no work: a history whose answers are words is lawful exactly if it is lawful apart from what cells answered, and
-/// cells answered what looking back gives.
-pub fn told_apart()
-    ensures { LawfulIsButTold }
-{}
 
 /// A law and no work: what a thread did at a fresh port, the only one that was served, is a lawful history of the node, apart
 /// from what cells answered. Programs may be published before the first packet, of all of which the port knows. At the port
