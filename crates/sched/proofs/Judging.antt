@@ -1,5 +1,5 @@
 -- What a lawful history says of a command that is done.
-use Rattle.std.proofs.Common.{◌≡◌, ◌≢◌, ◌<◌, ◌≤◌, ◌+◌, ◌^◌, ◌==◌, ◌⊎◌, ℕ, [], Bool, true, false, Option, Some, None, refl, sym, ap, subst, ◌∙◌, arith, inl, inr}
+use Rattle.std.proofs.Common.{◌≡◌, ◌≢◌, ◌<◌, ◌≤◌, ◌+◌, ◌==◌, ◌⊎◌, ℕ, [], Bool, true, false, Option, Some, None, refl, sym, ap, subst, ◌∙◌, inl, inr}
 use Rattle.std.specs.Prelude.{if◌then◌else◌}
 use Rattle.std.proofs.lemmas.Bool.{cases_lt}
 use Rattle.spw.specs.Cargo.{Cargo}
@@ -28,7 +28,7 @@ use Rattle.sched.specs.declared.event.Outcome.{Outcome}
 use Rattle.sched.specs.declared.event.Outcome.TheVariants.{Refused, Discarded, Answered, Taken, Told, Done}
 use Rattle.sched.specs.Headline.{HasBytes, IsNode, LeadsTo, same, further}
 use Rattle.sched.proofs.Firsts.{justified_after}
-use Rattle.sched.specs.History.{History, Start, Then, Open, port_of, taken_by, after_told, opened_by, opened}
+use Rattle.sched.specs.History.{History, Start, Then, Open, port_of, opened}
 use Rattle.sched.specs.Lawful.{IsLawfulButTold, IsOutcomeButTold, IsOutcomeAtButTold, IsSomeTold, IsControlled, IsDecided, IsLoaded, IsPublishedAt, IsPublishedBy, IsPublishOutcome, effect_at_place, effect_at_turn, effect_outcome, header_outcome, packet_outcome, take_outcome}
 use Rattle.sched.specs.Looking.{Node, windows_in, place_in, slot_of_packet, cell_asked, turn_at, turn_of, staging, published_at, published_behind, publishes, published}
 use Rattle.sched.proofs.Publishing.{loaded_program}

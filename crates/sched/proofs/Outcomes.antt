@@ -1,7 +1,5 @@
 -- What an event comes to, what cells answer too: a history that goes on so is lawful.
-use Rattle.std.proofs.Common.{◌≡◌, ◌<◌, ◌≤◌, ◌^◌, ℕ, Option, Some, None, List, subst}
-use Rattle.rmap.specs.declared.discard.Discard.{Discard}
-use Rattle.rmap.specs.declared.status.Status.{Status}
+use Rattle.std.proofs.Common.{◌≡◌, ◌<◌, ◌≤◌, ◌^◌, ℕ, Option, Some, None, subst}
 use Rattle.machine.specs.declared.helpers.Helper.{Helper}
 use Rattle.machine.specs.declared.helpers.Helper.TheVariants as helpers
 use Rattle.brun.specs.declared.turns.Turn.{Turn}
