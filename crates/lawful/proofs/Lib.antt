@@ -16,4 +16,5 @@ mod Worlds
 mod Settling
 mod Stepping
 mod Together
+mod Once
 mod Sample

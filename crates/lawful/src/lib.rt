@@ -8,4 +8,4 @@
 
 mod laws;
 
-pub use laws::{one_port_is_lawful, sample_is_lawful, threads_are_lawful};
+pub use laws::{one_port_is_lawful, sample_is_lawful, threads_are_lawful, threads_judge_once};
