@@ -22,7 +22,8 @@ use Rattle.sched.specs.Turns.{answers_of}
 use Rattle.lawful.specs.Alone.{AreDealtInFull, IsJudgedInFull}
 use Rattle.sched.specs.Lawful.{IsLawfulButTold}
 use Rattle.lawful.specs.Happenings.{Happening, HappenBy, ending, happened_at, happening}
-use Rattle.lawful.specs.Together.{Account, AreLoadsPlaced}
+use Rattle.lawful.specs.Together.{Account}
+use Rattle.lawful.proofs.Placing.{AreLoadsPlaced}
 use Rattle.lawful.proofs.Accounts.{HasActed, IsFrom, LeavesEntry, PublishesOne, entry_acted}
 use Rattle.lawful.proofs.Alone.{worked_front}
 use Rattle.lawful.proofs.Entering.{IsDoneAt, asks_one, done_at}

@@ -13,4 +13,13 @@ returns-clause-ended g c = record {
   ended = c.load.ensures.ended;
   loaded = c.load.ensures.asked.0;
   asks_for = c.load.ensures.asked.1;
+  moment = record {
+    met = c.know.new.front;
+    seen = c.know.ensures.seen;
+    published = c.know.ensures.published;
+    did = c.know.ensures.did;
+    goes = c.know-2.ensures.seen;
+    publishes = c.know-2.ensures.published;
+    does = c.know-2.ensures.did;
+  };
 }
