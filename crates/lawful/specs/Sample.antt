@@ -201,7 +201,7 @@ wrong_reply x = reply_of (command_of x.wrong) x.status []
 abbrev pub sample_accounts : Sample → ℕ → Account
 sample_accounts x zero = record {
   first = stand (first_pass x 0) [] [];
-  last = stand (pass_loaded x) ((publishes_chain, Publishes (0, load_publish x)) ∷ []) (list_at_first x);
+  last = stand (pass_loaded x) ((publishes_chain, Publishes (0, load_publish x)) ∷ []) (list_at_load x);
   packets = x.stage ∷ x.load ∷ [];
   deeds = Judged (stage_judging x) ∷ Judged (load_judging x) ∷ [];
 }
