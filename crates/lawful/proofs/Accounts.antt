@@ -171,7 +171,7 @@ load_of places.Control old after before new j result reply x at end more =
 asks_some : (port : ℕ) (loaded : Option Publish) (x : Publish) (old new : List Publish) (asked after : List Due) → loaded ≡ Some x → AsksForLoad port loaded old new asked after → AsksForLoad port (Some x) old new asked after
 asks_some port loaded x old new asked after is asks = subst (λ (o : Option Publish). AsksForLoad port o old new asked after) is asks
 
--- where a load's publish stands, by what its port knows of the history
+-- where a load's publish is, by what its port knows of the history
 place_of_load : (q : ℕ) (whole : List Link) (j : Judging) (p : Cargo) (s after : Standing) (is : IsJudged j p s after) → s.pass.port ≡ q → IsPrefix after.front whole → IsLoadPlaced q whole j p s after is
 place_of_load q whole j p s after is port front = λ publish it some.
     let asks = asks_some is.between.port j.loaded publish it.old it.new s.asked after.asked some it.asks_for in

@@ -120,7 +120,7 @@ find q x pre (l ∷ ls) only many = find_first q x pre l ls only many (λ furthe
 
 -- ---- the place of a load
 
--- the publish of that port stands in the list right behind those that the load met, and behind all that the port knew then
+-- the publish of that port is in the list right after those that the load met, and after all that the port knew then
 pub record IsPlaced (port : ℕ) (whole known : List Link) (old : List Publish) (publish : Publish) : Type 0 where
   pub before : List Link
   pub item : Link
@@ -130,7 +130,7 @@ pub record IsPlaced (port : ℕ) (whole known : List Link) (old : List Publish) 
   pub seen : IsPrefix known before
   pub met : publishes_of before ≡ old
 
--- what a command published, if it did, stands at its place in the list
+-- what a command published, if it did, is at its place in the list
 abbrev pub IsLoadPlaced : (port : ℕ) (whole : List Link) (j : Judging) (p : Cargo) (h after : Standing) → IsJudged j p h after → Type 0
 IsLoadPlaced port whole j p h after is =
     (publish : Publish) (windowed : IsWindowed j (stand is.between h.asked is.reached) after)

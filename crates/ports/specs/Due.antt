@@ -129,9 +129,8 @@ pub record IsBanked (judging : Judging) (h after : Standing) : Type 0 where
       ≡ (takes ended.before (share_of h.pass judging.judged.place) judging.judged
       && has_room ended.before.bank judging.judged.port)
 
--- what a port knows of the history by a load: there was a moment behind all that the port knew at which that list had been
--- published, and its port had done what it asked for; and one behind it at which what was published and what the port asked for
--- are what the load left
+-- what a port knows of the history by a load: there was a moment after all that the port knew, at which that list had been
+-- published and the port had done what it asked for; and there was one after it, at which both are what the load left
 pub record HasMet (port : ℕ) (known reached : List Link) (old new : List Publish) (asked asks : List Due) : Type 0 where
   pub met : List Link
   pub seen : IsPrefix known met
@@ -142,7 +141,7 @@ pub record HasMet (port : ℕ) (known reached : List Link) (old new : List Publi
   pub does : done_for port reached ≡ asks
 
 -- a judged control write ended, where some list had been published, which began with all that the port knew; its port asked
--- for what it published, and for nothing else; and where its publish stands in the history
+-- for what it published, and for nothing else; and where in the history that was
 pub record HasLoadEnd (known reached : List Link) (holder after : PassValue) (asked asks : List Due) (j : JudgedValue)
     (reply : List ℕ) : Type 0 where
   pub old : List Publish

@@ -39,7 +39,7 @@ fn finish_locked<R: Wait, J: Family>(
     MutexGuard::unlock(guard);
 }
 
-/// The port learns of all that was published, and of all that it asked for, what stands in the history, which has no more of either.
+/// The port learns all that was published and all that it did, as the history has it. The history has no more of either.
 fn know<J: Family, Q: Wait + Drop>(
     pass: &mut Pass<J>,
     publisher: &mut Publisher<J, Q>,
@@ -58,8 +58,8 @@ fn know<J: Family, Q: Wait + Drop>(
     pass.knows_entries(front);
 }
 
-/// Ends a judged control write, under the publisher's lock. The port then knows where in the history its publish stands. The
-/// condition is that place.
+/// Ends a judged control write, under the publisher's lock. The condition is that place.
+/// The port then knows where in the history that was.
 fn load_locked<R: Wait, J: Family, Q: Wait + Drop>(
     rt: &R,
     alloc: Global,
@@ -84,9 +84,9 @@ fn load_locked<R: Wait, J: Family, Q: Wait + Drop>(
 
 /// Serves one packet of a port: judges it, and ends it at the bank of its place, at the port's staging, or as a load.
 /// `reply` holds the reply that is due then, if any. Whether the packet was no command. The lock of the bank is held
-/// round `finish` alone, the publisher's round `load` alone, and none round `judge`. A command that leaves an entry at a bank
-/// is the last of the history that the port then knows; of any other it is said that some bank, or some list of publishes,
-/// was what it met. The program that judges is the last of its slot that readers saw at one moment after what the port knew.
+/// round `finish` alone, the publisher's round `load` and what the port learns there, and none round `judge`. A command that leaves
+/// an entry at a bank is the last of the history that the port then knows. Of a load the port knows where in that history it was. Of
+/// any other it is said that some bank, or some list of publishes, was what it met. The program that judges is the last of its slot that readers saw at one moment after what the port knew.
 /// The condition is a pass with a share of each bank of the node.
 pub(crate) fn serve_packet<R: Wait, J: Family, Q: Wait + Drop>(
     rt: &R,

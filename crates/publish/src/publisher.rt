@@ -129,7 +129,7 @@ impl<J: Family, R: Wait + Drop> Publisher<J, R> {
         Ok(())
     }
 
-    /// Somebody learns so much of the node's history that all which was published stands there, and that readers see all of it.
+    /// Somebody learns so much of the node's history that it has all that was published, and that readers see all of it.
     pub fn tell(&self, known: &mut annals::Front<J>)
         ensures old { IsPrefix known.old known.new }
         ensures told { IsPrefix self.now (publishes_of known.new) }
