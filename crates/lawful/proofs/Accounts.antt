@@ -32,7 +32,7 @@ use Rattle.lawful.proofs.Alone.{Laws, bank_is, one_counted, worked_front}
 use Rattle.lawful.proofs.Entering.{IsDoneAt, asks_one, done_at, finished_front}
 use Rattle.lawful.proofs.Growing.{taken_longer}
 use Rattle.lawful.proofs.Links.{done_few, done_one, front_of, published_few, seen_count, size_more}
-use Rattle.lemmas.proofs.Prefixes.{prefix_length, prefix_same, prefix_shorter, prefix_trans}
+use Rattle.lemmas.proofs.Prefixes.{prefix_length, prefix_shorter, prefix_trans}
 
 -- ---- where the next command of a port is taken
 

@@ -22,7 +22,6 @@ use Rattle.bank.specs.Admission.{IsPlacedBy}
 use Rattle.bank.specs.Answer.{answer, effect_at, is_success, judged_line, status_with}
 use Rattle.bank.specs.Effect.{Memory, effect, effect_of, memory_at}
 use Rattle.bank.specs.Records.{BankValue, EntryValue, IsBank, JudgedValue, after_command, checked_entry, entry_of, first_share, memory_of, replay}
-use Rattle.node_programs.specs.declared.publishes.Publish.{Publish}
 use Rattle.node_programs.specs.Published.{judging_program}
 use Rattle.node_programs.specs.Staged.{Staged, staged}
 use Rattle.node_parts.specs.declared.config.BankConfig.{BankConfig}
@@ -35,7 +34,7 @@ use Rattle.node_parts.specs.Slots.{slot_of}
 use Rattle.node_parts.specs.Stagings.{answer_staged}
 use Rattle.node_parts.specs.Steps.{IsJudgement}
 use Rattle.annals.specs.declared.deed.Act.TheVariants.{Leaves, Publishes}
-use Rattle.annals.specs.declared.deed.Deed.TheVariants.{Does, Shows}
+use Rattle.annals.specs.declared.deed.Deed.TheVariants.{Shows}
 use Rattle.annals.specs.declared.deed.Link.{Link}
 use Rattle.annals.specs.Banks.{entries_of, takes}
 use Rattle.annals.specs.Chains.{Due, done_for, instrument}

@@ -1,7 +1,7 @@
 -- The law of all ports: what threads did at the ports of a node, side by side, is a lawful history of the node but for what cells
 -- told. A command is taken at the moment at which readers saw the programs by which it was judged. A command of a bank is done where
 -- its entry stands in the one list of the node, and a load where readers see its program.
-use Rattle.std.specs.Prelude.{◌≡◌, ◌<◌, ◌≤◌, ◌+◌, ◌++◌, ◌^◌, ℕ, List, [], ◌∷◌, length, map, slice_get, Some, None, option_map}
+use Rattle.std.specs.Prelude.{◌≡◌, ◌<◌, ◌≤◌, ◌+◌, ◌^◌, ℕ, List, [], ◌∷◌, length, map, slice_get, Some, None, option_map}
 use mathlib.Core.List.{IsPrefix}
 use Rattle.spw.specs.Cargo.{Cargo}
 use Rattle.annals.specs.declared.deed.Act.TheVariants.{Leaves, Sets, Rotates, Publishes}
