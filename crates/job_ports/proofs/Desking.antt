@@ -91,7 +91,7 @@ module _ {J : Type 0} {own : OwnNodeValue} (program : AcceptedValue) (publishes 
 
 -- The node of the configuration before the first packet.
 pub own_desk : {J : Type 0} (own : OwnNodeValue) (program : AcceptedValue) (publishes : List (ℕ × AcceptedValue)) (config : NodeConfig) (it : CellsValue) (known : List Link) (by_port : List (List Cargo)) (banks : ℕ) (queues : List Port)
-    (puts : List PutPass) (workers : List (Worker J SinkValue)) → program.sizes ≡ own.sizes → publishes ≡ own.publishes → own.ports ≤ 256 → it ≡ cells config.sizes it.home (256 - config.ports) []
+    (puts : List PutPass) (workers : List (Worker J SinkValue)) → program.sizes ≡ own.sizes → publishes ≡ own.publishes → own.ports ≤ 32 → it ≡ cells config.sizes it.home (256 - config.ports) []
     → IsConfigOf own config → SetsAll own.banks own.contents (length own.banks) [] known
     → IsDesk (first_standing config program publishes it.home known) own.ports by_port banks queues puts workers
     → IsOwnDesk own program by_port banks it queues puts workers

@@ -80,7 +80,7 @@ module _ {J : Type 0} where
   ends_reports (worker ∷ workers) [] many = absurd (omega (arith, many))
   ends_reports (worker ∷ workers) (report ∷ reports) many = ap (λ (l : List Report). report ∷ l) (ends_reports workers reports (omega (arith, many)))
 
-  end_at : (workers : List (Worker J SinkValue)) (reports : List Report) (k : ℕ) (worker : Worker J SinkValue) (report : Report) (end : PortEnd) → length reports ≡ length workers → k < length workers
+  pub end_at : (workers : List (Worker J SinkValue)) (reports : List Report) (k : ℕ) (worker : Worker J SinkValue) (report : Report) (end : PortEnd) → length reports ≡ length workers → k < length workers
       → slice_index_or (ends_of workers reports) k end ≡ end_of (slice_index_or workers k worker) (slice_index_or reports k report)
   end_at [] reports k worker report end many low = absurd (omega (arith, low))
   end_at (w ∷ workers) [] k worker report end many low = absurd (omega (arith, many))
@@ -145,7 +145,7 @@ module _ {J : Type 0} {starts : ℕ → Standing} {ports : ℕ} {by_port : List 
         record { sizes = stays.sizes ∙ first.sizes; home = stays.home ∙ first.home }
 
 -- an element of a list that has one
-some_of : {A : Type 0} (xs : List A) (k : ℕ) → k < length xs → A
+pub some_of : {A : Type 0} (xs : List A) (k : ℕ) → k < length xs → A
 some_of [] k low = absurd (omega (arith, low))
 some_of (x ∷ xs) k low = x
 
@@ -189,6 +189,14 @@ pub each_ends : {J : Type 0} {starts : ℕ → Standing} {ports : ℕ} {by_port 
 unfolding serve_each
 each_ends desk left sinks total served begins is = refl
 
+-- They share that list.
+pub each_whole : {J : Type 0} {starts : ℕ → Standing} {ports : ℕ} {by_port : List (List Cargo)} {banks : ℕ} {queues : List Port} {puts : List PutPass} {workers : List (Worker J SinkValue)}
+    (desk : IsDesk starts ports by_port banks queues puts workers) (left : List (Worker J SinkValue)) (sinks : List SinkValue) (total : Report)
+    → (served : HaveServed (λ (s : SinkValue). s.sent) (λ (s : SinkValue). s.failed) banks queues workers left total) (begins : AreBeginnings puts left)
+    (is : sinks ≡ map (λ (w : Worker J SinkValue). w.sink) left) → (serve_each desk left sinks total served begins is).history.whole ≡ served.history.whole
+unfolding serve_each ends_history
+each_whole desk left sinks total served begins is = refl
+
 -- The packets that came to each port are few.
 pub few_each : (lines : List (List ℕ)) (ports : ℕ) (by_port : List (List Cargo)) → ArriveAll lines ports by_port → AreFew by_port
 few_each lines ports by_port all = λ port low.
@@ -203,3 +211,9 @@ by_packets starts lines ports by_port sinks report all each = record {
   each = λ k end low. subst (λ (l : List Cargo). EndsSo (starts k) l (slice_index_or each.ends k end)) (all.sorted.each k low) (each.each k end low);
   history = each.history;
 }
+
+-- It is the list of all.
+pub packets_whole : (starts : ℕ → Standing) (lines : List (List ℕ)) (ports : ℕ) (by_port : List (List Cargo)) (sinks : List SinkValue) (report : Report)
+    (all : ArriveAll lines ports by_port) (each : ServeEach starts ports by_port sinks report) → (by_packets starts lines ports by_port sinks report all each).history.whole ≡ each.history.whole
+unfolding by_packets
+packets_whole starts lines ports by_port sinks report all each = refl

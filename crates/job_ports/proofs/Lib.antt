@@ -1,6 +1,7 @@
 mod Desking
 mod Ending
 mod Filling
+mod Lawful
 mod NotServed
 mod Numbering
 mod PrintedLines

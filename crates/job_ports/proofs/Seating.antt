@@ -93,4 +93,4 @@ module _ {J : Type 0} {own : OwnNodeValue} {program : AcceptedValue} {by_port : 
       → (served : HaveServed (λ (s : SinkValue). s.sent) (λ (s : SinkValue). s.failed) banks queues workers left total) → AreTakenBack first last left → (last.parts ≡ 256 → AreAllNumbered last)
       → QuotasAreKept own.sizes (ends_of left served.reports)
   own_quotas law last left total served back numbered =
-      quotas_are_kept law own.sizes own.ports first last left served.reports (served.told ∙ sym served.len) (served.len ∙ desk.desk.workers_count) desk.few desk.cells_are back numbered
+      quotas_are_kept law own.sizes own.ports first last left served.reports (served.told ∙ sym served.len) (served.len ∙ desk.desk.workers_count) (omega (arith, desk.few)) desk.cells_are back numbered

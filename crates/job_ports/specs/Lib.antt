@@ -1,6 +1,7 @@
 pub mod Arrivals
 pub mod Arriving
 pub mod Ends
+pub mod Law
 pub mod OwnNodes
 pub mod Queues
 pub mod Quotas

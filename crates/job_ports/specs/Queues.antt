@@ -18,6 +18,7 @@ use Rattle.ports.specs.Worked.{standing_of}
 use Rattle.target.specs.Passes.{PortPass}
 use Rattle.job_config.specs.OwnNodes.{OwnNodeValue}
 use Rattle.job_ports.specs.Ends.{PortEnd}
+use Rattle.job_ports.specs.Law.{IsOneLawfulHistory}
 use Rattle.job_ports.specs.Quotas.{IsSeated, QuotasAreKept}
 use Rattle.job_ports.specs.ServedFile.{BeginOneHistory, EndsSo, no_replies, report_of}
 use Rattle.job_ports.specs.Starts.{AreStarts}
@@ -79,7 +80,7 @@ pub record IsOwnDesk {J : Type 0} (own : OwnNodeValue) (program : AcceptedValue)
     (own_cells : CellsValue) (queues : List Port) (puts : List PutPass) (workers : List (Worker J SinkValue)) : Type 0 where
   pub starts : ℕ → Standing
   pub are_starts : AreStarts own program starts
-  pub few : own.ports ≤ 256
+  pub few : own.ports ≤ 32
   pub cells_are : own_cells ≡ cells own.sizes own_cells.home (256 - own.ports) []
   pub seats : (port : ℕ) → IsSeated own_cells (starts port).pass.seat
   pub desk : IsDesk starts own.ports by_port banks queues puts workers
@@ -118,10 +119,11 @@ pub record ServeEach (starts : ℕ → Standing) (ports : ℕ) (by_port : List (
   pub sinks_are : sinks ≡ map (λ (end : PortEnd). end.sink) ends
   pub report_is : report ≡ report_of ends
 
--- the same at the node of a configuration, and quotas were kept
+-- the same at the node of a configuration: what the ports did is one lawful history, and quotas were kept
 pub record ServeOwn (own : OwnNodeValue) (program : AcceptedValue) (by_port : List (List Cargo)) (sinks : List SinkValue)
     (report : Report) : Type 0 where
   pub starts : ℕ → Standing
   pub are_starts : AreStarts own program starts
   pub served : ServeEach starts own.ports by_port sinks report
+  pub law : IsOneLawfulHistory own program starts (λ port. slice_index_or by_port port []) served.ends served.history.whole
   pub quotas : QuotasAreKept own.sizes served.ends

@@ -21,6 +21,7 @@ use Rattle.job_config.specs.declared.node_lines.NodeLines.{NodeLines}
 use Rattle.job_nodes.specs.Judged.{IsNotReady}
 use Rattle.job_ports.specs.Arrivals.{AreLines, BreaksAt, packets_at}
 use Rattle.job_ports.specs.Ends.{PortEnd}
+use Rattle.job_ports.specs.Law.{IsOneLawfulHistory}
 use Rattle.job_ports.specs.OwnNodes.{HoldsOwn}
 use Rattle.job_ports.specs.Quotas.{QuotasAreKept}
 use Rattle.job_ports.specs.ServeJob.{lines_from, report_line}
@@ -71,7 +72,8 @@ module _ {S : Type 0} (reads : Reads S) (args : NodeLines) where
     pub utf8 : IsUtf8 text
     pub holds : HoldsOwn reads args.node between own program after
 
-  -- the lines of the file write packets, each port of the node served its own from what it starts with on, and quotas were kept
+  -- the lines of the file write packets, each port of the node served its own from what it starts with on, what they did is one
+  -- lawful history, and quotas were kept
   pub record ServesLines (before after : S) (ends : List PortEnd) : Type 0 where
     pub text : List ℕ
     pub own : OwnNodeValue
@@ -82,6 +84,7 @@ module _ {S : Type 0} (reads : Reads S) (args : NodeLines) where
     pub lines : AreLines (lines_of text) own.ports packets
     pub are_starts : AreStarts own program starts
     pub served : ServePackets starts own.ports packets ends
+    pub law : IsOneLawfulHistory own program starts (λ port. packets_at port packets) ends served.history.whole
     pub quotas : QuotasAreKept own.sizes ends
 
   -- those are the replies then and what the workers reported

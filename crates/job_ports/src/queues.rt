@@ -14,6 +14,7 @@ use crate::starts::set_all;
 use bver::{Accepted, MapSizes};
 use cells::Cells;
 use job_config::own_node::OwnNode;
+use lawful::threads_are_lawful;
 use machine::MapKind;
 use ports::{
     MAX_CAPACITY, NoGate, Port, PutPass, Replies, Report, ServePass, Worker, serve,
@@ -259,6 +260,7 @@ pub fn serve_arrivals<J: Family + Send + Sync + 'static, R: Threads + Wait + Syn
     requires count { length arrivals ≡ own.now.ports }
     ensures { IfOk result (λ made. ServeOwn own.now program arrivals made.0.items made.1) }
 {
+    threads_are_lawful();
     quotas_hold_in_threads();
     workers_shares_count();
     let sizes = program.sizes();

@@ -1,11 +1,14 @@
-use Rattle.std.proofs.Common.{◌≡◌, ◌∙◌, ◌<◌, ap, arith, length, refl, subst, rules}
+use Rattle.std.proofs.Common.{◌≡◌, ◌∙◌, ◌<◌, List, ap, arith, length, refl, subst, sym, rules}
 use Rattle.std.specs.Prelude.{string_bytes}
 use Rattle.std.proofs.lemmas.List.{length-map}
 use Rattle.std.proofs.lemmas.Result.{err_from_is_err_and}
-use Rattle.job_ports.specs.Arrivals.{ArriveAll}
+use Rattle.annals.specs.declared.deed.Link.{Link}
+use Rattle.job_ports.specs.Arrivals.{ArriveAll, packets_at}
+use Rattle.job_ports.specs.Law.{IsOneLawfulHistory}
 use Rattle.spw.specs.Line.{lines_of}
 use Rattle.job_ports.specs.Ends.{PortEnd}
-use Rattle.job_ports.proofs.Ending.{by_packets, few_each}
+use Rattle.job_ports.proofs.Ending.{by_packets, few_each, packets_whole}
+use Rattle.job_ports.proofs.Lawful.{law_by_packets}
 use Rattle.job_ports.proofs.NotServed.{no_memory, halt_of}
 use Rattle.job_ports.proofs.serve.serve_words.Goals as goal
 
@@ -34,6 +37,8 @@ returns-clause-served g c =
         lines = all.lines_are;
         are_starts = each.are_starts;
         served = by_packets _ _ _ _ _ _ all each.served;
+        law = subst (λ (whole : List Link). IsOneLawfulHistory own c.in_ok-text.read.program each.starts (λ port. packets_at port all.packets) each.served.ends whole)
+            (sym (packets_whole _ _ _ _ _ _ all each.served)) (law_by_packets _ _ _ _ _ _ _ all.sorted each.law);
         quotas = each.quotas;
       };
       sinks_are = each.served.sinks_are;
