@@ -161,10 +161,10 @@ module _ {J : Type 0} {own : OwnNodeValue} {program : AcceptedValue} {by_port : 
       })
 
 -- The same over the packets of each port among those of the lines.
-pub law_by_packets : (own : OwnNodeValue) (program : AcceptedValue) (starts : ℕ → Standing) (packets : List (ℕ × Cargo)) (by_port : List (List Cargo)) (ends : List PortEnd) (whole : List Link)
-    → AreByPort own.ports packets by_port → IsOneLawfulHistory own program starts (λ port. slice_index_or by_port port []) ends whole
-    → IsOneLawfulHistory own program starts (λ port. packets_at port packets) ends whole
-law_by_packets own program starts packets by_port ends whole sorted law = λ accounts are full.
+pub law_by_packets : (own : OwnNodeValue) (program : AcceptedValue) (starts : ℕ → Standing) (packets : List (ℕ × Cargo)) (by_port : List (List Cargo)) (ends : List PortEnd) (log : List Link)
+    → AreByPort own.ports packets by_port → IsOneLawfulHistory own program starts (λ port. slice_index_or by_port port []) ends log
+    → IsOneLawfulHistory own program starts (λ port. packets_at port packets) ends log
+law_by_packets own program starts packets by_port ends log sorted law = λ accounts are full.
     law accounts
     (λ port end low.
     let it : IsAccountOf (starts port) (packets_at port packets) (slice_index_or ends port end) (accounts port) = are port end low in

@@ -1,4 +1,4 @@
-use Rattle.std.proofs.Common.{◌≡◌, ◌∙◌, List, ℕ, subst, sym}
+use Rattle.std.proofs.Common.{◌∙◌, List, ℕ, subst, sym}
 use Rattle.std.specs.Prelude.{[], IfOk, slice_index_or, vec_items}
 use Rattle.annals.specs.declared.deed.Link.{Link}
 use Rattle.ports.specs.Serves.{HaveServed}

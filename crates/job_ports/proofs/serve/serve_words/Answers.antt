@@ -38,7 +38,7 @@ returns-clause-served g c =
         are_starts = each.are_starts;
         served = by_packets _ _ _ _ _ _ all each.served;
         law = subst (λ (whole : List Link). IsOneLawfulHistory own c.in_ok-text.read.program each.starts (λ port. packets_at port all.packets) each.served.ends whole)
-            (sym (packets_whole _ _ _ _ _ _ all each.served)) (law_by_packets _ _ _ _ _ _ _ all.sorted each.law);
+            (sym (packets_whole _ _ _ _ _ _ all each.served)) (law_by_packets own c.in_ok-text.read.program each.starts all.packets c.in_ok-arrivals.arrivals each.served.ends each.served.history.whole all.sorted each.law);
         quotas = each.quotas;
       };
       sinks_are = each.served.sinks_are;
