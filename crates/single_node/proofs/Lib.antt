@@ -1,4 +1,5 @@
 mod Slots
+mod Placing
 mod Judging
 mod Serving
 mod Making
@@ -8,3 +9,4 @@ mod Ending
 mod Running
 mod Growing
 mod Asked
+mod Under
