@@ -1,4 +1,5 @@
 mod Slots
+mod Holding
 mod Placing
 mod Judging
 mod Serving

@@ -1,14 +1,15 @@
 -- The programs of a node by their places.
 use Rattle.std.proofs.Common.{◌≡◌, ◌≢◌, ℕ, zero, suc, ◌+◌, ◌<◌, List, [], ◌∷◌, length, set, Option, None, Some, refl, sym, ap, ap₂, subst, ◌∙◌, arith}
-use Rattle.std.specs.Prelude.{map, slice_get, slice_index_or}
+use Rattle.std.specs.Prelude.{IfSome, map, slice_get, slice_index_or}
 use Rattle.std.specs.Option.{option_map}
 use Rattle.std.proofs.lemmas.List.{length-map, length-set, map-set}
 use Rattle.std.proofs.lemmas.Option.{get_or_from_slice_get, slice_get-get_or, slice_get_within}
 use Rattle.machine.specs.Sizes.{Maps}
+use Rattle.bver.specs.Justified.{AcceptedValue}
 use Rattle.node_programs.specs.declared.publishes.Publish.{Publish}
 use Rattle.node_programs.specs.Histories.{entry, longer_history}
 use Rattle.node_programs.specs.Laws.{IsSetByNext}
-use Rattle.node_programs.specs.Published.{judging_program, sizes_of}
+use Rattle.node_programs.specs.Published.{judging_program, program_at, sizes_of}
 use Rattle.node_programs.proofs.Shelves.{Pair, slot_at}
 use Rattle.single_node.specs.declared.places.Placed.{Placed}
 use Rattle.single_node.specs.declared.publishing.Publishing.{Publishing}
@@ -132,6 +133,26 @@ same_placed h xs ys slots count sizes are same = record {
     all_same : (ss : List Placed) → ((k : ℕ) (s : Placed) → slice_get ss k ≡ Some s → shown_at ys s ≡ shown_at xs s) → shown_by ys ss ≡ shown_by xs ss
     all_same [] each = refl
     all_same (s ∷ ss) each = ap₂ (λ (o : Option Pair) (os : List (Option Pair)). o ∷ os) (each 0 s refl) (all_same ss (λ k t at. each (suc k) t at))
+
+-- the program at a slot's place once more in that place
+pub again_placed : IsSetByNext → (h : List Publish) (xs : List Publishing) (slots : List Placed) (count : ℕ) (sizes : Maps) (slot place : ℕ) (p : Publishing) → slot < 4 → ArePlaced h xs slots count sizes
+    → slice_get xs (placed_at slots slot).place ≡ Some p → place ≡ (placed_at slots slot).place
+    → ArePlaced (longer_history h slot p.program) xs (set slots slot (record { place = place; generation = count + 1 })) (count + 1) sizes
+again_placed next h xs slots count sizes slot place p few are there is =
+    longer_placed next h xs xs slots count sizes slot place p few are (placed_sizes h xs slots count sizes slot p few are there) (λ k low other. refl)
+    (subst (λ (n : ℕ). slice_get xs n ≡ Some p) (sym is) there)
+
+-- it is the program of which that is known
+pub named_there : (xs : List Publishing) (place : ℕ) (p : Publishing) (slot : ℕ) → slice_get xs place ≡ Some p → IfSome (slice_get xs place) (λ x. x.slot ≡ slot) → p.slot ≡ slot
+named_there xs place p slot there named = subst (λ (o : Option Publishing). IfSome o (λ x. x.slot ≡ slot)) there named
+
+-- the program at a slot's place is the one that judges there
+pub own_judges : (h : List Publish) (xs : List Publishing) (slots : List Placed) (count : ℕ) (sizes : Maps) (slot : ℕ) (p : Publishing) (a : AcceptedValue) → slot < 4 → ArePlaced h xs slots count sizes
+    → slice_get xs (placed_at slots slot).place ≡ Some p → program_at h slot ≡ Some a → p.program ≡ a
+own_judges h xs slots count sizes slot p a few are there judges =
+    let own : program_at h slot ≡ Some p.program = ap (option_map (λ (q : Pair). q.0)) (placed_shows h xs slots count sizes slot p few are there) in
+    let same : Some p.program ≡ Some a = sym own ∙ judges in
+    cc same
 
 -- the factory program in each slot
 pub first_are : (p : Publishing) → ArePlaced (entry 0 p.program ∷ []) (p ∷ []) (first_placed ∷ first_placed ∷ first_placed ∷ first_placed ∷ []) 0 p.program.sizes

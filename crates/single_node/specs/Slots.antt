@@ -12,6 +12,10 @@ use Rattle.single_node.specs.declared.publishing.Publishing.{Publishing}
 abbrev pub first_placed : Placed
 first_placed = record { place = 0; generation = 0 }
 
+-- the factory program in each of the four slots
+abbrev pub first_slots : List Placed
+first_slots = first_placed ∷ first_placed ∷ first_placed ∷ first_placed ∷ []
+
 -- what a slot has that is given a number there
 abbrev pub placed_at : List Placed → (slot : ℕ) → Placed
 placed_at slots slot = slice_index_or slots slot first_placed

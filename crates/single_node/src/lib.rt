@@ -8,6 +8,7 @@
 mod context;
 mod lists;
 mod node;
+mod owned;
 mod places;
 mod port;
 mod programs;

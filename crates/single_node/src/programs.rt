@@ -8,7 +8,8 @@ ghost use Rattle.node_programs.specs.Codes.{IsUnpublished};
 ghost use Rattle.node_parts.specs.Nodes.{first_programs};
 
 use crate::lists::ProgramList;
-use crate::places::{Placed, free_place, own_place, set_place};
+use crate::owned::{hold, name_slot, own_program, renew_own};
+use crate::places::{Placed, first_slots, free_place, own_place, placed_at, set_place};
 use crate::publishing::Publishing;
 use bver::{Accepted, MapSizes};
 use node_programs::{ProgramStore, PublishFault, published_programs};
@@ -41,22 +42,6 @@ impl Model for SlotPrograms {
     ghost invariant = { λ p. ArePlaced p.list p.programs.items p.slots p.count p.sizes };
 }
 
-/// Puts a program at that place of those of a node, where the one before it goes, or behind the last of them.
-fn hold(programs: &mut Vec<Publishing>, place: usize, next: Publishing) -> Result<(), AllocError>
-    requires { place ≤ length programs.old.items }
-    ensures there { OnOk result (slice_get programs.new.items place ≡ Some next) }
-    ensures others { OnOk result ((k : ℕ) → k ≢ place → k < length programs.old.items
-        → slice_get programs.new.items k ≡ slice_get programs.old.items k) }
-    ensures same { OnErr result (programs.new.items ≡ programs.old.items) }
-{
-    if place < programs.len() {
-        programs[place] = next;
-        return Ok(());
-    }
-    programs.push(next)?;
-    Ok(())
-}
-
 impl SlotPrograms {
     /// The programs of a fresh node: the factory program in each slot. There is room for one of each slot, so that publishing asks
     /// for no memory.
@@ -73,7 +58,7 @@ impl SlotPrograms {
         programs.push(factory)?;
         Ok(SlotPrograms {
             programs,
-            slots: [Placed::first(); 4],
+            slots: first_slots(),
             count: 0,
             sizes,
             list,
@@ -109,11 +94,11 @@ impl SlotPrograms {
         ensures sizes { result.0.now.sizes ≡ sizes_of self.now }
         ensures justified { IsJustified result.0.now.program result.0.now.sizes }
     {
-        let place = own_place(self.programs.len(), &self.slots, slot);
-        let generation = self.slots[usize::from(slot)].generation;
-        let program = &self.programs[place].program;
-        let _justified = program.image();
-        (program, generation)
+        let generation = placed_at(&self.slots, slot).generation;
+        let place = own_place(&self.programs, &self.slots, slot);
+        let own = own_program(&self.programs, place);
+        let _justified = own.program.image();
+        (&own.program, generation)
     }
 
     /// Makes the operations of the program of a slot again, in their own memory, of its image. The condition is a slot below 4.
@@ -121,8 +106,8 @@ impl SlotPrograms {
         requires { slot < 4 }
         ensures { self.new ≡ self.old }
     {
-        let place = own_place(self.programs.len(), &self.slots, slot);
-        self.programs[place].program.renew();
+        let place = own_place(&self.programs, &self.slots, slot);
+        renew_own(&mut self.programs, place);
     }
 
     /// Publishes a program for a slot: its generation. It takes the place of one that no slot has then. The conditions are a slot
@@ -146,10 +131,8 @@ impl SlotPrograms {
         published_programs();
         let next = Publishing { slot, program };
         let list = self.list.with(&next);
-        let place = free_place(self.programs.len(), &self.slots, slot);
-        let Ok(()) = hold(&mut self.programs, place, next) else {
-            return Err(PublishFault::Memory);
-        };
+        let place = free_place(&self.programs, &self.slots, slot);
+        hold(&mut self.programs, place, next)?;
         let generation = self.count + 1;
         set_place(&mut self.slots, slot, place, generation);
         self.list = list;
@@ -175,9 +158,9 @@ impl SlotPrograms {
             return Err(PublishFault::GenerationsFull);
         }
         published_programs();
-        let place = own_place(self.programs.len(), &self.slots, slot);
-        self.programs[place].slot = slot;
-        let list = self.list.with(&self.programs[place]);
+        let place = own_place(&self.programs, &self.slots, slot);
+        name_slot(&mut self.programs, place, slot);
+        let list = self.list.with(own_program(&self.programs, place));
         let generation = 1 + self.count;
         set_place(&mut self.slots, slot, place, generation);
         self.list = list;
