@@ -31,11 +31,15 @@ status_of false has_lost = Failed
 abbrev pub ends_whole : Reading → AnsweringValue → Bool
 ends_whole read behind = is_between read && not behind.is_open
 
+-- why a packet was not served, by whether the node is damaged
+abbrev pub refusal_of : (damaged : Bool) → Fault
+refusal_of true = Damaged
+refusal_of false = NoMemory
+
 -- why the job stops where a link was cut off so, by whether the node is damaged
 abbrev pub IsHalt : (damaged : Bool) → Broken → Halt → Type 0
 IsHalt damaged Unread halt = (file : Bor (List ℕ)) × (halt ≡ Ended (CannotRead file)) × (file.now ≡ codes "-")
-IsHalt true NoRoom halt = halt ≡ Ended Damaged
-IsHalt false NoRoom halt = halt ≡ Ended NoMemory
+IsHalt damaged NoRoom halt = halt ≡ Ended (refusal_of damaged)
 IsHalt damaged Unsent halt = halt ≡ Unwritten (record {})
 IsHalt damaged Untold halt = halt ≡ Unwritten (record {})
 

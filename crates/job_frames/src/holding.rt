@@ -2,7 +2,7 @@
 
 ghost use Rattle.std.specs.Prelude.{◌≡◌, IfErr, IfOk, OnOk};
 ghost use Rattle.job_live.specs.LiveJob.{TellsLast};
-ghost use Rattle.job_frames.specs.FramesJob.{AreReady, HoldsFrames, HoldsLink, IsEndUntold, IsFramesUnsent, IsHalt, IsNoLink, IsUnheld, LivesFrames, StopsLink, TellsEnd, status_of};
+ghost use Rattle.job_frames.specs.FramesJob.{AreReady, HoldsFrames, HoldsLink, IsEndUntold, IsFramesUnsent, IsHalt, IsNoLink, IsUnheld, LivesFrames, StopsLink, TellsEnd, refusal_of, status_of};
 
 use crate::answering::Answering;
 use frames::FrameReader;
@@ -37,14 +37,23 @@ fn ends_of_link<'a, F: Files>(
     Ok((reader, Answering::new(alloc, live, words.entries)))
 }
 
+/// Why a packet was not served, by whether the node is damaged.
+fn refusal_of<'a>(is_damaged: bool) -> Fault<'a>
+    ensures { result ≡ refusal_of is_damaged }
+{
+    if is_damaged {
+        return Fault::Damaged;
+    }
+    Fault::NoMemory
+}
+
 /// Why the job stops, where a link was cut off so, by whether the node is damaged.
 fn halt_of<'a>(why: Broken, is_damaged: bool) -> Halt<'a>
     ensures { IsHalt is_damaged why result }
 {
     match why {
         Broken::Unread => Halt::Ended(Fault::CannotRead(STANDARD_INPUT)),
-        Broken::NoMemory if is_damaged => Halt::Ended(Fault::Damaged),
-        Broken::NoMemory => Halt::Ended(Fault::NoMemory),
+        Broken::NoMemory => Halt::Ended(refusal_of(is_damaged)),
         Broken::Unsent | Broken::Untold => Halt::Unwritten(WriteFault),
     }
 }
