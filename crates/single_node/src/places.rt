@@ -1,7 +1,7 @@
 //! Which program each slot has.
 
 ghost use Rattle.std.specs.Prelude.{◌≡◌, ◌≢◌, ◌<◌, ◌≤◌, ℕ, false, length, slice_set};
-ghost use Rattle.single_node.specs.Slots.{HasNoOther, first_placed, first_slots, placed_at};
+ghost use Rattle.single_node.specs.Slots.{HasNoOther, first_slots, placed_at};
 
 use crate::publishing::Publishing;
 

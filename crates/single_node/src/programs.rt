@@ -1,6 +1,6 @@
 //! The programs that judge, by slot.
 
-ghost use Rattle.std.specs.Prelude.{◌≡◌, ◌≢◌, ◌<◌, ◌≤◌, ◌+◌, ◌^◌, ℕ, IfErr, IfOk, OnErr, OnOk, Some, length, slice_get};
+ghost use Rattle.std.specs.Prelude.{◌≡◌, ◌<◌, ◌≤◌, ◌+◌, ◌^◌, IfErr, IfOk, OnErr, OnOk, Some, length};
 ghost use Rattle.bver.specs.Justified.{AcceptedValue, IsJustified};
 ghost use Rattle.node_programs.specs.Histories.{longer_history};
 ghost use Rattle.node_programs.specs.Published.{judging_program, program_at, sizes_of};
