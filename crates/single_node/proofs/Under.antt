@@ -3,6 +3,7 @@ use Rattle.std.proofs.Common.{◌≡◌, ◌≢◌, ℕ, List, Option, None, Som
 use Rattle.std.specs.Prelude.{slice_get}
 use Rattle.std.proofs.lemmas.Bool.{cases_eq}
 use Rattle.spw.specs.Cargo.{Cargo}
+use Rattle.bank.specs.Answer.{judged_line}
 use Rattle.bank.specs.Records.{JudgedValue, ShareValue}
 use Rattle.node_programs.specs.declared.publishes.Publish.{Publish}
 use Rattle.node_parts.specs.Applied.{with_share}
@@ -11,6 +12,7 @@ use Rattle.node_parts.specs.Passes.{PassValue}
 use Rattle.node_parts.specs.Served.{EndsAtWindow, PartsValue}
 use Rattle.node_parts.specs.declared.served.Served.{Served}
 use Rattle.node_parts.specs.declared.served.Served.TheVariants.{Stopped, Unread, Done, Window}
+use Rattle.rmap.specs.Command.{command_of}
 use Rattle.rmap.specs.Windows.{WindowsValue}
 use Rattle.rmap.specs.declared.places.Place.{Place}
 use Rattle.rmap.specs.declared.places.Place.TheVariants.{Bank, Staging, LoadResult, Control}
@@ -36,7 +38,7 @@ window_windows : (place : Place) (h after : PassValue) (old new : List Publish) 
 window_windows (Bank k) h after old new j status reply end = absurd end
 window_windows Staging h after old new j status reply end = ap (λ (x : PassValue). x.windows) end.0.rest
 window_windows LoadResult h after old new j status reply end = ap (λ (x : PassValue). x.windows) end.0.rest
-window_windows Control h after old new j status reply end = load_windows _ h after old new j status end.ended
+window_windows Control h after old new j status reply end = load_windows (judged_line (command_of j.packet) j.verdict) h after old new j status end.ended
 
 -- a packet leaves the windows of its port
 pub served_windows : (served : Served) (g v : ℕ) (p : Cargo) (words behind : List (List ℕ)) (old new : PartsValue) (h after : PassValue) (reply : List ℕ) → ServesAt served g v p words behind old new h after reply → after.windows ≡ h.windows
