@@ -1,0 +1,3 @@
+mod Limits
+mod Telling
+mod WitnessPoints

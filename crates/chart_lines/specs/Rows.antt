@@ -1,0 +1,61 @@
+-- The rows of charts as values: what says the same at several ports is one row.
+use Rattle.std.specs.Prelude.{◌≡◌, ◌≢◌, ◌⊎◌, ◌<◌, ◌-◌, ◌+◌, ℕ, Bool, List, [], ◌∷◌, ◌++◌, All, Option, Some, None, drop, get_or, length, map, slice_index_or, take}
+use Rattle.regions.specs.Points.{HasCommand}
+use Rattle.regions.specs.declared.regions.Region.{Region}
+use Rattle.differences.specs.declared.courses.Step.{Step}
+use Rattle.chart_lines.specs.declared.rows.Change.{Change}
+
+-- what a row says: the words of a line, whether it has the rest, which rules a table asks, by their lines, and in a comparison those
+-- of the new table, and how it differs
+pub record ToldValue : Type 0 where
+  pub region : Region
+  pub rest : Bool
+  pub course : List Step
+  pub new : List Step
+  pub change : Option Change
+
+-- of these parts
+abbrev pub told : Region → (rest : Bool) → (course new : List Step) → Option Change → ToldValue
+told region rest course new change =
+    record { region = region; rest = rest; course = course; new = new; change = change }
+
+-- in a comparison the point is one that some command has
+abbrev pub HasPoint : Option Change → Type 0
+HasPoint None = Unit {0}
+HasPoint (Some change) = HasCommand change.point
+
+-- a row: the ports at which it holds, and what it says
+pub record RowValue : Type 0 where
+  pub ports : List ℕ
+  pub told : ToldValue
+
+-- of these parts
+abbrev pub row_of : (ports : List ℕ) → ToldValue → RowValue
+row_of ports said = record { ports = ports; told = said }
+
+-- the line of the rule of this number, from 1, where rules stand in these lines; 0 where none is
+abbrev pub line_of : (lines : List ℕ) → (number : ℕ) → ℕ
+line_of lines number = slice_index_or lines (number - 1) 0
+
+-- a rule by its line
+abbrev pub on_line : (lines : List ℕ) → Step → Step
+on_line lines step = record { number = line_of lines step.number; rule = step.rule }
+
+-- rules that are asked, by their lines
+abbrev pub on_lines : (lines : List ℕ) → List Step → List Step
+on_lines lines steps = map (on_line lines) steps
+
+-- the row of a place says this, and holds at these ports too
+pub record Joins (ports : List ℕ) (said : ToldValue) (before after : List RowValue) : Type 0 where
+  pub place : ℕ
+  pub there : place < length before
+  pub row : RowValue
+  pub own : (d : RowValue) → get_or before place d ≡ row
+  pub same : row.told ≡ said
+  pub is : after ≡ take place before ++ row_of (row.ports ++ ports) said ∷ drop (place + 1) before
+
+-- this was said at these ports: by the row that says it, or by one row more where none does
+abbrev pub AddsRow : (ports : List ℕ) → ToldValue → (before after : List RowValue) → Type 0
+AddsRow ports said before after =
+    Joins ports said before after
+    ⊎ (All (λ (row : RowValue). row.told ≢ said) before × (after ≡ before ++ row_of ports said ∷ []))

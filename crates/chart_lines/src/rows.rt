@@ -1,0 +1,206 @@
+//! The rows of charts: what says the same at several ports is one row.
+
+ghost use Rattle.std.specs.Prelude.{◌≡◌, ◌≢◌, ◌<◌, [], All, IfOk, IfSome, MatchBool, MatchOption, None, OnOk, Some, get_or, length};
+ghost use Rattle.regions.specs.Points.{HasCommand};
+ghost use Rattle.chart_lines.specs.Rows.{AddsRow, RowValue, line_of, on_line, on_lines, row_of, told};
+
+use charts::Line;
+use differences::{Repeats, Sign, Step};
+use regions::{Point, Region};
+use std::alloc::{AllocError, Global};
+use std::marker::Model;
+
+/// How a new table differs from an old one where a row holds.
+#[derive(Clone, Copy, Debug, PartialEq, Eq)]
+pub struct Change {
+    /// In which commands pass.
+    pub sign: Sign,
+    /// How often a command has to come until its verdict is another.
+    pub repeats: Repeats,
+    /// What the rules look at of one of the commands.
+    pub point: Point,
+}
+
+/// What a row says.
+#[derive(Debug, Drop)]
+pub struct Told {
+    region: Region,
+    rest: bool,
+    course: Vec<Step>,
+    new: Vec<Step>,
+    change: Option<Change>,
+}
+
+impl Model for Told {
+    ghost use Rattle.chart_lines.specs.Rows.{HasPoint, ToldValue, told};
+
+    ghost Value = { ToldValue };
+
+    ghost view = { λ t. told t.region t.rest t.course.items t.new.items t.change };
+
+    ghost invariant = { λ t. HasPoint t.change };
+}
+
+impl Told {
+    /// What a row of a map says: the words of a line, and the rules that the table asks, by their lines.
+    pub(crate) fn of_map(alloc: Global, line: &Line, course: Vec<Step>) -> Told
+        ensures { result ≡ told line.now.region line.now.rest course.items [] None }
+    {
+        Told {
+            region: line.region,
+            rest: line.rest,
+            course,
+            new: Vec::new(alloc),
+            change: None,
+        }
+    }
+
+    /// What a row of a comparison says: the words of a line, the rules that each table asks, and how the new one differs.
+    pub(crate) fn of_two(line: &Line, course: Vec<Step>, new: Vec<Step>, change: Change) -> Told
+        requires { HasCommand change.point }
+        ensures { result ≡ told line.now.region line.now.rest course.items new.items (Some change) }
+    {
+        Told {
+            region: line.region,
+            rest: line.rest,
+            course,
+            new,
+            change: Some(change),
+        }
+    }
+
+    /// The words of its line.
+    pub fn region(&self) -> &Region
+        ensures { result.now ≡ self.now.region }
+    {
+        &self.region
+    }
+
+    /// Whether the line has the rest of all addresses.
+    pub fn is_rest(&self) -> bool
+        ensures { result ≡ self.now.rest }
+    {
+        self.rest
+    }
+
+    /// The rules that the table asks, or the old one of two; their numbers are those of their lines.
+    pub fn course(&self) -> &[Step]
+        ensures { result.now ≡ self.now.course }
+    {
+        self.course.as_slice()
+    }
+
+    /// The rules that the new table asks; none in a map.
+    pub fn new_course(&self) -> &[Step]
+        ensures { result.now ≡ self.now.new }
+    {
+        self.new.as_slice()
+    }
+
+    /// In a comparison, how the new table differs, with a point that some command has.
+    pub fn change(&self) -> Option<Change>
+        ensures change { result ≡ self.now.change }
+        ensures command { IfSome result (λ change. HasCommand change.point) }
+    {
+        self.change
+    }
+
+    /// Whether two rows say the same.
+    fn is(&self, other: &Told) -> bool
+        ensures { MatchBool result (self.now ≡ other.now) (self.now ≢ other.now) }
+    {
+        self.region == other.region
+            && (self.rest == other.rest
+                && (self.course() == other.course()
+                    && (self.new_course() == other.new_course() && self.change == other.change)))
+    }
+}
+
+/// A row of a chart: what it says, and at which ports.
+#[derive(Debug, Drop)]
+pub struct Row {
+    /// The ports.
+    pub ports: Vec<u8>,
+    /// What is so at each of them.
+    pub told: Told,
+}
+
+impl Model for Row {
+    ghost use Rattle.chart_lines.specs.Rows.{RowValue, row_of};
+
+    ghost Value = { RowValue };
+
+    ghost view = { λ r. row_of r.ports.items r.told };
+}
+
+/// The line of the rule of this number, from 1, where rules stand in these lines; 0 where none is.
+fn line_of(lines: &[usize], number: usize) -> usize
+    ensures { result ≡ line_of lines.now number }
+{
+    lines.get(number.saturating_sub(1)).copied().unwrap_or(0)
+}
+
+/// A rule by its line.
+fn on_line(lines: &[usize], step: &Step) -> Step
+    ensures { result ≡ on_line lines.now step.now }
+{
+    Step {
+        number: line_of(lines, step.number),
+        rule: step.rule,
+    }
+}
+
+/// Rules that are asked, by their lines.
+pub(crate) fn on_lines(
+    alloc: Global,
+    lines: &[usize],
+    steps: &[Step],
+) -> Result<Vec<Step>, AllocError>
+    ensures { IfOk result (λ found. found.items ≡ on_lines lines.now steps.now) }
+{
+    let mut found = Vec::new(alloc);
+    for step in steps {
+        found.push(on_line(lines, step))?;
+    }
+    Ok(found)
+}
+
+/// Whether the row of a place says this.
+fn says(rows: &[Row], place: usize, told: &Told) -> bool
+    requires { place < length rows.now }
+    ensures { (d : RowValue) → MatchBool result
+        ((get_or rows.now place d).told ≡ told.now) ((get_or rows.now place d).told ≢ told.now) }
+{
+    rows[place].told.is(told)
+}
+
+/// The place of a row that says this.
+fn place_of(rows: &[Row], told: &Told) -> Option<usize>
+    ensures { MatchOption result (All (λ (row : RowValue). row.told ≢ told.now) rows.now)
+        (λ place. (place < length rows.now)
+        × ((d : RowValue) → (get_or rows.now place d).told ≡ told.now)) }
+{
+    for place in 0..rows.len() {
+        if says(rows, place, told) {
+            return Some(place);
+        }
+    }
+    None
+}
+
+/// Adds what is said at these ports: to the row that says it, or in one row more where none does.
+pub(crate) fn add_row(
+    rows: &mut Vec<Row>,
+    alloc: Global,
+    ports: &[u8],
+    told: Told,
+) -> Result<(), AllocError>
+    ensures { OnOk result (AddsRow ports.now told rows.old.items rows.new.items) }
+{
+    let Some(place) = place_of(rows.as_slice(), &told) else {
+        let ports = Vec::from_slice(alloc, ports)?;
+        rows.push(Row { ports, told })?;
+        return Ok(());
+    };
+    rows[place].ports.extend_from_slice(ports)
+}
