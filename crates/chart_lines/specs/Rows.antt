@@ -1,5 +1,5 @@
 -- The rows of charts as values: what says the same at several ports is one row.
-use Rattle.std.specs.Prelude.{◌≡◌, ◌≢◌, ◌⊎◌, ◌<◌, ◌-◌, ◌+◌, ℕ, Bool, List, [], ◌∷◌, ◌++◌, All, Option, Some, None, drop, get_or, length, map, slice_index_or, take}
+use Rattle.std.specs.Prelude.{◌≡◌, ◌≢◌, ◌⊎◌, ◌<◌, ◌-◌, ℕ, Bool, List, [], ◌∷◌, ◌++◌, All, Option, Some, None, get_or, length, map, slice_index_or, slice_set}
 use Rattle.regions.specs.Points.{HasCommand}
 use Rattle.regions.specs.declared.regions.Region.{Region}
 use Rattle.differences.specs.declared.courses.Step.{Step}
@@ -52,7 +52,7 @@ pub record Joins (ports : List ℕ) (said : ToldValue) (before after : List RowV
   pub row : RowValue
   pub own : (d : RowValue) → get_or before place d ≡ row
   pub same : row.told ≡ said
-  pub is : after ≡ take place before ++ row_of (row.ports ++ ports) said ∷ drop (place + 1) before
+  pub is : after ≡ slice_set before place (row_of (row.ports ++ ports) said)
 
 -- this was said at these ports: by the row that says it, or by one row more where none does
 abbrev pub AddsRow : (ports : List ℕ) → ToldValue → (before after : List RowValue) → Type 0

@@ -2,6 +2,7 @@
 
 ghost use Rattle.std.specs.Prelude.{◌≡◌, ◌≢◌, ◌<◌, [], All, IfOk, IfSome, MatchBool, MatchOption, None, OnOk, Some, get_or, length};
 ghost use Rattle.regions.specs.Points.{HasCommand};
+ghost use Rattle.differences.specs.declared.courses.Step.{Step};
 ghost use Rattle.chart_lines.specs.Rows.{AddsRow, RowValue, line_of, on_line, on_lines, row_of, told};
 
 use charts::Line;
@@ -111,9 +112,35 @@ impl Told {
     {
         self.region == other.region
             && (self.rest == other.rest
-                && (self.course() == other.course()
-                    && (self.new_course() == other.new_course() && self.change == other.change)))
+                && (self.change == other.change
+                    && (are_same(self.course(), other.course())
+                        && are_same(self.new_course(), other.new_course()))))
     }
+}
+
+/// Whether the steps of a place are the same.
+fn is_same_at(one: &[Step], other: &[Step], place: usize) -> bool
+    requires one { place < length one.now }
+    requires other { place < length other.now }
+    ensures { (d : Step) → MatchBool result (get_or one.now place d ≡ get_or other.now place d)
+        (get_or one.now place d ≢ get_or other.now place d) }
+{
+    one[place] == other[place]
+}
+
+/// Whether two courses have the same rules, of the same lines.
+fn are_same(one: &[Step], other: &[Step]) -> bool
+    ensures { MatchBool result (one.now ≡ other.now) (one.now ≢ other.now) }
+{
+    if one.len() != other.len() {
+        return false;
+    }
+    for place in 0..one.len() {
+        if !is_same_at(one, other, place) {
+            return false;
+        }
+    }
+    true
 }
 
 /// A row of a chart: what it says, and at which ports.
