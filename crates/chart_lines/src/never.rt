@@ -1,13 +1,11 @@
 //! The rules of a table that never match, and why.
 
-ghost use Rattle.std.specs.Prelude.{◌≡◌, ◌⊎◌, ◌<◌, ◌++◌, ◌∷◌, [], IfOk, MatchBool, OnOk, get_or, length, take};
+ghost use Rattle.std.specs.Prelude.{◌≡◌, ◌<◌, ◌++◌, ◌∷◌, [], IfOk, MatchBool, OnOk, length};
 ghost use Rattle.policy_table.specs.PortTables.{is_named};
-ghost use Rattle.policy_table.specs.declared.port_rules.PortRule.{PortRule};
 ghost use Rattle.chart_lines.specs.AskedTables.{asked_at};
 ghost use Rattle.chart_lines.specs.Never.{AddsStop, AddsStopAt, AreNotes, AreTables, IsFate, IsNoFate, IsNotedAt, IsNowhere, IsReason, IsSomewhere, has_no_ticket, place_of};
 ghost use Rattle.chart_lines.specs.Ports.{AtPort};
 ghost use Rattle.chart_lines.specs.Telling.{TellsFirst};
-ghost use Rattle.chart_lines.specs.declared.never.Fate.TheVariants.{Asked as IsAsked, Matching, Stopped};
 
 use crate::asked::Asked;
 use crate::ports::{PORTS, Tables};

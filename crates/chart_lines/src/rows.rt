@@ -146,10 +146,8 @@ fn are_same(one: &[Step], other: &[Step]) -> bool
 /// A row of a chart: what it says, and at which ports.
 #[derive(Debug, Drop)]
 pub struct Row {
-    /// The ports.
-    pub ports: Vec<u8>,
-    /// What is so at each of them.
-    pub told: Told,
+    ports: Vec<u8>,
+    told: Told,
 }
 
 impl Model for Row {
@@ -158,6 +156,22 @@ impl Model for Row {
     ghost Value = { RowValue };
 
     ghost view = { λ r. row_of r.ports.items r.told };
+}
+
+impl Row {
+    /// The ports.
+    pub fn ports(&self) -> &[u8]
+        ensures { result.now ≡ self.now.ports }
+    {
+        self.ports.as_slice()
+    }
+
+    /// What is so at each of them.
+    pub fn told(&self) -> &Told
+        ensures { result.now ≡ self.now.told }
+    {
+        &self.told
+    }
 }
 
 /// The line of the rule of this number, from 1, where rules stand in these lines; 0 where none is.
