@@ -1,7 +1,7 @@
 -- Rows that hold at more ports, and rows more.
-use Rattle.std.proofs.Common.{◌≡◌, ◌≢◌, ◌∙◌, ◌<◌, ◌+◌, ◌++◌, inl, inr, ◌∷◌, [], ℕ, suc, List, Option, Some, None, ap, arith, length, refl, subst, sym, take}
+use Rattle.std.proofs.Common.{◌≡◌, ◌≢◌, ◌∙◌, ◌<◌, ◌≤◌, ◌+◌, ◌++◌, inl, inr, ◌∷◌, [], ℕ, suc, List, Option, Some, None, ap, arith, length, refl, subst, sym, take}
 use Rattle.std.specs.Prelude.{All, MatchOption, get_or, slice_set}
-use Rattle.std.proofs.lemmas.List.{take_more}
+use Rattle.std.proofs.lemmas.List.{take_all, take_more}
 use Rattle.differences.specs.declared.courses.Step.{Step}
 use Rattle.regions.specs.declared.regions.Region.{Region}
 use Rattle.chart_lines.specs.Rows.{AddsRow, RowValue, ToldValue, row_of, told}
@@ -38,6 +38,18 @@ pub same_more : (one other : List Step) (place : ℕ) (d : Step) → place < len
     → take (place + 1) one ≡ take (place + 1) other
 same_more one other place d lt other_lt before here =
     take_more one place d lt ∙ ap (λ (xs : List Step). xs ++ get_or one place d ∷ []) before ∙ ap (λ (x : Step). take place other ++ x ∷ []) here ∙ sym (take_more other place d other_lt)
+
+-- two courses of one length that are the same up to their end
+pub same_whole : (one other : List Step) (place : ℕ) → length one ≡ length other → length one ≤ place → take place one ≡ take place other → one ≡ other
+same_whole one other place many end known =
+    sym (take_all place one end) ∙ known ∙ take_all place other (omega (arith, many, end))
+
+-- courses that are not: of two lengths, or apart at a place
+pub other_length : (one other : List Step) → (length one ≡ length other → ⊥) → one ≢ other
+other_length one other apart same = apart (ap (λ (xs : List Step). length xs) same)
+
+pub other_there : (one other : List Step) (place : ℕ) (d : Step) → get_or one place d ≢ get_or other place d → one ≢ other
+other_there one other place d apart same = apart (ap (λ (xs : List Step). get_or xs place d) same)
 
 pub same_told : (one other : ToldValue) → one.region ≡ other.region → one.rest ≡ other.rest → one.course ≡ other.course → one.new ≡ other.new → one.change ≡ other.change → one ≡ other
 same_told one other region rest course new change =

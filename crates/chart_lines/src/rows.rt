@@ -107,6 +107,7 @@ impl Told {
     }
 
     /// Whether two rows say the same.
+    #[tactic(auto, using(crate::proofs::Joining::same_told))]
     fn is(&self, other: &Told) -> bool
         ensures { MatchBool result (self.now ≡ other.now) (self.now ≢ other.now) }
     {
@@ -129,6 +130,7 @@ fn is_same_at(one: &[Step], other: &[Step], place: usize) -> bool
 }
 
 /// Whether two courses have the same rules, of the same lines.
+#[tactic(auto, using(crate::proofs::Joining::same_more, crate::proofs::Joining::same_whole, crate::proofs::Joining::other_length, crate::proofs::Joining::other_there))]
 fn are_same(one: &[Step], other: &[Step]) -> bool
     ensures { MatchBool result (one.now ≡ other.now) (one.now ≢ other.now) }
 {
