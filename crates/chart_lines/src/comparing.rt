@@ -139,8 +139,8 @@ fn add_port(
     add_lines(rows, alloc, ports.as_slice(), &old, &new, preferred)
 }
 
-/// The rows of a comparison of two tables: where they decide differently, each such command in one row at each port, and no other
-/// in any. The point of a row is looked for in these regions first, in their order.
+/// The rows of a comparison of two tables: each command that they decide differently is in one row at each port, and no other in any.
+/// The point of a row is looked for in these regions first, in their order.
 ///
 /// # Errors
 ///
