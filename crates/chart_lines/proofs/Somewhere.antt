@@ -4,7 +4,11 @@ use Rattle.std.specs.Prelude.{All, Bool, MatchBool, false, get_or, true}
 use Rattle.std.proofs.lemmas.List.{take_all}
 use Rattle.std.proofs.lemmas.List.Elements.{All-more}
 use Rattle.chart_lines.specs.AskedTables.{AskedValue}
-use Rattle.chart_lines.specs.Never.{IsFate, IsFateAt, IsNoFate, IsNowhere, IsSomewhere}
+use Rattle.policy_table.specs.Policies.{PolicyValue}
+use Rattle.policy_table.specs.declared.port_rules.PortRule.{PortRule}
+use Rattle.chart_lines.specs.Never.{AreNotes, AreTables, IsFate, IsFateAt, IsNoFate, IsNotedAt, IsNowhere, IsSomewhere}
+use Rattle.chart_lines.specs.Telling.{TellsFirst}
+use Rattle.chart_lines.specs.declared.never.Note.{Note}
 use Rattle.chart_lines.specs.declared.never.Fate.{Fate}
 
 pub somewhere : (fate : Fate) (tables : List AskedValue) (line place : ℕ) (t : Bool) → place < length tables → t ≡ true → IsFateAt fate tables place line t → IsSomewhere fate tables line
@@ -26,3 +30,13 @@ pub fate_at : (fate : Fate) (tables : List AskedValue) (line place : ℕ) (own :
     → IsFateAt fate tables place line t
 fate_at fate tables line place own true f h d = subst (λ (a : AskedValue). IsFate fate a line) (sym (f d)) h
 fate_at fate tables line place own false f h d = subst (λ (a : AskedValue). IsNoFate fate a line) (sym (f d)) h
+
+-- the notes of the rules of a table, by the slices that were lent
+pub noted : (policy : PolicyValue) (tables slice : List AskedValue) (rules : List PortRule) (notes : List Note) → AreTables policy 32 tables → slice ≡ tables → rules ≡ policy.rules
+    → TellsFirst (IsNotedAt slice rules) (length rules) [] notes → AreNotes policy notes
+noted policy tables slice rules notes are same own told = record {
+  tables = tables;
+  are_tables = are;
+  noted = subst (λ (rs : List PortRule). TellsFirst (IsNotedAt tables rs) (length rs) [] notes) own
+      (subst (λ (ts : List AskedValue). TellsFirst (IsNotedAt ts rules) (length rules) [] notes) same told);
+}
