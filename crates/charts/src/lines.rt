@@ -142,8 +142,7 @@ impl Question for Chart<'_> {
     }
 
     fn ask(&self, point: &Point) -> bool {
-        let told =
-            self.asked.has(point) && (self.all || !are_alike(self.old, self.new, point));
+        let told = self.asked.has(point) && (self.all || !are_alike(self.old, self.new, point));
         is_told_rightly(told, self.old, self.new, self.lines, point)
     }
 }

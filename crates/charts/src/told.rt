@@ -47,8 +47,7 @@ impl Question for Told<'_> {
     }
 
     fn ask(&self, point: &Point) -> bool {
-        let told =
-            self.asked.has(point) && (self.all || !are_alike(self.old, self.new, point));
+        let told = self.asked.has(point) && (self.all || !are_alike(self.old, self.new, point));
         !told
     }
 }
@@ -93,11 +92,7 @@ fn cell_lines(
 /// # Errors
 ///
 /// Only where memory was refused.
-pub fn map_cells(
-    alloc: Global,
-    asked: &Region,
-    rules: &[Rule],
-) -> Result<Vec<Line>, AllocError>
+pub fn map_cells(alloc: Global, asked: &Region, rules: &[Rule]) -> Result<Vec<Line>, AllocError>
     ensures { IfOk result (λ lines. IsMap asked.now rules.now lines.items) }
 {
     let all = true;

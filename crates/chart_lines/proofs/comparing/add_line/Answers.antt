@@ -3,5 +3,5 @@ use Rattle.chart_lines.proofs.comparing.add_line.Goals as goal
 
 pub returns : goal.returns
 returns c =
-    line_compared c.charts_are_read.ensures.plain c.args.ports.now c.args.comparison.old.now c.args.comparison.new.now c.args.comparison.chart.now c.requires.comparison c.args.place c.line_at-line.result c.in-Some.point c.in_ok-told.told c.args.rows.now.items _
+    line_compared c.charts_are_read.ensures.plain c.args.comparison.asked.now c.args.ports.now c.args.comparison.old.now c.args.comparison.new.now c.args.comparison.chart.now c.requires.comparison c.args.place c.line_at-line.result c.in-Some.point c.in_ok-told.told c.args.rows.now.items _
     c.requires.place c.line_at-line.ensures c.in-Some.ensures c.in_ok-told.ensures c.in_ok-add_row.ensures
