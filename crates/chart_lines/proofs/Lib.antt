@@ -1,3 +1,4 @@
+mod Joining
 mod Limits
 mod Telling
 mod WitnessPoints

@@ -49,10 +49,8 @@ on_lines lines steps = map (on_line lines) steps
 pub record Joins (ports : List ℕ) (said : ToldValue) (before after : List RowValue) : Type 0 where
   pub place : ℕ
   pub there : place < length before
-  pub row : RowValue
-  pub own : (d : RowValue) → get_or before place d ≡ row
-  pub same : row.told ≡ said
-  pub is : after ≡ slice_set before place (row_of (row.ports ++ ports) said)
+  pub same : (d : RowValue) → (get_or before place d).told ≡ said
+  pub is : (d : RowValue) → after ≡ slice_set before place (row_of ((get_or before place d).ports ++ ports) said)
 
 -- this was said at these ports: by the row that says it, or by one row more where none does
 abbrev pub AddsRow : (ports : List ℕ) → ToldValue → (before after : List RowValue) → Type 0

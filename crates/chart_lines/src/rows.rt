@@ -1,6 +1,6 @@
 //! The rows of charts: what says the same at several ports is one row.
 
-ghost use Rattle.std.specs.Prelude.{◌≡◌, ◌≢◌, ◌<◌, [], All, IfOk, IfSome, MatchBool, MatchOption, None, OnOk, Some, get_or, length};
+ghost use Rattle.std.specs.Prelude.{◌≡◌, ◌≢◌, ◌<◌, ◌++◌, ◌∷◌, [], All, IfOk, IfSome, MatchBool, MatchOption, None, OnOk, Some, get_or, length, slice_set};
 ghost use Rattle.regions.specs.Points.{HasCommand};
 ghost use Rattle.differences.specs.declared.courses.Step.{Step};
 ghost use Rattle.chart_lines.specs.Rows.{AddsRow, RowValue, line_of, on_line, on_lines, row_of, told};
@@ -215,6 +215,24 @@ fn place_of(rows: &[Row], told: &Told) -> Option<usize>
     None
 }
 
+/// Adds ports to the row of a place.
+fn join(rows: &mut Vec<Row>, place: usize, ports: &[u8]) -> Result<(), AllocError>
+    requires { place < length rows.old.items }
+    ensures { OnOk result ((d : RowValue) → rows.new.items ≡ slice_set rows.old.items place
+        (row_of ((get_or rows.old.items place d).ports ++ ports.now) (get_or rows.old.items place d).told)) }
+{
+    rows[place].ports.extend_from_slice(ports)
+}
+
+/// Adds a row.
+fn push_row(rows: &mut Vec<Row>, alloc: Global, ports: &[u8], told: Told) -> Result<(), AllocError>
+    ensures { OnOk result (rows.new.items ≡ rows.old.items ++ row_of ports.now told ∷ []) }
+{
+    let ports = Vec::from_slice(alloc, ports)?;
+    rows.push(Row { ports, told })?;
+    Ok(())
+}
+
 /// Adds what is said at these ports: to the row that says it, or in one row more where none does.
 pub(crate) fn add_row(
     rows: &mut Vec<Row>,
@@ -224,10 +242,8 @@ pub(crate) fn add_row(
 ) -> Result<(), AllocError>
     ensures { OnOk result (AddsRow ports.now told rows.old.items rows.new.items) }
 {
-    let Some(place) = place_of(rows.as_slice(), &told) else {
-        let ports = Vec::from_slice(alloc, ports)?;
-        rows.push(Row { ports, told })?;
-        return Ok(());
-    };
-    rows[place].ports.extend_from_slice(ports)
+    match place_of(rows.as_slice(), &told) {
+        Some(place) => join(rows, place, ports),
+        None => push_row(rows, alloc, ports, told),
+    }
 }

@@ -63,7 +63,7 @@ fn with_rule(past: Past, drawn: Option<Quota>, quota: &Quota) -> Past
 }
 
 /// What the rules of a course that do not match ask of the cell of a quota.
-fn past(steps: &[Step], quota: &Quota) -> Past
+fn past_of(steps: &[Step], quota: &Quota) -> Past
     ensures draws { result.draws ≡ draws_of (rules_of steps.now) quota.now.map quota.now.cell }
     ensures least { result.least ≡ least_word (rules_of steps.now) quota.now.map quota.now.cell }
     ensures few { result.draws ≤ length steps.now }
@@ -83,8 +83,8 @@ fn may_meet(own: &[Step], others: &[Step], quota: Option<Quota>) -> bool
     let Some(quota) = quota else {
         return true;
     };
-    let one = past(own, &quota);
-    let other = past(others, &quota);
+    let one = past_of(own, &quota);
+    let other = past_of(others, &quota);
     one.least.max(other.least) + one.draws < u64::from(quota.limit)
 }
 

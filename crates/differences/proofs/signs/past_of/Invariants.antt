@@ -1,7 +1,7 @@
 use Rattle.std.proofs.Common.{◌≡◌, ◌≤◌, ◌<◌, ◌^◌, drop}
 use Rattle.differences.specs.Gains.{draws_from, draws_of, least_from, least_word}
 use Rattle.differences.specs.Steps.{rules_of}
-use Rattle.differences.proofs.signs.past.Given as goal
+use Rattle.differences.proofs.signs.past_of.Given as goal
 
 abbrev pub invariant-loop-step : goal.invariant-loop-step
 invariant-loop-step l =
