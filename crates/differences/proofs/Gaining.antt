@@ -177,50 +177,49 @@ pub record Passes (olds : List Rule) (stop : Option Quota) (news new : List Rule
   pub met : is_met cells olds stop ≡ true
   pub passed : passes (code_from cells news new) ≡ true
 
+-- the first of new rules passes, or what is behind it
+passes_by : (olds : List Rule) (stop : Option Quota) (news : List Rule) (rule : Rule) (rules : List Rule) → All HasLimit olds → All HasLimit news
+    → (may_pass olds stop (news ++ rule ∷ []) rules ≡ true → Passes olds stop (news ++ rule ∷ []) rules)
+    → ((passes (verdict_number rule.verdict) && (may_meet olds news stop && may_meet news olds rule.quota)) ≡ true) ⊎ ((goes_on rule.quota && may_pass olds stop (news ++ rule ∷ []) rules) ≡ true)
+    → Passes olds stop news (rule ∷ rules)
+passes_by olds stop news rule rules old_limits limits later (inl h) =
+    let a = and_parts (passes (verdict_number rule.verdict)) (may_meet olds news stop && may_meet news olds rule.quota) h in
+    let b = and_parts (may_meet olds news stop) (may_meet news olds rule.quota) a.1 in
+    record {
+      cells = least_of olds news;
+      low = λ map cell. both_low (least_word olds map cell) (least_word news map cell) (least_bound 0 0 olds map cell old_limits (omega arith)) (least_bound 0 0 news map cell limits (omega arith));
+      past = λ map cell. omega arith;
+      new_past = λ map cell. omega arith;
+      met = b.0;
+      passed = subst (λ (code : ℕ). passes code ≡ true) (sym (by_first (least_of olds news) news rule rules true (swapped rule.quota b.1))) a.0;
+    }
+  where
+    both_low : (a b : ℕ) → a ≤ 2147483647 → b ≤ 2147483647 → max a b ≤ 2147483647
+    both_low a b h k = omega (arith, h, k)
+
+    swapped : (quota : Option Quota) → may_meet news olds quota ≡ true → is_met (least_of olds news) news quota ≡ true
+    swapped None m = refl
+    swapped (Some q) m =
+        let less : max (least_word news q.map q.cell) (least_word olds q.map q.cell) + draws_of news q.map q.cell < q.limit = is_below (ticket_of (least_of news olds) news q) q.limit m in
+        below (max (least_word olds q.map q.cell) (least_word news q.map q.cell) + draws_of news q.map q.cell) q.limit (omega (arith, less))
+passes_by olds stop news rule rules old_limits limits later (inr h) =
+    let a = and_parts (goes_on rule.quota) (may_pass olds stop (news ++ rule ∷ []) rules) h in
+    let p = later a.1 in
+    record {
+      cells = p.cells;
+      low = p.low;
+      past = p.past;
+      new_past = past_less p.cells news rule p.new_past;
+      met = p.met;
+      passed = subst (λ (code : ℕ). passes code ≡ true) (sym (by_first p.cells news rule rules false (not_met p.cells news rule a.0 p.new_past))) p.passed;
+    }
+
 may_pass_sound : (olds : List Rule) (stop : Option Quota) (news new : List Rule) → All HasLimit olds → All HasLimit news → All HasLimit new → may_pass olds stop news new ≡ true → Passes olds stop news new
 may_pass_sound olds stop news [] old_limits limits new_limits e = absurd (cc)
 may_pass_sound olds stop news (rule ∷ rules) old_limits limits new_limits e =
-    by_either (or_either (passes (verdict_number rule.verdict) && (may_meet olds news stop && may_meet news olds rule.quota)) (goes_on rule.quota && may_pass olds stop (news ++ rule ∷ []) rules) e)
-  where
-    own : HasLimit rule
-    own = All-head HasLimit rule rules new_limits
-
-    here : (passes (verdict_number rule.verdict) && (may_meet olds news stop && may_meet news olds rule.quota)) ≡ true → Passes olds stop news (rule ∷ rules)
-    here h =
-        let a = and_parts (passes (verdict_number rule.verdict)) (may_meet olds news stop && may_meet news olds rule.quota) h in
-        let b = and_parts (may_meet olds news stop) (may_meet news olds rule.quota) a.1 in
-        record {
-          cells = least_of olds news;
-          low = λ map cell. omega (arith, least_bound 0 0 olds map cell old_limits (omega arith), least_bound 0 0 news map cell limits (omega arith));
-          past = λ map cell. omega arith;
-          new_past = λ map cell. omega arith;
-          met = b.0;
-          passed = subst (λ (code : ℕ). passes code ≡ true) (sym (by_first (least_of olds news) news rule rules true (swapped rule.quota b.1))) a.0;
-        }
-      where
-        swapped : (quota : Option Quota) → may_meet news olds quota ≡ true → is_met (least_of olds news) news quota ≡ true
-        swapped None m = refl
-        swapped (Some q) m =
-            let less : max (least_word news q.map q.cell) (least_word olds q.map q.cell) + draws_of news q.map q.cell < q.limit = is_below (ticket_of (least_of news olds) news q) q.limit m in
-            below (max (least_word olds q.map q.cell) (least_word news q.map q.cell) + draws_of news q.map q.cell) q.limit (omega (arith, less))
-
-    later : (goes_on rule.quota && may_pass olds stop (news ++ rule ∷ []) rules) ≡ true → Passes olds stop news (rule ∷ rules)
-    later h =
-        let a = and_parts (goes_on rule.quota) (may_pass olds stop (news ++ rule ∷ []) rules) h in
-        let p = may_pass_sound olds stop (news ++ rule ∷ []) rules old_limits (limits_more news rule limits own) (All-tail HasLimit rule rules new_limits) a.1 in
-        record {
-          cells = p.cells;
-          low = p.low;
-          past = p.past;
-          new_past = past_less p.cells news rule p.new_past;
-          met = p.met;
-          passed = subst (λ (code : ℕ). passes code ≡ true) (sym (by_first p.cells news rule rules false (not_met p.cells news rule a.0 p.new_past))) p.passed;
-        }
-
-    by_either : ((passes (verdict_number rule.verdict) && (may_meet olds news stop && may_meet news olds rule.quota)) ≡ true) ⊎ ((goes_on rule.quota && may_pass olds stop (news ++ rule ∷ []) rules) ≡ true)
-        → Passes olds stop news (rule ∷ rules)
-    by_either (inl h) = here h
-    by_either (inr h) = later h
+    passes_by olds stop news rule rules old_limits limits
+    (λ h. may_pass_sound olds stop (news ++ rule ∷ []) rules old_limits (limits_more news rule limits (All-head HasLimit rule rules new_limits)) (All-tail HasLimit rule rules new_limits) h)
+    (or_either (passes (verdict_number rule.verdict) && (may_meet olds news stop && may_meet news olds rule.quota)) (goes_on rule.quota && may_pass olds stop (news ++ rule ∷ []) rules) e)
 
 pub record Differs (olds old new : List Rule) : Type 0 where
   pub cells : ℕ → ℕ → ℕ
@@ -229,73 +228,82 @@ pub record Differs (olds old new : List Rule) : Type 0 where
   pub stopped : passes (code_from cells olds old) ≡ false
   pub passed : passes (code_from cells [] new) ≡ true
 
+-- the first of old rules stops, or what is behind it
+stops_by : (olds : List Rule) (rule : Rule) (rules new : List Rule) → All HasLimit olds → All HasLimit new
+    → (gains_behind (olds ++ rule ∷ []) rules new ≡ true → Differs (olds ++ rule ∷ []) rules new)
+    → ((not (passes (verdict_number rule.verdict)) && may_pass olds rule.quota [] new) ≡ true) ⊎ ((goes_on rule.quota && gains_behind (olds ++ rule ∷ []) rules new) ≡ true)
+    → Differs olds (rule ∷ rules) new
+stops_by olds rule rules new limits new_limits later (inl h) =
+    let a = and_parts (not (passes (verdict_number rule.verdict))) (may_pass olds rule.quota [] new) h in
+    let p = may_pass_sound olds rule.quota [] new limits (All-nil HasLimit) new_limits a.1 in
+    record {
+      cells = p.cells;
+      low = p.low;
+      past = p.past;
+      stopped = subst (λ (code : ℕ). passes code ≡ false) (sym (by_first p.cells olds rule rules true p.met)) (not_of (passes (verdict_number rule.verdict)) a.0);
+      passed = p.passed;
+    }
+stops_by olds rule rules new limits new_limits later (inr h) =
+    let a = and_parts (goes_on rule.quota) (gains_behind (olds ++ rule ∷ []) rules new) h in
+    let d = later a.1 in
+    record {
+      cells = d.cells;
+      low = d.low;
+      past = past_less d.cells olds rule d.past;
+      stopped = subst (λ (code : ℕ). passes code ≡ false) (sym (by_first d.cells olds rule rules false (not_met d.cells olds rule a.0 d.past))) d.stopped;
+      passed = d.passed;
+    }
+
 gains_sound : (olds old new : List Rule) → All HasLimit olds → All HasLimit old → All HasLimit new → gains_behind olds old new ≡ true → Differs olds old new
 gains_sound olds [] new limits old_limits new_limits e =
     let p = may_pass_sound olds None [] new limits (All-nil HasLimit) new_limits e in
     record { cells = p.cells; low = p.low; past = p.past; stopped = refl; passed = p.passed }
 gains_sound olds (rule ∷ rules) new limits old_limits new_limits e =
-    by_either (or_either (not (passes (verdict_number rule.verdict)) && may_pass olds rule.quota [] new) (goes_on rule.quota && gains_behind (olds ++ rule ∷ []) rules new) e)
-  where
-    here : (not (passes (verdict_number rule.verdict)) && may_pass olds rule.quota [] new) ≡ true → Differs olds (rule ∷ rules) new
-    here h =
-        let a = and_parts (not (passes (verdict_number rule.verdict))) (may_pass olds rule.quota [] new) h in
-        let p = may_pass_sound olds rule.quota [] new limits (All-nil HasLimit) new_limits a.1 in
-        record {
-          cells = p.cells;
-          low = p.low;
-          past = p.past;
-          stopped = subst (λ (code : ℕ). passes code ≡ false) (sym (by_first p.cells olds rule rules true p.met)) (not_of (passes (verdict_number rule.verdict)) a.0);
-          passed = p.passed;
-        }
-
-    later : (goes_on rule.quota && gains_behind (olds ++ rule ∷ []) rules new) ≡ true → Differs olds (rule ∷ rules) new
-    later h =
-        let a = and_parts (goes_on rule.quota) (gains_behind (olds ++ rule ∷ []) rules new) h in
-        let d = gains_sound (olds ++ rule ∷ []) rules new (limits_more olds rule limits (All-head HasLimit rule rules old_limits)) (All-tail HasLimit rule rules old_limits) new_limits a.1 in
-        record {
-          cells = d.cells;
-          low = d.low;
-          past = past_less d.cells olds rule d.past;
-          stopped = subst (λ (code : ℕ). passes code ≡ false) (sym (by_first d.cells olds rule rules false (not_met d.cells olds rule a.0 d.past))) d.stopped;
-          passed = d.passed;
-        }
-
-    by_either : ((not (passes (verdict_number rule.verdict)) && may_pass olds rule.quota [] new) ≡ true) ⊎ ((goes_on rule.quota && gains_behind (olds ++ rule ∷ []) rules new) ≡ true) → Differs olds (rule ∷ rules) new
-    by_either (inl h) = here h
-    by_either (inr h) = later h
+    stops_by olds rule rules new limits new_limits
+    (λ h. gains_sound (olds ++ rule ∷ []) rules new (limits_more olds rule limits (All-head HasLimit rule rules old_limits)) (All-tail HasLimit rule rules old_limits) new_limits h)
+    (or_either (not (passes (verdict_number rule.verdict)) && may_pass olds rule.quota [] new) (goes_on rule.quota && gains_behind (olds ++ rule ∷ []) rules new) e)
 
 -- ---- complete
+
+no_words : (cells : ℕ → ℕ → ℕ) → IsPast cells []
+no_words cells map cell = omega arith
+
+-- the first of new rules is met, or not
+passes_there : (olds : List Rule) (stop : Option Quota) (news : List Rule) (rule : Rule) (rules : List Rule) (cells : ℕ → ℕ → ℕ) → IsPast cells olds → is_met cells olds stop ≡ true → IsPast cells news
+    → (IsPast cells (news ++ rule ∷ []) → passes (code_from cells (news ++ rule ∷ []) rules) ≡ true → may_pass olds stop (news ++ rule ∷ []) rules ≡ true)
+    → (t : Bool) → is_met cells news rule.quota ≡ t → passes (if t then verdict_number rule.verdict else code_from cells (news ++ rule ∷ []) rules) ≡ true → may_pass olds stop news (rule ∷ rules) ≡ true
+passes_there olds stop news rule rules cells past met new_past later true f h =
+    or_first (passes (verdict_number rule.verdict) && (may_meet olds news stop && may_meet news olds rule.quota)) (goes_on rule.quota && may_pass olds stop (news ++ rule ∷ []) rules)
+    (joined (passes (verdict_number rule.verdict)) (may_meet olds news stop && may_meet news olds rule.quota) h
+    (joined (may_meet olds news stop) (may_meet news olds rule.quota) (least_meets cells olds news stop past new_past met) (least_meets cells news olds rule.quota new_past past f)))
+passes_there olds stop news rule rules cells past met new_past later false f h =
+    let more = ends_there cells news rule.quota f in
+    or_other (passes (verdict_number rule.verdict) && (may_meet olds news stop && may_meet news olds rule.quota)) (goes_on rule.quota && may_pass olds stop (news ++ rule ∷ []) rules)
+    (joined (goes_on rule.quota) (may_pass olds stop (news ++ rule ∷ []) rules) more (later (past_more cells news rule more f new_past) h))
 
 may_pass_complete : (olds : List Rule) (stop : Option Quota) (news new : List Rule) (cells : ℕ → ℕ → ℕ) → IsPast cells olds → is_met cells olds stop ≡ true → IsPast cells news
     → passes (code_from cells news new) ≡ true → may_pass olds stop news new ≡ true
 may_pass_complete olds stop news [] cells past met new_past e = absurd (cc)
-may_pass_complete olds stop news (rule ∷ rules) cells past met new_past e = by_met (is_met cells news rule.quota) refl e
-  where
-    by_met : (t : Bool) → is_met cells news rule.quota ≡ t → passes (if t then verdict_number rule.verdict else code_from cells (news ++ rule ∷ []) rules) ≡ true → may_pass olds stop news (rule ∷ rules) ≡ true
-    by_met true f h =
-        or_first _ (goes_on rule.quota && may_pass olds stop (news ++ rule ∷ []) rules)
-        (joined (passes (verdict_number rule.verdict)) (may_meet olds news stop && may_meet news olds rule.quota) h
-        (joined (may_meet olds news stop) (may_meet news olds rule.quota) (least_meets cells olds news stop past new_past met) (least_meets cells news olds rule.quota new_past past f)))
-    by_met false f h =
-        let more = ends_there cells news rule.quota f in
-        or_other (passes (verdict_number rule.verdict) && (may_meet olds news stop && may_meet news olds rule.quota)) _
-        (joined (goes_on rule.quota) (may_pass olds stop (news ++ rule ∷ []) rules) more
-        (may_pass_complete olds stop (news ++ rule ∷ []) rules cells past met (past_more cells news rule more f new_past) h))
+may_pass_complete olds stop news (rule ∷ rules) cells past met new_past e =
+    passes_there olds stop news rule rules cells past met new_past (λ known h. may_pass_complete olds stop (news ++ rule ∷ []) rules cells past met known h) (is_met cells news rule.quota) refl e
+
+-- the first of old rules is met, or not
+stops_there : (olds : List Rule) (rule : Rule) (rules new : List Rule) (cells : ℕ → ℕ → ℕ) → IsPast cells olds → passes (code_from cells [] new) ≡ true
+    → (IsPast cells (olds ++ rule ∷ []) → passes (code_from cells (olds ++ rule ∷ []) rules) ≡ false → gains_behind (olds ++ rule ∷ []) rules new ≡ true)
+    → (t : Bool) → is_met cells olds rule.quota ≡ t → passes (if t then verdict_number rule.verdict else code_from cells (olds ++ rule ∷ []) rules) ≡ false → gains_behind olds (rule ∷ rules) new ≡ true
+stops_there olds rule rules new cells past p later true f h =
+    or_first (not (passes (verdict_number rule.verdict)) && may_pass olds rule.quota [] new) (goes_on rule.quota && gains_behind (olds ++ rule ∷ []) rules new)
+    (joined (not (passes (verdict_number rule.verdict))) (may_pass olds rule.quota [] new) (of_not (passes (verdict_number rule.verdict)) h)
+    (may_pass_complete olds rule.quota [] new cells past f (no_words cells) p))
+stops_there olds rule rules new cells past p later false f h =
+    let more = ends_there cells olds rule.quota f in
+    or_other (not (passes (verdict_number rule.verdict)) && may_pass olds rule.quota [] new) (goes_on rule.quota && gains_behind (olds ++ rule ∷ []) rules new)
+    (joined (goes_on rule.quota) (gains_behind (olds ++ rule ∷ []) rules new) more (later (past_more cells olds rule more f past) h))
 
 gains_complete : (olds old new : List Rule) (cells : ℕ → ℕ → ℕ) → IsPast cells olds → passes (code_from cells olds old) ≡ false → passes (code_from cells [] new) ≡ true → gains_behind olds old new ≡ true
-gains_complete olds [] new cells past s p = may_pass_complete olds None [] new cells past refl (λ map cell. omega arith) p
-gains_complete olds (rule ∷ rules) new cells past s p = by_met (is_met cells olds rule.quota) refl s
-  where
-    by_met : (t : Bool) → is_met cells olds rule.quota ≡ t → passes (if t then verdict_number rule.verdict else code_from cells (olds ++ rule ∷ []) rules) ≡ false → gains_behind olds (rule ∷ rules) new ≡ true
-    by_met true f h =
-        or_first _ (goes_on rule.quota && gains_behind (olds ++ rule ∷ []) rules new)
-        (joined (not (passes (verdict_number rule.verdict))) (may_pass olds rule.quota [] new) (of_not (passes (verdict_number rule.verdict)) h)
-        (may_pass_complete olds rule.quota [] new cells past f (λ map cell. omega arith) p))
-    by_met false f h =
-        let more = ends_there cells olds rule.quota f in
-        or_other (not (passes (verdict_number rule.verdict)) && may_pass olds rule.quota [] new) _
-        (joined (goes_on rule.quota) (gains_behind (olds ++ rule ∷ []) rules new) more
-        (gains_complete (olds ++ rule ∷ []) rules new cells (past_more cells olds rule more f past) h p))
+gains_complete olds [] new cells past s p = may_pass_complete olds None [] new cells past refl (no_words cells) p
+gains_complete olds (rule ∷ rules) new cells past s p =
+    stops_there olds rule rules new cells past p (λ known h. gains_complete (olds ++ rule ∷ []) rules new cells known h p) (is_met cells olds rule.quota) refl s
 
 -- ---- exact
 
@@ -309,7 +317,7 @@ is_gained old new true old_limited new_limited e =
       passed = d.passed;
     }
 is_gained old new false old_limited new_limited e = λ h.
-    true_not_false (gains_behind [] old new) (gains_complete [] old new h.cells (λ map cell. omega arith) h.stopped h.passed) e
+    true_not_false (gains_behind [] old new) (gains_complete [] old new h.cells (no_words h.cells) h.stopped h.passed) e
 
 pub sign_is : (old new : List Rule) (more fewer : Bool) → AreLimited old → AreLimited new → gains_behind [] old new ≡ more → gains_behind [] new old ≡ fewer → IsSign (sign_with more fewer) old new
 sign_is old new true true old_limited new_limited e f = (is_gained old new true old_limited new_limited e, is_gained new old true new_limited old_limited f)
