@@ -34,9 +34,13 @@ module _ (asked : Region) where
   HaveDifference one other = (point : Point) × IsDifferenceIn asked one other point
 
   -- two tables do so at a port
+  abbrev pub HaveDifferenceAt : (one other : PolicyValue) → (port : ℕ) → Type 0
+  HaveDifferenceAt one other port = HaveDifference (rules_at port one.rules) (rules_at port other.rules)
+
+  -- and it is one that a node may have
   pub record DifferAt (one other : PolicyValue) (port : ℕ) : Type 0 where
     pub is_port : port < 32
-    pub differ : HaveDifference (rules_at port one.rules) (rules_at port other.rules)
+    pub differ : HaveDifferenceAt one other port
 
   -- at some port
   abbrev pub DifferSomewhere : (one other : PolicyValue) → Type 0
@@ -57,7 +61,7 @@ module _ (asked : Region) where
   -- at one port, or at some
   abbrev pub DifferFor : (port : Option ℕ) → (one other : PolicyValue) → Type 0
   DifferFor None one other = DifferSomewhere one other
-  DifferFor (Some port) one other = DifferAt one other port
+  DifferFor (Some port) one other = HaveDifferenceAt one other port
 
   -- at one port, or at each
   abbrev pub AreSameFor : (port : Option ℕ) → (one other : PolicyValue) → Type 0

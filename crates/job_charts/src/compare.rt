@@ -8,7 +8,7 @@ ghost use Rattle.clap.specs.Matches.{found_of};
 ghost use Rattle.job_parts.specs.Stops.{StopsBy};
 ghost use Rattle.charts.specs.Same.{AreSame};
 ghost use Rattle.job_charts.specs.CompareJob.{NamesCompare, RefusesCompare, compare_app};
-ghost use Rattle.job_charts.specs.ComparedFile.{AreTables, AreSameAt, AreSameAtAll, AreSameFor, AreSameIfCharted, ComparesFile, DifferAt, DifferFor, DifferSomewhere, HaveDifference, IsNoNamed, IsNoPair, IsNotCompared, TellsRows, TellsTables};
+ghost use Rattle.job_charts.specs.ComparedFile.{AreTables, AreSameAt, AreSameAtAll, AreSameFor, AreSameIfCharted, ComparesFile, DifferAt, DifferFor, DifferSomewhere, HaveDifference, HaveDifferenceAt, IsNoNamed, IsNoPair, IsNotCompared, TellsRows, TellsTables};
 ghost use Rattle.job_parts.specs.Inputs.{AreInputs, input};
 ghost use Rattle.job_parts.specs.declared.inputs.Content.TheVariants.{Table};
 ghost use Rattle.job_decide.specs.Tables.{HoldsTable};
@@ -177,9 +177,8 @@ fn differ_there(
     new: &Policy,
     port: u8,
 ) -> Result<bool, AllocError>
-    requires { port < 32 }
     ensures { IfOk result (λ differ. MatchBool differ
-        (DifferAt asked.now old.now new.now port) (AreSameAt asked.now old.now new.now port)) }
+        (HaveDifferenceAt asked.now old.now new.now port) (AreSameAt asked.now old.now new.now port)) }
 {
     let old = Asked::at(alloc, old, port)?;
     let new = Asked::at(alloc, new, port)?;
