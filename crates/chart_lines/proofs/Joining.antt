@@ -1,10 +1,11 @@
 -- Rows that hold at more ports, and rows more.
-use Rattle.std.proofs.Common.{◌≡◌, ◌≢◌, ◌∙◌, ◌<◌, ◌+◌, ◌++◌, inl, inr, ◌∷◌, [], ℕ, suc, List, Option, Some, None, ap, arith, length, refl, subst, sym, take}
-use Rattle.std.specs.Prelude.{All, MatchOption, get_or, slice_set}
-use Rattle.std.proofs.lemmas.List.{take_more}
+use Rattle.std.proofs.Common.{◌≡◌, ◌≢◌, ◌∙◌, ◌<◌, ◌≤◌, ◌+◌, ◌++◌, inl, inr, ◌∷◌, [], ℕ, suc, List, Option, Some, None, ap, arith, length, refl, subst, sym, take}
+use Rattle.std.specs.Prelude.{All, Bool, MatchBool, MatchOption, false, get_or, slice_set, true}
+use Rattle.std.proofs.lemmas.List.{take_all, take_more}
+use Rattle.std.proofs.lemmas.List.Elements.{All-more}
 use Rattle.differences.specs.declared.courses.Step.{Step}
 use Rattle.regions.specs.declared.regions.Region.{Region}
-use Rattle.chart_lines.specs.Rows.{AddsRow, RowValue, ToldValue, row_of, told}
+use Rattle.chart_lines.specs.Rows.{AddsRow, RowValue, SaysAt, ToldValue, row_of, told}
 use Rattle.chart_lines.specs.declared.rows.Change.{Change}
 
 -- rows of which this is known where a row that says it was looked for
@@ -39,8 +40,65 @@ pub same_more : (one other : List Step) (place : ℕ) (d : Step) → place < len
 same_more one other place d lt other_lt before here =
     take_more one place d lt ∙ ap (λ (xs : List Step). xs ++ get_or one place d ∷ []) before ∙ ap (λ (x : Step). take place other ++ x ∷ []) here ∙ sym (take_more other place d other_lt)
 
+-- two courses of one length that are the same up to their end
+pub same_whole : (one other : List Step) (place : ℕ) → length one ≡ length other → length one ≤ place → take place one ≡ take place other → one ≡ other
+same_whole one other place many end known =
+    sym (take_all place one end) ∙ known ∙ take_all place other (omega (arith, many, end))
+
+-- courses that are not: of two lengths, or apart at a place
+pub other_length : (one other : List Step) → (length one ≡ length other → ⊥) → one ≢ other
+other_length one other apart same = apart (ap (λ (xs : List Step). length xs) same)
+
+-- the steps of a place, by their values
+pub same_at : (one other : List Step) (place : ℕ) (x y : Step) (t : Bool) → ((d : Step) → get_or one place d ≡ x) → ((d : Step) → get_or other place d ≡ y) → MatchBool t (x ≡ y) (x ≢ y)
+    → (d : Step) → MatchBool t (get_or one place d ≡ get_or other place d) (get_or one place d ≢ get_or other place d)
+same_at one other place x y true f g h d = f d ∙ h ∙ sym (g d)
+same_at one other place x y false f g h d = λ e. h (sym (f d) ∙ e ∙ g d)
+
+-- whether the steps of a place are the same
+abbrev pub AreSameAt : (one other : List Step) (place : ℕ) (t : Bool) → Type 0
+AreSameAt one other place t =
+    (d : Step) → MatchBool t (get_or one place d ≡ get_or other place d) (get_or one place d ≢ get_or other place d)
+
+pub other_there : (one other : List Step) (place : ℕ) (t : Bool) → place < length one → t ≡ false → AreSameAt one other place t → one ≢ other
+other_there [] other place t lt e h = absurd (omega (arith, lt))
+other_there (x ∷ xs) other place true lt e h = absurd (cc)
+other_there (x ∷ xs) other place false lt e h = λ same. h x (ap (λ (ys : List Step). get_or ys place x) same)
+
+pub same_further : (one other : List Step) (place : ℕ) (t : Bool) → place < length one → length one ≡ length other → t ≡ true → AreSameAt one other place t → take place one ≡ take place other
+    → take (place + 1) one ≡ take (place + 1) other
+same_further [] other place t lt many e h before = absurd (omega (arith, lt))
+same_further (x ∷ xs) other place true lt many e h before = same_more (x ∷ xs) other place x lt (omega (arith, lt, many)) before (h x)
+same_further (x ∷ xs) other place false lt many e h before = absurd (cc)
+
 pub same_told : (one other : ToldValue) → one.region ≡ other.region → one.rest ≡ other.rest → one.course ≡ other.course → one.new ≡ other.new → one.change ≡ other.change → one ≡ other
 same_told one other region rest course new change =
     ap (λ r. told r one.rest one.course one.new one.change) region ∙ ap (λ r. told other.region r one.course one.new one.change) rest
     ∙ ap (λ steps. told other.region other.rest steps one.new one.change) course ∙ ap (λ steps. told other.region other.rest other.course steps one.change) new
     ∙ ap (λ c. told other.region other.rest other.course other.new c) change
+
+-- two rows whose other parts are the same, by the last
+pub by_last : (t : Bool) (one other : ToldValue) (x y : List Step) → one.region ≡ other.region → one.rest ≡ other.rest → one.course ≡ other.course → one.change ≡ other.change → x ≡ one.new → y ≡ other.new
+    → MatchBool t (x ≡ y) (x ≢ y) → MatchBool t (one ≡ other) (one ≢ other)
+by_last true one other x y region rest course change f g h = same_told one other region rest course (sym f ∙ h ∙ g) change
+by_last false one other x y region rest course change f g h = λ e. h (f ∙ ap (λ (t : ToldValue). t.new) e ∙ sym g)
+
+-- ---- rows that say it
+
+pub said_at : (rows : List RowValue) (place : ℕ) (said : ToldValue) (row : RowValue) (own : ToldValue) (t : Bool) → ((d : RowValue) → get_or rows place d ≡ row) → own ≡ row.told
+    → MatchBool t (own ≡ said) (own ≢ said) → SaysAt rows place said t
+said_at rows place said row own true f g h d = ap (λ (r : RowValue). r.told) (f d) ∙ sym g ∙ h
+said_at rows place said row own false f g h d = λ e. h (g ∙ sym (ap (λ (r : RowValue). r.told) (f d)) ∙ e)
+
+pub says_there : (rows : List RowValue) (place : ℕ) (said : ToldValue) (t : Bool) → t ≡ true → SaysAt rows place said t → (d : RowValue) → (get_or rows place d).told ≡ said
+says_there rows place said true e h d = h d
+says_there rows place said false e h d = absurd (cc)
+
+pub none_more : (rows : List RowValue) (place : ℕ) (said : ToldValue) (t : Bool) → place < length rows → t ≡ false → SaysAt rows place said t → All (λ (row : RowValue). row.told ≢ said) (take place rows)
+    → All (λ (row : RowValue). row.told ≢ said) (take (place + 1) rows)
+none_more [] place said t lt e h known = absurd (omega (arith, lt))
+none_more (r ∷ rs) place said true lt e h known = absurd (cc)
+none_more (r ∷ rs) place said false lt e h known = All-more (λ (row : RowValue). row.told ≢ said) (r ∷ rs) place r lt known (h r)
+
+pub none_of_all : (rows : List RowValue) (place : ℕ) (said : ToldValue) → length rows ≤ place → All (λ (row : RowValue). row.told ≢ said) (take place rows) → All (λ (row : RowValue). row.told ≢ said) rows
+none_of_all rows place said end known = subst (λ (rs : List RowValue). All (λ (row : RowValue). row.told ≢ said) rs) (take_all place rows end) known

@@ -5,7 +5,7 @@ use Rattle.policy_table.specs.PortTables.{lines_at}
 use Rattle.policy_table.specs.Ports.{rules_at}
 use Rattle.policy_table.specs.declared.rules.Rule.{Rule}
 
--- rules that are asked at a port, and the lines in which they stand
+-- rules that are asked at a port, and their lines
 pub record AskedValue : Type 0 where
   pub port : ℕ
   pub rules : List Rule

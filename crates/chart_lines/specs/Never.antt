@@ -1,5 +1,5 @@
 -- The rules of a table that never match, and why.
-use Rattle.std.specs.Prelude.{◌≡◌, ◌⊎◌, ◌==◌, ℕ, suc, All, Bool, false, true, if◌then◌else◌, List, [], ◌∷◌, ◌++◌, Option, Some, None, get_or, length, take}
+use Rattle.std.specs.Prelude.{◌≡◌, ◌⊎◌, ◌==◌, ◌<◌, ℕ, suc, All, Bool, MatchBool, false, true, if◌then◌else◌, List, [], ◌∷◌, ◌++◌, Option, Some, None, get_or, length, take}
 use Rattle.charts.specs.Deciders.{Matches, NeverMatches}
 use Rattle.charts.specs.Meetings.{Meet, NeverMeet}
 use Rattle.policy_table.specs.Policies.{PolicyValue}
@@ -56,12 +56,16 @@ abbrev pub AreTables : PolicyValue → (count : ℕ) → (tables : List AskedVal
 AreTables policy count tables =
     TellsFirst (AtPort (λ port. is_named port policy.rules) (λ port before after. after ≡ before ++ asked_at policy port ∷ [])) count [] tables
 
+-- whether it is so at the port of a place
+abbrev pub IsFateAt : Fate → (tables : List AskedValue) → (place line : ℕ) → (is : Bool) → Type 0
+IsFateAt fate tables place line is =
+    (d : AskedValue) → MatchBool is (IsFate fate (get_or tables place d) line) (IsNoFate fate (get_or tables place d) line)
+
 -- at some of these ports it is so
 pub record IsSomewhere (fate : Fate) (tables : List AskedValue) (line : ℕ) : Type 0 where
-  pub at : AskedValue
   pub place : ℕ
-  pub own : (d : AskedValue) → get_or tables place d ≡ at
-  pub is : IsFate fate at line
+  pub there : place < length tables
+  pub is : (d : AskedValue) → IsFate fate (get_or tables place d) line
 
 -- at none of them it is
 abbrev pub IsNowhere : Fate → (tables : List AskedValue) → (line : ℕ) → Type 0

@@ -1,5 +1,5 @@
 -- The rows of charts as values: what says the same at several ports is one row.
-use Rattle.std.specs.Prelude.{◌≡◌, ◌≢◌, ◌⊎◌, ◌<◌, ◌-◌, ℕ, Bool, List, [], ◌∷◌, ◌++◌, All, Option, Some, None, get_or, length, map, slice_index_or, slice_set}
+use Rattle.std.specs.Prelude.{◌≡◌, ◌≢◌, ◌⊎◌, ◌<◌, ◌-◌, ℕ, Bool, MatchBool, List, [], ◌∷◌, ◌++◌, All, Option, Some, None, get_or, length, map, slice_index_or, slice_set}
 use Rattle.regions.specs.Points.{HasCommand}
 use Rattle.regions.specs.declared.regions.Region.{Region}
 use Rattle.differences.specs.declared.courses.Step.{Step}
@@ -44,6 +44,11 @@ on_line lines step = record { number = line_of lines step.number; rule = step.ru
 -- rules that are asked, by their lines
 abbrev pub on_lines : (lines : List ℕ) → List Step → List Step
 on_lines lines steps = map (on_line lines) steps
+
+-- whether the row of a place says this
+abbrev pub SaysAt : List RowValue → (place : ℕ) → ToldValue → (says : Bool) → Type 0
+SaysAt rows place said says =
+    (d : RowValue) → MatchBool says ((get_or rows place d).told ≡ said) ((get_or rows place d).told ≢ said)
 
 -- the row of a place says this, and holds at these ports too
 pub record Joins (ports : List ℕ) (said : ToldValue) (before after : List RowValue) : Type 0 where

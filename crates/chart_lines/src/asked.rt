@@ -8,7 +8,7 @@ use policy_table::{Policy, Rule, Table};
 use std::alloc::{AllocError, Global};
 use std::marker::Model;
 
-/// The rules of a table that are asked at a port, and the lines in which they stand.
+/// The rules of a table that are asked at a port, and their lines.
 #[derive(Drop)]
 pub struct Asked {
     port: u8,
@@ -43,7 +43,7 @@ impl Asked {
         self.table.rules()
     }
 
-    /// The lines in which they stand.
+    /// Their lines.
     pub(crate) fn lines(&self) -> &[usize]
         ensures { result.now ≡ self.now.lines }
     {

@@ -179,8 +179,8 @@ fn rows_at(
     Ok(rows)
 }
 
-/// The rows of a comparison of two tables for the points of a region, at one port or at each: where they decide differently, each such
-/// command in one row at each port, and no other in any. The point of a row is looked for in the preferred regions first, in their order.
+/// The rows of a comparison of two tables for the points of a region, at one port or at each: each command that they decide differently
+/// is in one row at each port, and no other in any. The point of a row is looked for in the preferred regions first, in their order.
 ///
 /// # Errors
 ///

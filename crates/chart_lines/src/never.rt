@@ -1,13 +1,12 @@
 //! The rules of a table that never match, and why.
 
-ghost use Rattle.std.specs.Prelude.{◌≡◌, ◌⊎◌, ◌<◌, ◌++◌, ◌∷◌, [], IfOk, MatchBool, OnOk, get_or, length, take};
+ghost use Rattle.std.specs.Prelude.{◌≡◌, ◌<◌, ◌++◌, ◌∷◌, [], IfOk, MatchBool, OnOk, get_or, length};
 ghost use Rattle.policy_table.specs.PortTables.{is_named};
 ghost use Rattle.policy_table.specs.declared.port_rules.PortRule.{PortRule};
-ghost use Rattle.chart_lines.specs.AskedTables.{asked_at};
-ghost use Rattle.chart_lines.specs.Never.{AddsStop, AddsStopAt, AreNotes, AreTables, IsFate, IsNoFate, IsNotedAt, IsNowhere, IsReason, IsSomewhere, has_no_ticket, place_of};
+ghost use Rattle.chart_lines.specs.AskedTables.{AskedValue, asked_at};
+ghost use Rattle.chart_lines.specs.Never.{AddsStop, AddsStopAt, AreNotes, AreTables, IsFate, IsFateAt, IsNoFate, IsNotedAt, IsNowhere, IsReason, IsSomewhere, has_no_ticket, place_of};
 ghost use Rattle.chart_lines.specs.Ports.{AtPort};
 ghost use Rattle.chart_lines.specs.Telling.{TellsFirst};
-ghost use Rattle.chart_lines.specs.declared.never.Fate.TheVariants.{Asked as IsAsked, Matching, Stopped};
 
 use crate::asked::Asked;
 use crate::ports::{PORTS, Tables};
@@ -76,13 +75,29 @@ fn is_fate(at: &Asked, fate: Fate, line: usize) -> bool
     }
 }
 
+/// The table of a place.
+fn table_at(tables: &[Asked], place: usize) -> &Asked
+    requires { place < length tables.now }
+    ensures { (d : AskedValue) → get_or tables.now place d ≡ result.now }
+{
+    &tables[place]
+}
+
+/// Whether it is so at the port of a place.
+fn is_fate_at(tables: &[Asked], place: usize, fate: Fate, line: usize) -> bool
+    requires { place < length tables.now }
+    ensures { IsFateAt fate tables.now place line result }
+{
+    is_fate(table_at(tables, place), fate, line)
+}
+
 /// Whether it is so at some port.
 fn is_somewhere(tables: &[Asked], fate: Fate, line: usize) -> bool
     ensures { MatchBool result (IsSomewhere fate tables.now line)
         (IsNowhere fate tables.now line) }
 {
     for place in 0..tables.len() {
-        if is_fate(&tables[place], fate, line) {
+        if is_fate_at(tables, place, fate, line) {
             return true;
         }
     }
@@ -104,6 +119,30 @@ fn add_stop(
     Ok(())
 }
 
+/// The rule of a place.
+fn rule_at(rules: &[PortRule], place: usize) -> &PortRule
+    requires { place < length rules.now }
+    ensures { (d : PortRule) → get_or rules.now place d ≡ result.now }
+{
+    &rules[place]
+}
+
+/// The same of the rule of a place.
+fn add_stop_at(
+    stops: &mut Vec<usize>,
+    tables: &[Asked],
+    line: usize,
+    before: &[PortRule],
+    place: usize,
+) -> Result<(), AllocError>
+    requires { place < length before.now }
+    ensures { OnOk result
+        (AddsStopAt tables.now line before.now place stops.old.items stops.new.items) }
+{
+    let rule = rule_at(before, place);
+    add_stop(stops, tables, line, rule.line)
+}
+
 /// The lines of the rules of these that are the first without quota where the rule of a line holds.
 fn stops_of(
     alloc: Global,
@@ -116,7 +155,7 @@ fn stops_of(
 {
     let mut stops = Vec::new(alloc);
     for place in 0..before.len() {
-        add_stop(&mut stops, tables, line, before[place].line)?;
+        add_stop_at(&mut stops, tables, line, before, place)?;
     }
     Ok(stops)
 }
@@ -160,7 +199,7 @@ fn add_note(
     requires { place < length rules.now }
     ensures { OnOk result (IsNotedAt tables.now rules.now place notes.old.items notes.new.items) }
 {
-    let rule = &rules[place];
+    let rule = rule_at(rules, place);
     if is_somewhere(tables, Fate::Matching, rule.line) {
         return Ok(());
     }

@@ -3,7 +3,7 @@
 ghost use Rattle.std.specs.Prelude.{◌≡◌, ◌≢◌, ◌<◌, ◌++◌, ◌∷◌, [], All, IfOk, IfSome, MatchBool, MatchOption, None, OnOk, Some, get_or, length, slice_set};
 ghost use Rattle.regions.specs.Points.{HasCommand};
 ghost use Rattle.differences.specs.declared.courses.Step.{Step};
-ghost use Rattle.chart_lines.specs.Rows.{AddsRow, RowValue, line_of, on_line, on_lines, row_of, told};
+ghost use Rattle.chart_lines.specs.Rows.{AddsRow, RowValue, SaysAt, line_of, on_line, on_lines, row_of, told};
 
 use charts::Line;
 use differences::{Repeats, Sign, Step};
@@ -118,6 +118,21 @@ impl Told {
     }
 }
 
+/// The step of a place.
+fn step_at(steps: &[Step], place: usize) -> Step
+    requires { place < length steps.now }
+    ensures { (d : Step) → get_or steps.now place d ≡ result }
+{
+    steps[place]
+}
+
+/// Whether two steps are the same.
+fn is_same_step(one: &Step, other: &Step) -> bool
+    ensures { MatchBool result (one.now ≡ other.now) (one.now ≢ other.now) }
+{
+    one == other
+}
+
 /// Whether the steps of a place are the same.
 fn is_same_at(one: &[Step], other: &[Step], place: usize) -> bool
     requires one { place < length one.now }
@@ -125,10 +140,13 @@ fn is_same_at(one: &[Step], other: &[Step], place: usize) -> bool
     ensures { (d : Step) → MatchBool result (get_or one.now place d ≡ get_or other.now place d)
         (get_or one.now place d ≢ get_or other.now place d) }
 {
-    one[place] == other[place]
+    let own = step_at(one, place);
+    let its = step_at(other, place);
+    is_same_step(&own, &its)
 }
 
 /// Whether two courses have the same rules, of the same lines.
+#[tactic(auto, using(crate::proofs::Joining::same_whole, crate::proofs::Joining::other_length))]
 fn are_same(one: &[Step], other: &[Step]) -> bool
     ensures { MatchBool result (one.now ≡ other.now) (one.now ≢ other.now) }
 {
@@ -146,10 +164,8 @@ fn are_same(one: &[Step], other: &[Step]) -> bool
 /// A row of a chart: what it says, and at which ports.
 #[derive(Debug, Drop)]
 pub struct Row {
-    /// The ports.
-    pub ports: Vec<u8>,
-    /// What is so at each of them.
-    pub told: Told,
+    ports: Vec<u8>,
+    told: Told,
 }
 
 impl Model for Row {
@@ -158,6 +174,22 @@ impl Model for Row {
     ghost Value = { RowValue };
 
     ghost view = { λ r. row_of r.ports.items r.told };
+}
+
+impl Row {
+    /// The ports.
+    pub fn ports(&self) -> &[u8]
+        ensures { result.now ≡ self.now.ports }
+    {
+        self.ports.as_slice()
+    }
+
+    /// What is so at each of them.
+    pub fn told(&self) -> &Told
+        ensures { result.now ≡ self.now.told }
+    {
+        &self.told
+    }
 }
 
 /// The line of the rule of this number, from 1, where rules stand in these lines; 0 where none is.
@@ -192,13 +224,21 @@ pub(crate) fn on_lines(
     Ok(found)
 }
 
+/// The row of a place.
+fn row_at(rows: &[Row], place: usize) -> &Row
+    requires { place < length rows.now }
+    ensures { (d : RowValue) → get_or rows.now place d ≡ result.now }
+{
+    &rows[place]
+}
+
 /// Whether the row of a place says this.
 fn says(rows: &[Row], place: usize, told: &Told) -> bool
     requires { place < length rows.now }
-    ensures { (d : RowValue) → MatchBool result
-        ((get_or rows.now place d).told ≡ told.now) ((get_or rows.now place d).told ≢ told.now) }
+    ensures { SaysAt rows.now place told.now result }
 {
-    rows[place].told.is(told)
+    let row = row_at(rows, place);
+    row.told().is(told)
 }
 
 /// The place of a row that says this.
@@ -221,7 +261,8 @@ fn join(rows: &mut Vec<Row>, place: usize, ports: &[u8]) -> Result<(), AllocErro
     ensures { OnOk result ((d : RowValue) → rows.new.items ≡ slice_set rows.old.items place
         (row_of ((get_or rows.old.items place d).ports ++ ports.now) (get_or rows.old.items place d).told)) }
 {
-    rows[place].ports.extend_from_slice(ports)
+    let row = &mut rows[place];
+    row.ports.extend_from_slice(ports)
 }
 
 /// Adds a row.

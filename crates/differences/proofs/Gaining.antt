@@ -71,8 +71,8 @@ IsPast cells rules = (map cell : ℕ) → least_word rules map cell ≤ cells ma
 
 -- so it is with one rule more that does not match
 past_more : (cells : ℕ → ℕ → ℕ) (rules : List Rule) (rule : Rule) → goes_on rule.quota ≡ true → is_met cells rules rule.quota ≡ false → IsPast cells rules → IsPast cells (rules ++ rule ∷ [])
-past_more cells rules rule more no past map cell =
-    subst (λ (n : ℕ). n ≤ cells map cell) (sym (least_more 0 0 rules rule map cell)) (by_quota rule.quota more no)
+past_more cells rules rule more missed past map cell =
+    subst (λ (n : ℕ). n ≤ cells map cell) (sym (least_more 0 0 rules rule map cell)) (by_quota rule.quota more missed)
   where
     by_cell : (q : Quota) (b : Bool) → is_of q map cell ≡ b → q.limit ≤ ticket_of cells rules q
         → (if b then max (least_word rules map cell) (q.limit - draws_of rules map cell) else least_word rules map cell) ≤ cells map cell

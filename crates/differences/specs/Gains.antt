@@ -21,7 +21,7 @@ abbrev pub with_draw : Option Quota → (map cell : ℕ) → (draws : ℕ) → �
 with_draw None map cell draws = draws
 with_draw (Some quota) map cell draws = if is_of quota map cell then suc draws else draws
 
--- how many draws of a cell rules make that do not match, behind so many
+-- how many draws of a cell rules make that do not match, after this many
 abbrev pub draws_from : (draws : ℕ) → List Rule → (map cell : ℕ) → ℕ
 draws_from draws [] map cell = draws
 draws_from draws (rule ∷ rules) map cell = draws_from (with_draw rule.quota map cell draws) rules map cell
@@ -30,16 +30,16 @@ draws_from draws (rule ∷ rules) map cell = draws_from (with_draw rule.quota ma
 abbrev pub draws_of : List Rule → (map cell : ℕ) → ℕ
 draws_of rules map cell = draws_from 0 rules map cell
 
--- the ticket of a quota behind rules that do not match: the word of its cell, and one more for each draw of it
+-- the ticket of a quota after rules that do not match: the word of its cell, and one more for each draw of it
 abbrev pub ticket_of : (cells : (map cell : ℕ) → ℕ) → (passed : List Rule) → Quota → ℕ
 ticket_of cells passed quota = cells quota.map quota.cell + draws_of passed quota.map quota.cell
 
--- whether a rule matches that holds, behind rules that do not match
+-- whether a rule that holds matches, after rules that do not match
 abbrev pub is_met : (cells : (map cell : ℕ) → ℕ) → (passed : List Rule) → Option Quota → Bool
 is_met cells passed None = true
 is_met cells passed (Some quota) = nat_lt (ticket_of cells passed quota) quota.limit
 
--- the number of the verdict of rules that hold, behind those that hold and do not match, where the cells have these words
+-- the number of the verdict of rules that hold, after others that do not match, if the cells have these words
 abbrev pub code_from : (cells : (map cell : ℕ) → ℕ) → (passed : List Rule) → List Rule → ℕ
 code_from cells passed [] = verdict_number NotAuthorised
 code_from cells passed (rule ∷ rules) =
@@ -65,12 +65,12 @@ IsSign Other old new = ¬ (Gains old new) × ¬ (Gains new old)
 abbrev pub HasStepLimit : Step → Type 0
 HasStepLimit step = HasLimit step.rule
 
--- the least word of a cell with which a rule does not match either, where so many draws of the cell came before
+-- the least word of a cell with which a rule does not match either, after this many draws of the cell
 abbrev pub with_least : Option Quota → (map cell : ℕ) → (draws least : ℕ) → ℕ
 with_least None map cell draws least = least
 with_least (Some quota) map cell draws least = if is_of quota map cell then max least (quota.limit - draws) else least
 
--- the least word of a cell with which none of the rules matches that draw of it, behind others
+-- the least word of a cell with which none of the rules matches that draw of it, after others
 abbrev pub least_from : (draws least : ℕ) → List Rule → (map cell : ℕ) → ℕ
 least_from draws least [] map cell = least
 least_from draws least (rule ∷ rules) map cell =
@@ -84,23 +84,23 @@ least_word rules map cell = least_from 0 0 rules map cell
 abbrev pub least_of : (own others : List Rule) → (map cell : ℕ) → ℕ
 least_of own others map cell = max (least_word own map cell) (least_word others map cell)
 
--- whether a rule behind others can match, where those of another course do not match
+-- whether a rule after others can match, if those of another course do not match
 abbrev pub may_meet : (own others : List Rule) → Option Quota → Bool
 may_meet own others quota = is_met (least_of own others) own quota
 
--- whether what is behind a rule can be asked
+-- whether what is after a rule can be asked
 abbrev pub goes_on : Option Quota → Bool
 goes_on None = false
 goes_on (Some quota) = true
 
--- whether a rule of a new course, behind others, can pass, where a rule of the old course matches behind others
+-- whether a rule of a new course, after others, can pass, if a rule of the old course matches after others
 abbrev pub may_pass : (olds : List Rule) → Option Quota → (news new : List Rule) → Bool
 may_pass olds stop news [] = false
 may_pass olds stop news (rule ∷ rules) =
     (passes (verdict_number rule.verdict) && (may_meet olds news stop && may_meet news olds rule.quota))
     || (goes_on rule.quota && may_pass olds stop (news ++ rule ∷ []) rules)
 
--- whether some rule of an old course, behind others, can stop where one of a new course can pass
+-- whether some rule of an old course, after others, can stop if one of a new course can pass
 abbrev pub gains_behind : (olds old new : List Rule) → Bool
 gains_behind olds [] new = may_pass olds None [] new
 gains_behind olds (rule ∷ rules) new =

@@ -135,9 +135,9 @@ fn add_asks(text: &mut String, steps: &[Step]) -> Result<(), AllocError> {
 
 /// Adds the cells of the words of a row and of its ports.
 fn add_front(text: &mut String, alloc: Global, row: &Row) -> Result<(), AllocError> {
-    add_words(text, alloc, &row.told, " | ")?;
+    add_words(text, alloc, row.told(), " | ")?;
     text.push_str(" | ")?;
-    add_ports(text, alloc, row.ports.as_slice())
+    add_ports(text, alloc, row.ports())
 }
 
 /// Adds a row of a map, with the comments of the lines of its table.
@@ -149,8 +149,8 @@ pub fn add_map_row(
 ) -> Result<(), AllocError> {
     text.push_str("| ")?;
     add_front(text, alloc, row)?;
-    add_asks(text, row.told.course())?;
-    add_cell(text, Column::Comment, comments, row.told.course())?;
+    add_asks(text, row.told().course())?;
+    add_cell(text, Column::Comment, comments, row.told().course())?;
     text.push_str(" |\n")
 }
 
@@ -161,16 +161,16 @@ pub fn add_difference(
     windows: &Windows,
     row: &Row,
 ) -> Result<(), AllocError> {
-    let Some(change) = row.told.change() else {
+    let Some(change) = row.told().change() else {
         return Ok(());
     };
     text.push_str("| ")?;
     text.push_str(sign_word(change.sign))?;
     text.push_str(" | ")?;
     add_front(text, alloc, row)?;
-    add_asks(text, row.told.course())?;
-    add_asks(text, row.told.new_course())?;
+    add_asks(text, row.told().course())?;
+    add_asks(text, row.told().new_course())?;
     text.push_str(" | ")?;
-    add_packet(text, alloc, windows, row.ports.as_slice(), &change)?;
+    add_packet(text, alloc, windows, row.ports(), &change)?;
     text.push_str(" |\n")
 }

@@ -35,19 +35,19 @@ fn add_course(text: &mut String, steps: &[Step]) -> Result<(), AllocError> {
 
 /// Adds the words of a row, and its ports, if they are not all.
 fn add_front(text: &mut String, alloc: Global, row: &Row) -> Result<(), AllocError> {
-    add_words(text, alloc, &row.told, " ")?;
-    if row.ports.len() == usize::from(PORTS) {
+    add_words(text, alloc, row.told(), " ")?;
+    if row.ports().len() == usize::from(PORTS) {
         return Ok(());
     }
     text.push_str(" port ")?;
-    add_ports(text, alloc, row.ports.as_slice())
+    add_ports(text, alloc, row.ports())
 }
 
 /// Adds the line of a row of a map.
 pub fn add_map_row(text: &mut String, alloc: Global, row: &Row) -> Result<(), AllocError> {
     add_front(text, alloc, row)?;
     text.push_str(" : ")?;
-    add_course(text, row.told.course())?;
+    add_course(text, row.told().course())?;
     text.push_str("\n")
 }
 
@@ -58,17 +58,17 @@ pub fn add_difference(
     windows: &Windows,
     row: &Row,
 ) -> Result<(), AllocError> {
-    let Some(change) = row.told.change() else {
+    let Some(change) = row.told().change() else {
         return Ok(());
     };
     text.push_str(sign_word(change.sign))?;
     text.push_str(" ")?;
     add_front(text, alloc, row)?;
     text.push_str("\n    old ")?;
-    add_course(text, row.told.course())?;
+    add_course(text, row.told().course())?;
     text.push_str("\n    new ")?;
-    add_course(text, row.told.new_course())?;
+    add_course(text, row.told().new_course())?;
     text.push_str("\n    ")?;
-    add_packet(text, alloc, windows, row.ports.as_slice(), &change)?;
+    add_packet(text, alloc, windows, row.ports(), &change)?;
     text.push_str("\n")
 }
