@@ -5,7 +5,11 @@ use Rattle.std.proofs.lemmas.List.{take_all, take_more}
 use Rattle.std.proofs.lemmas.List.Elements.{All-more}
 use Rattle.differences.specs.declared.courses.Step.{Step}
 use Rattle.regions.specs.declared.regions.Region.{Region}
-use Rattle.chart_lines.specs.Rows.{AddsRow, RowValue, SaysAt, ToldValue, row_of, told}
+use Rattle.policy_table.specs.declared.rules.Quota.{Quota}
+use Rattle.policy_table.specs.declared.rules.Rule.{Rule}
+use Rattle.policy_table.specs.declared.rules.RuleKind.{RuleKind}
+use Rattle.rmap.specs.declared.verdict.Verdict.{Verdict}
+use Rattle.chart_lines.specs.Rows.{AddsRow, EndSame, RowValue, SaysAt, WantSame, ToldValue, row_of, told}
 use Rattle.chart_lines.specs.declared.rows.Change.{Change}
 
 -- rows of which this is known where a row that says it was looked for
@@ -102,3 +106,59 @@ none_more (r ∷ rs) place said false lt e h known = All-more (λ (row : RowValu
 
 pub none_of_all : (rows : List RowValue) (place : ℕ) (said : ToldValue) → length rows ≤ place → All (λ (row : RowValue). row.told ≢ said) (take place rows) → All (λ (row : RowValue). row.told ≢ said) rows
 none_of_all rows place said end known = subst (λ (rs : List RowValue). All (λ (row : RowValue). row.told ≢ said) rs) (take_all place rows end) known
+
+-- ---- rules and steps
+
+abbrev rule_of : RuleKind → (key initiator extended : Option ℕ) → (low high : ℕ) → Option Quota → Verdict → Rule
+rule_of kind key initiator extended low high quota verdict = record {
+  kind = kind;
+  key = key;
+  initiator = initiator;
+  extended = extended;
+  low = low;
+  high = high;
+  quota = quota;
+  verdict = verdict;
+}
+
+same_rule : (one other : Rule) → WantSame one other → EndSame one other → one ≡ other
+same_rule one other want end =
+    ap (λ k. rule_of k one.key one.initiator one.extended one.low one.high one.quota one.verdict) want.kind
+    ∙ ap (λ k. rule_of other.kind k one.initiator one.extended one.low one.high one.quota one.verdict) want.key
+    ∙ ap (λ k. rule_of other.kind other.key k one.extended one.low one.high one.quota one.verdict) want.initiator
+    ∙ ap (λ k. rule_of other.kind other.key other.initiator k one.low one.high one.quota one.verdict) want.extended
+    ∙ ap (λ k. rule_of other.kind other.key other.initiator other.extended k one.high one.quota one.verdict) end.low
+    ∙ ap (λ k. rule_of other.kind other.key other.initiator other.extended other.low k one.quota one.verdict) end.high
+    ∙ ap (λ k. rule_of other.kind other.key other.initiator other.extended other.low other.high k one.verdict) end.quota
+    ∙ ap (λ k. rule_of other.kind other.key other.initiator other.extended other.low other.high other.quota k) end.verdict
+
+want_itself : (one other : Rule) → one ≡ other → WantSame one other
+want_itself one other e = record {
+  kind = ap (λ (r : Rule). r.kind) e;
+  key = ap (λ (r : Rule). r.key) e;
+  initiator = ap (λ (r : Rule). r.initiator) e;
+  extended = ap (λ (r : Rule). r.extended) e;
+}
+
+end_itself : (one other : Rule) → one ≡ other → EndSame one other
+end_itself one other e = record {
+  low = ap (λ (r : Rule). r.low) e;
+  high = ap (λ (r : Rule). r.high) e;
+  quota = ap (λ (r : Rule). r.quota) e;
+  verdict = ap (λ (r : Rule). r.verdict) e;
+}
+
+pub other_want : (t : Bool) (one other : Rule) → t ≡ false → MatchBool t (WantSame one other) (WantSame one other → ⊥) → MatchBool t (one ≡ other) (one ≢ other)
+other_want true one other e apart = absurd (cc)
+other_want false one other e apart = λ same. apart (want_itself one other same)
+
+pub by_end : (t : Bool) (one other : Rule) → WantSame one other → MatchBool t (EndSame one other) (EndSame one other → ⊥) → MatchBool t (one ≡ other) (one ≢ other)
+by_end true one other want end = same_rule one other want end
+by_end false one other want apart = λ e. apart (end_itself one other e)
+
+abbrev step_of : ℕ → Rule → Step
+step_of number rule = record { number = number; rule = rule }
+
+pub by_rule : (t : Bool) (one other : Step) → one.number ≡ other.number → MatchBool t (one.rule ≡ other.rule) (one.rule ≢ other.rule) → MatchBool t (one ≡ other) (one ≢ other)
+by_rule true one other number rule = ap (λ n. step_of n one.rule) number ∙ ap (λ r. step_of other.number r) rule
+by_rule false one other number apart = λ e. apart (ap (λ (s : Step). s.rule) e)

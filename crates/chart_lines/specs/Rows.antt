@@ -2,6 +2,7 @@
 use Rattle.std.specs.Prelude.{◌≡◌, ◌≢◌, ◌⊎◌, ◌<◌, ◌-◌, ℕ, Bool, MatchBool, List, [], ◌∷◌, ◌++◌, All, Option, Some, None, get_or, length, map, slice_index_or, slice_set}
 use Rattle.regions.specs.Points.{HasCommand}
 use Rattle.regions.specs.declared.regions.Region.{Region}
+use Rattle.policy_table.specs.declared.rules.Rule.{Rule}
 use Rattle.differences.specs.declared.courses.Step.{Step}
 use Rattle.chart_lines.specs.declared.rows.Change.{Change}
 
@@ -18,6 +19,20 @@ pub record ToldValue : Type 0 where
 abbrev pub told : Region → (rest : Bool) → (course new : List Step) → Option Change → ToldValue
 told region rest course new change =
     record { region = region; rest = rest; course = course; new = new; change = change }
+
+-- two rules want the same kind and the same bytes of fields
+pub record WantSame (one other : Rule) : Type 0 where
+  pub kind : one.kind ≡ other.kind
+  pub key : one.key ≡ other.key
+  pub initiator : one.initiator ≡ other.initiator
+  pub extended : one.extended ≡ other.extended
+
+-- two rules have the same range, the same quota and the same verdict
+pub record EndSame (one other : Rule) : Type 0 where
+  pub low : one.low ≡ other.low
+  pub high : one.high ≡ other.high
+  pub quota : one.quota ≡ other.quota
+  pub verdict : one.verdict ≡ other.verdict
 
 -- in a comparison the point is one that some command has
 abbrev pub HasPoint : Option Change → Type 0

@@ -3,10 +3,11 @@
 ghost use Rattle.std.specs.Prelude.{◌≡◌, ◌≢◌, ◌<◌, ◌++◌, ◌∷◌, [], All, IfOk, IfSome, MatchBool, MatchOption, None, OnOk, Some, get_or, length, slice_set};
 ghost use Rattle.regions.specs.Points.{HasCommand};
 ghost use Rattle.differences.specs.declared.courses.Step.{Step};
-ghost use Rattle.chart_lines.specs.Rows.{AddsRow, RowValue, SaysAt, line_of, on_line, on_lines, row_of, told};
+ghost use Rattle.chart_lines.specs.Rows.{AddsRow, EndSame, RowValue, SaysAt, WantSame, line_of, on_line, on_lines, row_of, told};
 
 use charts::Line;
 use differences::{Repeats, Sign, Step};
+use policy_table::Rule;
 use regions::{Point, Region};
 use std::alloc::{AllocError, Global};
 use std::marker::Model;
@@ -112,9 +113,27 @@ impl Told {
     {
         self.region == other.region
             && (self.rest == other.rest
-                && (self.change == other.change
+                && (is_same_change(self.change, other.change)
                     && (are_same(self.course(), other.course())
                         && are_same(self.new_course(), other.new_course()))))
+    }
+}
+
+/// Whether two changes are the same.
+fn is_same(one: &Change, other: &Change) -> bool
+    ensures { MatchBool result (one.now ≡ other.now) (one.now ≢ other.now) }
+{
+    one.sign == other.sign && (one.repeats == other.repeats && one.point == other.point)
+}
+
+/// Whether two changes are the same, or none is there.
+fn is_same_change(one: Option<Change>, other: Option<Change>) -> bool
+    ensures { MatchBool result (one ≡ other) (one ≢ other) }
+{
+    match (one, other) {
+        (None, None) => true,
+        (Some(one), Some(other)) => is_same(&one, &other),
+        (None, Some(_)) | (Some(_), None) => false,
     }
 }
 
@@ -126,11 +145,35 @@ fn step_at(steps: &[Step], place: usize) -> Step
     steps[place]
 }
 
+/// Whether two rules want the same kind and the same bytes of fields.
+fn want_same(one: &Rule, other: &Rule) -> bool
+    ensures { MatchBool result (WantSame one.now other.now) (WantSame one.now other.now → ⊥) }
+{
+    one.kind == other.kind
+        && (one.key == other.key
+            && (one.initiator == other.initiator && one.extended == other.extended))
+}
+
+/// Whether two rules have the same range, the same quota and the same verdict.
+fn end_same(one: &Rule, other: &Rule) -> bool
+    ensures { MatchBool result (EndSame one.now other.now) (EndSame one.now other.now → ⊥) }
+{
+    one.low == other.low
+        && (one.high == other.high && (one.quota == other.quota && one.verdict == other.verdict))
+}
+
+/// Whether two rules are the same.
+fn is_same_rule(one: &Rule, other: &Rule) -> bool
+    ensures { MatchBool result (one.now ≡ other.now) (one.now ≢ other.now) }
+{
+    want_same(one, other) && end_same(one, other)
+}
+
 /// Whether two steps are the same.
 fn is_same_step(one: &Step, other: &Step) -> bool
     ensures { MatchBool result (one.now ≡ other.now) (one.now ≢ other.now) }
 {
-    one == other
+    one.number == other.number && is_same_rule(&one.rule, &other.rule)
 }
 
 /// Whether the steps of a place are the same.
