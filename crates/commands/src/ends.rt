@@ -188,7 +188,7 @@ fn add_load(
 }
 
 /// Adds what is told of a job that is done: of `policy`, that its table lets nobody load another, unless that is meant; of `map`,
-/// whose loads pass; of loads, what [`add_load`] adds.
+/// whose loads pass; of `map` and of NEW of `compare`, that a table is too long for a program; of loads, what [`add_load`] adds.
 fn add_done(
     text: &mut String,
     alloc: Global,
@@ -204,7 +204,13 @@ fn add_done(
             text.push_str(told.as_str())
         }
         (Job::Map(words), Some(table)) => {
+            let told = hints::told_length(alloc, table, &words.sizes)?;
+            text.push_str(told.as_str())?;
             let told = told_loaders(alloc, table, &words.sizes, noted.ports())?;
+            text.push_str(told.as_str())
+        }
+        (Job::Compare(words), Some(table)) => {
+            let told = hints::told_length(alloc, table, &words.sizes)?;
             text.push_str(told.as_str())
         }
         _ => Ok(()),

@@ -3,7 +3,7 @@
 use crate::jobs::Job;
 use basm::{AsmCode, AsmFault, assemble};
 use basm_lex::{is_name, read_mnemonic};
-use machine::{MAX_MAPS, MapKind, MapSizes};
+use machine::{MapKind, MapSizes};
 use policy::{Policy, PolicyFault, PortRule, TableVersion, TextFault};
 use policy_table::{port_rule_slots, reported, table_slots};
 use spw::lines_of;
@@ -77,25 +77,42 @@ fn add_cells(text: &mut String, sizes: &MapSizes) -> Result<(), AllocError> {
     text.push('\n')
 }
 
-/// The least maps that have the cells of the quotas of rules, if a node can have them.
-fn least_maps(rules: &[PortRule]) -> Option<MapSizes> {
-    let mut cells = [1u16; MAX_MAPS];
-    let mut maps: usize = 0;
+/// How many maps the quotas of rules name, at least.
+fn maps_of(rules: &[PortRule]) -> u16 {
+    let mut maps: u16 = 0;
     for own in rules {
-        let Some(quota) = own.rule.quota else {
-            continue;
-        };
-        let map = usize::from(quota.map);
-        let least = cells.get_mut(map)?;
-        *least = (*least).max(quota.cell.saturating_add(1));
-        maps = maps.max(map.saturating_add(1));
+        if let Some(quota) = own.rule.quota {
+            maps = maps.max(u16::from(quota.map) + 1);
+        }
     }
-    MapSizes::new(cells.get(..maps)?).ok()
+    maps
+}
+
+/// How many cells of that map the quotas of rules name, at least.
+fn cells_of(rules: &[PortRule], map: u16) -> u16 {
+    let mut cells: u16 = 1;
+    for own in rules {
+        if let Some(quota) = own.rule.quota {
+            if u16::from(quota.map) == map {
+                cells = cells.max(quota.cell.saturating_add(1));
+            }
+        }
+    }
+    cells
+}
+
+/// The least maps that have the cells of the quotas of rules, if a node can have them.
+fn least_maps(alloc: Global, rules: &[PortRule]) -> Result<Option<MapSizes>, AllocError> {
+    let mut cells = Vec::new(alloc);
+    for map in 0..maps_of(rules) {
+        cells.push(cells_of(rules, map))?;
+    }
+    Ok(MapSizes::new(cells.as_slice()).ok())
 }
 
 /// Adds the least list of maps with which a table is read, which was tried.
-fn add_least(text: &mut String, policy: &Policy) -> Result<(), AllocError> {
-    let Some(sizes) = least_maps(policy.rules()) else {
+fn add_least(text: &mut String, alloc: Global, policy: &Policy) -> Result<(), AllocError> {
+    let Some(sizes) = least_maps(alloc, policy.rules())? else {
         return text.push_str("    no node has the maps of its quotas\n");
     };
     match policy.fault_for(&sizes) {
@@ -120,7 +137,7 @@ fn add_no_maps(
     }
     text.push_str("    without --maps there are no maps\n")?;
     match Policy::read(alloc, table) {
-        Ok(policy) => add_least(text, &policy),
+        Ok(policy) => add_least(text, alloc, &policy),
         Err(_) => Ok(()),
     }
 }
@@ -218,30 +235,68 @@ fn add_details(
     }
 }
 
-/// What more is told of a table, for a node with maps of these sizes: what holds the line of the fault that is reported, and each
-/// other fault in a line of its own. If it is not placed the reported fault was told with its place, and else it comes here.
+/// The faults of a table, for a node with maps of these sizes; if it is to be drawn without that it is too long for a program.
+fn faults_of(
+    alloc: Global,
+    table: &str,
+    sizes: &MapSizes,
+    is_drawn: bool,
+) -> Result<Vec<TextFault>, AllocError> {
+    let all = Policy::faults(alloc, table, sizes)?;
+    if !is_drawn {
+        return Ok(all);
+    }
+    let mut faults = Vec::new(alloc);
+    for fault in all.as_slice() {
+        if fault.fault() != PolicyFault::TooLong {
+            faults.push(*fault)?;
+        }
+    }
+    Ok(faults)
+}
+
+/// What more is told of the faults of a table: what the line holds of the one that is reported, and each other fault in a line of its
+/// own. The reported one was told with its place, except if that is to come here.
 fn told_faults(
     alloc: Global,
     table: &str,
     sizes: &MapSizes,
     is_on_node: bool,
+    faults: &[TextFault],
     is_placed: bool,
 ) -> Result<String, AllocError> {
     let mut text = String::new(alloc);
-    let faults = Policy::faults(alloc, table, sizes)?;
-    let Some(first) = reported(faults.as_slice()) else {
+    let Some(first) = reported(faults) else {
         return Ok(text);
     };
     if !is_placed {
         add_details(&mut text, alloc, table, sizes, is_on_node, first)?;
     }
-    for fault in faults.as_slice() {
+    for fault in faults {
         if is_placed || *fault != first {
             write!(text, "    {fault}\n")?;
         }
         if is_placed && *fault == first {
             add_details(&mut text, alloc, table, sizes, is_on_node, first)?;
         }
+    }
+    Ok(text)
+}
+
+/// What is told of a table that was drawn and is too long for a program; it is empty if it is not.
+///
+/// # Errors
+///
+/// Where memory was refused.
+pub fn told_length(alloc: Global, table: &str, sizes: &MapSizes) -> Result<String, AllocError> {
+    let mut text = String::new(alloc);
+    let faults = Policy::faults(alloc, table, sizes)?;
+    match reported(faults.as_slice()) {
+        Some(fault) if fault.fault() == PolicyFault::TooLong => {
+            write!(text, "    no program has this table: {fault}\n")?;
+            add_length(&mut text, alloc, table)?;
+        }
+        _ => {}
     }
     Ok(text)
 }
@@ -257,7 +312,8 @@ pub fn told_placed(
     sizes: &MapSizes,
     is_on_node: bool,
 ) -> Result<String, AllocError> {
-    told_faults(alloc, table, sizes, is_on_node, true)
+    let faults = faults_of(alloc, table, sizes, false)?;
+    told_faults(alloc, table, sizes, is_on_node, faults.as_slice(), true)
 }
 
 /// Whether a line is a bare name, as of a label without its colon.
@@ -378,8 +434,13 @@ pub fn advice(
     if assemble(alloc, text).is_ok() {
         return String::from_str(alloc, IS_PROGRAM);
     }
-    match job {
-        Job::Policy(_) => told_placed(alloc, text, sizes, is_on_node),
-        _ => told_faults(alloc, text, sizes, is_on_node, false),
+    if let Job::Policy(_) = job {
+        return told_placed(alloc, text, sizes, is_on_node);
     }
+    let is_drawn = matches!(job, Job::Map(_) | Job::Compare(_));
+    let faults = faults_of(alloc, text, sizes, is_drawn)?;
+    if is_drawn && faults.is_empty() {
+        return told_length(alloc, text, sizes);
+    }
+    told_faults(alloc, text, sizes, is_on_node, faults.as_slice(), false)
 }

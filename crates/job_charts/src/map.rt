@@ -81,7 +81,8 @@ pub fn map_job(alloc: Global, found: &ArgMatches) -> Result<MapWords, UsageFault
 
 /// Prints what the table of a file decides: at each port each command lies in one line alone, with the rules that the table asks
 /// there; and behind these the rules that never match. With `--markdown` the lines are a table in markdown, with the comments of the
-/// rules. Where the table has a fault that is printed, with its place, and the job failed.
+/// rules. Where a line of the table has a fault that is printed, with its place, and the job failed. A table that is too long for a
+/// program is drawn.
 ///
 /// Faults are found in this order: the file (`CannotRead`, also where it is not UTF-8), and the table.
 pub fn map_file<'a, F: Files, W: Write>(

@@ -100,3 +100,14 @@ HasPolicyFault sizes lines fault =
 -- why a text is no table without a fault, for maps of these sizes
 abbrev pub IsPolicyFault : Maps → (lines : List (List ℕ)) → TextFault → Type 0
 IsPolicyFault sizes lines fault = IsUnreadPolicy lines fault ⊎ HasPolicyFault sizes lines fault
+
+-- ---- tables that are drawn
+
+-- the first fault of a table of which no program is made, for maps of these sizes: the first of its lines', however many they are
+abbrev pub drawn_fault : Maps → PolicyValue → Option TextFault
+drawn_fault sizes policy = rules_told sizes policy.reversed policy.rules
+
+-- why a text is no table without such a fault
+abbrev pub IsDrawnFault : Maps → (lines : List (List ℕ)) → TextFault → Type 0
+IsDrawnFault sizes lines fault =
+    IsUnreadPolicy lines fault ⊎ ((policy : PolicyValue) × WritesPolicy lines policy × (drawn_fault sizes policy ≡ Some fault))

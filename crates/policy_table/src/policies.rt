@@ -4,7 +4,7 @@ ghost use Rattle.std.specs.Prelude.{◌≡◌, ◌<◌, ◌^◌, ◌+◌, All, I
 ghost use Rattle.std.specs.List.{list_any};
 ghost use Rattle.spw.specs.Line.{lines_of};
 ghost use Rattle.policy_table.specs.Limits.{FitsFields};
-ghost use Rattle.policy_table.specs.Policies.{IsPolicyFault, IsUnreadPolicy, WritesPolicy, is_before, policy_fault, reading, reading_of, reversed_told, rules_told, version_of};
+ghost use Rattle.policy_table.specs.Policies.{IsDrawnFault, IsPolicyFault, IsUnreadPolicy, WritesPolicy, drawn_fault, is_before, policy_fault, reading, reading_of, reversed_told, rules_told, version_of};
 ghost use Rattle.policy_table.specs.Ports.{FitsPort, on_lines};
 ghost use Rattle.policy_table.specs.Statements.{has_version};
 ghost use Rattle.policy_table.specs.Surveys.{AreFaults, IsReported, reported};
@@ -180,6 +180,31 @@ impl Policy {
             Some(fault) => Err(fault),
             None => Ok(policy),
         }
+    }
+
+    /// The table that a text writes, as [`Policy::read`] reads it, whose lines have no fault for maps of these sizes. It may be too long
+    /// for a program.
+    ///
+    /// # Errors
+    ///
+    /// The first fault of the text with its place: of the first line that is not read, or of the first of its lines.
+    pub fn read_drawn(alloc: Global, text: &str, sizes: &MapSizes) -> Result<Policy, TextFault>
+        ensures read { IfOk result (WritesPolicy (lines_of text.now)) }
+        ensures faultless { IfOk result (λ policy. drawn_fault sizes.now policy ≡ None) }
+        ensures fault { IfErr result (IsDrawnFault sizes.now (lines_of text.now)) }
+    {
+        let policy = Policy::read(alloc, text)?;
+        match policy.drawn_fault_for(sizes) {
+            Some(fault) => Err(fault),
+            None => Ok(policy),
+        }
+    }
+
+    /// The first fault of the lines of the table for maps of these sizes, with its place.
+    fn drawn_fault_for(&self, sizes: &MapSizes) -> Option<TextFault>
+        ensures { result ≡ drawn_fault sizes.now self.now }
+    {
+        rules_told(self.reversed, self.rules.as_slice(), sizes)
     }
 
     /// The first fault of the table for a node with maps of these sizes, with its place: that for which it is not compiled.
