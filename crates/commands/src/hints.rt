@@ -203,7 +203,7 @@ fn add_length(text: &mut String, alloc: Global, table: &str) -> Result<(), Alloc
     let slots = table_slots(policy.rules());
     write!(
         text,
-        "    all take {slots} slots, with 16 that come before and after"
+        "    all take {slots} slots, with those before and after them"
     )?;
     if policy.version() == TableVersion::One && slots <= MAX_SLOTS {
         text.push_str(": they fit if .version 2 is line 1")?;

@@ -15,7 +15,7 @@ use Rattle.policy.specs.Compiled.{HasCells, HasPortCells, IsCompileFault, IsOfCo
 use Rattle.policy.specs.Meant.{HaveCells}
 use Rattle.policy_table.specs.FirstFault.{compile_fault, has_cell, quota_fault, rule_fault, rules_fault}
 use Rattle.policy_table.specs.Meaning.{agrees, decision, draw, holds, ruled}
-use Rattle.policy_table.specs.Policies.{PolicyValue, is_before, policy_fault, reversed_told, rule_told, rules_told}
+use Rattle.policy_table.specs.Policies.{PolicyValue, is_before, is_reversed, policy_fault, reversed_told, rule_told, rules_told}
 use Rattle.policy_table.specs.Ports.{at_every_port, on_lines, rules_at}
 use Rattle.policy_table.specs.Room.{first_port_slots, is_too_much, length_from, length_told, room_left, room_taken, too_many, whole_room}
 use Rattle.policy_table.specs.Slots.{asks_ports, field_slots, kind_slots, quota_slots, rules_slots, table_slots}
@@ -199,7 +199,7 @@ line_none line named (Some fault) is = cc
 rule_there : (sizes : Maps) (own : PortRule) → rule_told sizes own ≡ None → quota_fault sizes own.rule.quota ≡ None
 rule_there sizes own none =
     line_none own.line own.named (quota_fault sizes own.rule.quota)
-    (fault_behind (nat_lt own.rule.high own.rule.low) (Line own.line lines.RuleOrder) (option_map (λ _. Line own.line (lines.NoCell own.named)) (quota_fault sizes own.rule.quota)) none)
+    (fault_behind (is_reversed own) (Line own.line lines.RuleOrder) (option_map (λ _. Line own.line (lines.NoCell own.named)) (quota_fault sizes own.rule.quota)) none)
 
 range_behind : (reversed : Option ℕ) (line : ℕ) (rest : Option TextFault) → (if is_before reversed line then reversed_told reversed else rest) ≡ None → rest ≡ None
 range_behind None line rest is = is

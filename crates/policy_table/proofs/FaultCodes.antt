@@ -1,5 +1,5 @@
 -- The numbers of the faults of lines.
-use Rattle.std.specs.Prelude.{nat_lt, if◌then◌else◌, option_map, bytes_eq, codes}
+use Rattle.std.specs.Prelude.{if◌then◌else◌, option_map, bytes_eq, codes}
 use Rattle.std.specs.Option.{option_or}
 use Rattle.std.proofs.Common.{◌≡◌, ◌⊎◌, ◌++◌, ℕ, Bool, true, false, List, [], ◌∷◌, Option, Some, None, refl, sym, ap, ◌∙◌, subst, inl, inr}
 use Rattle.std.proofs.lemmas.List.Folds.{find-append}
@@ -7,7 +7,7 @@ use Rattle.machine.specs.Sizes.{Maps}
 use Rattle.policy_table.specs.Drafts.{IsBad, IsBadTwo, IsNoStatement, line_words}
 use Rattle.policy_table.specs.FirstFault.{quota_fault}
 use Rattle.policy_table.specs.NoRules.{IsNoRule}
-use Rattle.policy_table.specs.Policies.{reversed_told, rule_told}
+use Rattle.policy_table.specs.Policies.{is_reversed, reversed_told, rule_told}
 use Rattle.policy_table.specs.Ranges.{RangeText}
 use Rattle.policy_table.specs.Refined.{begins_comment, fifth_word, is_joined_at, refined, third_word}
 use Rattle.policy_table.specs.Room.{is_too_much, room_told, too_many}
@@ -187,7 +187,7 @@ first_listed (Some fault) = refl
 
 own_five : (version : TableVersion) (sizes : Maps) (room : Option Room) (own : PortRule) → first_of_code 5 (listed (room_told version room own) ++ listed (rule_told sizes own)) ≡ None
 own_five version sizes room own =
-    let rule : first_of_code 5 (listed (rule_told sizes own)) ≡ None = rule_five (nat_lt own.rule.high own.rule.low) (quota_fault sizes own.rule.quota) own in
+    let rule : first_of_code 5 (listed (rule_told sizes own)) ≡ None = rule_five (is_reversed own) (quota_fault sizes own.rule.quota) own in
     code_append 5 (listed (room_told version room own)) (listed (rule_told sizes own))
     ∙ ap (λ (o : Option TextFault). option_or o (first_of_code 5 (listed (rule_told sizes own)))) (told_five version room own) ∙ rule
 
@@ -218,7 +218,7 @@ or_none (Some fault) p is = refl
 own_one : (version : TableVersion) (sizes : Maps) (room : Option Room) (own : PortRule) → first_of_code 1 (listed (room_told version room own) ++ listed (rule_told sizes own)) ≡ room_told version room own
 own_one version sizes room own =
     code_append 1 (listed (room_told version room own)) (listed (rule_told sizes own))
-    ∙ or_none (first_of_code 1 (listed (room_told version room own))) (first_of_code 1 (listed (rule_told sizes own))) (rule_one (nat_lt own.rule.high own.rule.low) (quota_fault sizes own.rule.quota) own)
+    ∙ or_none (first_of_code 1 (listed (room_told version room own))) (first_of_code 1 (listed (rule_told sizes own))) (rule_one (is_reversed own) (quota_fault sizes own.rule.quota) own)
     ∙ told_one version room own
 
 pub statement_one : (version : TableVersion) (sizes : Maps) (room : Option Room) (line : ℕ) (statement : Statement) → first_of_code 1 (statement_faults version sizes room line statement) ≡ room_of version room statement

@@ -1,5 +1,5 @@
 -- Tables of either version: what a text writes, and the first fault for which a table is not compiled.
-use Rattle.std.specs.Prelude.{◌≡◌, ◌⊎◌, ℕ, suc, Bool, false, nat_lt, if◌then◌else◌, List, [], ◌∷◌, Option, Some, None}
+use Rattle.std.specs.Prelude.{◌≡◌, ◌⊎◌, ℕ, suc, Bool, false, not, ◌&&◌, nat_lt, if◌then◌else◌, List, [], ◌∷◌, Option, Some, None}
 use Rattle.std.specs.Prelude.{option_map}
 use Rattle.std.specs.List.{list_any}
 use Rattle.std.specs.Option.{option_or}
@@ -65,10 +65,14 @@ IsUnreadPolicy lines fault =
 
 -- ---- tables that are not compiled
 
+-- the range of a rule ends before it begins; one that has a name is at fault in the line that gives it
+abbrev pub is_reversed : PortRule → Bool
+is_reversed own = not own.named && nat_lt own.rule.high own.rule.low
+
 -- the fault of a rule, with its place: its range ends before it begins, or its quota has no cell
 abbrev pub rule_told : Maps → PortRule → Option TextFault
 rule_told sizes own =
-    if nat_lt own.rule.high own.rule.low then Some (Line own.line RuleOrder)
+    if is_reversed own then Some (Line own.line RuleOrder)
     else option_map (λ _. Line own.line (NoCell own.named)) (quota_fault sizes own.rule.quota)
 
 -- the fault of the range that ends before it begins, where there is one

@@ -1,5 +1,5 @@
 -- What is wrong with a line of a table, in words.
-use Rattle.std.specs.Prelude.{ℕ, ◌-◌, Bool, true, false, ◌&&◌, nat_lt, if◌then◌else◌, List, ◌++◌, codes, decimal}
+use Rattle.std.specs.Prelude.{ℕ, zero, suc, ◌-◌, Bool, true, false, ◌&&◌, nat_lt, if◌then◌else◌, List, ◌++◌, codes, decimal}
 use Rattle.policy_table.specs.Words.{word_form, word_number}
 use Rattle.policy_table.specs.declared.faults.PolicyFault.{PolicyFault}
 use Rattle.policy_table.specs.declared.faults.PolicyFault.TheVariants as faults
@@ -34,6 +34,12 @@ abbrev pub port_place : (named : Bool) → ℕ
 port_place true = 8
 port_place false = 9
 
+-- how many words a line of version 1 has that has not eight
+abbrev pub count_text : (words : ℕ) → List ℕ
+count_text zero = codes "has no words, and empty lines are of version 2, whose line 1 is .version 2"
+count_text (suc n) =
+    codes "ends after word " ++ decimal (suc n) ++ codes ", and a rule has 8: KIND KEY INIT EXT LOW HIGH QUOTA VERDICT"
+
 -- what is wrong with a line, with its word and what is wanted there
 abbrev pub statement_fault_text : StatementFault → List ℕ
 statement_fault_text Version = codes "word 1: .version 2 must be line 1, before all else, and 2 is the only number"
@@ -47,11 +53,10 @@ statement_fault_text RangeName =
 statement_fault_text RangeTwice = codes "word 2: NAME is of a range above"
 statement_fault_text RangeLow = codes "word 3: LOW is eight hexadecimal digits"
 statement_fault_text RangeHigh = codes "word 4: HIGH is eight hexadecimal digits"
-statement_fault_text (LineCount words) =
-    codes "has " ++ decimal words ++ codes " words, and a rule has 8: KIND KEY INIT EXT LOW HIGH QUOTA VERDICT"
+statement_fault_text (LineCount words) = count_text words
 statement_fault_text (RuleCount words) =
-    codes "has " ++ decimal words
-    ++ codes " words, and a rule has 8: KIND KEY INIT EXT LOW HIGH QUOTA VERDICT, or NAME for LOW HIGH"
+    codes "ends after word " ++ decimal words
+    ++ codes ", and a rule has 8: KIND KEY INIT EXT LOW HIGH QUOTA VERDICT, or NAME for LOW HIGH"
 statement_fault_text RuleJoined = codes "word 5: LOW and HIGH are two words, with a space between them"
 statement_fault_text (Word word named) =
     codes "word " ++ decimal (word_place word named) ++ codes ": " ++ rule_form word named

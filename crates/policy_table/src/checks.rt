@@ -73,12 +73,12 @@ pub fn compile_fault(rules: &[Rule], sizes: &MapSizes) -> Option<PolicyFault>
     }
 }
 
-/// The fault of a rule in a table, with its place: its range ends before it begins, or its quota has no cell.
+/// The fault of a rule in a table, with its place: its range ends before it begins and has no name, or its quota has no cell.
 pub fn rule_told(own: &PortRule, sizes: &MapSizes) -> Option<TextFault>
     ensures { result ≡ rule_told sizes.now own.now }
 {
     let line = own.line;
-    if own.rule.high < own.rule.low {
+    if !own.named && own.rule.high < own.rule.low {
         return Some(TextFault::Line {
             line,
             fault: StatementFault::RuleOrder,

@@ -163,13 +163,17 @@ impl fmt::Display for StatementFault {
             StatementFault::RangeTwice => write!(f, "word 2: NAME is of a range above"),
             StatementFault::RangeLow => write!(f, "word 3: LOW is eight hexadecimal digits"),
             StatementFault::RangeHigh => write!(f, "word 4: HIGH is eight hexadecimal digits"),
+            StatementFault::LineCount(0) => write!(
+                f,
+                "has no words, and empty lines are of version 2, whose line 1 is .version 2"
+            ),
             StatementFault::LineCount(words) => write!(
                 f,
-                "has {words} words, and a rule has 8: KIND KEY INIT EXT LOW HIGH QUOTA VERDICT"
+                "ends after word {words}, and a rule has 8: KIND KEY INIT EXT LOW HIGH QUOTA VERDICT"
             ),
             StatementFault::RuleCount(words) => write!(
                 f,
-                "has {words} words, and a rule has 8: KIND KEY INIT EXT LOW HIGH QUOTA VERDICT, or NAME for LOW HIGH"
+                "ends after word {words}, and a rule has 8: KIND KEY INIT EXT LOW HIGH QUOTA VERDICT, or NAME for LOW HIGH"
             ),
             StatementFault::RuleJoined => {
                 write!(
