@@ -36,6 +36,8 @@ pub struct MapWords {
     pub sizes: MapSizes,
     /// Whether the map is printed in markdown.
     pub markdown: bool,
+    /// Whether nothing is said of the table beside the map.
+    pub is_quiet: bool,
 }
 
 impl MapWords {
@@ -47,7 +49,7 @@ impl MapWords {
     }
 }
 
-/// `map TABLE [--maps LIST] [--markdown]`.
+/// `map TABLE [--maps LIST] [--markdown] [--quiet]`.
 pub fn map_command<'a>(alloc: Global) -> Result<Command<'a>, AllocError>
     ensures shape { IfOk result (λ c. app_of c ≡ map_app) }
     ensures local { IfOk result (λ c. (fields_of c).has_globals ≡ false) }
@@ -57,11 +59,14 @@ pub fn map_command<'a>(alloc: Global) -> Result<Command<'a>, AllocError>
     let maps = maps_option(alloc);
     let help = "Print a table in markdown, with the comments of the rules";
     let markdown = flag(alloc, "markdown", help);
+    let help = "Say nothing of the table on standard error";
+    let quiet = flag(alloc, "quiet", help);
     Command::new(alloc, "map")
         .about("Prints what a policy table decides, for each command one line")
         .arg(table)?
         .arg(maps)?
-        .arg(markdown)
+        .arg(markdown)?
+        .arg(quiet)
 }
 
 /// The words of `map` with these matches.
@@ -72,10 +77,12 @@ pub fn map_job(alloc: Global, found: &ArgMatches) -> Result<MapWords, UsageFault
     let table = name_of(alloc, found, "table")?;
     let sizes = sizes_of(alloc, found)?;
     let markdown = is_set(found, "markdown");
+    let is_quiet = is_set(found, "quiet");
     Ok(MapWords {
         table,
         sizes,
         markdown,
+        is_quiet,
     })
 }
 

@@ -14,4 +14,4 @@ mod PortsFit
 mod PortTables
 mod ReadingSo
 mod FaultCodes
-mod Reported
+mod ReportOf

@@ -1,5 +1,5 @@
 use Rattle.policy_table.proofs.ReadingSo.{found_so}
-use Rattle.policy_table.proofs.Reported.{is_reported}
+use Rattle.policy_table.proofs.ReportOf.{is_reported}
 use Rattle.policy_table.proofs.policies.Policy.faults.Goals as goal
 
 pub returns-clause-all : goal.returns-clause-all
