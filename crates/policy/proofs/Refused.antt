@@ -268,13 +268,13 @@ port_first true port some = omega arith
 port_first false None some = omega arith
 port_first false (Some wanted) some = omega arith
 
+nothing_wanted : (asks : Bool) (left : ℕ) → port_wanted asks false + 0 ≤ left
+nothing_wanted true left = omega arith
+nothing_wanted false left = omega arith
+
 -- rules of version 2 that have room
 twos_fit : (rules : List PortRule) (r : Room) → length_from Two (Some r) rules ≡ None → port_wanted r.asks (asks_ports rules) + rules_slots rules ≤ r.left
 twos_fit [] r none = nothing_wanted r.asks r.left
-  where
-    nothing_wanted : (asks : Bool) (left : ℕ) → port_wanted asks false + 0 ≤ left
-    nothing_wanted true left = omega arith
-    nothing_wanted false left = omega arith
 twos_fit (own ∷ rules) r none =
     let (some, rest) = room_behind (is_too_much Two r own) (Line own.line (too_many Two r own)) (room_left Two r own) (λ left. length_from Two left rules) none in
     omega (arith, ltb-false r.left (room_taken Two r.asks own) some, port_first r.asks own.port (asks_ports rules), twos_fit rules (room_left Two r own) rest)

@@ -266,17 +266,19 @@ then_read : (version : TableVersion) (sizes : Maps) (line : ℕ) (text : List �
 then_read version sizes line text lines old next new takes (inl read) = inl (read.0, (next.draft, takes, read.1), read.2)
 then_read version sizes line text lines old next new takes (inr bad) = inr (bad.0, inr (next.draft, takes, bad.1), bad.2)
 
-lines_read : (version : TableVersion) (sizes : Maps) (line : ℕ) (lines : List (List ℕ)) (old new : SurveyValue) → FindsLines version sizes line lines old new → IsClean version sizes line old → IsRead version sizes line lines old new
-
-line_read : (version : TableVersion) (sizes : Maps) (line : ℕ) (text : List ℕ) (lines : List (List ℕ)) (old next new : SurveyValue) → FindsLine version sizes line text old next → FindsLines version sizes (suc line) lines next new → IsClean version sizes line old → IsRead version sizes line (text ∷ lines) old new
-line_read version sizes line text lines old next new (inl stated) finds clean =
+line_read : (version : TableVersion) (sizes : Maps) (line : ℕ) (text : List ℕ) (lines : List (List ℕ)) (old next new : SurveyValue) → FindsLine version sizes line text old next → FindsLines version sizes (suc line) lines next new → IsClean version sizes line old
+    → (IsClean version sizes (suc line) next → IsRead version sizes (suc line) lines next new) → IsRead version sizes line (text ∷ lines) old new
+line_read version sizes line text lines old next new (inl stated) finds clean later =
     let takes : TakesLine version line text old.draft next.draft = record { statement = stated.statement; is = stated.is; taken = ap (λ (s : SurveyValue). s.draft) stated.found } in
     let more : IsClean version sizes (suc line) next = subst (λ (s : SurveyValue). IsClean version sizes (suc line) s) (sym stated.found) (statement_clean version sizes line text stated.statement old stated.is clean) in
-    then_read version sizes line text lines old next new takes (lines_read version sizes (suc line) lines next new finds more)
-line_read version sizes line text lines old next new (inr bad) finds clean = bad_read version sizes line text lines old next new bad finds clean.fine
+    then_read version sizes line text lines old next new takes (later more)
+line_read version sizes line text lines old next new (inr bad) finds clean later = bad_read version sizes line text lines old next new bad finds clean.fine
+
+lines_read : (version : TableVersion) (sizes : Maps) (line : ℕ) (lines : List (List ℕ)) (old new : SurveyValue) → FindsLines version sizes line lines old new → IsClean version sizes line old → IsRead version sizes line lines old new
 lines_read version sizes line [] old new finds clean =
     inl (line, ap (λ (s : SurveyValue). s.draft) finds, subst (λ (s : SurveyValue). IsClean version sizes line s) (sym finds) clean)
-lines_read version sizes line (text ∷ lines) old new finds clean = line_read version sizes line text lines old finds.0 new finds.1 finds.2 clean
+lines_read version sizes line (text ∷ lines) old new finds clean =
+    line_read version sizes line text lines old finds.0 new finds.1 finds.2 clean (λ more. lines_read version sizes (suc line) lines finds.0 new finds.2 more)
 
 -- ---- the fault that is reported
 

@@ -177,7 +177,7 @@ impl<'a> Draft<'a> {
         reversed: bool,
     ) -> Result<(), AllocError>
         ensures { OnOk result
-            (self.new ≡ with_range line (range_text range) reversed self.old) }
+            (self.new ≡ with_range line (range_text range.entry) reversed self.old) }
     {
         self.ranges.push(range).map_err(AllocError::from)?;
         if reversed && self.reversed.is_none() {
