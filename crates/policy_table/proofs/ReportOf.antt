@@ -3,6 +3,7 @@ use Rattle.std.specs.Prelude.{All, nat_lt, if◌then◌else◌}
 use Rattle.std.specs.Option.{option_or}
 use Rattle.std.proofs.Common.{◌≡◌, ◌⊎◌, ◌<◌, ◌++◌, ℕ, suc, Bool, true, false, List, [], ◌∷◌, Option, Some, None, refl, sym, ap, ◌∙◌, subst, inl, inr, arith}
 use Rattle.std.proofs.lemmas.Bool.{lt-ltb}
+use Rattle.std.proofs.lemmas.Bool.Decides.{nat_tests}
 use Rattle.std.proofs.lemmas.List.{append-nil, append_assoc}
 use Rattle.std.proofs.lemmas.List.Elements.{All-head, All-nil, All-push, All-tail, All-weaker}
 use Rattle.machine.specs.Sizes.{Maps}
@@ -132,7 +133,7 @@ none_clean version sizes line = record {
 -- the line of the rule that a line says is its own
 two_line : (ranges : List RangeText) (line : ℕ) (words : List (List ℕ)) (own : PortRule) → IsStatementTwo ranges line words (says.Rule own) → own.line ≡ line
 two_line ranges line [] own is = absurd is
-two_line ranges line (first ∷ rest) own is = let (kind, rule, here) = is in here
+two_line ranges line (first ∷ rest) own is = let (kind, rule) = is in let (are, here) = rule in here
 
 own_line : (version : TableVersion) (ranges : List RangeText) (line : ℕ) (text : List ℕ) (own : PortRule) → IsStatement version ranges line text (says.Rule own) → own.line ≡ line
 own_line One ranges line text own is = let (rule, port, named, here) = is in here
