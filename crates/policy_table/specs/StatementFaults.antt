@@ -43,8 +43,8 @@ count_text (suc n) =
 -- how many slots a rule takes for which there is no room
 abbrev pub slots_text : (slots left : ℕ) → List ℕ
 slots_text slots left =
-    codes "does not fit: its rule takes " ++ (decimal slots ++ (codes " slots, and of the 512 of an image "
-    ++ (decimal left ++ codes " are left")))
+    codes "does not fit: its rule takes " ++ decimal slots ++ codes " slots, and of the 512 of an image are left "
+    ++ decimal left
 
 -- what is wrong with a line, with its word and what is wanted there
 abbrev pub statement_fault_text : StatementFault → List ℕ

@@ -204,7 +204,7 @@ impl fmt::Display for StatementFault {
             }
             StatementFault::TooManySlots { slots, left } => write!(
                 f,
-                "does not fit: its rule takes {slots} slots, and of the 512 of an image {left} are left"
+                "does not fit: its rule takes {slots} slots, and of the 512 of an image are left {left}"
             ),
         }
     }
