@@ -7,7 +7,7 @@ use crate::line_paths::{LinePaths, may_have_paths};
 use crate::noted::{Cause, Noted};
 use crate::slips::{self, told_output};
 use crate::{denied_loads, hints};
-use job_charts::mapped::notes_text;
+use job_charts::map::notes_text;
 use job_config::sources::NodeSource;
 use job_packets::orders::Order;
 use job_packets::packet::PacketWords;

@@ -6,7 +6,7 @@ pub mod compare;
 mod compared;
 mod courses;
 pub mod map;
-pub mod mapped;
+mod mapped;
 mod markdown;
 mod packets;
 mod ports;

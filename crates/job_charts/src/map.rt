@@ -9,9 +9,12 @@ ghost use Rattle.job_parts.specs.Inputs.{AreInputs, input};
 ghost use Rattle.job_parts.specs.declared.inputs.Content.TheVariants.{Table};
 ghost use Rattle.job_parts.specs.Stops.{StopsBy};
 ghost use Rattle.job_charts.specs.MapJob.{NamesMap, RefusesMap, map_app};
+ghost use Rattle.job_charts.specs.Mapped.{TellsNotesAlone};
 ghost use Rattle.job_charts.specs.MappedFile.{IsNotMapped, MapsFile};
 
-use crate::mapped::map_text;
+use crate::mapped::{map_text, note_rows};
+use crate::ports::Tables;
+use crate::rows::add_rows;
 use crate::styles::Style;
 use clap::{ArgMatches, Command};
 use job_decide::tables::{NoTable, print_table_fault, text_and_table};
@@ -24,6 +27,7 @@ use job_parts::stops::Halt;
 use job_parts::storage::Files;
 use job_parts::usage::UsageFault;
 use machine::MapSizes;
+use policy::Policy;
 use std::alloc::{AllocError, Global};
 use std::io::Write;
 
@@ -116,4 +120,21 @@ pub fn map_file<'a, F: Files, W: Write>(
             Ok(Status::Failed)
         }
     }
+}
+
+/// The lines of `map` for the rules of a table that never match.
+pub fn notes_text(alloc: Global, policy: &Policy) -> Result<String, AllocError>
+    ensures { IfOk result (λ text. TellsNotesAlone policy.now (string_bytes text)) }
+{
+    let how = Style::of(alloc, false, "")?;
+    let notes = note_rows(alloc, &how, policy)?;
+    let mut text = String::new(alloc);
+    add_rows(
+        &mut text,
+        alloc,
+        false,
+        Tables::One(policy),
+        notes.as_slice(),
+    )?;
+    Ok(text)
 }

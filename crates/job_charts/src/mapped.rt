@@ -9,7 +9,7 @@ ghost use Rattle.differences.specs.Steps.{steps_at};
 ghost use Rattle.policy_table.specs.PortTables.{is_named};
 ghost use Rattle.job_charts.specs.AskedTables.{asked_at};
 ghost use Rattle.job_charts.specs.Courses.{with_course};
-ghost use Rattle.job_charts.specs.Mapped.{AddsStop, AreStops, IsReason, TellsLine, TellsLines, TellsMap, TellsNever, TellsNote, TellsNotes, TellsNotesAlone, TellsPorts, comma_line, draws_text, has_no_ticket, head_of, line_row, markdown_row, note_row, note_text, paragraph_text, plain_row, stops_text};
+ghost use Rattle.job_charts.specs.Mapped.{AddsStop, AreStops, IsReason, TellsLine, TellsLines, TellsMap, TellsNever, TellsNote, TellsNotes, TellsPorts, comma_line, draws_text, has_no_ticket, head_of, line_row, markdown_row, note_row, note_text, paragraph_text, plain_row, stops_text};
 ghost use Rattle.job_charts.specs.Markdown.{map_back};
 ghost use Rattle.job_charts.specs.Rows.{TellsPort};
 ghost use Rattle.job_charts.specs.Telling.{TellsFirst};
@@ -420,7 +420,7 @@ fn line_rows(alloc: Global, how: &Style<'_>, policy: &Policy) -> Result<Vec<Row>
 }
 
 /// The rows of the rules that never match, at each port.
-fn note_rows(alloc: Global, how: &Style<'_>, policy: &Policy) -> Result<Vec<Row>, AllocError>
+pub fn note_rows(alloc: Global, how: &Style<'_>, policy: &Policy) -> Result<Vec<Row>, AllocError>
     ensures { IfOk result (λ rows. TellsPorts policy.now
         (TellsNotes how.now.markdown) 32 [] rows.items) }
 {
@@ -454,22 +454,5 @@ pub fn map_text(alloc: Global, how: &Style<'_>, policy: &Policy) -> Result<Strin
     let mut text = head_of(alloc, markdown)?;
     add_rows(&mut text, alloc, markdown, tables, lines.as_slice())?;
     add_rows(&mut text, alloc, false, tables, notes.as_slice())?;
-    Ok(text)
-}
-
-/// What [`map_text`] tells, not in markdown, of the rules of a table that never match.
-pub fn notes_text(alloc: Global, policy: &Policy) -> Result<String, AllocError>
-    ensures { IfOk result (λ text. TellsNotesAlone policy.now (string_bytes text)) }
-{
-    let how = Style::of(alloc, false, "")?;
-    let notes = note_rows(alloc, &how, policy)?;
-    let mut text = String::new(alloc);
-    add_rows(
-        &mut text,
-        alloc,
-        false,
-        Tables::One(policy),
-        notes.as_slice(),
-    )?;
     Ok(text)
 }

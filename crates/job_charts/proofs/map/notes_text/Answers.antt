@@ -3,7 +3,7 @@ use Rattle.policy_table.specs.PortTables.{is_named}
 use Rattle.job_charts.specs.Mapped.{TellsNotes, TellsPorts}
 use Rattle.job_charts.specs.Rows.{RowValue}
 use Rattle.job_charts.proofs.RowsTold.{rows_told}
-use Rattle.job_charts.proofs.mapped.notes_text.Goals as goal
+use Rattle.job_charts.proofs.map.notes_text.Goals as goal
 
 pub returns : goal.returns
 returns c =
