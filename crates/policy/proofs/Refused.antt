@@ -1,5 +1,5 @@
 -- What the faults of tables tell.
-use Rattle.std.specs.Prelude.{All, ◌&&◌, ◌||◌, ◌+◌, ◌*◌, is_some, nat_lt, if◌then◌else◌, option_map, slice_index}
+use Rattle.std.specs.Prelude.{All, ◌&&◌, ◌||◌, ◌+◌, ◌-◌, ◌*◌, is_some, nat_lt, if◌then◌else◌, option_map, slice_index}
 use Rattle.std.specs.Option.{option_or}
 use Rattle.std.proofs.Common.{◌≡◌, ◌≤◌, ℕ, suc, Bool, true, false, List, [], ◌∷◌, length, Option, Some, None, refl, ap, subst, arith}
 use Rattle.std.proofs.lemmas.Bool.{ltb-false, ltb-true, and_parts}
@@ -17,8 +17,8 @@ use Rattle.policy_table.specs.FirstFault.{compile_fault, has_cell, quota_fault, 
 use Rattle.policy_table.specs.Meaning.{agrees, decision, draw, holds, ruled}
 use Rattle.policy_table.specs.Policies.{PolicyValue, is_before, is_reversed, policy_fault, reversed_told, rule_told, rules_told}
 use Rattle.policy_table.specs.Ports.{at_every_port, on_lines, rules_at}
-use Rattle.policy_table.specs.Room.{first_port_slots, is_too_much, length_from, length_told, room_left, room_taken, too_many, whole_room}
-use Rattle.policy_table.specs.Slots.{asks_ports, field_slots, kind_slots, quota_slots, rules_slots, table_slots}
+use Rattle.policy_table.specs.Room.{first_port_slots, is_too_much, length_from, length_told, room_after, room_left, room_taken, too_many, whole_room}
+use Rattle.policy_table.specs.Slots.{asks_ports, field_slots, kind_slots, port_rule_slots, port_slots, quota_slots, rules_slots, table_slots}
 use Rattle.policy_table.specs.declared.faults.PolicyFault.{PolicyFault}
 use Rattle.policy_table.specs.declared.faults.PolicyFault.TheVariants.{TooLong, BadRange, Memory, NoCell, BadLine}
 use Rattle.policy_table.specs.declared.port_rules.PortRule.{PortRule}
@@ -246,17 +246,24 @@ port_most false = omega arith
 pub few_fit : (rules : List PortRule) → length rules ≤ 12 → table_slots rules ≤ 512
 few_fit rules short = omega (arith, rules_most rules, port_most (asks_ports rules), short)
 
--- a rule has room, and those behind it have
-room_behind : (t : Bool) (fault : TextFault) (r : Room) (rest : Option Room → Option TextFault) → option_or (if t then Some fault else None) (rest (if t then None else Some r)) ≡ None → (t ≡ false) × (rest (Some r) ≡ None)
-room_behind true fault r rest is = cc
-room_behind false fault r rest is = (refl, is)
+-- a rule has room
+rule_room : (t : Bool) (fault : TextFault) (rest : Option TextFault) → option_or (if t then Some fault else None) rest ≡ None → t ≡ false
+rule_room true fault rest is = cc
+rule_room false fault rest is = refl
+
+-- and those behind it have
+rest_room : (t : Bool) (fault : TextFault) (r : Room) (rest : Option Room → Option TextFault) → option_or (if t then Some fault else None) (rest (if t then None else Some r)) ≡ None → rest (Some r) ≡ None
+rest_room true fault r rest is = cc
+rest_room false fault r rest is = is
 
 -- rules of version 1 that have room
 ones_fit : (rules : List PortRule) (r : Room) → length_from One (Some r) rules ≡ None → length rules ≤ r.left
 ones_fit [] r none = omega arith
 ones_fit (own ∷ rules) r none =
-    let (some, rest) = room_behind (is_too_much One r own) (Line own.line (too_many One r own)) (room_left One r own) (λ left. length_from One left rules) none in
-    omega (arith, ltb-false r.left 1 some, ones_fit rules (room_left One r own) rest)
+    let some : is_too_much One r own ≡ false = rule_room (is_too_much One r own) (Line own.line (too_many One r own)) (length_from One (room_after One (Some r) own) rules) none in
+    let rest : length_from One (Some (room_left One r own)) rules ≡ None = rest_room (is_too_much One r own) (Line own.line (too_many One r own)) (room_left One r own) (λ left. length_from One left rules) none in
+    let fit : length rules ≤ r.left - 1 = ones_fit rules (room_left One r own) rest in
+    omega (arith, ltb-false r.left 1 some, fit)
 
 -- the slot that is still wanted to put the port on the stack
 abbrev port_wanted : (asks some : Bool) → ℕ
@@ -276,12 +283,18 @@ nothing_wanted false left = omega arith
 twos_fit : (rules : List PortRule) (r : Room) → length_from Two (Some r) rules ≡ None → port_wanted r.asks (asks_ports rules) + rules_slots rules ≤ r.left
 twos_fit [] r none = nothing_wanted r.asks r.left
 twos_fit (own ∷ rules) r none =
-    let (some, rest) = room_behind (is_too_much Two r own) (Line own.line (too_many Two r own)) (room_left Two r own) (λ left. length_from Two left rules) none in
-    omega (arith, ltb-false r.left (room_taken Two r.asks own) some, port_first r.asks own.port (asks_ports rules), twos_fit rules (room_left Two r own) rest)
+    let some : is_too_much Two r own ≡ false = rule_room (is_too_much Two r own) (Line own.line (too_many Two r own)) (length_from Two (room_after Two (Some r) own) rules) none in
+    let rest : length_from Two (Some (room_left Two r own)) rules ≡ None = rest_room (is_too_much Two r own) (Line own.line (too_many Two r own)) (room_left Two r own) (λ left. length_from Two left rules) none in
+    let taken : first_port_slots r.asks own.port + port_rule_slots own ≤ r.left = ltb-false r.left (room_taken Two r.asks own) some in
+    let first : port_wanted r.asks (asks_ports (own ∷ rules)) ≤ first_port_slots r.asks own.port + port_wanted (r.asks || is_some own.port) (asks_ports rules) = port_first r.asks own.port (asks_ports rules) in
+    let fit : port_wanted (r.asks || is_some own.port) (asks_ports rules) + rules_slots rules ≤ r.left - (first_port_slots r.asks own.port + port_rule_slots own) = twos_fit rules (room_left Two r own) rest in
+    omega (arith, taken, first, fit)
 
 version_fits : (version : TableVersion) (rules : List PortRule) → length_told version rules ≡ None → table_slots rules ≤ 512
 version_fits One rules none = few_fit rules (ones_fit rules (whole_room One) none)
-version_fits Two rules none = omega (arith, twos_fit rules (whole_room Two) none)
+version_fits Two rules none =
+    let fit : port_slots rules + rules_slots rules ≤ 496 = twos_fit rules (whole_room Two) none in
+    omega (arith, fit)
 
 -- and so does a table without a fault
 pub policy_fits : (sizes : Maps) (policy : PolicyValue) → policy_fault sizes policy ≡ None → table_slots policy.rules ≤ 512
