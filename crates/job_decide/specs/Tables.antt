@@ -47,7 +47,10 @@ module _ {S : Type 0} (reads : Reads S) where
   -- it gave some text that is such a table
   pub record HoldsDrawn (before : S) (name : List ℕ) (sizes : Maps) (policy : PolicyValue) (after : S) : Type 0 where
     pub text : List ℕ
-    pub held : HoldsText before name sizes text policy after
+    pub read : reads before name (Some text) after
+    pub utf8 : IsUtf8 text
+    pub is_table : WritesPolicy (lines_of text) policy
+    pub faultless : drawn_fault sizes policy ≡ None
 
   -- the file was read, and gave the UTF-8 of a table whose first fault for these maps is this one, with its place
   pub record HoldsBadTable (before : S) (name : List ℕ) (sizes : Maps) (fault : TextFault) (after : S) : Type 0 where

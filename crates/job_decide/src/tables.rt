@@ -89,8 +89,8 @@ pub fn drawn_in<'a, F: Files>(
         HoldsDrawn F.reads files.old name.now sizes.now table files.new) }
     ensures none { IfErr result (IsNotDrawn F.reads files.old name.now sizes.now files.new) }
 {
-    let (_text, table) = text_and_table(alloc, files, name, sizes)?;
-    Ok(table)
+    let text = text_in(alloc, files, name)?;
+    Ok(Policy::read_drawn(alloc, text.as_str(), sizes)?)
 }
 
 /// Prints the fault of a table: its line, and a line with its place.
