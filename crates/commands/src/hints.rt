@@ -211,8 +211,21 @@ fn add_length(text: &mut String, alloc: Global, table: &str) -> Result<(), Alloc
     text.push('\n')
 }
 
-/// Adds what the line of a fault holds, with what cannot be seen spelled; of a quota which cells the maps have, and of a rule for which
-/// there is no room what all rules take.
+/// Adds what the line of a fault holds that has a word, with what cannot be seen spelled.
+fn add_line(text: &mut String, line: &str) -> Result<(), AllocError> {
+    if line.trim().is_empty() {
+        return Ok(());
+    }
+    let spelled = line.escape_debug();
+    write!(text, "    the line is {spelled}")?;
+    if !is_seen(line) {
+        write!(text, ": {TEXT_FORM}")?;
+    }
+    text.push('\n')
+}
+
+/// Adds what the line of a fault holds; of a quota which cells the maps have, and of a rule for which there is no room what all rules
+/// take.
 fn add_details(
     text: &mut String,
     alloc: Global,
@@ -221,13 +234,7 @@ fn add_details(
     is_on_node: bool,
     fault: TextFault,
 ) -> Result<(), AllocError> {
-    let line = line_at(table, fault.line());
-    let spelled = line.escape_debug();
-    write!(text, "    the line is {spelled}")?;
-    if !is_seen(line) {
-        write!(text, ": {TEXT_FORM}")?;
-    }
-    text.push('\n')?;
+    add_line(text, line_at(table, fault.line()))?;
     match fault.fault() {
         PolicyFault::NoCell => add_maps(text, alloc, table, sizes, is_on_node),
         PolicyFault::TooLong => add_length(text, alloc, table),
