@@ -40,12 +40,6 @@ count_text zero = codes "has no words, and empty lines are of version 2, whose l
 count_text (suc n) =
     codes "ends after word " ++ decimal (suc n) ++ codes ", and a rule has 8: KIND KEY INIT EXT LOW HIGH QUOTA VERDICT"
 
--- how many slots a rule takes for which there is no room
-abbrev pub slots_text : (slots left : ℕ) → List ℕ
-slots_text slots left =
-    codes "does not fit: its rule takes " ++ decimal slots ++ codes " slots, and of the 512 of an image are left "
-    ++ decimal left
-
 -- what is wrong with a line, with its word and what is wanted there
 abbrev pub statement_fault_text : StatementFault → List ℕ
 statement_fault_text Version = codes "word 1: .version 2 must be line 1, before all else, and 2 is the only number"
@@ -73,7 +67,8 @@ statement_fault_text RuleOrder = codes "word 5: LOW is above HIGH"
 statement_fault_text (NoCell named) =
     codes "word " ++ decimal (word_place Quota named) ++ codes ": QUOTA is of no cell of a counter map"
 statement_fault_text TooManyRules = codes "is rule 13, and a table of version 1 has at most 12"
-statement_fault_text (TooManySlots slots left) = slots_text slots left
+statement_fault_text (TooManySlots slots left) =
+    codes "does not fit: its rule takes " ++ decimal slots ++ codes " slots, more than are left of the 512 of an image"
 
 -- the fault without its place
 abbrev pub policy_fault_in : StatementFault → PolicyFault

@@ -202,14 +202,10 @@ impl fmt::Display for StatementFault {
             StatementFault::TooManyRules => {
                 write!(f, "is rule 13, and a table of version 1 has at most 12")
             }
-            StatementFault::TooManySlots { slots, left } => {
-                let slots = *slots;
-                let left = *left;
-                write!(
-                    f,
-                    "does not fit: its rule takes {slots} slots, and of the 512 of an image are left {left}"
-                )
-            }
+            StatementFault::TooManySlots { slots, .. } => write!(
+                f,
+                "does not fit: its rule takes {slots} slots, more than are left of the 512 of an image"
+            ),
         }
     }
 }
