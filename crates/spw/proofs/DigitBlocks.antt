@@ -5,8 +5,8 @@ use Rattle.std.specs.Char.{digit_value}
 use Rattle.std.specs.List.{concat}
 use Rattle.std.specs.Simd.{first_chunks}
 use Rattle.std.specs.Str.Parse.{AllDigits}
-use Rattle.std.proofs.Math.Seq.{take-suc}
-use Rattle.std.proofs.lemmas.List.{drop-drop, length-append, length-drop, take-append-drop}
+use Rattle.std.proofs.Math.Seq.{take-append-add, take-append_seam, take-suc}
+use Rattle.std.proofs.lemmas.List.{drop-drop, length-append, length-drop, length-take, take-append-drop}
 use Rattle.std.proofs.lemmas.List.Folds.{concat-append}
 use Rattle.spw.specs.Line.{IsHex, bytes_written}
 
@@ -59,6 +59,20 @@ one_more i blocks before after written new below long is digits same put =
           ∙ append_assoc before (bytes_written front) (bytes_written block)
           ∙ ap (λ (w : List ℕ). before ++ w) (sym (written_both front block is.even));
     })
+
+-- as far as a part that was put at a place, a room is what was before that place, and the part
+put_takes : (place : ℕ) (room part rest : List ℕ) → place ≤ length room
+    → take (place + length part) (take place room ++ (part ++ rest)) ≡ take place room ++ part
+put_takes place room part rest below =
+    let long : length (take place room) ≡ place = omega (arith, length-take place room) in
+    ap (λ (n : ℕ). take (n + length part) (take place room ++ (part ++ rest))) (sym long)
+    ∙ take-append-add (take place room) (part ++ rest) (length part)
+    ∙ ap (λ (l : List ℕ). take place room ++ l) (take-append_seam part rest)
+
+pub block_put : (place : ℕ) (room block rest : List ℕ) → place ≤ length room → length block ≡ 16
+    → take (place + 16) (take place room ++ (block ++ rest)) ≡ take place room ++ block
+block_put place room block rest below long =
+    ap (λ (n : ℕ). take (place + n) (take place room ++ (block ++ rest))) (sym long) ∙ put_takes place room block rest below
 
 -- a block of blocks of digits has digits alone
 pub block_digits : (i : ℕ) (blocks : List (List ℕ)) → i < length blocks → AllDigits 16 (concat blocks) → AllDigits 16 (get_or blocks i [])

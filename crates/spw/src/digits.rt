@@ -1,6 +1,6 @@
 //! Pairs of hexadecimal digits.
 
-ghost use Rattle.std.specs.Prelude.{◌≡◌, ◌≤◌, ◌+◌, ◌*◌, length, min, true, vec_len, ◌++◌, IfOk};
+ghost use Rattle.std.specs.Prelude.{◌≡◌, ◌≤◌, ◌+◌, ◌*◌, length, min, take, true, vec_len, ◌++◌, IfOk};
 ghost use Rattle.std.specs.Bool.{Decides};
 ghost use Rattle.std.specs.List.{concat};
 ghost use Rattle.std.specs.Char.{digit_value};
@@ -37,19 +37,39 @@ fn digit(character: u8) -> u8
     DIGITS[character as usize]
 }
 
-/// Puts the bytes of a block behind others. The condition is that there is room for them.
+/// Puts the bytes of a block at a place of a room. The condition is that they end in it.
 #[inline(always)]
-fn push_block(bytes: &mut Vec<u8>, block: &[u8; WRITTEN])
-    requires { vec_len bytes.old + WRITTEN ≤ vec_capacity bytes.old }
-    ensures items { bytes.new.items ≡ bytes.old.items ++ block.now }
-    ensures len { vec_len bytes.new ≡ vec_len bytes.old + WRITTEN }
-    ensures room { vec_capacity bytes.old ≤ vec_capacity bytes.new }
+fn put_block(room: &mut [u8], place: usize, block: &[u8; WRITTEN])
+    requires { place + WRITTEN ≤ length room.old }
+    ensures value { take (place + WRITTEN) room.new ≡ take place room.old ++ block.now }
+    ensures length { length room.new ≡ length room.old }
 {
-    bytes.extend_from_slice(block).unwrap();
+    room[place..place + WRITTEN].copy_from_slice(block);
 }
 
-/// Puts the bytes that blocks of digits write behind others, as far as all characters of a block are digits, and tells
-/// whether all are. The condition is that there is room for them.
+/// Puts the bytes that blocks of digits write at a place of a room, as far as all characters of a block are digits, and
+/// returns whether all are. The condition is that they end in the room.
+#[inline(always)]
+fn write_blocks(room: &mut [u8], start: usize, blocks: &[[u8; BLOCK]]) -> bool
+    requires { start + length blocks.now * WRITTEN ≤ length room.old }
+    ensures digits { Decides result (AllDigits 16 (concat blocks.now)) }
+    ensures bytes { result ≡ true → take (start + length blocks.now * WRITTEN) room.new
+        ≡ take start room.old ++ bytes_written (concat blocks.now) }
+    ensures length { length room.new ≡ length room.old }
+{
+    let mut place = start;
+    for block in blocks {
+        let Some(written) = block_bytes(block) else {
+            return false;
+        };
+        put_block(room, place, &written);
+        place += WRITTEN;
+    }
+    true
+}
+
+/// Puts the bytes that blocks of digits write after others, and returns whether all characters are digits. If one is none,
+/// zeros may be in their place. The condition is that there is room for them.
 fn append_blocks(bytes: &mut Vec<u8>, blocks: &[[u8; BLOCK]]) -> bool
     requires { vec_len bytes.old + length blocks.now * WRITTEN ≤ vec_capacity bytes.old }
     ensures digits { Decides result (AllDigits 16 (concat blocks.now)) }
@@ -58,13 +78,9 @@ fn append_blocks(bytes: &mut Vec<u8>, blocks: &[[u8; BLOCK]]) -> bool
     ensures len { result ≡ true → vec_len bytes.new ≡ vec_len bytes.old + length blocks.now * WRITTEN }
     ensures room { vec_capacity bytes.old ≤ vec_capacity bytes.new }
 {
-    for block in blocks {
-        let Some(written) = block_bytes(block) else {
-            return false;
-        };
-        push_block(bytes, &written);
-    }
-    true
+    let start = bytes.len();
+    bytes.resize(start + blocks.len() * WRITTEN, 0).unwrap();
+    write_blocks(bytes, start, blocks)
 }
 
 /// Puts the bytes that pairs of digits write behind others, and tells whether all are digits: one test serves
