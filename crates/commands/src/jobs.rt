@@ -11,6 +11,7 @@ use job_codes::why::why_file;
 use job_config::node_lines::NodeLines;
 use job_decide::decide::{DecideWords, decide_file};
 use job_node_file::node_file::{NodeFileWords, print_node_file};
+use job_nodes::full_journals::FullJournals;
 use job_nodes::judge::judge_file;
 use job_nodes::sim::sim_file;
 use job_packets::made_packets::packet_file;
@@ -109,8 +110,8 @@ pub struct JobEnd<'a> {
     pub status: Status,
     /// The fault that ended it, of which the line was printed.
     pub fault: Option<Fault<'a>>,
-    /// Of `judge` the first line whose command found the journal of the bank full.
-    pub full: Option<usize>,
+    /// Of `judge` which journals were found full.
+    pub full: Option<FullJournals>,
     /// Of `serve` how many replies were lost, since memory to keep them was refused.
     pub lost: u64,
 }
@@ -123,7 +124,7 @@ fn attempt<'a, J: Family + Send + Sync + 'static, R: Threads + Wait + Sync, F: F
     job: &'a Job,
     files: &mut F,
     out: &mut W,
-    full: &mut Option<usize>,
+    full: &mut Option<FullJournals>,
     lost: &mut u64,
 ) -> Result<Status, Halt<'a>>
     requires { opened ≡ J.book }

@@ -12,6 +12,7 @@ use job_codes::explain::explain;
 use job_codes::why::why_file;
 use job_decide::decide::decide_file;
 use job_node_file::node_file::print_node_file;
+use job_nodes::full_journals::FullJournals;
 use job_nodes::judge::judge_file;
 use job_nodes::sim::sim_file;
 use job_packets::made_packets::packet_file;
@@ -34,7 +35,7 @@ fn attempt<'a, F: Files, W: Write>(
     job: &'a Job,
     files: &mut F,
     out: &mut W,
-    full: &mut Option<usize>,
+    full: &mut Option<FullJournals>,
 ) -> Result<Status, Halt<'a>>
     requires { IsAlone job.now }
     ensures done { IfOk result (IsDone F.reads F.writes job.now files.old files.new

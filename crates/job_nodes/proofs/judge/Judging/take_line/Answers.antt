@@ -1,4 +1,4 @@
-use Rattle.job_nodes.proofs.node.JobNode.take_line.Goals as goal
+use Rattle.job_nodes.proofs.judge.Judging.take_line.Goals as goal
 
 pub returns-in_default-clause-taken : goal.returns-in_default-clause-taken
 returns-in_default-clause-taken c =
