@@ -2,7 +2,7 @@
 
 ghost use Rattle.std.specs.Prelude.{◌≡◌, ◌≤◌, ◌<◌, ◌+◌, ◌↔◌, IfErr, IfOk, IfSome, IsSome, length, slice_get, true, OnOk};
 ghost use Rattle.job_config.specs.OwnNodes.{IsPublish};
-ghost use Rattle.job_nodes.specs.JobNode.{FeedsLine, IsConfig, IsFreshOf, IsJobNode, RefusesLine, Serves, SetsBytes, TakesLine, alone, first_of, is_full, journal_of, with_publish};
+ghost use Rattle.job_nodes.specs.JobNode.{FeedsLine, IsConfig, IsFreshOf, IsJobNode, RefusesLine, Serves, SetsBytes, alone, first_of, is_full, journal_of, with_publish};
 ghost use Rattle.node_programs.specs.Published.{sizes_of};
 ghost use Rattle.single_node.specs.Nodes.{covers_in};
 
