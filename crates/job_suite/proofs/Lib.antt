@@ -1,0 +1,7 @@
+mod BankLimits
+mod Beginnings
+mod Meeting
+mod RangeLists
+mod TableWords
+mod TrialLines
+mod TrialLists
