@@ -24,6 +24,8 @@ use job_parts::storage::Files;
 use job_ports::serve::serve_file;
 use job_rehearse::rehearse::{RehearseWords, rehearse_file};
 use job_show::show::{ShowWords, show_file};
+use job_suite::suite::suite_file;
+use job_suite::words::SuiteWords;
 use job_texts::asm::{AsmWords, assemble_file};
 use job_texts::dis::{DisWords, disassemble_file};
 use job_texts::images::ImageArgs;
@@ -77,6 +79,8 @@ pub enum Job {
     Map(MapWords),
     /// Prints what becomes of the load of a new policy under an old one, and of the way back.
     Rehearse(RehearseWords),
+    /// Prints packet lines that try a target, or their index.
+    Suite(SuiteWords),
 }
 
 impl Job {
@@ -98,6 +102,7 @@ impl Job {
             Job::Compare(words) => words.inputs(),
             Job::Map(words) => words.inputs(),
             Job::Rehearse(words) => words.inputs(),
+            Job::Suite(words) => words.inputs(),
             Job::Explain(_) => Inputs::of(None, None),
         }
     }
@@ -154,6 +159,7 @@ fn attempt<'a, J: Family + Send + Sync + 'static, R: Threads + Wait + Sync, F: F
         Job::Compare(words) => compare_file(alloc, words, files, out),
         Job::Map(words) => map_file(alloc, words, files, out),
         Job::Rehearse(words) => rehearse_file(alloc, words, files, out),
+        Job::Suite(words) => suite_file(alloc, words, files, out),
     }
 }
 

@@ -19,6 +19,7 @@ use job_packets::made_packets::packet_file;
 use job_parts::stops::Halt;
 use job_rehearse::rehearse::rehearse_file;
 use job_show::show::show_file;
+use job_suite::suite::suite_file;
 use job_texts::asm::assemble_file;
 use job_texts::dis::disassemble_file;
 use job_texts::policies::compile_file;
@@ -64,6 +65,7 @@ fn attempt<'a, F: Files, W: Write>(
         Job::Compare(words) => compare_file(alloc, words, files, out),
         Job::Map(words) => map_file(alloc, words, files, out),
         Job::Rehearse(words) => rehearse_file(alloc, words, files, out),
+        Job::Suite(words) => suite_file(alloc, words, files, out),
     }
 }
 
