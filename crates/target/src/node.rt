@@ -129,8 +129,9 @@ impl<J: Family, R: Wait + Drop> Node<J, R> {
         ensures limits { IfOk result (λ _. limit_fault config.now ≡ None) }
         ensures fault { IfErr result (IsNodeFault (limit_fault config.now)) }
     {
-        let (unshared, cells, passes, line) =
-            UnsharedNode::with_programs(alloc, rt, opened, config, factory, firsts)?;
+        let (unshared, cells, passes, line) = UnsharedNode::with_programs(
+            alloc, rt, opened, config, factory, firsts,
+        )?;
         let node = unshared.share(alloc)?;
         Ok((node, cells, passes, line))
     }
