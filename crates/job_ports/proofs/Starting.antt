@@ -99,3 +99,14 @@ banks_few banks is =
 
 pub banks_within : (banks : List BankConfig) → are_within banks ≡ true → list_all is_within banks ≡ true
 banks_within banks is = (and_parts (nat_le 1 (length banks) && nat_le (length banks) 8) (list_all is_within banks) is).1
+
+-- what was found at the place of that number: the bank covers the bytes, and is within its limits
+pub covered_found : (shown : List BankValue) (banks : List BankConfig) (contents : List (List ℕ)) (k place : ℕ) (d bank : BankConfig) (bytes : List ℕ) → map extent_of shown ≡ map range_of banks → fit banks contents ≡ true
+    → k < length banks → place ≡ k → bank ≡ get_or banks place d → bytes ≡ slice_index_or contents place [] → covers_at shown k bank.base (length bytes) ≡ true
+covered_found shown banks contents k place d bank bytes are fits low at own told =
+    ap (λ (b : BankConfig). covers_at shown k b.base (length bytes)) (own ∙ ap (λ (i : ℕ). get_or banks i d) at)
+    ∙ ap (λ (l : List ℕ). covers_at shown k (get_or banks k d).base (length l)) (told ∙ ap (λ (i : ℕ). slice_index_or contents i []) at)
+    ∙ contents_covered shown banks contents k d are fits low
+
+pub within_found : (banks : List BankConfig) (place : ℕ) (d bank : BankConfig) → are_within banks ≡ true → place < length banks → bank ≡ get_or banks place d → is_within bank ≡ true
+within_found banks place d bank are low own = ap is_within own ∙ each_within banks place d (banks_within banks are) low

@@ -41,14 +41,13 @@ kept_banks kept all one bank before left is steps same =
 
 pub loop-bank-preserved : goal.loop-bank-preserved
 loop-bank-preserved g c =
-    let made = c.in-Some-kept in
-    let next = c.in-Some-kept.ensures.number ∙ sym c.loop-bank.invariant.count in
+    let next = c.in-Some-new.ensures.number ∙ sym c.loop-bank.invariant.count in
     record {
       all = search rules;
       few = c.loop-bank.invariant.few;
       count = search rules;
       numbers = kept_numbers c.loop-bank.all.items _ _ c.in_ok-push.ensures.items c.loop-bank.invariant.numbers next;
-      banks = kept_banks _ _ _ _ _ _ c.in_ok-push.ensures.items c.in-Some.ensures.steps.0 c.in-Some-kept.ensures.bank ∙ c.loop-bank.invariant.banks;
+      banks = kept_banks _ _ _ _ _ _ c.in_ok-push.ensures.items c.in-Some.ensures.steps.0 c.in-Some-new.ensures.bank ∙ c.loop-bank.invariant.banks;
       family = search rules;
       chains = search rules;
       book = search rules;

@@ -1,4 +1,4 @@
-use Rattle.std.proofs.Common.{◌∙◌, length, map, ap, subst}
+use Rattle.std.proofs.Common.{◌<◌, ◌∙◌, length, map, sym, ap, subst}
 use Rattle.bank.specs.Records.{extent_of}
 use Rattle.annals.specs.declared.deed.Act.TheVariants.{Sets}
 use Rattle.annals.specs.declared.deed.Deed.TheVariants.{Does}
@@ -8,7 +8,7 @@ use Rattle.target.proofs.unshared.UnsharedNode.set.Goals as goal
 
 pub index_mut-kept-requires : goal.index_mut-kept-requires
 index_mut-kept-requires g c =
-    place_below c.args.self.now c.self.inside.banks.items c.args.number c.from.result c.args.address _ c.self.view_is c.from.ensures c.requires.inside
+    subst (λ n. c.from.result < n) (sym c.self.inside.banks.ok.0) (place_below c.args.self.now c.self.inside.banks.items c.args.number c.from.result c.args.address _ c.self.view_is c.from.ensures c.requires.inside)
 
 pub set-journal-requires-clause-inside : goal.set-journal-requires-clause-inside
 set-journal-requires-clause-inside g c =
