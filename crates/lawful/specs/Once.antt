@@ -6,7 +6,7 @@ use Rattle.sched.specs.Headline.{AreJudgedOnce, IsNode}
 use Rattle.sched.specs.Looking.{Node}
 use Rattle.lawful.specs.Together.{Account, AreServedTogether, HaveLawfulHistory}
 
--- the packets that each port of the node served have bytes alone
+-- each packet that a port of the node served is of bytes and nothing else
 abbrev pub HaveBytes : Node → (accounts : ℕ → Account) → Type 0
 HaveBytes n accounts =
     (port : ℕ) → port < n.ports → All (λ (p : Cargo). All (λ byte. byte < 256) p.bytes) (accounts port).packets

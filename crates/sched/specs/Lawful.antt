@@ -171,7 +171,7 @@ IsLawfulButTold n (Then h event outcome) = IsLawfulButTold n h × IsOutcomeButTo
 
 -- ---- what cells answered
 
--- what the event of a helper told, where a program asks it for that cell with that argument, is what looking back gives
+-- the answer of a helper's event, if a program asks it for that cell with that argument, is what looking back gives
 abbrev pub IsToldOf : Node → History → Helper → (argument : ℕ) → Option (ℕ × ℕ) → Outcome → Type 0
 IsToldOf n h helper argument None outcome = Unit {0}
 IsToldOf n h helper argument (Some cell) outcome = outcome ≡ Told (told_of_cell n h helper cell.0 cell.1 argument)
@@ -181,7 +181,7 @@ abbrev pub IsToldAt : Node → History → Helper → (port : ℕ) → Outcome �
 IsToldAt n h helper port outcome =
     IsToldOf n h helper (argument_asked (turn_at n h port)) (cell_asked helper (turn_at n h port)) outcome
 
--- what an event told, if it told something
+-- what an event answered, if it answered something
 abbrev pub IsToldBy : Node → History → Event → Outcome → Type 0
 IsToldBy n h (Take port p) outcome = Unit {0}
 IsToldBy n h (Count port) outcome = IsToldAt n h helpers.Count port outcome
@@ -190,7 +190,7 @@ IsToldBy n h (Peak port) outcome = IsToldAt n h helpers.Peak port outcome
 IsToldBy n h (Effect port) outcome = Unit {0}
 IsToldBy n h (Publish port) outcome = Unit {0}
 
--- at the ports of the node each cell told what looking back from there gives
+-- at the ports of the node each cell answered what looking back from there gives
 abbrev pub TellsLookedBack : Node → History → Type 0
 TellsLookedBack n Start = Unit {0}
 TellsLookedBack n (Then h event outcome) = TellsLookedBack n h × (port_of event < n.ports → IsToldBy n h event outcome)
