@@ -10,7 +10,7 @@ pub struct FullJournals {
 }
 
 impl FullJournals {
-    /// No journal of a node with so many banks was found full.
+    /// No journal of a node was found full. `banks` is how many banks it has.
     pub fn none(banks: u8) -> FullJournals {
         FullJournals {
             banks,
