@@ -13,6 +13,7 @@ use Rattle.ports.specs.Due.{Deed}
 use Rattle.ports.specs.Due.Deed.{Dropped, Answered as Replied, Judged}
 use Rattle.sched.specs.Answers.{answering}
 use Rattle.sched.specs.declared.event.Event.{Event}
+use Rattle.sched.specs.declared.event.Event.TheVariants.{Take}
 use Rattle.sched.specs.declared.event.Outcome.{Outcome}
 use Rattle.sched.specs.declared.event.Outcome.TheVariants.{Refused, Discarded, Answered, Taken, Told, Done}
 use Rattle.sched.specs.Headline.{AreJudgedOnce, BringsBytes, EveryHistoryJudgesOnce, HasBytes, IsJudgedOnceIfDone, IsNode}
@@ -66,7 +67,11 @@ thus : (d : Deed) (port : ℕ) (p : Cargo) (happened : List Happening) → AreBy
 thus Dropped port p happened bytes is = subst AllBring (sym is.1) (bytes, tt)
 thus (Replied reply) port p happened bytes is = subst AllBring (sym is.1) (bytes, tt)
 thus (Judged j) port p happened bytes is =
-    subst AllBring (sym is.is) (bring_append _ (happening (ending j.judged.place port) (Done is.status j.reply is.loaded) ∷ []) (bytes, told_bring port j.calls) (ending_brings j.judged.place port, tt))
+    let taken : List Happening = happening (Take port p) (Taken j.judged.generation) ∷ told_calls port j.calls in
+    let done : List Happening = happening (ending j.judged.place port) (Done is.status j.reply is.loaded) ∷ [] in
+    let taken_bring : AllBring taken = (bytes, told_bring port j.calls) in
+    let done_bring : AllBring done = (ending_brings j.judged.place port, tt) in
+    subst AllBring (sym is.is) (bring_append taken done taken_bring done_bring)
 
 all_thus : (port : ℕ) (ps : List Cargo) (ds : List Deed) (happened : List Happening) → All AreBytes ps → HappenBy port ps ds happened → AllBring happened
 all_thus port [] [] happened bytes is = subst AllBring (sym is) tt
