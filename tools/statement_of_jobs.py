@@ -42,8 +42,8 @@ and a definition is said there.
 | `policy_table::Policy::read_for` | The table of a text of version 1 or 2 has what its lines write, and no fault for the maps of the node. A text that is refused has the fault that is given, at that place |
 | `policy::compile_policy` | A run of the image of such a table at a port makes exactly the draws of the rules that are asked at that port. It gives their verdict, whatever the counters answer. The image is justified for the maps. A table that is refused has the fault that is given |
 | `job_decide::decide_file` | For each packet of the lines it prints what the table decides of it, with the tickets that those before it drew. At a fault this holds up to the line with the fault |
-| `job_charts::map_file` | It prints the lines of the map of the table: each command that the node may bring to its table is in one line at each port, with the rules that are asked there. At a fault nothing is printed |
-| `job_charts::compare_file` | It prints `same` if two tables decide all commands alike at each port, and else the lines of what they decide differently. At a fault nothing is printed |
+| `job_charts::map_file` | It prints a text of the rows of a map of the table, and of the rules that match at no port: each command that the node may bring to its table is in one row at each port, with the rules that are asked there. How a row is written has no clause. At a fault nothing is printed |
+| `job_charts::compare_file` | It prints `same` if two tables decide all commands alike at each port, and else a text of the rows of what they decide differently. How a row is written has no clause. At a fault nothing is printed |
 | `job_rehearse::rehearse_file` | It prints what becomes of each packet of the loads at a node on which the old policy judges, and whether the way back is open. Or it prints whose loads the new policy lets pass |
 | `doing::do_words` | The page does what the words of a command line ask for over the files of a folder, with the output and the status of that job |
 

@@ -7,9 +7,8 @@ use Rattle.policy_table.specs.Policies.{PolicyValue}
 use Rattle.policy_table.specs.PortTables.{AreAskedAlike, UnnamedPortsAreAlike, is_named}
 use Rattle.policy_table.specs.Ports.{rules_at}
 use Rattle.policy_table.specs.declared.rules.Rule.{Rule}
-use Rattle.job_charts.specs.Compared.{is_named_by}
 use Rattle.job_charts.specs.ComparedFile.{AreSameAt, AreSameAtAll, AreSameIfCharted}
-use Rattle.job_charts.specs.Rows.{are_named}
+use Rattle.chart_lines.specs.Ports.{are_named, is_named_by}
 
 both : (s t : Bool) → s ≡ true → t ≡ true → (s && t) ≡ true
 both true true e h = refl

@@ -4,7 +4,7 @@ use Rattle.charts.specs.Same.{AreSame}
 use Rattle.policy_table.specs.Policies.{PolicyValue}
 use Rattle.policy_table.specs.Ports.{rules_at}
 use Rattle.policy_table.specs.declared.rules.Rule.{Rule}
-use Rattle.job_charts.specs.AskedTables.{AskedValue, asked_at}
+use Rattle.chart_lines.specs.AskedTables.{AskedValue, asked_at}
 use Rattle.job_charts.specs.ComparedFile.{AreSameIfCharted, DifferAt, HaveDifference}
 
 -- where they do not differ

@@ -7,6 +7,7 @@ use Rattle.job_parts.specs.Options.{GivesSizes, IsBadList}
 use Rattle.job_parts.specs.TwoFiles.{NamesOneInput, are_one_input}
 use Rattle.job_parts.specs.declared.usage.UsageFault.{UsageFault}
 use Rattle.job_parts.specs.declared.usage.UsageFault.TheVariants.{Parse, BadOption, Memory}
+use Rattle.job_decide.specs.DecideJob.{own_windows}
 use Rattle.job_charts.specs.declared.compare.CompareWords.{CompareWords}
 
 -- `compare OLD NEW [--maps LIST] [--markdown]`
@@ -24,6 +25,7 @@ pub record NamesCompare (rows : List Row) (words : CompareWords) : Type 0 where
   pub apart : are_one_input (string_bytes words.old) (string_bytes words.new) ≡ false
   pub sizes : GivesSizes (first_of (codes "maps") rows) words.sizes
   pub markdown : words.markdown ≡ is_set (codes "markdown") rows
+  pub windows : words.windows ≡ own_windows
 
 -- matches without one of the files, with one input for both, or with a list of maps that is none
 abbrev pub SpoilsCompare : List Row → Type 0

@@ -17,8 +17,9 @@ use Rattle.job_parts.specs.declared.faults.Fault.{Fault}
 use Rattle.job_parts.specs.declared.faults.Fault.TheVariants.{NoMemory}
 use Rattle.job_parts.specs.declared.status.Status.{Status}
 use Rattle.job_parts.specs.declared.status.Status.TheVariants.{Done, Failed, Misused}
-use Rattle.job_charts.specs.Compared.{TellsComparison, is_named_by}
-use Rattle.job_charts.specs.Rows.{is_charted}
+use Rattle.chart_lines.specs.Compared.{AreDifferenceRows}
+use Rattle.chart_lines.specs.Ports.{is_charted, is_named_by}
+use Rattle.chart_lines.specs.Rows.{RowValue}
 use Rattle.job_charts.specs.declared.compare.CompareWords.{CompareWords}
 use Rattle.job_charts.specs.declared.compare.NoPair.{NoPair}
 use Rattle.job_charts.specs.declared.compare.NoPair.TheVariants.{BadTable, Ended}
@@ -52,12 +53,17 @@ AreSameAtAll one other = (port : ℕ) → port < 32 → AreSameAt one other port
 
 -- ---- what is printed
 
--- two tables differ at some port, and where they do was printed
-pub record TellsDifferent (markdown : Bool) (one other : PolicyValue) (old new : Option (List ℕ)) : Type 0 where
-  pub differ : DifferSomewhere one other
+-- these rows of a comparison of two tables were printed
+pub record TellsRows (one other : PolicyValue) (old new : Option (List ℕ)) : Type 0 where
+  pub rows : List RowValue
+  pub are_rows : AreDifferenceRows one other rows
   pub text : List ℕ
-  pub told : TellsComparison markdown one other text
   pub printed : Appends old new text
+
+-- two tables differ at some port, and where they do was printed
+pub record TellsDifferent (one other : PolicyValue) (old new : Option (List ℕ)) : Type 0 where
+  pub differ : DifferSomewhere one other
+  pub told : TellsRows one other old new
 
 -- two tables decide all commands alike at each port, which was printed
 pub record TellsSame (one other : PolicyValue) (old new : Option (List ℕ)) : Type 0 where
@@ -65,10 +71,10 @@ pub record TellsSame (one other : PolicyValue) (old new : Option (List ℕ)) : T
   pub line : Appends old new (codes "same" ++ 10 ∷ [])
 
 -- what is printed of two tables, by the exit status
-abbrev pub TellsTables : (markdown : Bool) → (one other : PolicyValue) → (old new : Option (List ℕ)) → Status → Type 0
-TellsTables markdown one other old new Done = TellsSame one other old new
-TellsTables markdown one other old new Failed = TellsDifferent markdown one other old new
-TellsTables markdown one other old new Misused = ⊥
+abbrev pub TellsTables : (one other : PolicyValue) → (old new : Option (List ℕ)) → Status → Type 0
+TellsTables one other old new Done = TellsSame one other old new
+TellsTables one other old new Failed = TellsDifferent one other old new
+TellsTables one other old new Misused = ⊥
 
 -- why there is no table in the file of this name: it cannot be read, or the table has a fault, and the file's name is told with it
 abbrev pub IsNoNamed : {S : Type 0} → (reads : Reads S) → (name : List ℕ) → Maps → (before after : S) → NoPair → Type 0
@@ -122,7 +128,7 @@ module _ {S : Type 0} (reads : Reads S) (words : CompareWords) where
     pub one : PolicyValue
     pub other : PolicyValue
     pub tables : AreTables before one other after
-    pub told : TellsTables words.markdown one other old new status
+    pub told : TellsTables one other old new status
 
   -- a table has a fault, which was told with the name of its file and its place
   pub record TellsBad (before after : S) (old new : Option (List ℕ)) (status : Status) : Type 0 where

@@ -1,15 +1,5 @@
-pub mod Words
-pub mod Courses
-pub mod Packets
-pub mod Witnesses
-pub mod Telling
-pub mod Rows
-pub mod AskedTables
-pub mod Compared
-pub mod Markdown
-pub mod Styles
-pub mod Mapped
 pub mod CompareJob
 pub mod ComparedFile
 pub mod MapJob
 pub mod MappedFile
+pub mod Packets

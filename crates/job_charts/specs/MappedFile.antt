@@ -10,11 +10,20 @@ use Rattle.job_parts.specs.declared.faults.Fault.{Fault}
 use Rattle.job_parts.specs.declared.faults.Fault.TheVariants.{NoMemory}
 use Rattle.job_parts.specs.declared.status.Status.{Status}
 use Rattle.job_parts.specs.declared.status.Status.TheVariants.{Done, Failed, Misused}
-use Rattle.job_charts.specs.Mapped.{TellsMap}
-use Rattle.job_charts.specs.Markdown.{comments_of}
-use Rattle.job_charts.specs.Styles.{style}
+use Rattle.chart_lines.specs.Mapped.{AreMapRows}
+use Rattle.chart_lines.specs.Never.{AreNotes}
+use Rattle.chart_lines.specs.Rows.{RowValue}
+use Rattle.chart_lines.specs.declared.never.Note.{Note}
 use Rattle.job_charts.specs.declared.map.MapWords.{MapWords}
-use Rattle.spw.specs.Line.{lines_of}
+
+-- what a table decides was printed: these rows of a map of it, and these rules that never match
+pub record TellsMap (policy : PolicyValue) (old new : Option (List ℕ)) : Type 0 where
+  pub rows : List RowValue
+  pub are_rows : AreMapRows policy rows
+  pub notes : List Note
+  pub are_notes : AreNotes policy notes
+  pub text : List ℕ
+  pub printed : Appends old new text
 
 module _ {S : Type 0} (reads : Reads S) (words : MapWords) where
   -- the file has this text, which is a table without a fault for these maps
@@ -26,9 +35,7 @@ module _ {S : Type 0} (reads : Reads S) (words : MapWords) where
     pub written : List ℕ
     pub policy : PolicyValue
     pub given : IsGiven before written policy after
-    pub text : List ℕ
-    pub told : TellsMap (style words.markdown (comments_of (lines_of written))) policy text
-    pub printed : Appends old new text
+    pub told : TellsMap policy old new
 
   -- the table has a fault, which was told with its place
   pub record TellsTable (before after : S) (old new : Option (List ℕ)) : Type 0 where

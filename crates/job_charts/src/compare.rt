@@ -1,6 +1,6 @@
 //! The job `compare`.
 
-ghost use Rattle.std.specs.Prelude.{◌≡◌, ◌<◌, IfErr, IfOk, MatchBool, false, None, Some, string_bytes};
+ghost use Rattle.std.specs.Prelude.{◌≡◌, ◌<◌, IfErr, IfOk, MatchBool, OnOk, false, None, Some, string_bytes};
 ghost use Rattle.clap.specs.Simple.{app_of};
 ghost use Rattle.clap.specs.declared.builder.command.Command.TheViews.{out-Command as fields_of};
 ghost use Rattle.clap.specs.Walk.{rows_of};
@@ -8,17 +8,18 @@ ghost use Rattle.clap.specs.Matches.{found_of};
 ghost use Rattle.job_parts.specs.Stops.{StopsBy};
 ghost use Rattle.charts.specs.Same.{AreSame};
 ghost use Rattle.job_charts.specs.CompareJob.{NamesCompare, RefusesCompare, compare_app};
-ghost use Rattle.job_charts.specs.ComparedFile.{AreTables, AreSameAtAll, AreSameIfCharted, ComparesFile, DifferAt, DifferSomewhere, HaveDifference, IsNoNamed, IsNoPair, IsNotCompared, TellsTables};
+ghost use Rattle.job_charts.specs.ComparedFile.{AreTables, AreSameAtAll, AreSameIfCharted, ComparesFile, DifferAt, DifferSomewhere, HaveDifference, IsNoNamed, IsNoPair, IsNotCompared, TellsRows, TellsTables};
 ghost use Rattle.job_parts.specs.Inputs.{AreInputs, input};
 ghost use Rattle.job_parts.specs.declared.inputs.Content.TheVariants.{Table};
 ghost use Rattle.job_decide.specs.Tables.{HoldsTable};
 ghost use Rattle.job_parts.specs.declared.faults.Fault.TheVariants.{NoMemory};
 
-use crate::asked::Asked;
-use crate::compared::comparison_text;
-use crate::ports::{PORTS, Tables};
+use crate::places::places;
+use crate::{markdown, plain};
+use chart_lines::{Asked, PORTS, Row, Tables, difference_rows};
 use charts::first_difference;
 use clap::{ArgMatches, Command};
+use job_decide::node_windows::own_windows;
 use job_decide::tables::{NoTable, table_in};
 use job_parts::arguments::{file, flag, is_set, name_of};
 use job_parts::faults::Fault;
@@ -33,6 +34,7 @@ use job_parts::usage::UsageFault;
 use machine::MapSizes;
 use policy::{Policy, TextFault};
 use policy_table::unnamed_ports_are_alike;
+use rmap::Windows;
 use std::alloc::{AllocError, Global};
 use std::io::{self, Write};
 
@@ -47,6 +49,8 @@ pub struct CompareWords {
     pub sizes: MapSizes,
     /// Whether the differences are printed in markdown.
     pub markdown: bool,
+    /// The address of the node of the packets, and where its banks lie.
+    pub windows: Windows,
 }
 
 impl CompareWords {
@@ -100,6 +104,7 @@ pub fn compare_job(alloc: Global, found: &ArgMatches) -> Result<CompareWords, Us
         new,
         sizes,
         markdown,
+        windows: own_windows(),
     })
 }
 
@@ -185,16 +190,58 @@ fn differ(alloc: Global, old: &Policy, new: &Policy) -> Result<bool, AllocError>
     Ok(false)
 }
 
+/// The lines of the rows of a comparison, with packets for a node with these windows.
+fn plain_text(alloc: Global, windows: &Windows, rows: &[Row]) -> Result<String, AllocError> {
+    let mut text = String::new(alloc);
+    for row in rows {
+        plain::add_difference(&mut text, alloc, windows, row)?;
+    }
+    Ok(text)
+}
+
+/// A table of these rows in markdown.
+fn markdown_text(alloc: Global, windows: &Windows, rows: &[Row]) -> Result<String, AllocError> {
+    let mut text = String::from_str(alloc, markdown::COMPARISON_HEAD)?;
+    for row in rows {
+        markdown::add_difference(&mut text, alloc, windows, row)?;
+    }
+    Ok(text)
+}
+
+/// Prints the rows of a comparison of two tables.
+fn print_rows<'a, W: Write>(
+    alloc: Global,
+    words: &CompareWords,
+    old: &Policy,
+    new: &Policy,
+    out: &mut W,
+) -> Result<(), Halt<'a>>
+    ensures done { OnOk result
+        (TellsRows old.now new.now (W.contents out.old) (W.contents out.new)) }
+    ensures stops { IfErr result (StopsBy (λ fault. fault ≡ NoMemory)) }
+    ensures quiet { IfErr result (StopsBy (λ _. W.contents out.new ≡ W.contents out.old)) }
+{
+    let places = places(alloc, &words.windows)?;
+    let rows = difference_rows(alloc, old, new, places.as_slice())?;
+    let text = if words.markdown {
+        markdown_text(alloc, &words.windows, rows.as_slice())?
+    } else {
+        plain_text(alloc, &words.windows, rows.as_slice())?
+    };
+    print_text(out, text.as_str())?;
+    Ok(())
+}
+
 /// Prints that two tables are the same, or where they differ.
 fn print_comparison<'a, W: Write>(
     alloc: Global,
-    markdown: bool,
+    words: &CompareWords,
     old: &Policy,
     new: &Policy,
     out: &mut W,
 ) -> Result<Status, Halt<'a>>
     ensures done { IfOk result
-        (TellsTables markdown old.now new.now (W.contents out.old) (W.contents out.new)) }
+        (TellsTables old.now new.now (W.contents out.old) (W.contents out.new)) }
     ensures stops { IfErr result (StopsBy (λ fault. fault ≡ NoMemory)) }
     ensures quiet { IfErr result (StopsBy (λ _. W.contents out.new ≡ W.contents out.old)) }
 {
@@ -202,8 +249,7 @@ fn print_comparison<'a, W: Write>(
         writeln!(out, "same")?;
         return Ok(Status::Done);
     }
-    let text = comparison_text(alloc, markdown, old, new)?;
-    print_text(out, text.as_str())?;
+    print_rows(alloc, words, old, new, out)?;
     Ok(Status::Failed)
 }
 
@@ -224,7 +270,7 @@ pub fn compare_file<'a, F: Files, W: Write>(
     ensures quiet { IfErr result (StopsBy (λ _. W.contents out.new ≡ W.contents out.old)) }
 {
     match tables(alloc, words, files) {
-        Ok((old, new)) => print_comparison(alloc, words.markdown, &old, &new, out),
+        Ok((old, new)) => print_comparison(alloc, words, &old, &new, out),
         Err(NoPair::Ended(fault)) => Err(Halt::Ended(fault)),
         Err(NoPair::BadTable(name, fault)) => {
             print_named_fault(out, name, &fault)?;

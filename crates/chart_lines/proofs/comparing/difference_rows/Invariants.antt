@@ -1,0 +1,6 @@
+use Rattle.std.proofs.Common.{[]}
+use Rattle.chart_lines.specs.Compared.{TellsPorts}
+use Rattle.chart_lines.proofs.comparing.difference_rows.Given as goal
+
+abbrev pub invariant-loop-port : goal.invariant-loop-port
+invariant-loop-port l = TellsPorts l.old l.new l.port [] l.rows.items
