@@ -1,5 +1,5 @@
 -- The rows of a comparison.
-use Rattle.std.specs.Prelude.{◌≡◌, ◌⊎◌, ℕ, List, [], get_or, length, Some}
+use Rattle.std.specs.Prelude.{◌≡◌, ◌⊎◌, ℕ, List, [], ◌∷◌, get_or, length, Option, None, Some}
 use Rattle.charts.specs.Lines.{IsComparison}
 use Rattle.charts.specs.Plain.{IsPlain}
 use Rattle.charts.specs.declared.lines.Line.{Line}
@@ -8,6 +8,7 @@ use Rattle.differences.specs.Steps.{rules_of, steps_at}
 use Rattle.differences.specs.declared.repeating.Repeats.{Repeats}
 use Rattle.differences.specs.declared.signs.Sign.{Sign}
 use Rattle.policy_table.specs.Policies.{PolicyValue}
+use Rattle.regions.specs.declared.regions.Region.{Region}
 use Rattle.regions.specs.declared.points.Point.{Point}
 use Rattle.chart_lines.specs.AskedTables.{AskedValue, asked_at}
 use Rattle.chart_lines.specs.Ports.{AtPort, is_named_by, ports_for}
@@ -50,18 +51,20 @@ TellsLine ports old new lines place before after =
     TellsPoint ports old new lines place before after ⊎ (HasNoCommand lines place × (after ≡ before))
 
 -- each line of a comparison of two tables was told that some command has, in its order
-pub record TellsLines (ports : List ℕ) (old new : AskedValue) (before after : List RowValue) : Type 0 where
+pub record TellsLines (asked : Region) (ports : List ℕ) (old new : AskedValue) (before after : List RowValue) : Type 0 where
   pub chart : List Line
-  pub is_comparison : IsComparison old.rules new.rules chart
+  pub is_comparison : IsComparison asked old.rules new.rules chart
   pub told : TellsFirst (TellsLine ports old new chart) (length chart) before after
 
 -- so it is of each port of which a chart is made, of so many ports, with those for which the chart stands
-abbrev pub TellsPorts : (old new : PolicyValue) → (count : ℕ) → (before after : List RowValue) → Type 0
-TellsPorts old new count before after =
+abbrev pub TellsPorts : (asked : Region) → (old new : PolicyValue) → (count : ℕ) → (before after : List RowValue) → Type 0
+TellsPorts asked old new count before after =
     TellsFirst (AtPort (λ port. is_named_by old new port)
-    (λ port. TellsLines (ports_for (λ own. is_named_by old new own) port) (asked_at old port) (asked_at new port))) count before after
+    (λ port. TellsLines asked (ports_for (λ own. is_named_by old new own) port) (asked_at old port) (asked_at new port))) count before after
 
--- the rows of a comparison of two tables: each line of one at each port that some command has; what is so at several ports once,
--- with these ports
-abbrev pub AreDifferenceRows : (old new : PolicyValue) → List RowValue → Type 0
-AreDifferenceRows old new rows = TellsPorts old new 32 [] rows
+-- the rows of a comparison of two tables for the points of a region, at one port, or at each: each line of one that some command has;
+-- what is so at several ports once, with these ports
+abbrev pub AreDifferenceRows : (asked : Region) → (port : Option ℕ) → (old new : PolicyValue) → List RowValue → Type 0
+AreDifferenceRows asked None old new rows = TellsPorts asked old new 32 [] rows
+AreDifferenceRows asked (Some port) old new rows =
+    TellsLines asked (port ∷ []) (asked_at old port) (asked_at new port) [] rows

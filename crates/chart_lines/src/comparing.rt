@@ -1,10 +1,10 @@
 //! The rows of a comparison.
 
-ghost use Rattle.std.specs.Prelude.{◌≡◌, ◌<◌, [], IfOk, OnOk, Some, length};
+ghost use Rattle.std.specs.Prelude.{◌≡◌, ◌<◌, ◌∷◌, [], IfOk, OnOk, Some, length};
 ghost use Rattle.charts.specs.Lines.{IsComparison};
 ghost use Rattle.regions.specs.Points.{HasCommand};
 ghost use Rattle.chart_lines.specs.AskedTables.{asked_at};
-ghost use Rattle.chart_lines.specs.Compared.{AreDifferenceRows, IsDifferenceAt, TellsLine, TellsLines};
+ghost use Rattle.chart_lines.specs.Compared.{AreDifferenceRows, IsDifferenceAt, TellsLine, TellsLines, TellsPorts};
 ghost use Rattle.chart_lines.specs.Ports.{AtPort, is_named_by, ports_for};
 ghost use Rattle.chart_lines.specs.Telling.{TellsFirst};
 
@@ -22,6 +22,7 @@ use std::alloc::{AllocError, Global};
 /// What two tables ask at a port, the lines of their comparison, and where the point of a line is looked for first.
 #[derive(Clone, Copy)]
 struct Comparison<'a> {
+    asked: &'a Region,
     old: &'a Asked,
     new: &'a Asked,
     chart: &'a [Line],
@@ -63,7 +64,7 @@ fn add_line(
     place: usize,
 ) -> Result<(), AllocError>
     requires place { place < length comparison.chart.now }
-    requires comparison { IsComparison comparison.old.now.rules comparison.new.now.rules comparison.chart.now }
+    requires comparison { IsComparison comparison.asked.now comparison.old.now.rules comparison.new.now.rules comparison.chart.now }
     ensures { OnOk result (TellsLine ports.now comparison.entry.old.now comparison.entry.new.now
         comparison.entry.chart.now place rows.old.items rows.new.items) }
 {
@@ -83,7 +84,7 @@ fn add_chart(
     ports: &[u8],
     comparison: Comparison<'_>,
 ) -> Result<(), AllocError>
-    requires { IsComparison comparison.old.now.rules comparison.new.now.rules comparison.chart.now }
+    requires { IsComparison comparison.asked.now comparison.old.now.rules comparison.new.now.rules comparison.chart.now }
     ensures { OnOk result (TellsFirst (TellsLine ports.now
         comparison.entry.old.now comparison.entry.new.now
         comparison.entry.chart.now) (length comparison.entry.chart.now)
@@ -100,14 +101,16 @@ fn add_lines(
     rows: &mut Vec<Row>,
     alloc: Global,
     ports: &[u8],
+    asked: &Region,
     old: &Asked,
     new: &Asked,
     preferred: &[Region],
 ) -> Result<(), AllocError>
-    ensures { OnOk result (TellsLines ports.now old.now new.now rows.old.items rows.new.items) }
+    ensures { OnOk result (TellsLines asked.now ports.now old.now new.now rows.old.items rows.new.items) }
 {
-    let chart = comparison_of(alloc, old.rules(), new.rules())?;
+    let chart = comparison_of(alloc, asked, old.rules(), new.rules())?;
     let comparison = Comparison {
+        asked,
         old,
         new,
         chart: chart.as_slice(),
@@ -120,13 +123,14 @@ fn add_lines(
 fn add_port(
     rows: &mut Vec<Row>,
     alloc: Global,
+    asked: &Region,
     old: &Policy,
     new: &Policy,
     preferred: &[Region],
     port: u8,
 ) -> Result<(), AllocError>
     ensures { OnOk result (AtPort (λ own. is_named_by old.now new.now own)
-        (λ own. TellsLines (ports_for (λ p. is_named_by old.now new.now p) own)
+        (λ own. TellsLines asked.now (ports_for (λ p. is_named_by old.now new.now p) own)
         (asked_at old.now own) (asked_at new.now own)) port rows.old.items rows.new.items) }
 {
     let tables = Tables::Two(old, new);
@@ -136,26 +140,63 @@ fn add_port(
     let ports = tables.ports_for(alloc, port)?;
     let old = Asked::at(alloc, old, port)?;
     let new = Asked::at(alloc, new, port)?;
-    add_lines(rows, alloc, ports.as_slice(), &old, &new, preferred)
+    add_lines(rows, alloc, ports.as_slice(), asked, &old, &new, preferred)
 }
 
-/// The rows of a comparison of two tables: each command that they decide differently is in one row at each port, and no other in any.
-/// The point of a row is looked for in these regions first, in their order.
+/// The rows of a comparison at each port.
+fn rows_at_all(
+    alloc: Global,
+    asked: &Region,
+    old: &Policy,
+    new: &Policy,
+    preferred: &[Region],
+) -> Result<Vec<Row>, AllocError>
+    ensures { IfOk result (λ rows. TellsPorts asked.now old.now new.now 32 [] rows.items) }
+{
+    let mut rows = Vec::new(alloc);
+    for port in 0..PORTS {
+        add_port(&mut rows, alloc, asked, old, new, preferred, port)?;
+    }
+    Ok(rows)
+}
+
+/// The rows of a comparison at a port.
+fn rows_at(
+    alloc: Global,
+    asked: &Region,
+    port: u8,
+    old: &Policy,
+    new: &Policy,
+    preferred: &[Region],
+) -> Result<Vec<Row>, AllocError>
+    ensures { IfOk result (λ rows. TellsLines asked.now (port ∷ []) (asked_at old.now port)
+        (asked_at new.now port) [] rows.items) }
+{
+    let old = Asked::at(alloc, old, port)?;
+    let new = Asked::at(alloc, new, port)?;
+    let mut rows = Vec::new(alloc);
+    add_lines(&mut rows, alloc, &[port], asked, &old, &new, preferred)?;
+    Ok(rows)
+}
+
+/// The rows of a comparison of two tables for the points of a region, at one port or at each: each command that they decide differently
+/// is in one row at each port, and no other in any. The point of a row is looked for in the preferred regions first, in their order.
 ///
 /// # Errors
 ///
 /// Only where memory was refused.
 pub fn difference_rows(
     alloc: Global,
+    asked: &Region,
+    port: Option<u8>,
     old: &Policy,
     new: &Policy,
     preferred: &[Region],
 ) -> Result<Vec<Row>, AllocError>
-    ensures { IfOk result (λ rows. AreDifferenceRows old.now new.now rows.items) }
+    ensures { IfOk result (λ rows. AreDifferenceRows asked.now port old.now new.now rows.items) }
 {
-    let mut rows = Vec::new(alloc);
-    for port in 0..PORTS {
-        add_port(&mut rows, alloc, old, new, preferred, port)?;
+    match port {
+        Some(port) => rows_at(alloc, asked, port, old, new, preferred),
+        None => rows_at_all(alloc, asked, old, new, preferred),
     }
-    Ok(rows)
 }

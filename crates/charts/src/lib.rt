@@ -28,4 +28,5 @@ pub use lines::{Line, is_comparison, is_map};
 pub use matches::never_matches;
 pub use meetings::{is_asked, is_stopped_by};
 pub use rests::point_in;
+pub use shapes::region_of;
 pub use told::{comparison_cells, map_cells};

@@ -186,6 +186,7 @@ fn compare_on(words: CompareWords, own: &Configuration) -> CompareWords
         sizes: own.sizes,
         markdown: words.markdown,
         windows: own.windows(),
+        asking: words.asking,
     }
 }
 
@@ -197,6 +198,7 @@ fn map_on(words: MapWords, sizes: MapSizes) -> MapWords
         table: words.table,
         sizes,
         markdown: words.markdown,
+        asking: words.asking,
     }
 }
 

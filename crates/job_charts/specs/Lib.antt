@@ -1,3 +1,4 @@
+pub mod Asking
 pub mod CompareJob
 pub mod ComparedFile
 pub mod MapJob

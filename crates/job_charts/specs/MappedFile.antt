@@ -1,5 +1,5 @@
 -- What the job `map` reads and prints.
-use Rattle.std.specs.Prelude.{◌≡◌, ◌⊎◌, ℕ, List, Option, string_bytes}
+use Rattle.std.specs.Prelude.{◌≡◌, ◌⊎◌, ℕ, Bool, false, true, List, [], Option, string_bytes}
 use Rattle.std.specs.Io.KnownBytes.{Appends}
 use Rattle.policy_table.specs.Policies.{PolicyValue}
 use Rattle.policy_table.specs.declared.text_faults.TextFault.{TextFault}
@@ -14,14 +14,25 @@ use Rattle.chart_lines.specs.Mapped.{AreMapRows}
 use Rattle.chart_lines.specs.Never.{AreNotes}
 use Rattle.chart_lines.specs.Rows.{RowValue}
 use Rattle.chart_lines.specs.declared.never.Note.{Note}
+use Rattle.regions.specs.declared.regions.Region.{Region}
+use Rattle.job_charts.specs.Asking.{IsAskedRegion, is_all}
+use Rattle.job_charts.specs.declared.asking.Asking.{Asking}
 use Rattle.job_charts.specs.declared.map.MapWords.{MapWords}
 
--- what a table decides was printed: these rows of a map of it, and these rules that never match
-pub record TellsMap (policy : PolicyValue) (old new : Option (List ℕ)) : Type 0 where
+-- the rules of a table that never match, if they are wanted, and else none
+abbrev pub NotesFor : (wanted : Bool) → PolicyValue → List Note → Type 0
+NotesFor true policy notes = AreNotes policy notes
+NotesFor false policy notes = notes ≡ []
+
+-- what a table decides of the commands that are asked of was printed: these rows of a map of it, and if all are asked of these rules
+-- that never match
+pub record TellsMap (asking : Asking) (policy : PolicyValue) (old new : Option (List ℕ)) : Type 0 where
+  pub region : Region
+  pub is_asked : IsAskedRegion asking region
   pub rows : List RowValue
-  pub are_rows : AreMapRows policy rows
+  pub are_rows : AreMapRows region asking.port policy rows
   pub notes : List Note
-  pub are_notes : AreNotes policy notes
+  pub are_notes : NotesFor (is_all asking) policy notes
   pub text : List ℕ
   pub printed : Appends old new text
 
@@ -35,7 +46,7 @@ module _ {S : Type 0} (reads : Reads S) (words : MapWords) where
     pub written : List ℕ
     pub policy : PolicyValue
     pub given : IsGiven before written policy after
-    pub told : TellsMap policy old new
+    pub told : TellsMap words.asking policy old new
 
   -- the table has a fault, which was told with its place
   pub record TellsTable (before after : S) (old new : Option (List ℕ)) : Type 0 where

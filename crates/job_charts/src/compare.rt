@@ -8,12 +8,13 @@ ghost use Rattle.clap.specs.Matches.{found_of};
 ghost use Rattle.job_parts.specs.Stops.{StopsBy};
 ghost use Rattle.charts.specs.Same.{AreSame};
 ghost use Rattle.job_charts.specs.CompareJob.{NamesCompare, RefusesCompare, compare_app};
-ghost use Rattle.job_charts.specs.ComparedFile.{AreTables, AreSameAtAll, AreSameIfCharted, ComparesFile, DifferAt, DifferSomewhere, HaveDifference, IsNoNamed, IsNoPair, IsNotCompared, TellsRows, TellsTables};
+ghost use Rattle.job_charts.specs.ComparedFile.{AreTables, AreSameAt, AreSameAtAll, AreSameFor, AreSameIfCharted, ComparesFile, DifferAt, DifferFor, DifferSomewhere, HaveDifference, HaveDifferenceAt, IsNoNamed, IsNoPair, IsNotCompared, TellsRows, TellsTables};
 ghost use Rattle.job_parts.specs.Inputs.{AreInputs, input};
 ghost use Rattle.job_parts.specs.declared.inputs.Content.TheVariants.{Table};
 ghost use Rattle.job_decide.specs.Tables.{HoldsTable};
 ghost use Rattle.job_parts.specs.declared.faults.Fault.TheVariants.{NoMemory};
 
+use crate::asking::{Asking, asking_arguments, asking_of};
 use crate::places::places;
 use crate::{markdown, plain};
 use chart_lines::{Asked, PORTS, Row, Tables, difference_rows};
@@ -34,6 +35,7 @@ use job_parts::usage::UsageFault;
 use machine::MapSizes;
 use policy::{Policy, TextFault};
 use policy_table::unnamed_ports_are_alike;
+use regions::Region;
 use rmap::Windows;
 use std::alloc::{AllocError, Global};
 use std::io::{self, Write};
@@ -51,6 +53,8 @@ pub struct CompareWords {
     pub markdown: bool,
     /// The address of the node of the packets, and where its banks lie.
     pub windows: Windows,
+    /// The commands that are asked of.
+    pub asking: Asking,
 }
 
 impl CompareWords {
@@ -67,7 +71,7 @@ impl CompareWords {
     }
 }
 
-/// `compare OLD NEW [--maps LIST] [--markdown]`.
+/// `compare OLD NEW [--maps LIST] [--markdown]`, and the options of the commands that are asked of.
 pub fn compare_command<'a>(alloc: Global) -> Result<Command<'a>, AllocError>
     ensures shape { IfOk result (λ c. app_of c ≡ compare_app) }
     ensures local { IfOk result (λ c. (fields_of c).has_globals ≡ false) }
@@ -79,12 +83,13 @@ pub fn compare_command<'a>(alloc: Global) -> Result<Command<'a>, AllocError>
     let maps = maps_option(alloc);
     let help = "Print a table in markdown";
     let markdown = flag(alloc, "markdown", help);
-    Command::new(alloc, "compare")
+    let command = Command::new(alloc, "compare")
         .about("Prints how two policy tables decide differently, with a packet for each difference")
         .arg(old)?
         .arg(new)?
         .arg(maps)?
-        .arg(markdown)
+        .arg(markdown)?;
+    asking_arguments(alloc, command)
 }
 
 /// The words of `compare` with these matches.
@@ -99,12 +104,14 @@ pub fn compare_job(alloc: Global, found: &ArgMatches) -> Result<CompareWords, Us
     }
     let sizes = sizes_of(alloc, found)?;
     let markdown = is_set(found, "markdown");
+    let asking = asking_of(alloc, found, &sizes)?;
     Ok(CompareWords {
         old,
         new,
         sizes,
         markdown,
         windows: own_windows(),
+        asking,
     })
 }
 
@@ -152,42 +159,84 @@ fn tables<'a, F: Files>(
 }
 
 /// Whether two tables decide a command differently, by what they ask at a port.
-fn are_apart(old: &Asked, new: &Asked) -> bool
-    ensures { MatchBool result (HaveDifference old.now.rules new.now.rules)
-        (AreSame old.now.rules new.now.rules) }
+fn are_apart(asked: &Region, old: &Asked, new: &Asked) -> bool
+    ensures { MatchBool result (HaveDifference asked.now old.now.rules new.now.rules)
+        (AreSame asked.now old.now.rules new.now.rules) }
 {
-    match first_difference(old.rules(), new.rules()) {
+    match first_difference(asked, old.rules(), new.rules()) {
         Some(_point) => true,
         None => false,
     }
 }
 
+/// Whether two tables decide a command differently at a port.
+fn differ_there(
+    alloc: Global,
+    asked: &Region,
+    old: &Policy,
+    new: &Policy,
+    port: u8,
+) -> Result<bool, AllocError>
+    ensures { IfOk result (λ differ. MatchBool differ
+        (HaveDifferenceAt asked.now old.now new.now port) (AreSameAt asked.now old.now new.now port)) }
+{
+    let old = Asked::at(alloc, old, port)?;
+    let new = Asked::at(alloc, new, port)?;
+    Ok(are_apart(asked, &old, &new))
+}
+
 /// Whether two tables decide a command differently at a port of which a chart is made.
-fn differ_at(alloc: Global, old: &Policy, new: &Policy, port: u8) -> Result<bool, AllocError>
+fn differ_at(
+    alloc: Global,
+    asked: &Region,
+    old: &Policy,
+    new: &Policy,
+    port: u8,
+) -> Result<bool, AllocError>
     requires { port < 32 }
     ensures { IfOk result (λ differ. MatchBool differ
-        (DifferAt old.now new.now port) (AreSameIfCharted old.now new.now port)) }
+        (DifferAt asked.now old.now new.now port) (AreSameIfCharted asked.now old.now new.now port)) }
 {
     if !Tables::Two(old, new).chart_port(port) {
         return Ok(false);
     }
-    let old = Asked::at(alloc, old, port)?;
-    let new = Asked::at(alloc, new, port)?;
-    Ok(are_apart(&old, &new))
+    differ_there(alloc, asked, old, new, port)
 }
 
 /// Whether two tables decide a command differently at some port.
-fn differ(alloc: Global, old: &Policy, new: &Policy) -> Result<bool, AllocError>
+fn differ_somewhere(
+    alloc: Global,
+    asked: &Region,
+    old: &Policy,
+    new: &Policy,
+) -> Result<bool, AllocError>
     ensures { IfOk result (λ differ. MatchBool differ
-        (DifferSomewhere old.now new.now) (AreSameAtAll old.now new.now)) }
+        (DifferSomewhere asked.now old.now new.now) (AreSameAtAll asked.now old.now new.now)) }
 {
     unnamed_ports_are_alike();
     for port in 0..PORTS {
-        if differ_at(alloc, old, new, port)? {
+        if differ_at(alloc, asked, old, new, port)? {
             return Ok(true);
         }
     }
     Ok(false)
+}
+
+/// Whether two tables decide a command differently that is asked of.
+fn differ(
+    alloc: Global,
+    asked: &Region,
+    port: Option<u8>,
+    old: &Policy,
+    new: &Policy,
+) -> Result<bool, AllocError>
+    ensures { IfOk result (λ differ. MatchBool differ
+        (DifferFor asked.now port old.now new.now) (AreSameFor asked.now port old.now new.now)) }
+{
+    match port {
+        Some(port) => differ_there(alloc, asked, old, new, port),
+        None => differ_somewhere(alloc, asked, old, new),
+    }
 }
 
 /// The lines of the rows of a comparison, with packets for a node with these windows.
@@ -212,17 +261,18 @@ fn markdown_text(alloc: Global, windows: &Windows, rows: &[Row]) -> Result<Strin
 fn print_rows<'a, W: Write>(
     alloc: Global,
     words: &CompareWords,
+    asked: &Region,
     old: &Policy,
     new: &Policy,
     out: &mut W,
 ) -> Result<(), Halt<'a>>
     ensures done { OnOk result
-        (TellsRows old.now new.now (W.contents out.old) (W.contents out.new)) }
+        (TellsRows asked.now words.now.asking.port old.now new.now (W.contents out.old) (W.contents out.new)) }
     ensures stops { IfErr result (StopsBy (λ fault. fault ≡ NoMemory)) }
     ensures quiet { IfErr result (StopsBy (λ _. W.contents out.new ≡ W.contents out.old)) }
 {
     let places = places(alloc, &words.windows)?;
-    let rows = difference_rows(alloc, old, new, places.as_slice())?;
+    let rows = difference_rows(alloc, asked, words.asking.port, old, new, places.as_slice())?;
     let text = if words.markdown {
         markdown_text(alloc, &words.windows, rows.as_slice())?
     } else {
@@ -241,15 +291,16 @@ fn print_comparison<'a, W: Write>(
     out: &mut W,
 ) -> Result<Status, Halt<'a>>
     ensures done { IfOk result
-        (TellsTables old.now new.now (W.contents out.old) (W.contents out.new)) }
+        (TellsTables words.now.asking old.now new.now (W.contents out.old) (W.contents out.new)) }
     ensures stops { IfErr result (StopsBy (λ fault. fault ≡ NoMemory)) }
     ensures quiet { IfErr result (StopsBy (λ _. W.contents out.new ≡ W.contents out.old)) }
 {
-    if !differ(alloc, old, new)? {
+    let asked = words.asking.region();
+    if !differ(alloc, &asked, words.asking.port, old, new)? {
         writeln!(out, "same")?;
         return Ok(Status::Done);
     }
-    print_rows(alloc, words, old, new, out)?;
+    print_rows(alloc, words, &asked, old, new, out)?;
     Ok(Status::Failed)
 }
 

@@ -1,6 +1,7 @@
 //! The jobs `map` and `compare` of `rmapctl`: what a policy table decides of all commands, and where two decide differently.
 #![tactic(auto)]
 
+pub mod asking;
 pub mod compare;
 pub mod map;
 mod markdown;

@@ -8,10 +8,12 @@ ghost use Rattle.clap.specs.Matches.{found_of};
 ghost use Rattle.job_parts.specs.Inputs.{AreInputs, input};
 ghost use Rattle.job_parts.specs.declared.inputs.Content.TheVariants.{Table};
 ghost use Rattle.job_parts.specs.Stops.{StopsBy};
+ghost use Rattle.job_charts.specs.Asking.{is_all};
 ghost use Rattle.job_charts.specs.MapJob.{NamesMap, RefusesMap, map_app};
-ghost use Rattle.job_charts.specs.MappedFile.{IsNotMapped, MapsFile, TellsMap};
+ghost use Rattle.job_charts.specs.MappedFile.{IsNotMapped, MapsFile, NotesFor, TellsMap};
 ghost use Rattle.job_parts.specs.declared.faults.Fault.TheVariants.{NoMemory};
 
+use crate::asking::{Asking, asking_arguments, asking_of};
 use crate::{markdown, notes, plain};
 use chart_lines::{Note, Row, map_rows, never_matching};
 use clap::{ArgMatches, Command};
@@ -38,6 +40,8 @@ pub struct MapWords {
     pub sizes: MapSizes,
     /// Whether the map is printed in markdown.
     pub markdown: bool,
+    /// The commands that are asked of.
+    pub asking: Asking,
 }
 
 impl MapWords {
@@ -49,7 +53,7 @@ impl MapWords {
     }
 }
 
-/// `map TABLE [--maps LIST] [--markdown]`.
+/// `map TABLE [--maps LIST] [--markdown]`, and the options of the commands that are asked of.
 pub fn map_command<'a>(alloc: Global) -> Result<Command<'a>, AllocError>
     ensures shape { IfOk result (λ c. app_of c ≡ map_app) }
     ensures local { IfOk result (λ c. (fields_of c).has_globals ≡ false) }
@@ -59,11 +63,12 @@ pub fn map_command<'a>(alloc: Global) -> Result<Command<'a>, AllocError>
     let maps = maps_option(alloc);
     let help = "Print a table in markdown, with the comments of the rules";
     let markdown = flag(alloc, "markdown", help);
-    Command::new(alloc, "map")
+    let command = Command::new(alloc, "map")
         .about("Prints what a policy table decides, for each command one line")
         .arg(table)?
         .arg(maps)?
-        .arg(markdown)
+        .arg(markdown)?;
+    asking_arguments(alloc, command)
 }
 
 /// The words of `map` with these matches.
@@ -74,10 +79,12 @@ pub fn map_job(alloc: Global, found: &ArgMatches) -> Result<MapWords, UsageFault
     let table = name_of(alloc, found, "table")?;
     let sizes = sizes_of(alloc, found)?;
     let markdown = is_set(found, "markdown");
+    let asking = asking_of(alloc, found, &sizes)?;
     Ok(MapWords {
         table,
         sizes,
         markdown,
+        asking,
     })
 }
 
@@ -113,21 +120,32 @@ fn markdown_text(
     Ok(text)
 }
 
+/// The rules that never match, where all commands are asked of.
+fn notes_of(alloc: Global, asking: &Asking, policy: &Policy) -> Result<Vec<Note>, AllocError>
+    ensures { IfOk result (λ notes. NotesFor (is_all asking.now) policy.now notes.items) }
+{
+    if asking.is_all() {
+        never_matching(alloc, policy)
+    } else {
+        Ok(Vec::new(alloc))
+    }
+}
+
 /// Prints what a table decides that this text writes.
 fn print_map<'a, W: Write>(
     alloc: Global,
-    markdown: bool,
+    words: &MapWords,
     written: &str,
     policy: &Policy,
     out: &mut W,
 ) -> Result<(), Halt<'a>>
-    ensures done { OnOk result (TellsMap policy.now (W.contents out.old) (W.contents out.new)) }
+    ensures done { OnOk result (TellsMap words.now.asking policy.now (W.contents out.old) (W.contents out.new)) }
     ensures stops { IfErr result (StopsBy (λ fault. fault ≡ NoMemory)) }
     ensures quiet { IfErr result (StopsBy (λ _. W.contents out.new ≡ W.contents out.old)) }
 {
-    let rows = map_rows(alloc, policy)?;
-    let never = never_matching(alloc, policy)?;
-    let text = if markdown {
+    let rows = map_rows(alloc, &words.asking.region(), words.asking.port, policy)?;
+    let never = notes_of(alloc, &words.asking, policy)?;
+    let text = if words.markdown {
         markdown_text(alloc, written, rows.as_slice(), never.as_slice())?
     } else {
         plain_text(alloc, rows.as_slice(), never.as_slice())?
@@ -154,7 +172,7 @@ pub fn map_file<'a, F: Files, W: Write>(
 {
     match text_and_table(alloc, files, words.table.as_str(), &words.sizes) {
         Ok((written, policy)) => {
-            print_map(alloc, words.markdown, written.as_str(), &policy, out)?;
+            print_map(alloc, words, written.as_str(), &policy, out)?;
             Ok(Status::Done)
         }
         Err(NoTable::Ended(fault)) => Err(Halt::Ended(fault)),

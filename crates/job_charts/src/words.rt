@@ -100,14 +100,14 @@ fn add_span(
     add_range(text, alloc, last)
 }
 
-/// Adds the word for the addresses of a row: `else` for the rest of all addresses.
+/// Adds the word for the addresses of a row: `else` for the rest of those that are asked of.
 fn add_addresses(
     text: &mut String,
     alloc: Global,
     rest: bool,
     region: &Region,
 ) -> Result<(), AllocError> {
-    if rest && (is_whole(region.first) && is_whole(region.last)) {
+    if rest {
         return text.push_str("else");
     }
     add_span(text, alloc, region.first, region.last)
