@@ -8,7 +8,6 @@ use Rattle.job_parts.specs.TwoFiles.{NamesOneInput, are_one_input}
 use Rattle.job_parts.specs.declared.usage.UsageFault.{UsageFault}
 use Rattle.job_parts.specs.declared.usage.UsageFault.TheVariants.{Parse, BadOption, Memory}
 use Rattle.job_decide.specs.DecideJob.{own_windows}
-use Rattle.machine.specs.Sizes.{Maps}
 use Rattle.job_charts.specs.Asking.{GivesAsking, SpoilsAsking, with_asking}
 use Rattle.job_charts.specs.declared.compare.CompareWords.{CompareWords}
 
@@ -29,14 +28,13 @@ pub record NamesCompare (rows : List Row) (words : CompareWords) : Type 0 where
   pub sizes : GivesSizes (first_of (codes "maps") rows) words.sizes
   pub markdown : words.markdown ≡ is_set (codes "markdown") rows
   pub windows : words.windows ≡ own_windows
-  pub asking : GivesAsking rows words.sizes words.asking
+  pub asking : GivesAsking rows words.asking
 
 -- matches without one of the files, with one input for both, with a list of maps that is none, or that do not say which commands are
 -- asked of
 abbrev pub SpoilsCompare : List Row → Type 0
 SpoilsCompare rows = (first_of (codes "old") rows ≡ None) ⊎ (first_of (codes "new") rows ≡ None) ⊎ NamesOneInput rows
-    ⊎ IsBadList (first_of (codes "maps") rows)
-    ⊎ ((sizes : Maps) × GivesSizes (first_of (codes "maps") rows) sizes × SpoilsAsking rows sizes)
+    ⊎ IsBadList (first_of (codes "maps") rows) ⊎ SpoilsAsking rows
 
 -- such matches, or memory was refused
 abbrev pub RefusesCompare : List Row → UsageFault → Type 0

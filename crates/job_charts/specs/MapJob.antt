@@ -6,7 +6,6 @@ use Rattle.job_parts.specs.Arguments.{file_rule, flag_rule, is_set, option_rule}
 use Rattle.job_parts.specs.Options.{GivesSizes, IsBadList}
 use Rattle.job_parts.specs.declared.usage.UsageFault.{UsageFault}
 use Rattle.job_parts.specs.declared.usage.UsageFault.TheVariants.{Parse, BadOption, Memory}
-use Rattle.machine.specs.Sizes.{Maps}
 use Rattle.job_charts.specs.Asking.{GivesAsking, SpoilsAsking, with_asking}
 use Rattle.job_charts.specs.declared.map.MapWords.{MapWords}
 
@@ -21,12 +20,12 @@ map_app =
 abbrev pub NamesMap : List Row → MapWords → Type 0
 NamesMap rows words = (first_of (codes "table") rows ≡ Some (string_bytes words.table))
     × GivesSizes (first_of (codes "maps") rows) words.sizes × (words.markdown ≡ is_set (codes "markdown") rows)
-    × GivesAsking rows words.sizes words.asking
+    × GivesAsking rows words.asking
 
 -- matches without the file, with a list of maps that is none, or that do not say which commands are asked of
 abbrev pub SpoilsMap : List Row → Type 0
 SpoilsMap rows = (first_of (codes "table") rows ≡ None) ⊎ IsBadList (first_of (codes "maps") rows)
-    ⊎ ((sizes : Maps) × GivesSizes (first_of (codes "maps") rows) sizes × SpoilsAsking rows sizes)
+    ⊎ SpoilsAsking rows
 
 -- such matches, or memory was refused
 abbrev pub RefusesMap : List Row → UsageFault → Type 0

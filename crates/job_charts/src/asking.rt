@@ -1,24 +1,28 @@
 //! The commands of which a chart is asked.
 
-ghost use Rattle.std.specs.Prelude.{◌≡◌, IfErr, IfOk, codes, false, option_map, string_bytes};
+ghost use Rattle.std.specs.Prelude.{◌≡◌, ℕ, IfErr, IfOk, MatchOption, MatchResult, codes, false, map, option_map};
 ghost use Rattle.clap.specs.Simple.{app_of};
 ghost use Rattle.clap.specs.declared.builder.command.Command.TheViews.{out-Command as fields_of};
 ghost use Rattle.clap.specs.Walk.{first_of, rows_of};
 ghost use Rattle.clap.specs.Matches.{found_of};
+ghost use Rattle.job_packets.specs.HexWords.{Has};
+ghost use Rattle.job_parts.specs.Options.{IsBadValue, IsValueFault};
+ghost use Rattle.policy_table.specs.Fields.{IsKind};
+ghost use Rattle.policy_table.specs.declared.rules.RuleKind.{RuleKind};
 ghost use Rattle.regions.specs.Points.{HasCommand};
 ghost use Rattle.regions.specs.Regions.{lies_in};
 ghost use Rattle.regions.specs.declared.points.Point.{Point};
 ghost use Rattle.charts.specs.Points.{holds_at};
-ghost use Rattle.job_charts.specs.Asking.{GivesAsking, GivesOwnPort, GivesRule, IsRange, asked_line, is_all, with_asking};
+ghost use Rattle.job_charts.specs.Asking.{AreAddresses, GivesAddresses, GivesAsking, GivesByte, GivesKind, GivesOwnPort, HasAddresses, dash_parts, is_all, with_asking};
 
 use charts::region_of;
 use clap::{ArgMatches, Command};
+use job_packets::hex_words::hex_written;
 use job_parts::arguments::{option, text_of};
 use job_parts::usage::UsageFault;
-use machine::MapSizes;
-use policy::TableFault;
-use policy_table::{Rule, RuleKind, Table};
+use policy_table::{Rule, RuleKind};
 use regions::Region;
+use rmap::Verdict;
 use spw::read_port;
 use std::alloc::{AllocError, Global};
 
@@ -60,15 +64,14 @@ pub fn asking_arguments<'a>(alloc: Global, command: Command<'a>) -> Result<Comma
     ensures shape { IfOk result (λ c. app_of c ≡ with_asking (app_of command.entry)) }
     ensures local { IfOk result (λ c. (fields_of c).has_globals ≡ false) }
 {
-    let help = "Only commands of this kind: read, write or rmw; without it any";
+    let help = "Only commands of this kind: read, write or rmw; of any without it";
     let kind = option(alloc, "kind", "KIND", help);
     let key = option(alloc, "key", "HH", "Only commands with this key");
     let help = "Only commands of this initiator";
     let initiator = option(alloc, "initiator", "HH", help);
     let help = "Only commands with this extended address";
     let extended = option(alloc, "extended", "HH", help);
-    let help =
-        "Only commands whose bytes lie from the first of these addresses to the last, or at this one";
+    let help = "Only commands whose bytes lie from LOW to HIGH, or at this one address";
     let address = option(alloc, "address", "LOW-HIGH", help);
     let help = "Only commands that come in at this port, 0 to 31";
     let port = option(alloc, "port", "N", help);
@@ -81,79 +84,127 @@ pub fn asking_arguments<'a>(alloc: Global, command: Command<'a>) -> Result<Comma
         .arg(port)
 }
 
-/// The value of an option, and this without it.
-fn value_or<'a>(found: &ArgMatches<'a>, name: &str, default: &'a str) -> &'a str {
-    match text_of(found, name) {
-        Some(word) => word,
-        None => default,
+/// The kind that a word writes.
+fn kind_written(word: &str) -> Option<RuleKind>
+    ensures { MatchOption result ((kind : RuleKind) → ¬ IsKind word.now kind) (IsKind word.now) }
+{
+    match word {
+        "read" => Some(RuleKind::Read),
+        "write" => Some(RuleKind::Write),
+        "rmw" => Some(RuleKind::Rmw),
+        "any" => Some(RuleKind::Any),
+        _ => None,
     }
 }
 
-/// The first and the last address of the option's value.
-fn range_of<'a>(found: &ArgMatches<'a>) -> (&'a str, &'a str)
-    ensures { IsRange (first_of (codes "address") (rows_of (found_of found.now)))
-        result.0.now result.1.now }
+/// The kind by `--kind`; any without it.
+fn kind_of(found: &ArgMatches) -> Result<RuleKind, UsageFault>
+    ensures { MatchResult result
+        (GivesKind (first_of (codes "kind") (rows_of (found_of found.now))))
+        (IsBadValue (Has (GivesKind (first_of (codes "kind") (rows_of (found_of found.now)))))) }
+{
+    let Some(word) = text_of(found, "kind") else {
+        return Ok(RuleKind::Any);
+    };
+    match kind_written(word) {
+        Some(kind) => Ok(kind),
+        None => Err(UsageFault::BadOption),
+    }
+}
+
+/// The byte by the option of this name, of at most two hexadecimal digits; none without it.
+fn byte_of(found: &ArgMatches, name: &str) -> Result<Option<u8>, UsageFault>
+    ensures { MatchResult result
+        (GivesByte (first_of name.now (rows_of (found_of found.now))))
+        (IsBadValue (Has (GivesByte (first_of name.now (rows_of (found_of found.now)))))) }
+{
+    let Some(word) = text_of(found, name) else {
+        return Ok(None);
+    };
+    match hex_written(word, 2) {
+        Some(byte) => Ok(Some(byte as u8)),
+        None => Err(UsageFault::BadOption),
+    }
+}
+
+/// What is between the hyphens of a word.
+fn parts_of(alloc: Global, word: &str) -> Result<Vec<&str>, AllocError>
+    ensures { IfOk result (λ parts. map (λ part. part.now) parts.items ≡ dash_parts word.now) }
+{
+    word.split('-').collect(alloc)
+}
+
+/// The first and the last address that one word or two write.
+fn addresses_written(parts: &[&str]) -> Option<(u32, u32)>
+    ensures { MatchOption result (¬ HasAddresses (map (λ part. part.now) parts.now))
+        (λ both. AreAddresses (map (λ part. part.now) parts.now) both.0 both.1) }
+{
+    match parts {
+        [one] => {
+            let low = hex_written(one, 8)?;
+            Some((low, low))
+        }
+        [one, other] => {
+            let low = hex_written(one, 8)?;
+            let high = hex_written(other, 8)?;
+            if low <= high { Some((low, high)) } else { None }
+        }
+        _ => None,
+    }
+}
+
+/// The first and the last address by `--address`; all without it.
+fn addresses_of(alloc: Global, found: &ArgMatches) -> Result<(u32, u32), UsageFault>
+    ensures ok { IfOk result (λ both.
+        GivesAddresses (first_of (codes "address") (rows_of (found_of found.now))) both.0 both.1) }
+    ensures err { IfErr result (IsValueFault (Has (λ (both : ℕ × ℕ).
+        GivesAddresses (first_of (codes "address") (rows_of (found_of found.now))) both.0 both.1))) }
 {
     let Some(word) = text_of(found, "address") else {
-        return ("00000000", "FFFFFFFF");
+        return Ok((0, u32::MAX));
     };
-    match word.split_once('-') {
-        Some((low, high)) => (low, high),
-        None => (word, word),
-    }
-}
-
-/// The line of a rule with the words of the matches and these addresses.
-fn asked_line(
-    alloc: Global,
-    found: &ArgMatches,
-    low: &str,
-    high: &str,
-) -> Result<String, AllocError>
-    ensures { IfOk result (λ text.
-        string_bytes text ≡ asked_line (rows_of (found_of found.now)) low.now high.now) }
-{
-    let kind = value_or(found, "kind", "any");
-    let key = value_or(found, "key", "*");
-    let initiator = value_or(found, "initiator", "*");
-    let extended = value_or(found, "extended", "*");
-    let mut text = String::new(alloc);
-    write!(text, "{kind} {key} {initiator} {extended} {low} {high} - 0")?;
-    Ok(text)
-}
-
-/// The rule of one line.
-fn one_rule(alloc: Global, line: &str, sizes: &MapSizes) -> Result<Rule, UsageFault> {
-    match Table::read_for(alloc, line, sizes) {
-        Ok(table) => match table.rules() {
-            [rule] => Ok(*rule),
-            _ => Err(UsageFault::BadOption),
-        },
-        Err(TableFault::Memory) => Err(UsageFault::Memory),
-        Err(_) => Err(UsageFault::BadOption),
+    let parts = parts_of(alloc, word)?;
+    match addresses_written(parts.as_slice()) {
+        Some(both) => Ok(both),
+        None => Err(UsageFault::BadOption),
     }
 }
 
 /// The port by `--port`, if it is there.
 fn port_of(found: &ArgMatches) -> Result<Option<u8>, UsageFault>
-    ensures ok { IfOk result (GivesOwnPort (first_of (codes "port") (rows_of (found_of found.now)))) }
+    ensures { MatchResult result
+        (GivesOwnPort (first_of (codes "port") (rows_of (found_of found.now))))
+        (IsBadValue (Has (GivesOwnPort (first_of (codes "port") (rows_of (found_of found.now)))))) }
 {
-    match text_of(found, "port") {
-        None => Ok(None),
-        Some(text) => match read_port(text) {
-            Ok(port) => Ok(Some(port)),
-            Err(_) => Err(UsageFault::BadOption),
-        },
+    let Some(word) = text_of(found, "port") else {
+        return Ok(None);
+    };
+    match read_port(word) {
+        Ok(port) => Ok(Some(port)),
+        Err(_) => Err(UsageFault::BadOption),
     }
 }
 
-/// The commands that are asked of by the matches. `BadOption` where a value is none of those words.
-pub fn asking_of(alloc: Global, found: &ArgMatches, sizes: &MapSizes) -> Result<Asking, UsageFault>
-    ensures ok { IfOk result (GivesAsking (rows_of (found_of found.now)) sizes.now) }
+/// The commands that are asked of by the matches. `BadOption` where a value is none of an option.
+pub fn asking_of(alloc: Global, found: &ArgMatches) -> Result<Asking, UsageFault>
+    ensures ok { IfOk result (GivesAsking (rows_of (found_of found.now))) }
+    ensures err { IfErr result (IsValueFault (Has (GivesAsking (rows_of (found_of found.now))))) }
 {
-    let (low, high) = range_of(found);
-    let line = asked_line(alloc, found, low, high)?;
-    let rule = one_rule(alloc, line.as_str(), sizes)?;
+    let kind = kind_of(found)?;
+    let key = byte_of(found, "key")?;
+    let initiator = byte_of(found, "initiator")?;
+    let extended = byte_of(found, "extended")?;
+    let (low, high) = addresses_of(alloc, found)?;
     let port = port_of(found)?;
+    let rule = Rule {
+        kind,
+        key,
+        initiator,
+        extended,
+        low,
+        high,
+        quota: None,
+        verdict: Verdict::Authorised,
+    };
     Ok(Asking { rule, port })
 }

@@ -104,7 +104,7 @@ pub fn compare_job(alloc: Global, found: &ArgMatches) -> Result<CompareWords, Us
     }
     let sizes = sizes_of(alloc, found)?;
     let markdown = is_set(found, "markdown");
-    let asking = asking_of(alloc, found, &sizes)?;
+    let asking = asking_of(alloc, found)?;
     Ok(CompareWords {
         old,
         new,

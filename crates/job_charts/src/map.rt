@@ -79,7 +79,7 @@ pub fn map_job(alloc: Global, found: &ArgMatches) -> Result<MapWords, UsageFault
     let table = name_of(alloc, found, "table")?;
     let sizes = sizes_of(alloc, found)?;
     let markdown = is_set(found, "markdown");
-    let asking = asking_of(alloc, found, &sizes)?;
+    let asking = asking_of(alloc, found)?;
     Ok(MapWords {
         table,
         sizes,
