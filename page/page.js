@@ -20,11 +20,14 @@ async function seen() {
     if (old_image) showTable('old', old_image);
     await showLoaders(image, old_image, stale);
     if (stale()) return;
-    const map = await perform(['map', 'new.policy', ...place()]);
+    const map = await perform(['map', 'new.policy', ...question(), ...place()]);
     if (stale()) return;
     showMap(map);
-    if (map.status === 0) addNotes(picture.readMap(map.text).notes, image);
-    const compare = $('both').checked ? await perform(['compare', 'old.policy', 'new.policy', ...place()]) : null;
+    // The rules that never match are of all commands, whatever is asked of.
+    const whole = question().length > 0 ? await perform(['map', 'new.policy', ...place()]) : map;
+    if (stale()) return;
+    if (whole.status === 0) addNotes(picture.readMap(whole.text).notes, image);
+    const compare = $('both').checked ? await perform(['compare', 'old.policy', 'new.policy', ...question(), ...place()]) : null;
     const differences = compare ? differencesIn(compare) : [];
     if (is_node() && differences) await findPackets(differences, stale);
     if (stale()) return;
@@ -257,6 +260,8 @@ function listenForms() {
   $('make').addEventListener('submit', (event) => addPacket(event).catch(told));
   $('rehearse').addEventListener('submit', (event) => { event.preventDefault(); seen(); });
   for (const [id] of Object.values(LOAD_FIELDS)) $(id).addEventListener('input', () => { changed(); soon(); });
+  for (const id of Object.values(ASK_FIELDS)) $(id).addEventListener('input', soon);
+  $('question').addEventListener('submit', (event) => { event.preventDefault(); seen(); });
   $('typed').addEventListener('submit', typed);
   $('line').addEventListener('keydown', goBack);
   $('stop').addEventListener('click', stop);
