@@ -16,7 +16,7 @@ use Rattle.job_packets.specs.HexWords.{Has, WritesHex}
 use Rattle.job_parts.specs.Arguments.{option_rule}
 use Rattle.job_charts.specs.declared.asking.Asking.{Asking}
 
--- an app, and behind it `[--kind KIND] [--key HH] [--initiator HH] [--extended HH] [--address LOW-HIGH] [--port N]`
+-- an app, and behind it `[--kind KIND] [--key HH] [--initiator HH] [--extended HH] [--address RANGE] [--port N]`
 abbrev pub with_asking : App → App
 with_asking app =
     with_rule

@@ -71,8 +71,8 @@ pub fn asking_arguments<'a>(alloc: Global, command: Command<'a>) -> Result<Comma
     let initiator = option(alloc, "initiator", "HH", help);
     let help = "Only commands with this extended address";
     let extended = option(alloc, "extended", "HH", help);
-    let help = "Only commands whose bytes lie from LOW to HIGH, or at this one address";
-    let address = option(alloc, "address", "LOW-HIGH", help);
+    let help = "Only commands whose bytes lie in RANGE: LOW-HIGH, or one address";
+    let address = option(alloc, "address", "RANGE", help);
     let help = "Only commands that come in at this port, 0 to 31";
     let port = option(alloc, "port", "N", help);
     command
