@@ -263,13 +263,21 @@ fn all_parts(alloc: Global, tables: &Tables<'_>) -> Result<Vec<Part>, AllocError
     parts_of(alloc, groups.as_slice())
 }
 
+/// The points of both regions, with no first address behind all last ones, and no last one before all first ones.
+fn within(region: &Region, asked: &Region) -> Region {
+    let mut own = region.both(asked);
+    own.first = own.first.below(own.last.end);
+    own.last = own.last.from(own.first.start);
+    own
+}
+
 /// The lines of the parts of which something is told.
 fn lines(alloc: Global, tables: &Tables<'_>) -> Result<Vec<Line>, AllocError> {
     let mut lines = Vec::new(alloc);
     for part in &all_parts(alloc, tables)? {
         if part.label.told {
             lines.push(Line {
-                region: part.region.both(tables.asked),
+                region: within(&part.region, tables.asked),
                 rest: part.rest,
                 point: part.point,
             })?;
