@@ -8,6 +8,7 @@ ROOTS = [
     "job_charts::map_file",
     "job_charts::compare_file",
     "job_rehearse::rehearse_file",
+    "job_suite::suite_file",
     "doing::do_words",
 ]
 
@@ -23,6 +24,7 @@ CHAPTERS = [
     ("decide", ["job_decide"]),
     ("map and compare", ["job_charts"]),
     ("rehearse", ["job_rehearse"]),
+    ("suite", ["job_suite"]),
     ("asm, dis, verify, why, policy and explain", ["job_texts", "job_weigh", "job_codes"]),
     ("packet and show", ["job_packets", "job_show"]),
     ("judge, serve, sim and trace", ["job_nodes", "job_ports", "job_trace"]),
@@ -45,6 +47,7 @@ and a definition is said there.
 | `job_charts::map_file` | It prints a text of the rows of a map of the table, and of the rules that match at no port: each command that the node may bring to its table is in one row at each port, with the rules that are asked there. How a row is written has no clause. At a fault nothing is printed |
 | `job_charts::compare_file` | It prints `same` if two tables decide all commands alike at each port, and else a text of the rows of what they decide differently. How a row is written has no clause. At a fault nothing is printed |
 | `job_rehearse::rehearse_file` | It prints what becomes of each packet of the loads at a node on which the old policy judges, and whether the way back is open. Or it prints whose loads the new policy lets pass |
+| `job_suite::suite_file` | It prints packet lines of a node. Each packet meets its row: the first line of the order of checks that holds is this one, or the program gives this verdict at port 0 on cells that nobody asked. It may change memory only at the places that are named |
 | `doing::do_words` | The page does what the words of a command line ask for over the files of a folder, with the output and the status of that job |
 
 A definition that prints a text has that text in it, so it is only named here: the cases of `tests/cases` hold such texts, and a

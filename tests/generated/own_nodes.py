@@ -229,4 +229,5 @@ def check(random: Random, room: Room, seen: Counter[str]) -> None:
     return (judged if random.randrange(2) else talked)(random, file, seen)
 
 
-main(__doc__, check, NODES, KINDS)
+if __name__ == "__main__":
+    main(__doc__, check, NODES, KINDS)

@@ -10,7 +10,7 @@ ghost use Rattle.annals.specs.Chains.{IsLast};
 ghost use Rattle.annals.specs.Publishes.{line_loading, publishes_chain, publishes_of};
 
 use crate::beginning::Beginning;
-use crate::chains::{Chain, Family, Opened};
+use crate::chains::{Chain, Family, Front, Opened};
 use crate::deed::Publishing;
 use crate::line::Line;
 use bver::Accepted;
@@ -53,6 +53,15 @@ impl<J: Family> Chain<J> {
         line.leave(&mut front, self, BANK_CHAINS, &Publishing { by, publish });
     }
 
+    /// The publishes that anybody has seen begin all that the chain has. The condition is the chain of the publishes.
+    pub fn knows_published(&mut self, known: &Front<J>)
+        requires { self.old.number ≡ publishes_chain }
+        ensures begins { IsPrefix (publishes_of known.now) (publishes_of self.old.log) }
+        ensures same { self.new ≡ self.old }
+    {
+        self.begins_with(known);
+    }
+
     /// The publishes that were seen begin all that the chain has. The condition is the chain of the publishes, and what was
     /// seen of its history.
     pub fn has_published(&mut self, seen: &Beginning)
@@ -62,6 +71,6 @@ impl<J: Family> Chain<J> {
         ensures same { self.new ≡ self.old }
     {
         let known = seen.front();
-        self.begins_with(&known);
+        self.knows_published(&known);
     }
 }

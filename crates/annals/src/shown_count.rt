@@ -86,6 +86,8 @@ impl<J: Family> ShownCount<J> {
         ensures seen { IsPrefix front.old front.new }
         ensures table { IsPrefix table.now front.new }
         ensures taken { result ≡ true → IsTakenAt front.old front.new (publishes_of table.now) }
+        ensures shown { count ≤ shown_in front.new }
+        ensures listed { AreListed front.new }
     {
         front.learn(table);
         for shown in least..count {

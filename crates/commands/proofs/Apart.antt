@@ -2,7 +2,7 @@
 use Rattle.std.proofs.Common.{◌≡◌, ◌∙◌, ℕ, List, [], ◌∷◌, Option, Some, None, if◌then◌else◌, refl, sym, ap}
 use Rattle.std.specs.Str.{bytes_eq}
 use Rattle.commands.specs.declared.word.Word.{Word}
-use Rattle.commands.specs.declared.word.Word.TheVariants.{Asm, Dis, Verify, Judge, Policy, Serve, Sim, Live, Explain, Why, Weigh, Node, Packet, Show, Decide, Trace, Compare, Map, Rehearse}
+use Rattle.commands.specs.declared.word.Word.TheVariants.{Asm, Dis, Verify, Judge, Policy, Serve, Sim, Live, Explain, Why, Weigh, Node, Packet, Show, Decide, Trace, Compare, Map, Rehearse, Suite}
 use Rattle.commands.specs.Words.{name_of}
 
 -- the first of some words that is written so
@@ -12,7 +12,7 @@ word_in (word ∷ words) name = if bytes_eq name (name_of word) then Some word e
 
 -- all words
 all_words : List Word
-all_words = Asm ∷ Dis ∷ Verify ∷ Judge ∷ Policy ∷ Serve ∷ Sim ∷ Live ∷ Explain ∷ Why ∷ Weigh ∷ Node ∷ Packet ∷ Show ∷ Decide ∷ Trace ∷ Compare ∷ Map ∷ Rehearse ∷ []
+all_words = Asm ∷ Dis ∷ Verify ∷ Judge ∷ Policy ∷ Serve ∷ Sim ∷ Live ∷ Explain ∷ Why ∷ Weigh ∷ Node ∷ Packet ∷ Show ∷ Decide ∷ Trace ∷ Compare ∷ Map ∷ Rehearse ∷ Suite ∷ []
 
 -- each word is found by its name
 is_found : (word : Word) → word_in all_words (name_of word) ≡ Some word
@@ -36,6 +36,7 @@ is_found Trace = refl
 is_found Compare = refl
 is_found Map = refl
 is_found Rehearse = refl
+is_found Suite = refl
 
 -- the word that an option has
 word_of : Option Word → Word

@@ -20,6 +20,7 @@ use Rattle.job_texts.specs.Images.{NamesImage, SpoilsImage}
 use Rattle.job_packets.specs.PacketJob.{packet_app, NamesPacket, SpoilsPacket}
 use Rattle.job_texts.specs.PolicyJob.{policy_app, NamesPolicy, SpoilsPolicy}
 use Rattle.job_show.specs.ShowJob.{show_app, NamesShow}
+use Rattle.job_suite.specs.SuiteJob.{suite_app, NamesSuite, SpoilsSuite}
 use Rattle.job_texts.specs.VerifyJob.{verify_app}
 use Rattle.job_codes.specs.WhyJob.{why_app}
 use Rattle.job_nodes.specs.JudgeJob.{judge_app}
@@ -32,7 +33,7 @@ use Rattle.commands.specs.declared.asked.Asked.TheVariants.{Named, Told}
 use Rattle.commands.specs.declared.jobs.Job.{Job}
 use Rattle.commands.specs.declared.jobs.Job.TheVariants.{Judge, Serve, Simulate, Trace, Assemble, Disassemble}
 use Rattle.commands.specs.declared.jobs.Job.TheVariants.{Verify, Policy, Explain, Why, Weigh, Node, Packet, Show}
-use Rattle.commands.specs.declared.jobs.Job.TheVariants.{Decide, Compare, Map, Rehearse}
+use Rattle.commands.specs.declared.jobs.Job.TheVariants.{Decide, Compare, Map, Rehearse, Suite}
 use Rattle.commands.specs.OnNodes.{are_left, own_file, with_node}
 use Rattle.commands.specs.OneInput.{reads_input_twice}
 use Rattle.commands.specs.Words.{name_of}
@@ -66,11 +67,11 @@ with_packet_jobs app =
     (with_subcommand (with_subcommand app (with_node packet_app).top) show_app.top) (with_node decide_app).top)
     trace_app.top
 
--- a command with the jobs before a load, behind others
+-- a command with the jobs before a load, and the one that tries a target, behind others
 abbrev pub with_chart_jobs : App → App
 with_chart_jobs app =
-    with_subcommand (with_subcommand
-    (with_subcommand app (with_node compare_app).top) (with_node map_app).top) rehearse_app.top
+    with_subcommand (with_subcommand (with_subcommand
+    (with_subcommand app (with_node compare_app).top) (with_node map_app).top) rehearse_app.top) suite_app.top
 
 -- `rmapctl` with its subcommands
 unfoldable pub rmapctl_app : App
@@ -106,6 +107,7 @@ NamesPlain found (Once (Trace args)) = (found.0 ≡ codes "trace") × NamesNodeL
 NamesPlain found (Once (Compare words)) = (found.0 ≡ codes "compare") × NamesCompare found.1 words
 NamesPlain found (Once (Map words)) = (found.0 ≡ codes "map") × NamesMap found.1 words
 NamesPlain found (Once (Rehearse words)) = (found.0 ≡ codes "rehearse") × NamesRehearse found.1 words
+NamesPlain found (Once (Suite words)) = (found.0 ≡ codes "suite") × NamesSuite found.1 words
 NamesPlain found (OnNode own) = ⊥
 NamesPlain found (Live words) = (found.0 ≡ codes "live") × NamesLive found.1 words
 
@@ -155,6 +157,7 @@ SpoilsPlain word.Trace rows = SpoilsNodeLines rows
 SpoilsPlain word.Compare rows = SpoilsCompare rows
 SpoilsPlain word.Map rows = SpoilsMap rows
 SpoilsPlain word.Rehearse rows = SpoilsRehearse rows
+SpoilsPlain word.Suite rows = SpoilsSuite rows
 
 -- a node's file is named, beside an option that says what it says
 abbrev pub SpoilsPlace : List Row → Type 0

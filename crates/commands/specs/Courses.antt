@@ -2,7 +2,7 @@
 use Rattle.std.specs.Prelude.{if◌then◌else◌, bytes_eq, codes, string_bytes}
 use Rattle.commands.specs.declared.jobs.Job.TheVariants.{Judge, Serve, Simulate, Trace, Assemble, Disassemble}
 use Rattle.commands.specs.declared.jobs.Job.TheVariants.{Verify, Policy, Explain, Why, Weigh, Node, Packet, Show}
-use Rattle.commands.specs.declared.jobs.Job.TheVariants.{Decide, Compare, Map, Rehearse}
+use Rattle.commands.specs.declared.jobs.Job.TheVariants.{Decide, Compare, Map, Rehearse, Suite}
 use Rattle.commands.specs.declared.work.Course.{Course}
 use Rattle.commands.specs.declared.work.Course.TheVariants as course
 use Rattle.commands.specs.declared.work.Work.{Work}
@@ -29,5 +29,6 @@ course_of (Once (Trace args)) = course.Perform (Trace args)
 course_of (Once (Compare words)) = course.Perform (Compare words)
 course_of (Once (Map words)) = course.Perform (Map words)
 course_of (Once (Rehearse words)) = course.Perform (Rehearse words)
+course_of (Once (Suite words)) = course.Perform (Suite words)
 course_of (OnNode own) = course.OnNode own
 course_of (Live words) = if words.frames then course.Frames words else course.Lines words

@@ -12,7 +12,7 @@ use Rattle.spw.specs.Line.{lines_of}
 use Rattle.commands.specs.declared.jobs.Job.{Job}
 use Rattle.commands.specs.declared.jobs.Job.TheVariants.{Judge, Serve, Simulate, Trace, Assemble, Disassemble}
 use Rattle.commands.specs.declared.jobs.Job.TheVariants.{Verify, Policy as Compile, Explain, Why, Weigh, Node, Packet, Show}
-use Rattle.commands.specs.declared.jobs.Job.TheVariants.{Decide, Compare, Map, Rehearse}
+use Rattle.commands.specs.declared.jobs.Job.TheVariants.{Decide, Compare, Map, Rehearse, Suite}
 
 -- the maps of a node that its options say; none of a node's file
 abbrev pub maps_of_node : NodeSource → Maps
@@ -39,6 +39,7 @@ maps_of_job (Decide words) = None
 maps_of_job (Compare words) = None
 maps_of_job (Map words) = None
 maps_of_job (Rehearse words) = None
+maps_of_job (Suite words) = None
 
 -- the image of the table that a text writes, for a node with maps of these sizes
 pub record IsOfTable (sizes : Maps) (text : List ℕ) (image : Program) : Type 0 where

@@ -8,7 +8,7 @@ use Rattle.job_parts.specs.declared.inputs.InputFile.{InputFile}
 use Rattle.commands.specs.declared.jobs.Job.{Job}
 use Rattle.commands.specs.declared.jobs.Job.TheVariants.{Judge, Serve, Simulate, Trace, Assemble, Disassemble}
 use Rattle.commands.specs.declared.jobs.Job.TheVariants.{Verify, Policy, Explain, Why, Weigh, Node, Packet, Show}
-use Rattle.commands.specs.declared.jobs.Job.TheVariants.{Decide, Compare, Map, Rehearse}
+use Rattle.commands.specs.declared.jobs.Job.TheVariants.{Decide, Compare, Map, Rehearse, Suite}
 use Rattle.commands.specs.declared.noted.Noted.{Noted}
 use Rattle.commands.specs.declared.noted.TheConstants.{MAX_TEXT}
 
@@ -32,6 +32,7 @@ is_dump (Trace args) = false
 is_dump (Compare words) = false
 is_dump (Map words) = false
 is_dump (Rehearse words) = false
+is_dump (Suite words) = false
 
 -- whether the lines that are read next are those of a dump
 abbrev pub reads_dump : Noted → Bool

@@ -9,7 +9,7 @@ use Rattle.node_parts.specs.Nodes.{windows_of}
 use Rattle.commands.specs.declared.jobs.Job.{Job}
 use Rattle.commands.specs.declared.jobs.Job.TheVariants.{Judge, Serve, Simulate, Trace, Assemble, Disassemble}
 use Rattle.commands.specs.declared.jobs.Job.TheVariants.{Verify, Policy, Explain, Why, Weigh, Node, Packet, Show}
-use Rattle.commands.specs.declared.jobs.Job.TheVariants.{Decide, Compare, Map, Rehearse}
+use Rattle.commands.specs.declared.jobs.Job.TheVariants.{Decide, Compare, Map, Rehearse, Suite}
 
 -- a subcommand with the option `--node`
 abbrev pub with_node : App → App
@@ -35,6 +35,7 @@ takes_file (Trace args) = false
 takes_file (Compare words) = true
 takes_file (Map words) = true
 takes_file (Rehearse words) = false
+takes_file (Suite words) = false
 
 -- the name of the node's file that such a job is left to, if the matches have one
 abbrev pub own_file : Job → List Row → Option Text
@@ -68,3 +69,4 @@ placed (Trace args) own = Trace args
 placed (Compare words) own = Compare (record words { sizes = own.sizes; windows = windows_of own.address own.banks })
 placed (Map words) own = Map (record words { sizes = own.sizes })
 placed (Rehearse words) own = Rehearse words
+placed (Suite words) own = Suite words

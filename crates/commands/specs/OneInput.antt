@@ -7,10 +7,11 @@ use Rattle.job_parts.specs.Options.{image_name}
 use Rattle.job_parts.specs.TwoFiles.{are_one_input}
 use Rattle.job_rehearse.specs.declared.places.PlaceWords.{PlaceWords}
 use Rattle.job_rehearse.specs.declared.places.PlaceWords.TheVariants.{Maps, File as Own}
+use Rattle.job_suite.specs.SuiteJob.{name_of_table}
 use Rattle.commands.specs.declared.jobs.Job.{Job}
 use Rattle.commands.specs.declared.jobs.Job.TheVariants.{Judge, Serve, Simulate, Trace, Assemble, Disassemble}
 use Rattle.commands.specs.declared.jobs.Job.TheVariants.{Verify, Policy, Explain, Why, Weigh, Node, Packet, Show}
-use Rattle.commands.specs.declared.jobs.Job.TheVariants.{Decide, Compare, Map, Rehearse}
+use Rattle.commands.specs.declared.jobs.Job.TheVariants.{Decide, Compare, Map, Rehearse, Suite}
 use Rattle.commands.specs.declared.work.Work.{Work}
 use Rattle.commands.specs.declared.work.Work.TheVariants.{Once, OnNode, Live}
 
@@ -64,6 +65,11 @@ names_of_job (Rehearse words) = record {
   first = Some (string_bytes words.old);
   second = Some (string_bytes words.new);
   third = place_name words.place;
+}
+names_of_job (Suite words) = record {
+  first = name_of_table words.table;
+  second = option_map string_bytes words.node;
+  third = None;
 }
 
 -- the names of the files that a work reads: those of its job, and that of the node's file to which the job is left. A talk reads

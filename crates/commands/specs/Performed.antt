@@ -18,6 +18,7 @@ use Rattle.job_parts.specs.Statuses.{IsDoneWith}
 use Rattle.job_ports.specs.ServedFile.{IsNotServed, ServesFile}
 use Rattle.job_nodes.specs.Simulated.{DoesSim, IsNotSimulated}
 use Rattle.job_packets.specs.MadePackets.{IsNotMade, MakesFile}
+use Rattle.job_suite.specs.SuiteFile.{IsNoSuite, PrintsSuite}
 use Rattle.job_show.specs.Shown.{IsNotShown, ShowsFile}
 use Rattle.job_texts.specs.Verified.{Verifies}
 use Rattle.job_trace.specs.Traced.{DoesTrace, IsNotTraced}
@@ -30,7 +31,7 @@ use Rattle.job_parts.specs.declared.status.Status.TheVariants.{Failed}
 use Rattle.commands.specs.declared.jobs.Job.{Job}
 use Rattle.commands.specs.declared.jobs.Job.TheVariants.{Judge, Serve, Simulate, Trace, Assemble, Disassemble}
 use Rattle.commands.specs.declared.jobs.Job.TheVariants.{Verify, Policy, Explain, Why, Weigh, Node, Packet, Show}
-use Rattle.commands.specs.declared.jobs.Job.TheVariants.{Decide, Compare, Map, Rehearse}
+use Rattle.commands.specs.declared.jobs.Job.TheVariants.{Decide, Compare, Map, Rehearse, Suite}
 
 module _ {S : Type 0} (reads : Reads S) (writes : Writes S) where
   -- the job came to its end, with this exit status: what it read and wrote led from one state of the files to the other,
@@ -60,6 +61,7 @@ module _ {S : Type 0} (reads : Reads S) (writes : Writes S) where
   IsDone (Compare words) before after old new status = ComparesFile reads words before after old new status
   IsDone (Map words) before after old new status = MapsFile reads words before after old new status
   IsDone (Rehearse words) before after old new status = RehearsesFile reads words before after old new status
+  IsDone (Suite words) before after old new status = IsDoneWith (PrintsSuite reads words before after old new) status
 
   -- the fault ended the job; only `judge`, `sim`, `show`, `decide`, `trace` and `rehearse` printed before it
   abbrev pub IsEnded : Job → (before after : S) → (old new : Option (List ℕ)) → Fault → Type 0
@@ -89,6 +91,7 @@ module _ {S : Type 0} (reads : Reads S) (writes : Writes S) where
   IsEnded (Compare words) before after old new fault = IsNotCompared reads words before after fault × (new ≡ old)
   IsEnded (Map words) before after old new fault = IsNotMapped reads words before after fault × (new ≡ old)
   IsEnded (Rehearse words) before after old new fault = IsNotRehearsed reads words before after old new fault
+  IsEnded (Suite words) before after old new fault = IsNoSuite reads words before after fault × (new ≡ old)
 
   -- a fault ended the job, and its line was printed behind what came before, and nothing behind it
   pub record TellsFault (job : Job) (before after : S) (old new : Option (List ℕ)) : Type 0 where

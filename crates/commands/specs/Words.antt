@@ -1,7 +1,7 @@
 -- The words of the subcommands.
 use Rattle.std.specs.Prelude.{◌≢◌, ℕ, List, codes}
 use Rattle.commands.specs.declared.word.Word.{Word}
-use Rattle.commands.specs.declared.word.Word.TheVariants.{Asm, Dis, Verify, Judge, Policy, Serve, Sim, Live, Explain, Why, Weigh, Node, Packet, Show, Decide, Trace, Compare, Map, Rehearse}
+use Rattle.commands.specs.declared.word.Word.TheVariants.{Asm, Dis, Verify, Judge, Policy, Serve, Sim, Live, Explain, Why, Weigh, Node, Packet, Show, Decide, Trace, Compare, Map, Rehearse, Suite}
 
 -- how a word is written
 abbrev pub name_of : Word → List ℕ
@@ -24,6 +24,7 @@ name_of Trace = codes "trace"
 name_of Compare = codes "compare"
 name_of Map = codes "map"
 name_of Rehearse = codes "rehearse"
+name_of Suite = codes "suite"
 
 -- no word is written so
 abbrev pub IsNoWord : List ℕ → Type 0

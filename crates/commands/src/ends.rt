@@ -8,6 +8,7 @@ use crate::noted::{Cause, Noted};
 use crate::slips::{self, told_output};
 use crate::{denied_loads, hints};
 use job_config::sources::NodeSource;
+use job_nodes::full_journals::FullJournals;
 use job_packets::orders::Order;
 use job_packets::packet::PacketWords;
 use job_parts::bad_lines::BadLine;
@@ -160,16 +161,33 @@ fn add_first_path(
     Ok(())
 }
 
-/// Adds that the journal was full at this line, if it was.
-fn add_full(text: &mut String, full: Option<usize>) -> Result<(), AllocError> {
-    let Some(number) = full else {
+/// Adds that the journal of this bank, which has a name if there are several, was full at this line.
+fn add_full_at(
+    text: &mut String,
+    bank: u8,
+    is_named: bool,
+    number: usize,
+) -> Result<(), AllocError> {
+    if is_named {
+        write!(text, "    the journal of bank {bank:02X} is full: ")?;
+    } else {
+        text.push_str("    the journal of the bank is full: ")?;
+    }
+    write!(text, "from line {number} on ")?;
+    text.push_str("a command for it has status 1 in place of 0; live has no such end\n")
+}
+
+/// Adds, for each journal that was found full, the first line whose command found it so.
+fn add_full(text: &mut String, full: Option<FullJournals>) -> Result<(), AllocError> {
+    let Some(full) = full else {
         return Ok(());
     };
-    write!(
-        text,
-        "    the journal of the bank is full: from line {number} on "
-    )?;
-    text.push_str("a command for it has status 1 in place of 0; live has no such end\n")
+    for bank in 0..full.banks() {
+        if let Some(number) = full.line(bank) {
+            add_full_at(text, bank, full.banks() > 1, number)?;
+        }
+    }
+    Ok(())
 }
 
 /// Adds what is told of loads that were made into packets: that the file is no image, which nothing looked at, or that the

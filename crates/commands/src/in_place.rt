@@ -54,7 +54,8 @@ pub fn maps_of_job(job: &Job) -> Option<MapSizes>
         | Job::Decide(_)
         | Job::Compare(_)
         | Job::Map(_)
-        | Job::Rehearse(_) => None,
+        | Job::Rehearse(_)
+        | Job::Suite(_) => None,
     }
 }
 

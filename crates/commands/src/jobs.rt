@@ -11,6 +11,7 @@ use job_codes::why::why_file;
 use job_config::node_lines::NodeLines;
 use job_decide::decide::{DecideWords, decide_file};
 use job_node_file::node_file::{NodeFileWords, print_node_file};
+use job_nodes::full_journals::FullJournals;
 use job_nodes::judge::judge_file;
 use job_nodes::sim::sim_file;
 use job_packets::made_packets::packet_file;
@@ -23,6 +24,8 @@ use job_parts::storage::Files;
 use job_ports::serve::serve_file;
 use job_rehearse::rehearse::{RehearseWords, rehearse_file};
 use job_show::show::{ShowWords, show_file};
+use job_suite::suite::suite_file;
+use job_suite::words::SuiteWords;
 use job_texts::asm::{AsmWords, assemble_file};
 use job_texts::dis::{DisWords, disassemble_file};
 use job_texts::images::ImageArgs;
@@ -76,6 +79,8 @@ pub enum Job {
     Map(MapWords),
     /// Prints what becomes of the load of a new policy under an old one, and of the way back.
     Rehearse(RehearseWords),
+    /// Prints packet lines that try a target, or their index.
+    Suite(SuiteWords),
 }
 
 impl Job {
@@ -97,6 +102,7 @@ impl Job {
             Job::Compare(words) => words.inputs(),
             Job::Map(words) => words.inputs(),
             Job::Rehearse(words) => words.inputs(),
+            Job::Suite(words) => words.inputs(),
             Job::Explain(_) => Inputs::of(None, None),
         }
     }
@@ -109,8 +115,8 @@ pub struct JobEnd<'a> {
     pub status: Status,
     /// The fault that ended it, of which the line was printed.
     pub fault: Option<Fault<'a>>,
-    /// Of `judge` the first line whose command found the journal of the bank full.
-    pub full: Option<usize>,
+    /// Of `judge` which journals were found full.
+    pub full: Option<FullJournals>,
     /// Of `serve` how many replies were lost, since memory to keep them was refused.
     pub lost: u64,
 }
@@ -123,7 +129,7 @@ fn attempt<'a, J: Family + Send + Sync + 'static, R: Threads + Wait + Sync, F: F
     job: &'a Job,
     files: &mut F,
     out: &mut W,
-    full: &mut Option<usize>,
+    full: &mut Option<FullJournals>,
     lost: &mut u64,
 ) -> Result<Status, Halt<'a>>
     requires { opened ≡ J.book }
@@ -153,6 +159,7 @@ fn attempt<'a, J: Family + Send + Sync + 'static, R: Threads + Wait + Sync, F: F
         Job::Compare(words) => compare_file(alloc, words, files, out),
         Job::Map(words) => map_file(alloc, words, files, out),
         Job::Rehearse(words) => rehearse_file(alloc, words, files, out),
+        Job::Suite(words) => suite_file(alloc, words, files, out),
     }
 }
 

@@ -108,7 +108,8 @@ fn takes_file(job: &Job) -> bool
         | Job::Node(_)
         | Job::Show(_)
         | Job::Trace(_)
-        | Job::Rehearse(_) => false,
+        | Job::Rehearse(_)
+        | Job::Suite(_) => false,
     }
 }
 

@@ -121,6 +121,7 @@ fn names_of_job(job: &Job) -> ReadNames<'_>
                 &words.place,
             ))
         }
+        Job::Suite(words) => ReadNames::of(words.table_name(), lent(&words.node)),
     }
 }
 

@@ -15,6 +15,7 @@ use job_parts::options::{ports_of, sizes_of};
 use job_parts::usage::UsageFault;
 use job_rehearse::loaders::{is_any_beside, loader_of};
 use job_rehearse::rehearse::slots_of;
+use job_suite::words::{rows_written, seed_of, table_of, within_of, without_written};
 use job_weigh::times::times_of;
 use std::alloc::{AllocError, Global};
 
@@ -145,9 +146,29 @@ const OF_NODE: [Named; 2] = [
 /// What the node's file of `packet` is beside its data or its image.
 const OWN_FILE: &str = "    --node is -: the name of a file if the data or the image are - too\n";
 
+/// What the node's file of `suite` is beside its table.
+const OWN_NODE: &str = "    --node is -: the name of a file if the table is - too\n";
+
 /// What `--ns` may be.
 const TIMES: &str =
     "four decimal numbers of nanoseconds with commas between them, as 13.5,14,6,2: of a division, a call, a jump and the rest";
+
+/// What `--seed` may be.
+const SEED: &str = "a decimal number from 0 to 4294967295";
+
+/// What `--rows` may be.
+const ROWS: &str = "the beginning of the name of a row, as header-crc";
+
+/// What `--without` of `suite` may be.
+const WITHOUT: &str = "beginnings of names of rows with commas between them, as boot-window,load";
+
+/// What `--table` of `suite` may be.
+const TABLE: &str =
+    "slots from 0 to 3 with commas between them, or all, and a file, as 0,1:instrument.policy";
+
+/// What `--within` may be.
+const WITHIN: &str =
+    "ranges of addresses in hexadecimal digits with commas between them, first not above last, as 00:A0000000-A000FFFF";
 
 /// What is told of an OUT that is the file that is read.
 pub const OWN_SOURCE: &str = "    this is the file that is read\n";
@@ -289,6 +310,29 @@ fn packet_line(alloc: Global, found: &ArgMatches) -> Result<String, AllocError> 
     }
 }
 
+/// The line of an option of `suite`.
+fn suite_line(alloc: Global, found: &ArgMatches) -> Result<String, AllocError> {
+    if let Err(UsageFault::BadOption) = seed_of(found) {
+        return line_of(alloc, "--seed", text_of(found, "seed"), SEED);
+    }
+    if let Err(UsageFault::BadOption) = rows_written(alloc, found) {
+        return line_of(alloc, "--rows", text_of(found, "rows"), ROWS);
+    }
+    if let Err(UsageFault::BadOption) = without_written(alloc, found) {
+        return line_of(alloc, "--without", text_of(found, "without"), WITHOUT);
+    }
+    if let Err(UsageFault::BadOption) = table_of(alloc, found) {
+        return line_of(alloc, "--table", text_of(found, "table"), TABLE);
+    }
+    if let Err(UsageFault::BadOption) = within_of(alloc, found) {
+        return line_of(alloc, "--within", text_of(found, "within"), WITHIN);
+    }
+    if text_of(found, "node") == Some(STANDARD_INPUT) {
+        return String::from_str(alloc, OWN_NODE);
+    }
+    Ok(String::new(alloc))
+}
+
 /// The line of an option that words of any other job have.
 fn option_line(alloc: Global, name: &str, found: &ArgMatches) -> Result<String, AllocError> {
     if let Err(UsageFault::BadOption) = sizes_of(alloc, found) {
@@ -333,6 +377,7 @@ pub fn told_option(alloc: Global, words: &[&str]) -> Result<String, AllocError> 
     }
     match name {
         "packet" => packet_line(alloc, found),
+        "suite" => suite_line(alloc, found),
         _ => option_line(alloc, name, found),
     }
 }

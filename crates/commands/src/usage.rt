@@ -30,6 +30,7 @@ use job_parts::usage::UsageFault;
 use job_ports::serve::serve_command;
 use job_rehearse::rehearse::{rehearse_command, rehearse_job};
 use job_show::show::{show_command, show_job};
+use job_suite::words::{suite_command, suite_job};
 use job_texts::asm::{asm_command, asm_job};
 use job_texts::dis::{dis_command, dis_job};
 use job_texts::images::image_args;
@@ -74,17 +75,20 @@ fn with_packet_jobs<'a>(alloc: Global, rmapctl: Command<'a>) -> Result<Command<'
         .subcommand(trace)
 }
 
-/// The command line with the jobs before a load: what tables decide of all commands, and its rehearsal, behind others.
+/// The command line with the jobs before a load: what tables decide of all commands, and its rehearsal, and the one that tries a
+/// target, behind others.
 fn with_chart_jobs<'a>(alloc: Global, rmapctl: Command<'a>) -> Result<Command<'a>, AllocError>
     ensures { IfOk result (λ c. app_of c ≡ with_chart_jobs (app_of rmapctl.entry)) }
 {
     let compare = with_node(alloc, compare_command(alloc)?)?;
     let map = with_node(alloc, map_command(alloc)?)?;
     let rehearse = rehearse_command(alloc)?;
+    let suite = suite_command(alloc)?;
     rmapctl
         .subcommand(compare)?
         .subcommand(map)?
-        .subcommand(rehearse)
+        .subcommand(rehearse)?
+        .subcommand(suite)
 }
 
 /// The whole command line.
@@ -156,6 +160,7 @@ fn plain_named(alloc: Global, word: Word, rows: &ArgMatches) -> Result<Work, Usa
         Word::Compare => Job::Compare(compare_job(alloc, rows)?),
         Word::Map => Job::Map(map_job(alloc, rows)?),
         Word::Rehearse => Job::Rehearse(rehearse_job(alloc, rows)?),
+        Word::Suite => Job::Suite(suite_job(alloc, rows)?),
     };
     Ok(Work::Once(job))
 }

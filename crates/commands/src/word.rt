@@ -44,6 +44,8 @@ pub enum Word {
     Map,
     /// `rehearse`.
     Rehearse,
+    /// `suite`.
+    Suite,
 }
 
 impl Word {
@@ -71,6 +73,7 @@ impl Word {
             "compare" => Some(Word::Compare),
             "map" => Some(Word::Map),
             "rehearse" => Some(Word::Rehearse),
+            "suite" => Some(Word::Suite),
             _ => None,
         }
     }

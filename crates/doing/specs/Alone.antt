@@ -2,7 +2,7 @@
 use Rattle.commands.specs.declared.jobs.Job.{Job}
 use Rattle.commands.specs.declared.jobs.Job.TheVariants.{Judge, Serve, Simulate, Trace, Assemble, Disassemble}
 use Rattle.commands.specs.declared.jobs.Job.TheVariants.{Verify, Policy, Explain, Why, Weigh, Node, Packet, Show}
-use Rattle.commands.specs.declared.jobs.Job.TheVariants.{Decide, Compare, Map, Rehearse}
+use Rattle.commands.specs.declared.jobs.Job.TheVariants.{Decide, Compare, Map, Rehearse, Suite}
 
 -- the job starts no thread: each but `serve`, which starts one for each port
 abbrev pub IsAlone : Job → Type 0
@@ -24,3 +24,4 @@ IsAlone (Trace args) = Unit {0}
 IsAlone (Compare words) = Unit {0}
 IsAlone (Map words) = Unit {0}
 IsAlone (Rehearse words) = Unit {0}
+IsAlone (Suite words) = Unit {0}

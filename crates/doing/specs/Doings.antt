@@ -11,7 +11,7 @@ use Rattle.commands.specs.ShownTalk.{ShowsTalk}
 use Rattle.commands.specs.declared.jobs.Job.{Job}
 use Rattle.commands.specs.declared.jobs.Job.TheVariants.{Judge, Serve, Simulate, Trace, Assemble, Disassemble}
 use Rattle.commands.specs.declared.jobs.Job.TheVariants.{Verify, Policy, Explain, Why, Weigh, Node, Packet, Show}
-use Rattle.commands.specs.declared.jobs.Job.TheVariants.{Decide, Compare, Map, Rehearse}
+use Rattle.commands.specs.declared.jobs.Job.TheVariants.{Decide, Compare, Map, Rehearse, Suite}
 use Rattle.commands.specs.declared.node_jobs.NodeJob.{NodeJob}
 use Rattle.commands.specs.declared.work.Work.{Work}
 use Rattle.commands.specs.declared.work.Work.TheVariants.{Once, OnNode, Live}
@@ -104,6 +104,7 @@ DoesOnce (Trace args) before left = DoesJob (Trace args) before left
 DoesOnce (Compare words) before left = DoesJob (Compare words) before left
 DoesOnce (Map words) before left = DoesJob (Map words) before left
 DoesOnce (Rehearse words) before left = DoesJob (Rehearse words) before left
+DoesOnce (Suite words) before left = DoesJob (Suite words) before left
 
 -- the line of a fault was printed, and no file is another
 pub record TellsFault (fault : Fault) (before : FolderValue) (left : Left) : Type 0 where

@@ -12,12 +12,14 @@ use job_codes::explain::explain;
 use job_codes::why::why_file;
 use job_decide::decide::decide_file;
 use job_node_file::node_file::print_node_file;
+use job_nodes::full_journals::FullJournals;
 use job_nodes::judge::judge_file;
 use job_nodes::sim::sim_file;
 use job_packets::made_packets::packet_file;
 use job_parts::stops::Halt;
 use job_rehearse::rehearse::rehearse_file;
 use job_show::show::show_file;
+use job_suite::suite::suite_file;
 use job_texts::asm::assemble_file;
 use job_texts::dis::disassemble_file;
 use job_texts::policies::compile_file;
@@ -34,7 +36,7 @@ fn attempt<'a, F: Files, W: Write>(
     job: &'a Job,
     files: &mut F,
     out: &mut W,
-    full: &mut Option<usize>,
+    full: &mut Option<FullJournals>,
 ) -> Result<Status, Halt<'a>>
     requires { IsAlone job.now }
     ensures done { IfOk result (IsDone F.reads F.writes job.now files.old files.new
@@ -63,6 +65,7 @@ fn attempt<'a, F: Files, W: Write>(
         Job::Compare(words) => compare_file(alloc, words, files, out),
         Job::Map(words) => map_file(alloc, words, files, out),
         Job::Rehearse(words) => rehearse_file(alloc, words, files, out),
+        Job::Suite(words) => suite_file(alloc, words, files, out),
     }
 }
 

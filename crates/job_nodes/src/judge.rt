@@ -1,6 +1,7 @@
 //! The job `judge`.
 
 ghost use Rattle.std.specs.Prelude.{◌≡◌, IfErr, IfOk, OnOk, false, string_bytes};
+ghost use Rattle.job_nodes.specs.JobNode.{RefusesLine, TakesLine};
 ghost use Rattle.job_parts.specs.Matched.{app_of, fields_of};
 ghost use Rattle.job_parts.specs.Printed.{Prints};
 ghost use Rattle.job_parts.specs.Statuses.{IsDoneWith};
@@ -9,10 +10,12 @@ ghost use Rattle.job_nodes.specs.JudgeJob.{discard_line, judge_app};
 ghost use Rattle.job_nodes.specs.Judged.{IsNotJudged, IsNotReady, IsReady, JudgesFile};
 ghost use Rattle.job_nodes.specs.Lines.{IsBadLine, Judges, served_line};
 
+use crate::full_journals::FullJournals;
 use crate::node::JobNode;
 use crate::sources::node_from;
 use clap::Command;
 use job_config::node_lines::{NodeLines, node_lines_command};
+use job_parts::bad_lines::BadLine;
 use job_parts::faults::Fault;
 use job_parts::programs::text_in;
 use job_parts::replies::print_reply;
@@ -21,7 +24,8 @@ use job_parts::stops::{Halt, LineHalt};
 use job_parts::storage::Files;
 use job_parts::turns::{TakesLines, take_lines};
 use node_parts::{Served, Stop};
-use rmap::{Discard, Status as Answer};
+use rmap::{Command as Asked, Discard, Status as Answer};
+use spw::Packet;
 use std::alloc::{AllocError, Global};
 use std::io::{self, Write};
 use std::marker::Model;
@@ -55,13 +59,12 @@ pub fn print_served<W: Write>(out: &mut W, port: u8, served: Served, reply: &[u8
     }
 }
 
-/// A node that judges packet lines, how many it took, and the first whose command met a full journal. Contracts see the
-/// node.
+/// A node that judges packet lines, how many it took, and which journals were found full. Contracts see the node.
 #[derive(Drop)]
 pub struct Judging {
     node: JobNode,
     taken: usize,
-    full: Option<usize>,
+    full: FullJournals,
 }
 
 impl Model for Judging {
@@ -80,24 +83,41 @@ fn is_refused(served: Served) -> bool {
     }
 }
 
-/// Whether the journal of one of the banks has room for no more entries.
-fn is_any_full(node: &JobNode) -> bool {
-    for bank in 0..node.banks() {
-        if node.is_full(bank) {
-            return true;
-        }
+/// The extended address of the command that a packet is, if it is one: the number of its bank, if there is that bank.
+fn extended_of(packet: &Packet) -> Option<u8> {
+    match Asked::view(packet) {
+        Ok(command) => Some(command.extended()),
+        Err(_) => None,
     }
-    false
 }
 
 impl Judging {
-    /// Notes the line that was taken last, if its command is the first that met a full journal.
-    fn note(&mut self, served: Served)
+    /// Notes the line that was taken last, if its command, for that extended address, found the journal of its bank full.
+    fn note(&mut self, extended: Option<u8>, served: Served)
         ensures { self.new ≡ self.old }
     {
-        if self.full.is_none() && is_refused(served) && is_any_full(&self.node) {
-            self.full = Some(self.taken);
+        let Some(bank) = extended else {
+            return;
+        };
+        if is_refused(served) && bank < self.node.banks() && self.node.is_full(bank) {
+            self.full.note(bank, self.taken);
         }
+    }
+
+    /// Takes a line, and serves the packet that it ends: its port and what became of it, or `None` if the line ends none.
+    /// Nothing is served if the line has a fault.
+    fn take_line(&mut self, alloc: Global, line: &str) -> Result<Option<(u8, Served)>, BadLine>
+        ensures taken { IfOk result (λ came. TakesLine line.now came self.old self.new) }
+        ensures refused { IfErr result (λ fault. RefusesLine line.now fault self.old self.new) }
+    {
+        self.taken = self.taken.saturating_add(1);
+        let Some((port, packet)) = self.node.feed_line(alloc, line)? else {
+            return Ok(None);
+        };
+        let extended = extended_of(&packet);
+        let served = self.node.serve(alloc, port, packet);
+        self.note(extended, served);
+        Ok(Some((port, served)))
     }
 }
 
@@ -108,11 +128,9 @@ impl TakesLines for Judging {
 
     /// Takes one line, judges the packet that it ends, and prints what comes of it.
     fn take<W: Write>(&mut self, alloc: Global, line: &str, out: &mut W) -> Result<(), LineHalt> {
-        self.taken = self.taken.saturating_add(1);
-        let Some((port, served)) = self.node.take_line(alloc, line)? else {
+        let Some((port, served)) = self.take_line(alloc, line)? else {
             return Ok(());
         };
-        self.note(served);
         Ok(print_served(out, port, served, self.node.reply())?)
     }
 }
@@ -129,16 +147,16 @@ fn lines_and_node<'a, F: Files>(
 {
     let text = text_in(alloc, files, args.lines.as_str())?;
     let node = node_from(alloc, &args.node, files)?;
+    let full = FullJournals::none(node.banks());
     let judging = Judging {
         node,
         taken: 0,
-        full: None,
+        full,
     };
     Ok((text, judging))
 }
 
-/// Judges the packet lines of a file on the node of these arguments. `full` is then the first line whose command found the
-/// journal of its bank full, if there is one.
+/// Judges the packet lines of a file on the node of these arguments. `full` is then which journals were found full.
 ///
 /// Faults are found in this order: the file of lines (`CannotRead`, also where it is not UTF-8), those of the node
 /// ([`node_from`]), and then each line.
@@ -147,7 +165,7 @@ pub fn judge_file<'a, F: Files, W: Write>(
     args: &'a NodeLines,
     files: &mut F,
     out: &mut W,
-    full: &mut Option<usize>,
+    full: &mut Option<FullJournals>,
 ) -> Result<Status, Halt<'a>>
     ensures done { IfOk result (IsDoneWith (JudgesFile F.reads args.now files.old files.new
         (W.contents out.old) (W.contents out.new))) }
@@ -156,7 +174,7 @@ pub fn judge_file<'a, F: Files, W: Write>(
 {
     let (text, mut judging) = lines_and_node(alloc, args, files)?;
     let taken = take_lines(alloc, &mut judging, text.as_str(), out);
-    *full = judging.full;
+    *full = Some(judging.full);
     taken?;
     Ok(Status::Done)
 }

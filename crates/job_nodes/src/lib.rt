@@ -3,6 +3,7 @@
 
 pub mod events;
 pub mod feeds;
+pub mod full_journals;
 pub mod journals;
 pub mod judge;
 pub mod live_node;

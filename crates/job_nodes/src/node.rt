@@ -2,7 +2,7 @@
 
 ghost use Rattle.std.specs.Prelude.{◌≡◌, ◌≤◌, ◌<◌, ◌+◌, ◌↔◌, IfErr, IfOk, IfSome, IsSome, length, slice_get, true, OnOk};
 ghost use Rattle.job_config.specs.OwnNodes.{IsPublish};
-ghost use Rattle.job_nodes.specs.JobNode.{FeedsLine, IsConfig, IsFreshOf, IsJobNode, RefusesLine, Serves, SetsBytes, TakesLine, alone, first_of, is_full, journal_of, with_publish};
+ghost use Rattle.job_nodes.specs.JobNode.{FeedsLine, IsConfig, IsFreshOf, IsJobNode, RefusesLine, Serves, SetsBytes, alone, first_of, is_full, journal_of, with_publish};
 ghost use Rattle.node_programs.specs.Published.{sizes_of};
 ghost use Rattle.single_node.specs.Nodes.{covers_in};
 
@@ -93,26 +93,17 @@ impl JobNode {
     }
 
     /// Takes a line, and serves nothing: the packet that it ends, and its port, or `None` where the line ends none.
-    fn feed_line(&mut self, alloc: Global, line: &str) -> Result<Option<(u8, Packet)>, BadLine>
+    pub(crate) fn feed_line(
+        &mut self,
+        alloc: Global,
+        line: &str,
+    ) -> Result<Option<(u8, Packet)>, BadLine>
         ensures fed { IfOk result (λ came. FeedsLine line.now came self.old self.new) }
         ensures port { IfOk result (λ came. IfSome came (λ own. own.0 < length self.new.passes)) }
         ensures refused { IfErr result (λ fault. RefusesLine line.now fault self.old self.new) }
     {
         let came = self.feeds.take_line(alloc, line)?;
         Ok(came)
-    }
-
-    /// Takes a line, and serves the packet that it ends: its port and what became of it, or `None` where the line
-    /// ends none. Nothing is served where the line has a fault.
-    pub fn take_line(&mut self, alloc: Global, line: &str) -> Result<Option<(u8, Served)>, BadLine>
-        ensures taken { IfOk result (λ came. TakesLine line.now came self.old self.new) }
-        ensures refused { IfErr result (λ fault. RefusesLine line.now fault self.old self.new) }
-    {
-        let Some((port, packet)) = self.feed_line(alloc, line)? else {
-            return Ok(None);
-        };
-        let served = self.serve(alloc, port, packet);
-        Ok(Some((port, served)))
     }
 
     /// The reply to the last packet that was served; no bytes where none is due.

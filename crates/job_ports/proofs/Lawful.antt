@@ -138,7 +138,6 @@ module _ {J : Type 0} {own : OwnNodeValue} {program : AcceptedValue} {by_port : 
           begins = subst (λ (s : Standing). IsPrefix s.front whole) (sym last) begins;
           did = done ∙ sym (ap (λ (s : Standing). s.asked) last);
           in_full = own_full.in_full;
-          placed = own_full.placed;
         }
 
   -- What the ports did is one lawful history, whatever account of it is taken.
@@ -157,8 +156,8 @@ module _ {J : Type 0} {own : OwnNodeValue} {program : AcceptedValue} {by_port : 
         sizes = sizes;
         opening = full.opening;
         others = full.others;
-        listed = full.listed;
-        shown = full.shown;
+        listed = served.history.listed;
+        shown = served.history.shown;
       })
 
 -- The same over the packets of each port among those of the lines.

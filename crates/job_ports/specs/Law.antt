@@ -1,9 +1,7 @@
 -- What the law on threads says of the ports that were served.
-use Rattle.std.specs.Prelude.{◌≡◌, ◌<◌, ◌≤◌, ℕ, List, [], length, map, slice_get, slice_index_or, Some}
+use Rattle.std.specs.Prelude.{◌≡◌, ◌<◌, ◌≤◌, ℕ, List, [], map, slice_get, slice_index_or, Some}
 use Rattle.annals.specs.declared.deed.Link.{Link}
 use Rattle.annals.specs.Chains.{done_for, instrument}
-use Rattle.annals.specs.Publishes.{publishes_of}
-use Rattle.annals.specs.Shown.{AreListed, shown_in}
 use Rattle.bver.specs.Justified.{AcceptedValue}
 use Rattle.node_parts.specs.declared.config.BankConfig.{BankConfig}
 use Rattle.node_programs.specs.declared.publishes.Publish.{Publish}
@@ -12,7 +10,7 @@ use Rattle.spw.specs.Cargo.{Cargo}
 use Rattle.ports.specs.Due.{Standing, Worked, standing}
 use Rattle.sched.specs.Looking.{Node}
 use Rattle.lawful.specs.Alone.{AreDealtInFull}
-use Rattle.lawful.specs.Together.{Account, AreLoadsPlaced, HaveLawfulHistory, IsBankOf, published_first}
+use Rattle.lawful.specs.Together.{Account, HaveLawfulHistory, IsBankOf, published_first}
 use Rattle.job_config.specs.OwnNodes.{OwnNodeValue}
 use Rattle.job_nodes.specs.Beginning.{own_schedule}
 use Rattle.job_ports.specs.Ends.{PortEnd}
@@ -30,22 +28,18 @@ AreAccountsOf starts ports packets ends accounts =
     (port : ℕ) (end : PortEnd) → port < ports
     → IsAccountOf (starts port) (packets port) (slice_index_or ends port end) (accounts port)
 
--- by the account each packet became what is due, nothing was wanting, and each publish is at its place in the list
-pub record IsInFull (n : Node) (port : ℕ) (account : Account) (whole : List Link) : Type 0 where
+-- by the account each packet became what is due, and nothing was wanting
+pub record IsInFull (n : Node) (account : Account) : Type 0 where
   pub worked : Worked account.first account.packets account.deeds account.last
   pub in_full : AreDealtInFull n account.first account.packets account.deeds account.last worked
-  pub placed : AreLoadsPlaced port whole account.first account.packets account.deeds account.last worked
 
 -- what the law asks for beyond what the ports did: nothing was wanting, the list of the node has only entries of each bank, and it
--- has of others than the ports only that the instrument published these programs; readers saw no program before it was published,
--- and in the end all
+-- has of others than the ports only that the instrument published these programs
 pub record IsServedInFull (n : Node) (programs : List Publish) (accounts : ℕ → Account) (whole : List Link) : Type 0 where
-  pub each : (port : ℕ) → port < n.ports → IsInFull n port (accounts port) whole
+  pub each : (port : ℕ) → port < n.ports → IsInFull n (accounts port)
   pub banks : (k : ℕ) (bank : BankConfig) → slice_get n.banks k ≡ Some bank → IsBankOf k bank whole
   pub opening : done_for instrument whole ≡ map published_first programs
   pub others : (owner : ℕ) → n.ports ≤ owner → (owner ≡ instrument → ⊥) → done_for owner whole ≡ []
-  pub listed : AreListed whole
-  pub shown : length (publishes_of whole) ≤ shown_in whole
 
 -- by any accounts of what the ports did, what they did is a lawful history of the node's schedules, apart from what cells answered, if
 -- nothing was wanting and the list has nothing else

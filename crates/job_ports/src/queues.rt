@@ -25,7 +25,7 @@ use spw::Packet;
 use std::alloc::{AllocError, Global};
 use std::sync::Wait;
 use std::thread::Threads;
-use target::{Family, Front, Node, Opened, Pass};
+use target::{Family, Front, Node, Opened, Pass, UnsharedNode};
 
 /// A port whose queue holds these packets and then the end mark, what puts into it, and what takes from it.
 fn filled<R: Wait>(
@@ -212,7 +212,7 @@ fn own_desks<'r, J: Family, R: Wait>(
 {
     let config = own.config();
     // Memory alone can be refused to it: a configuration has no other number of ports than a node has.
-    let Ok((node, cells, passes, mut line)) = Node::<J, _>::with_programs(
+    let Ok((mut unshared, cells, passes, mut line)) = UnsharedNode::<J, _>::with_programs(
         alloc,
         rt,
         opened,
@@ -222,16 +222,16 @@ fn own_desks<'r, J: Family, R: Wait>(
     ) else {
         return Err(AllocError);
     };
-    let mut known = node.front();
+    let mut known = unshared.front();
     set_all(
-        rt,
         alloc,
-        &node,
+        &mut unshared,
         &mut line,
         &mut known,
         own.banks(),
         own.contents(),
     )?;
+    let node = unshared.share(alloc)?;
     let (ports, put_passes, serve_passes) = fill(rt, alloc, arrivals)?;
     let workers = workers_of(alloc, &known, passes, serve_passes)?;
     Ok(Desks {

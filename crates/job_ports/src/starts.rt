@@ -1,96 +1,88 @@
 //! What is done at a node of threads before its first packet: its banks begin with their contents.
 
-ghost use Rattle.std.specs.Prelude.{◌≡◌, ◌≤◌, [], OnOk, length};
+ghost use Rattle.std.specs.Prelude.{◌≡◌, ◌≤◌, [], IfOk, OnOk, length, map, true};
 ghost use Rattle.annals.specs.Chains.{instrument};
-ghost use Rattle.job_ports.specs.Starts.{SetsAll, SetsBank, SetsFirst};
+ghost use Rattle.bank.specs.Records.{extent_of};
+ghost use Rattle.job_config.specs.OwnNodes.{fit};
+ghost use Rattle.job_ports.specs.Starts.{SetsAll, SetsFirst};
+ghost use Rattle.node_parts.specs.Nodes.{are_within, is_within, range_of};
+ghost use Rattle.target.specs.Unshared.{covers_at};
 
-use annals::Kept;
-use bank::Journal;
+use bank::{BankFault, Journal};
 use job_config::own_node::Contents;
 use node_parts::BankConfig;
 use std::alloc::{AllocError, Global};
-use std::sync::{MutexGuard, Wait};
-use target::{BankLock, Family, Front, Line, Node};
+use std::sync::Wait;
+use target::{Family, Front, Line, UnsharedNode};
 
-/// Puts bytes at the beginning of a bank, as its instrument does, if it is the bank of that number and has them.
-fn set_kept<J: Family>(
-    kept: &mut Kept<J>,
+/// Why the journal of a bank within its limits could not be made: memory was refused.
+fn refused(fault: BankFault) -> AllocError
+    requires { fault ≡ BankFault.Memory }
+{
+    match fault {
+        BankFault::Memory => AllocError,
+        BankFault::Size => unreachable!(),
+    }
+}
+
+/// An empty journal of a bank within its limits.
+fn journal(alloc: Global, bank: &BankConfig) -> Result<Journal, AllocError>
+    requires { is_within bank.now ≡ true }
+    ensures { IfOk result (λ journal. journal.entries ≡ []) }
+{
+    match Journal::new(alloc, bank.room) {
+        Ok(journal) => Ok(journal),
+        Err(fault) => Err(refused(fault)),
+    }
+}
+
+/// Puts bytes at the beginning of the bank of that number, as its instrument does, where there are bytes; no bytes change nothing.
+fn set_first<J: Family, R: Wait + Drop>(
+    alloc: Global,
+    node: &mut UnsharedNode<J, R>,
     number: u8,
     line: &mut Line<J>,
     known: &mut Front<J>,
-    address: u32,
+    bank: &BankConfig,
     bytes: &[u8],
-    fresh: Journal,
 ) -> Result<(), AllocError>
     requires line { line.old.port ≡ instrument }
-    requires empty { fresh.entries ≡ [] }
-    ensures set { OnOk result (SetsBank number address bytes.now known.old known.new) }
+    requires within { is_within bank.now ≡ true }
+    requires inside { covers_at node.old number bank.now.base (length bytes.now) ≡ true }
+    ensures set { OnOk result (SetsFirst number bank.now.base bytes.now known.old known.new) }
     ensures line { line.new.port ≡ instrument }
-{
-    // The lock of a bank has that bank, which has the bytes of its own contents.
-    if kept.number() != number || !kept.covers(address, bytes.len()) {
-        return Err(AllocError);
-    }
-    let _journal = kept.set(known, line, address, bytes, fresh);
-    Ok(())
-}
-
-/// Puts bytes at the beginning of the bank behind a lock, as its instrument does, where there are bytes; no bytes change nothing.
-fn set_first<R: Wait, J: Family>(
-    rt: &R,
-    alloc: Global,
-    lock: &BankLock<J>,
-    line: &mut Line<J>,
-    known: &mut Front<J>,
-    bank: BankConfig,
-    bytes: &[u8],
-) -> Result<(), AllocError>
-    requires { line.old.port ≡ instrument }
-    ensures set { OnOk result (SetsFirst lock.now bank.base bytes.now known.old known.new) }
-    ensures line { line.new.port ≡ instrument }
+    ensures extents { map extent_of node.new ≡ map extent_of node.old }
 {
     if bytes.is_empty() {
         return Ok(());
     }
-    let Ok(fresh) = Journal::new(alloc, bank.room) else {
-        return Err(AllocError);
-    };
-    let mut guard = lock.lock(rt);
-    let kept = &mut *guard;
-    let done = set_kept(kept, lock.number(), line, known, bank.base, bytes, fresh);
-    MutexGuard::unlock(guard);
-    done
+    let fresh = journal(alloc, bank)?;
+    node.set(number, known, line, bank.base, bytes, fresh);
+    Ok(())
 }
 
 /// Puts the contents of each bank of a fresh node at its beginning.
-pub(crate) fn set_all<R: Wait, J: Family, Q: Wait + Drop>(
-    rt: &R,
+pub(crate) fn set_all<J: Family, R: Wait + Drop>(
     alloc: Global,
-    node: &Node<J, Q>,
+    node: &mut UnsharedNode<J, R>,
     line: &mut Line<J>,
     known: &mut Front<J>,
     banks: &[BankConfig],
     contents: &[Contents],
 ) -> Result<(), AllocError>
     requires line { line.old.port ≡ instrument }
-    requires banks { node.now ≡ length banks.now }
-    requires contents { length contents.now ≡ length banks.now }
-    requires few { length banks.now ≤ 8 }
-    ensures { OnOk result (SetsAll banks.now contents.now (length banks.now) known.old known.new) }
+    requires within { are_within banks.now ≡ true }
+    requires fit { fit banks.now contents.now ≡ true }
+    requires banks { map extent_of node.old ≡ map range_of banks.now }
+    ensures sets { OnOk result (SetsAll banks.now contents.now (length banks.now) known.old known.new) }
+    ensures extents { map extent_of node.new ≡ map range_of banks.now }
 {
     let count = banks.len() as u8;
     for number in 0..count {
         let place = usize::from(number);
+        let bank = &banks[place];
         let bytes = contents[place].bytes();
-        set_first(
-            rt,
-            alloc,
-            node.bank(number),
-            line,
-            known,
-            banks[place],
-            bytes,
-        )?;
+        set_first(alloc, node, number, line, known, bank, bytes)?;
     }
     Ok(())
 }

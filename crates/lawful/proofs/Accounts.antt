@@ -23,16 +23,16 @@ use Rattle.annals.specs.Chains.{Due, chain_of, done_for, link, owner_of}
 use Rattle.annals.specs.Publishes.{publishes_chain}
 use Rattle.annals.specs.Shown.{AreListed, shown_in}
 use Rattle.target.specs.Loads.{AsksForLoad}
-use Rattle.ports.specs.Due.{Deed, IsBanked, IsJudged, IsWindowed, Judging, Standing, Worked, stand}
+use Rattle.ports.specs.Due.{Deed, HasMet, IsBanked, IsJudged, IsWindowed, Judging, Standing, Worked, stand}
 use Rattle.ports.specs.Due.Deed.{Dropped, Answered, Judged}
 use Rattle.sched.specs.Looking.{Node}
 use Rattle.lawful.specs.Alone.{AreDealtInFull, IsJudgedInFull}
-use Rattle.lawful.specs.Together.{AreLoadsPlaced, IsLoadPlaced, IsPlaced}
+use Rattle.lawful.proofs.Placing.{AreLoadsPlaced, IsLoadPlaced, IsPlaced, placed_by}
 use Rattle.lawful.proofs.Alone.{Laws, bank_is, one_counted, worked_front}
 use Rattle.lawful.proofs.Entering.{IsDoneAt, asks_one, done_at, finished_front}
 use Rattle.lawful.proofs.Growing.{taken_longer}
 use Rattle.lawful.proofs.Links.{done_few, done_one, front_of, published_few, seen_count, size_more}
-use Rattle.lemmas.proofs.Prefixes.{prefix_length, prefix_same, prefix_shorter, prefix_trans}
+use Rattle.lemmas.proofs.Prefixes.{prefix_length, prefix_shorter, prefix_trans}
 
 -- ---- where the next command of a port is taken
 
@@ -76,7 +76,7 @@ reached_front j p s after is = elim is.ended [
   | inl banked ↦
       let it = banked.ended in
       finished_front it.result.number is.between.programs it.before.chain.number is.reached after.front (share_of is.between j.judged.place) j.judged it.result j.reply it.finished.done it.finished.none
-  | inr windowed ↦ prefix_same is.reached after.front windowed.front
+  | inr windowed ↦ windowed.front
 ]
 
 -- the moment at which a command was taken stands in the list
@@ -170,6 +170,28 @@ load_of places.Control old after before new j result reply x at end more =
 
 asks_some : (port : ℕ) (loaded : Option Publish) (x : Publish) (old new : List Publish) (asked after : List Due) → loaded ≡ Some x → AsksForLoad port loaded old new asked after → AsksForLoad port (Some x) old new asked after
 asks_some port loaded x old new asked after is asks = subst (λ (o : Option Publish). AsksForLoad port o old new asked after) is asks
+
+-- where a load's publish is, by what its port knows of the history
+place_of_load : (q : ℕ) (whole : List Link) (j : Judging) (p : Cargo) (s after : Standing) (is : IsJudged j p s after) → s.pass.port ≡ q → IsPrefix after.front whole → IsLoadPlaced q whole j p s after is
+place_of_load q whole j p s after is port front = λ publish it some.
+    let asks = asks_some is.between.port j.loaded publish it.old it.new s.asked after.asked some it.asks_for in
+    let load = load_of j.judged.place is.between after.pass it.old it.new j.judged it.result j.reply publish refl it.ended asks.0 in
+    let own : is.between.port ≡ q = ap (λ (x : PassValue). x.port) is.judgement.asked ∙ port in
+    let moment = subst (λ (i : ℕ). HasMet i is.reached after.front it.old it.new s.asked after.asked) own (it.moment load.place) in
+    placed_by q whole is.reached moment.met after.front it.old it.new s.asked after.asked publish moment.seen moment.published moment.did moment.goes moment.publishes moment.does
+    (subst (λ (i : ℕ). AsksForLoad i (Some publish) it.old it.new s.asked after.asked) own asks) front
+
+pub loads_placed : Laws → (q : ℕ) (whole : List Link) (s last : Standing) (ps : List Cargo) (ds : List Deed) (w : Worked s ps ds last) → s.pass.port ≡ q → IsPrefix last.front whole → AreLoadsPlaced q whole s ps ds last w
+loads_placed laws q whole s last [] [] w port begins = tt
+loads_placed laws q whole s last [] (d ∷ ds) w port begins = tt
+loads_placed laws q whole s last (p ∷ ps) [] w port begins = tt
+loads_placed laws q whole s last (p ∷ ps) (Dropped ∷ ds) w port begins = loads_placed laws q whole w.0 last ps ds w.2 (ap (λ (y : Standing). y.pass.port) w.1.same ∙ port) begins
+loads_placed laws q whole s last (p ∷ ps) (Answered reply ∷ ds) w port begins = loads_placed laws q whole w.0 last ps ds w.2 (ap (λ (y : Standing). y.pass.port) w.1.same ∙ port) begins
+loads_placed laws q whole s last (p ∷ ps) (Judged j ∷ ds) w port begins =
+    let front = prefix_trans w.0.front last.front whole (worked_front w.0 last ps ds w.2) begins in (
+      place_of_load q whole j p s w.0 w.1 port front,
+      loads_placed laws q whole w.0 last ps ds w.2 ((one_counted laws.counts (Judged j) p s w.0 w.1).port ∙ port) begins,
+    )
 
 pub one_loaded : (q : ℕ) (whole : List Link) (j : Judging) (p : Cargo) (s after : Standing) (is : IsJudged j p s after) (one : PublishesOne q whole j p s after is)
     → IsLoadOf is.between after.pass one.windowed.old one.windowed.new j.judged one.windowed.result j.reply one.publish
@@ -272,7 +294,7 @@ judged_few q whole x s last after j p ps ds is w listed begins port front stands
         let asks = subst (λ (o : Option Publish). AsksForLoad is.between.port o quiet.windowed.old quiet.windowed.new s.asked after.asked) quiet.none quiet.windowed.asks_for in
         let same = ap length asks.1 in
         let few = prefix_length x is.reached known in
-        let size = ap length quiet.windowed.front in
+        let size = prefix_length is.reached after.front quiet.windowed.front in
         let few_later = rest x stands (from_front (length x) after last ps ds w (omega (arith, few, size))) in
         omega (arith, same, few_later)
     by (inr (inr one)) = acted (load_acted q whole j p s after is one) (from_publish q whole j p s after last is one ps ds w listed begins)

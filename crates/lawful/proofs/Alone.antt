@@ -33,7 +33,7 @@ use Rattle.sched.specs.Looking.{Node, entries, staged_behind, staging}
 use Rattle.sched.specs.Turns.{answers_of}
 use Rattle.sched.specs.Agreement.{PublishedAgrees, slot_and_program}
 use Rattle.lawful.specs.Alone.{AreDealtInFull, IsDealtInFull, IsFreshPort, IsJudgedInFull, IsOwnBank, OnePortIsLawful}
-use Rattle.lawful.specs.ButTold.{IsOutcomeAtButTold}
+use Rattle.sched.specs.Lawful.{IsOutcomeAtButTold}
 use Rattle.lawful.specs.Happenings.{Happening, HappenBy, ending, happened_at, happening, told_calls}
 use Rattle.lawful.proofs.Entering.{bank_staging, bank_thus, finished_front}
 use Rattle.lawful.proofs.Growing.{banked_programs, dealt_grown, judged_grown, loads_first, made, made_by, taken_longer, worked_grown}
@@ -235,7 +235,7 @@ judged_dealt laws n port start whole p j h s after there own idle is full few be
             refused = full.loads;
           } in
           let end = window_thus n port now o j is.between here laws.images laws.next j.judged.place refl is.between.port s.asked after.asked s after after.pass windowed.old windowed.new windowed.result j.reply around windowed.begins windowed.asks_for windowed.ended in
-          let later : IsPrefix s.front after.front = subst (λ (xs : List Link). IsPrefix s.front xs) (sym windowed.front) moment in
+          let later : IsPrefix s.front after.front = prefix_trans s.front is.reached after.front moment windowed.front in
           done_dealt n port start p j h now s after is.between e end.status end.loaded there idle verdict staging_same count later refl end.outcome end.staging_is end.known
           (λ m at_m is_m. left_still n m at_m now (Then now e (Done end.status j.reply end.loaded)) j s after idle.shares is_m count later windowed.entered (so_far m at_m is_m) (end.banks m))
     ]
@@ -267,7 +267,7 @@ dealt_front (Judged j) p s after is =
       | inl banked ↦
           let it = banked.ended in
           finished_front it.result.number is.between.programs it.before.chain.number is.reached after.front (share_of is.between j.judged.place) j.judged it.result j.reply it.finished.done it.finished.none
-      | inr windowed ↦ prefix_same is.reached after.front windowed.front
+      | inr windowed ↦ windowed.front
     ])
 
 pub worked_front : (s last : Standing) (ps : List Cargo) (ds : List Deed) → Worked s ps ds last → IsPrefix s.front last.front

@@ -31,10 +31,9 @@ use Rattle.ports.specs.Laws.{number_at}
 use Rattle.sched.specs.declared.event.Event.TheVariants.{Effect}
 use Rattle.sched.specs.declared.event.Outcome.TheVariants.{Done}
 use Rattle.sched.specs.History.{History, Then, Open, opened}
-use Rattle.sched.specs.Lawful.{bank_answer, effect_outcome}
+use Rattle.sched.specs.Lawful.{IsOutcomeAtButTold, bank_answer, effect_outcome}
 use Rattle.sched.specs.Looking.{Node, entered, entries, entry_left, first_memory, has_room, memory, place_in, staged_at, staged_behind, verdict_at}
 use Rattle.lawful.specs.Alone.{IsOwnBank}
-use Rattle.lawful.specs.ButTold.{IsOutcomeAtButTold}
 use Rattle.lawful.proofs.Idling.{IsLeftSoFar}
 use Rattle.lawful.proofs.Keeping.{apart, itself}
 use Rattle.lawful.proofs.Loading.{IsNow, effect_told, entries_done}

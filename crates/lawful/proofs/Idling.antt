@@ -22,9 +22,8 @@ use Rattle.sched.specs.Agreement.{program_and_generation}
 use Rattle.sched.specs.declared.event.Event.TheVariants.{Take}
 use Rattle.sched.specs.declared.event.Outcome.TheVariants.{Discarded, Answered}
 use Rattle.sched.specs.History.{History, Then, opened}
-use Rattle.sched.specs.Lawful.{header_outcome, packet_outcome, take_outcome}
+use Rattle.sched.specs.Lawful.{IsLawfulButTold, header_outcome, packet_outcome, take_outcome}
 use Rattle.sched.specs.Looking.{Node, entries, published, publishes, staging, windows_in}
-use Rattle.lawful.specs.ButTold.{IsLawfulButTold}
 use Rattle.lawful.specs.Happenings.{Happening, HappenBy, HappensBy, happened_at, happening}
 use Rattle.lawful.proofs.Keeping.{Keeps, StaysElsewhere, elsewhere_on, happened_here, one_elsewhere, opened_here, staging_here}
 use Rattle.lawful.proofs.Telling.{outcome_here}

@@ -1,4 +1,3 @@
-mod ToldApart
 mod Turning
 mod Keeping
 mod Telling
@@ -17,4 +16,5 @@ mod Worlds
 mod Settling
 mod Stepping
 mod Together
+mod Once
 mod Sample

@@ -43,10 +43,9 @@ use Rattle.sched.specs.declared.event.Event.TheVariants.{Effect, Publish as Publ
 use Rattle.sched.specs.declared.event.Outcome.{Outcome}
 use Rattle.sched.specs.declared.event.Outcome.TheVariants.{Done}
 use Rattle.sched.specs.History.{History, Then, Open, opened, port_of}
-use Rattle.sched.specs.Lawful.{IsControlled, IsPublishedAt, IsPublishedBy, IsPublishOutcome, done, effect_at_place, effect_at_turn, effect_outcome}
+use Rattle.sched.specs.Lawful.{IsControlled, IsPublishedAt, IsPublishedBy, IsPublishOutcome, IsOutcomeAtButTold, done, effect_at_place, effect_at_turn, effect_outcome}
 use Rattle.sched.specs.Looking.{Node, counted, entries, entries_at, entries_behind, for_slot, loaded_by, place_in, program_loaded, published, published_at, published_behind, publishes, staged_at, staged_behind, staging, turn_of}
 use Rattle.lawful.specs.Alone.{IsRefusedForStaged}
-use Rattle.lawful.specs.ButTold.{IsOutcomeAtButTold}
 use Rattle.lawful.specs.Happenings.{ending}
 use Rattle.lawful.proofs.Growing.{made as programs_made, none_made, one_made}
 use Rattle.lawful.proofs.Idling.{IsKnown}

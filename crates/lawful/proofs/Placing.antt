@@ -12,7 +12,9 @@ use Rattle.annals.specs.declared.deed.Link.{Link}
 use Rattle.annals.specs.Chains.{Due, done_for, owner_of}
 use Rattle.annals.specs.Publishes.{publishes_chain, publishes_of}
 use Rattle.target.specs.Loads.{AsksForLoad}
-use Rattle.lawful.specs.Together.{IsPlaced}
+use Rattle.spw.specs.Cargo.{Cargo}
+use Rattle.ports.specs.Due.{Deed as Dealt, IsJudged, IsWindowed, Judging, Standing, Worked, stand}
+use Rattle.ports.specs.Due.Deed.{Dropped, Answered, Judged}
 use Rattle.lawful.proofs.Links.{IsNoneOf, count_published, done_append, done_joined, does, none_asks, none_opens, none_other, none_shows, published_one, published_prefix}
 use Rattle.lemmas.proofs.Prefixes.{prefix_self, prefix_trans, prefix_whole}
 
@@ -117,6 +119,33 @@ find q x pre [] only many = absurd (none_same (publishes_chain, Publishes (q, x)
 find q x pre (l ∷ ls) only many = find_first q x pre l ls only many (λ further few. find q x (pre ++ l ∷ []) ls further few) (its q l.deed)
 
 -- ---- the place of a load
+
+-- the publish of that port is in the list right after those that the load met, and after all that the port knew then
+pub record IsPlaced (port : ℕ) (whole known : List Link) (old : List Publish) (publish : Publish) : Type 0 where
+  pub before : List Link
+  pub item : Link
+  pub chain : item.chain ≡ publishes_chain
+  pub deed : item.deed ≡ Does (Publishes (port, publish))
+  pub stands : IsPrefix (before ++ item ∷ []) whole
+  pub seen : IsPrefix known before
+  pub met : publishes_of before ≡ old
+
+-- what a command published, if it did, is at its place in the list
+abbrev pub IsLoadPlaced : (port : ℕ) (whole : List Link) (j : Judging) (p : Cargo) (h after : Standing) → IsJudged j p h after → Type 0
+IsLoadPlaced port whole j p h after is =
+    (publish : Publish) (windowed : IsWindowed j (stand is.between h.asked is.reached) after)
+    → j.loaded ≡ Some publish → IsPlaced port whole is.reached windowed.old publish
+
+-- the same of what became of some packets
+abbrev pub AreLoadsPlaced : (port : ℕ) (whole : List Link) (h : Standing) (ps : List Cargo) (ds : List Dealt) (after : Standing)
+    → Worked h ps ds after → Type 0
+AreLoadsPlaced port whole h [] [] after worked = Unit {0}
+AreLoadsPlaced port whole h [] (d ∷ ds) after worked = Unit {0}
+AreLoadsPlaced port whole h (p ∷ ps) [] after worked = Unit {0}
+AreLoadsPlaced port whole h (p ∷ ps) (Dropped ∷ ds) after worked = AreLoadsPlaced port whole worked.0 ps ds after worked.2
+AreLoadsPlaced port whole h (p ∷ ps) (Answered reply ∷ ds) after worked = AreLoadsPlaced port whole worked.0 ps ds after worked.2
+AreLoadsPlaced port whole h (p ∷ ps) (Judged j ∷ ds) after worked =
+    IsLoadPlaced port whole j p h worked.0 worked.1 × AreLoadsPlaced port whole worked.0 ps ds after worked.2
 
 append_same : {A : Type 0} (xs ys zs : List A) → xs ++ ys ≡ xs ++ zs → ys ≡ zs
 append_same [] ys zs same = same

@@ -22,7 +22,6 @@ use Rattle.bank.specs.Admission.{IsPlacedBy}
 use Rattle.bank.specs.Answer.{answer, effect_at, is_success, judged_line, status_with}
 use Rattle.bank.specs.Effect.{Memory, effect, effect_of, memory_at}
 use Rattle.bank.specs.Records.{BankValue, EntryValue, IsBank, JudgedValue, after_command, checked_entry, entry_of, first_share, memory_of, replay}
-use Rattle.node_programs.specs.declared.publishes.Publish.{Publish}
 use Rattle.node_programs.specs.Published.{judging_program}
 use Rattle.node_programs.specs.Staged.{Staged, staged}
 use Rattle.node_parts.specs.declared.config.BankConfig.{BankConfig}
@@ -35,7 +34,7 @@ use Rattle.node_parts.specs.Slots.{slot_of}
 use Rattle.node_parts.specs.Stagings.{answer_staged}
 use Rattle.node_parts.specs.Steps.{IsJudgement}
 use Rattle.annals.specs.declared.deed.Act.TheVariants.{Leaves, Publishes}
-use Rattle.annals.specs.declared.deed.Deed.TheVariants.{Does, Shows}
+use Rattle.annals.specs.declared.deed.Deed.TheVariants.{Shows}
 use Rattle.annals.specs.declared.deed.Link.{Link}
 use Rattle.annals.specs.Banks.{entries_of, takes}
 use Rattle.annals.specs.Chains.{Due, done_for, instrument}
@@ -43,7 +42,7 @@ use Rattle.annals.specs.Publishes.{publishes_chain, publishes_of}
 use Rattle.annals.specs.Rule.{showing}
 use Rattle.annals.specs.Shown.{AreListed, shown_in}
 use Rattle.target.specs.Finished.{IsFinishedAt}
-use Rattle.ports.specs.Due.{IsJudged, IsUnjudged, IsWindowed, Standing, Worked, stand}
+use Rattle.ports.specs.Due.{IsJudged, IsUnjudged, Standing, Worked, stand}
 use Rattle.ports.specs.Due.Deed.{Answered as Replied, Judged}
 use Rattle.ports.specs.Laws.{number_at}
 use Rattle.sched.specs.Agreement.{program_and_generation}
@@ -51,13 +50,12 @@ use Rattle.sched.specs.declared.event.Event.TheVariants.{Take, Effect as EffectE
 use Rattle.sched.specs.declared.event.Outcome.{Outcome}
 use Rattle.sched.specs.declared.event.Outcome.TheVariants.{Refused, Answered, Taken, Done}
 use Rattle.sched.specs.History.{History, Start, Then, Open, opened, taken}
-use Rattle.sched.specs.Lawful.{IsControlled, done, effect_at_place, header_outcome, packet_outcome, take_outcome}
+use Rattle.sched.specs.Lawful.{IsControlled, IsLawfulButTold, done, effect_at_place, header_outcome, packet_outcome, take_outcome}
 use Rattle.sched.specs.Looking.{Node, counted, entered, entries, first_memory, has_room, header_in, published, published_at, published_behind, publishes, slot_at, slot_of_packet, staged_at, staging, verdict_at, windows_in}
 use Rattle.lawful.specs.Alone.{IsFreshPort}
-use Rattle.lawful.specs.ButTold.{IsLawfulButTold}
 use Rattle.lawful.specs.Happenings.{HappenBy, happened_at, happening}
 use Rattle.lawful.specs.Sample.{HasSampleHistory, IsSample, Sample, SampleIsLawful, WrongOnesAreRefused, entry_link, factory_link, factory_publish, first_pass, judged_yes, list_at_first, list_at_load, list_before_entry, load_judging, load_link, load_publish, loaded_alone, loaded_history, opening_link, pass_entered, pass_loaded, pass_staged, read_judging, sample_accounts, sample_bank, sample_history, sample_list, sample_node, sample_staging, stage_judging, staged_history, taken_history, wrong_reply}
-use Rattle.lawful.specs.Together.{AreServedTogether, IsBankOf, IsLoadPlaced, IsServedBeside}
+use Rattle.lawful.specs.Together.{AreServedTogether, IsBankOf, IsServedBeside}
 use Rattle.lawful.proofs.Keeping.{happened_elsewhere, opened_elsewhere}
 use Rattle.lawful.proofs.Links.{done_same, none_opens, none_other, none_shows, size_more}
 use Rattle.lawful.proofs.Loading.{effect_told, entries_done, loaded_program, publish_told}
@@ -68,12 +66,6 @@ use Rattle.lemmas.proofs.Prefixes.{prefix_same, prefix_shorter, prefix_whole}
 
 same_some : {A : Type 0} (a b : A) → Some a ≡ Some b → a ≡ b
 same_some a b e = cc e
-
--- a list of two that ends with the second begins with the first
-front_of_two : {A : Type 0} (old : List A) (a b : A) → old ++ b ∷ [] ≡ a ∷ b ∷ [] → old ≡ a ∷ []
-front_of_two [] a b e = absurd (let size = ap length e in omega (arith, size))
-front_of_two (c ∷ []) a b e = cc e
-front_of_two (c ∷ d ∷ old) a b e = absurd (let size = ap length e in let more = size_more old b in omega (arith, size, more))
 
 -- a list of which readers never saw too many stays so with one link more
 listed_more : (pre : List Link) (l : Link) → AreListed pre → shown_in (pre ++ l ∷ []) ≤ length (publishes_of (pre ++ l ∷ [])) → AreListed (pre ++ l ∷ [])
@@ -168,7 +160,7 @@ module _ (images : ImagesAreRead) (x : Sample) (is : IsSample x) where
   stage_last = stand (pass_staged x) [] (list_at_first x)
 
   abbrev load_last : Standing
-  load_last = stand (pass_loaded x) ((publishes_chain, Publishes (0, load_publish x)) ∷ []) (list_at_first x)
+  load_last = stand (pass_loaded x) ((publishes_chain, Publishes (0, load_publish x)) ∷ []) (list_at_load x)
 
   abbrev stage_is : IsJudged (stage_judging x) x.stage stage_first stage_last
   stage_is = record {
@@ -186,7 +178,8 @@ module _ (images : ImagesAreRead) (x : Sample) (is : IsSample x) where
       ended = (record { staged = record { status = refl; staging = refl; reply = refl }; rest = refl }, refl);
       entered = refl;
       asks_for = (refl, refl);
-      front = refl;
+      front = ([], refl);
+      moment = λ control. absurd (cc (control));
     });
   }
 
@@ -225,38 +218,21 @@ module _ (images : ImagesAreRead) (x : Sample) (is : IsSample x) where
       ended = record { ended = load_ends; reply = refl };
       entered = refl;
       asks_for = (refl, refl);
-      front = refl;
+      front = (load_link x ∷ [], refl);
+      moment = λ _. record {
+        met = list_at_first x;
+        seen = ([], refl);
+        published = refl;
+        did = refl;
+        goes = (load_link x ∷ [], refl);
+        publishes = refl;
+        does = refl;
+      };
     });
   }
 
   abbrev worked_at_0 : Worked stage_first (x.stage ∷ x.load ∷ []) (Judged (stage_judging x) ∷ Judged (load_judging x) ∷ []) load_last
   worked_at_0 = (stage_last, stage_is, (load_last, load_is, refl))
-
-  -- whatever the load met, it was the factory program
-  met : (it : IsWindowed (load_judging x) (stand load_is.between stage_last.asked load_is.reached) load_last) → it.old ≡ factory_publish x ∷ []
-  met it = front_of_two it.old (factory_publish x) (load_publish x) (sym it.asks_for.0 ∙ learnt)
-    where
-      line : EndsAs None load_is.between (pass_loaded x) it.old it.new (judged_yes x.load places.Control 0) it.result
-      line = subst (λ (l : Option Status). EndsAs l load_is.between (pass_loaded x) it.old it.new (judged_yes x.load places.Control 0) it.result) is.load_line it.ended.ended
-
-      learnt : it.new ≡ factory_publish x ∷ load_publish x ∷ []
-      learnt = elim line [
-        | inl done ↦ sym done.published.learnt
-        | inr refused ↦ absurd (let same = ap length refused.same in let more = ap length it.asks_for.0 ∙ size_more it.old (load_publish x) in omega (arith, same, more))
-      ]
-
-  load_placed : IsLoadPlaced 0 (sample_list x) (load_judging x) x.load stage_last load_last load_is
-  load_placed = λ publish it some.
-      let same = same_some (load_publish x) publish some in
-      record {
-        before = list_at_first x;
-        item = load_link x;
-        chain = refl;
-        deed = ap (λ (p : Publish). Does (Publishes (0, p))) same;
-        stands = (showing ∷ entry_link x ∷ [], refl);
-        seen = ([], refl);
-        met = sym (met it);
-      }
 
   number_first : (port k : ℕ) → number_at (first_pass x port) k ≡ 0
   number_first port zero = refl
@@ -283,13 +259,12 @@ module _ (images : ImagesAreRead) (x : Sample) (is : IsSample x) where
     fresh = fresh_at 0 first_there;
     port_is = refl;
     asked = refl;
-    begins = (load_link x ∷ showing ∷ entry_link x ∷ [], refl);
+    begins = (showing ∷ entry_link x ∷ [], refl);
     did = refl;
     in_full = (
       record { entered = λ bank. absurd (cc (bank)); loads = λ control. absurd (cc (control)) },
       (record { entered = λ bank. absurd (cc (bank)); loads = λ control line none. absurd (cc (none)) }, tt),
     );
-    placed = ((λ publish it some. absurd (cc (some))), (load_placed, tt));
   }
 
   -- ---- port 1
@@ -387,7 +362,6 @@ module _ (images : ImagesAreRead) (x : Sample) (is : IsSample x) where
     begins = ([], refl);
     did = refl;
     in_full = (record { entered = λ _. refl; loads = λ control. absurd (cc (control)) }, ((x.status, is.wrong_line), tt));
-    placed = ((λ publish it some. absurd (cc (some))), tt);
   }
 
   -- ---- all premises

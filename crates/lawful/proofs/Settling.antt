@@ -31,9 +31,10 @@ use Rattle.sched.specs.History.{History, Then, Open, port_of}
 use Rattle.sched.specs.Looking.{Node, staged_behind, staging}
 use Rattle.sched.specs.Turns.{answers_of}
 use Rattle.lawful.specs.Alone.{AreDealtInFull, IsJudgedInFull, IsRefusedForStaged}
-use Rattle.lawful.specs.ButTold.{IsLawfulButTold}
+use Rattle.sched.specs.Lawful.{IsLawfulButTold}
 use Rattle.lawful.specs.Happenings.{Happening, HappenBy, HappensBy, ending, happening, told_calls}
-use Rattle.lawful.specs.Together.{Account, AreLoadsPlaced, IsLoadPlaced}
+use Rattle.lawful.specs.Together.{Account}
+use Rattle.lawful.proofs.Placing.{AreLoadsPlaced, IsLoadPlaced}
 use Rattle.lawful.proofs.Accounts.{IsFrom, PublishesNone, ended, from_front, moment_stands}
 use Rattle.lawful.proofs.Alone.{Laws, ending_port, one_counted, worked_front}
 use Rattle.lawful.proofs.Growing.{dealt_grown, made, one_made, taken_longer}
@@ -227,7 +228,7 @@ quiet_end laws n whole q a pre now x there here common known some seen acts few 
         worked = x.worked;
         full = x.full;
         placed = x.placed;
-        from = from_front (length pre) after a.last x.ps x.ds x.worked (let size = ap length it.front in omega (arith, few, size));
+        from = from_front (length pre) after a.last x.ps x.ds x.worked (let size = prefix_length is.reached after.front it.front in omega (arith, few, size));
         still_is = tt;
         mine = of_after laws n q j x.p s after is x.mine;
         happened = x.happened ++ happening e done ∷ [];

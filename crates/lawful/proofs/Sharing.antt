@@ -26,9 +26,8 @@ use Rattle.ports.specs.Due.{Judging, Standing}
 use Rattle.sched.specs.declared.event.Event.TheVariants.{Effect}
 use Rattle.sched.specs.declared.event.Outcome.TheVariants.{Done}
 use Rattle.sched.specs.History.{History, Then, Open, opened}
-use Rattle.sched.specs.Lawful.{bank_answer, effect_outcome}
+use Rattle.sched.specs.Lawful.{IsOutcomeAtButTold, bank_answer, effect_outcome}
 use Rattle.sched.specs.Looking.{Node, entered, entries, entry_left, first_memory, has_room, memory, place_in, turn_of, verdict_at}
-use Rattle.lawful.specs.ButTold.{IsOutcomeAtButTold}
 use Rattle.lawful.specs.Together.{AreSomeEntries, IsBankOf, IsChainOf, IsSomeEntry}
 use Rattle.lawful.proofs.Entering.{IsDoneAt}
 use Rattle.lawful.proofs.Keeping.{apart, itself}

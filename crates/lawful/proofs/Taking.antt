@@ -21,10 +21,9 @@ use Rattle.sched.specs.Agreement.{program_and_generation}
 use Rattle.sched.specs.declared.event.Event.TheVariants.{Take}
 use Rattle.sched.specs.declared.event.Outcome.TheVariants.{Taken}
 use Rattle.sched.specs.History.{History, Then, opened}
-use Rattle.sched.specs.Lawful.{header_outcome, packet_outcome, take_outcome}
+use Rattle.sched.specs.Lawful.{IsLawfulButTold, header_outcome, packet_outcome, take_outcome}
 use Rattle.sched.specs.Looking.{Node, header_in, place_in, program_of, published, slot_at, slot_of_packet, turn_of, windows_in}
 use Rattle.sched.specs.Turns.{answers_of}
-use Rattle.lawful.specs.ButTold.{IsLawfulButTold}
 use Rattle.lawful.specs.Happenings.{Happening, happened_at, happening, told_calls}
 use Rattle.lawful.proofs.Idling.{IsKnown}
 use Rattle.lawful.proofs.Keeping.{Keeps, happened_here, keeps_on, one_elsewhere, opened_here, staging_here}

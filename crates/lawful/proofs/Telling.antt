@@ -16,7 +16,7 @@ use Rattle.sched.specs.declared.event.Outcome.TheVariants.{Told}
 use Rattle.sched.specs.History.{History, Then, Open, after_told, opened, port_of}
 use Rattle.sched.specs.Looking.{Node, cell_asked, header_in, program_of, turn_at, turn_by, turn_of}
 use Rattle.sched.specs.Turns.{answers_of}
-use Rattle.lawful.specs.ButTold.{IsLawfulButTold, IsOutcomeAtButTold, IsOutcomeButTold, IsSomeTold}
+use Rattle.sched.specs.Lawful.{IsLawfulButTold, IsOutcomeAtButTold, IsOutcomeButTold, IsSomeTold}
 use Rattle.lawful.specs.Happenings.{Happening, happened_at, told_call, told_calls}
 use Rattle.lawful.proofs.Keeping.{Keeps, happened_here, itself, keeps_on, keeps_same, one_elsewhere, opened_here, staging_here}
 use Rattle.lawful.proofs.Turning.{AreSmall, StandsAlong}

@@ -23,7 +23,7 @@ use Rattle.sched.specs.History.{History, Start, opened}
 use Rattle.sched.specs.Looking.{Node, staging}
 use Rattle.lawful.specs.Happenings.{Happening, HappenBy, happened_at}
 use Rattle.lawful.specs.Together.{Account, AreServedTogether, HaveLawfulHistory, ThreadsAreLawful, published_first}
-use Rattle.lawful.proofs.Accounts.{from_front, from_publish, load_acted, moment_stands}
+use Rattle.lawful.proofs.Accounts.{from_front, from_publish, load_acted, loads_placed, moment_stands}
 use Rattle.lawful.proofs.Alone.{Laws, worked_front}
 use Rattle.lawful.proofs.Growing.{taken_longer}
 use Rattle.lawful.proofs.Idling.{IsKnown}
@@ -557,7 +557,7 @@ module _ (laws : Laws) (n : Node) (accounts : ℕ → Account) (whole : List Lin
           idle = record {
             worked = beside.worked;
             full = beside.in_full;
-            placed = beside.placed;
+            placed = loads_placed laws q whole a.first a.last a.packets a.deeds beside.worked beside.port_is beside.begins;
             from = from_front 0 a.first a.last a.packets a.deeds beside.worked (omega arith);
             still_is = tt;
             mine = record {

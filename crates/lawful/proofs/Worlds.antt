@@ -20,9 +20,10 @@ use Rattle.sched.specs.History.{History, Start, Open, opened}
 use Rattle.sched.specs.Looking.{Node, entries, place_in, published, publishes, staging, turn_of, windows_in}
 use Rattle.sched.specs.Turns.{answers_of}
 use Rattle.lawful.specs.Alone.{AreDealtInFull, IsJudgedInFull}
-use Rattle.lawful.specs.ButTold.{IsLawfulButTold}
+use Rattle.sched.specs.Lawful.{IsLawfulButTold}
 use Rattle.lawful.specs.Happenings.{Happening, HappenBy, ending, happened_at, happening}
-use Rattle.lawful.specs.Together.{Account, AreLoadsPlaced}
+use Rattle.lawful.specs.Together.{Account}
+use Rattle.lawful.proofs.Placing.{AreLoadsPlaced}
 use Rattle.lawful.proofs.Accounts.{HasActed, IsFrom, LeavesEntry, PublishesOne, entry_acted}
 use Rattle.lawful.proofs.Alone.{worked_front}
 use Rattle.lawful.proofs.Entering.{IsDoneAt, asks_one, done_at}

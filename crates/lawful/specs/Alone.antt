@@ -29,7 +29,7 @@ use Rattle.ports.specs.Laws.{loaded_by, number_at}
 use Rattle.sched.specs.Agreement.{program_and_generation, slot_and_program}
 use Rattle.sched.specs.History.{History, opened}
 use Rattle.sched.specs.Looking.{Node, entries, published, staging, windows_in}
-use Rattle.lawful.specs.ButTold.{IsLawfulButTold}
+use Rattle.sched.specs.Lawful.{IsLawfulButTold}
 use Rattle.lawful.specs.Happenings.{HappenBy, happened_at}
 
 -- ---- premises

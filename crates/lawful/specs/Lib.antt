@@ -1,5 +1,5 @@
-pub mod ButTold
 pub mod Happenings
 pub mod Alone
 pub mod Together
+pub mod Once
 pub mod Sample

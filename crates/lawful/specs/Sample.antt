@@ -42,9 +42,9 @@ use Rattle.ports.specs.Due.Deed.{Answered as Replied, Judged}
 use Rattle.sched.specs.declared.event.Event.TheVariants.{Take, Effect, Publish as PublishEvent}
 use Rattle.sched.specs.declared.event.Outcome.TheVariants.{Answered, Taken, Done}
 use Rattle.sched.specs.History.{History, Start, Then}
+use Rattle.sched.specs.Lawful.{IsLawfulButTold}
 use Rattle.sched.specs.Looking.{Node, publishes, windows_in}
 use Rattle.sched.specs.Turns.{turn_after}
-use Rattle.lawful.specs.ButTold.{IsLawfulButTold}
 use Rattle.lawful.specs.Together.{Account, AreServedTogether, HaveLawfulHistory}
 
 -- ---- what is given
@@ -201,7 +201,7 @@ wrong_reply x = reply_of (command_of x.wrong) x.status []
 abbrev pub sample_accounts : Sample → ℕ → Account
 sample_accounts x zero = record {
   first = stand (first_pass x 0) [] [];
-  last = stand (pass_loaded x) ((publishes_chain, Publishes (0, load_publish x)) ∷ []) (list_at_first x);
+  last = stand (pass_loaded x) ((publishes_chain, Publishes (0, load_publish x)) ∷ []) (list_at_load x);
   packets = x.stage ∷ x.load ∷ [];
   deeds = Judged (stage_judging x) ∷ Judged (load_judging x) ∷ [];
 }

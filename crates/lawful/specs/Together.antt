@@ -1,7 +1,7 @@
 -- The law of all ports: what threads did at the ports of a node, side by side, is a lawful history of the node but for what cells
 -- told. A command is taken at the moment at which readers saw the programs by which it was judged. A command of a bank is done where
 -- its entry stands in the one list of the node, and a load where readers see its program.
-use Rattle.std.specs.Prelude.{◌≡◌, ◌<◌, ◌≤◌, ◌+◌, ◌++◌, ◌^◌, ℕ, List, [], ◌∷◌, length, map, slice_get, Some, None, option_map}
+use Rattle.std.specs.Prelude.{◌≡◌, ◌<◌, ◌≤◌, ◌+◌, ◌^◌, ℕ, List, [], ◌∷◌, length, map, slice_get, Some, None, option_map}
 use mathlib.Core.List.{IsPrefix}
 use Rattle.spw.specs.Cargo.{Cargo}
 use Rattle.annals.specs.declared.deed.Act.TheVariants.{Leaves, Sets, Rotates, Publishes}
@@ -15,13 +15,12 @@ use Rattle.annals.specs.Shown.{AreListed, shown_in}
 use Rattle.node_programs.specs.declared.publishes.Publish.{Publish}
 use Rattle.node_programs.specs.Published.{judging_program}
 use Rattle.node_parts.specs.declared.config.BankConfig.{BankConfig}
-use Rattle.ports.specs.Due.{Deed, IsJudged, IsWindowed, Judging, Standing, Worked, stand}
-use Rattle.ports.specs.Due.Deed.{Dropped, Answered, Judged}
+use Rattle.ports.specs.Due.{Deed, Standing, Worked}
 use Rattle.sched.specs.Agreement.{program_and_generation, slot_and_program}
 use Rattle.sched.specs.History.{History, opened}
 use Rattle.sched.specs.Looking.{Node, entries, published, publishes, staging}
 use Rattle.lawful.specs.Alone.{AreDealtInFull, IsFreshPort}
-use Rattle.lawful.specs.ButTold.{IsLawfulButTold}
+use Rattle.sched.specs.Lawful.{IsLawfulButTold}
 use Rattle.lawful.specs.Happenings.{HappenBy, happened_at}
 
 -- ---- premises
@@ -33,33 +32,6 @@ pub record Account : Type 0 where
   pub packets : List Cargo
   pub deeds : List Deed
 
--- the publish of that port is in the list right after those that the load met, and after all that the port knew then
-pub record IsPlaced (port : ℕ) (whole known : List Link) (old : List Publish) (publish : Publish) : Type 0 where
-  pub before : List Link
-  pub item : Link
-  pub chain : item.chain ≡ publishes_chain
-  pub deed : item.deed ≡ Does (Publishes (port, publish))
-  pub stands : IsPrefix (before ++ item ∷ []) whole
-  pub seen : IsPrefix known before
-  pub met : publishes_of before ≡ old
-
--- what a command published, if it did, is at its place in the list
-abbrev pub IsLoadPlaced : (port : ℕ) (whole : List Link) (j : Judging) (p : Cargo) (h after : Standing) → IsJudged j p h after → Type 0
-IsLoadPlaced port whole j p h after is =
-    (publish : Publish) (windowed : IsWindowed j (stand is.between h.asked is.reached) after)
-    → j.loaded ≡ Some publish → IsPlaced port whole is.reached windowed.old publish
-
--- the same of what became of some packets
-abbrev pub AreLoadsPlaced : (port : ℕ) (whole : List Link) (h : Standing) (ps : List Cargo) (ds : List Deed) (after : Standing)
-    → Worked h ps ds after → Type 0
-AreLoadsPlaced port whole h [] [] after worked = Unit {0}
-AreLoadsPlaced port whole h [] (d ∷ ds) after worked = Unit {0}
-AreLoadsPlaced port whole h (p ∷ ps) [] after worked = Unit {0}
-AreLoadsPlaced port whole h (p ∷ ps) (Dropped ∷ ds) after worked = AreLoadsPlaced port whole worked.0 ps ds after worked.2
-AreLoadsPlaced port whole h (p ∷ ps) (Answered reply ∷ ds) after worked = AreLoadsPlaced port whole worked.0 ps ds after worked.2
-AreLoadsPlaced port whole h (p ∷ ps) (Judged j ∷ ds) after worked =
-    IsLoadPlaced port whole j p h worked.0 worked.1 × AreLoadsPlaced port whole worked.0 ps ds after worked.2
-
 -- a fresh port of the node was served beside others: the list of the node has all that it knows, and of the port what it asked for,
 -- and nothing else; and nothing was wanting
 pub record IsServedBeside (n : Node) (whole : List Link) (port : ℕ) (account : Account) : Type 0 where
@@ -70,7 +42,6 @@ pub record IsServedBeside (n : Node) (whole : List Link) (port : ℕ) (account :
   pub begins : IsPrefix account.last.front whole
   pub did : done_for port whole ≡ account.last.asked
   pub in_full : AreDealtInFull n account.first account.packets account.deeds account.last worked
-  pub placed : AreLoadsPlaced port whole account.first account.packets account.deeds account.last worked
 
 -- a deed at a bank is an entry
 abbrev pub IsSomeEntry : LinkDeed → Type 0

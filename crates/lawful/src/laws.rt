@@ -1,7 +1,7 @@
 //! The laws of what threads did. Each function does no work: its contract is the law.
 
 ghost use Rattle.lawful.specs.Alone.{OnePortIsLawful};
-ghost use Rattle.lawful.specs.ButTold.{LawfulIsButTold};
+ghost use Rattle.lawful.specs.Once.{ThreadsJudgeOnce};
 ghost use Rattle.lawful.specs.Sample.{SampleIsLawful};
 ghost use Rattle.lawful.specs.Together.{ThreadsAreLawful};
 
@@ -9,13 +9,7 @@ use bpf::image_laws;
 use machine::runs_from_the_front;
 use node_programs::published_programs;
 use ports::workers_shares_count;
-use sched::published_agrees;
-
-/// A law and no work: a history whose answers are words is lawful exactly if it is lawful apart from what cells answered, and
-/// cells answered what looking back gives.
-pub fn told_apart()
-    ensures { LawfulIsButTold }
-{}
+use sched::{every_history_judges_once, published_agrees};
 
 /// A law and no work: what a thread did at a fresh port, the only one that was served, is a lawful history of the node, apart
 /// from what cells answered. Programs may be published before the first packet, of all of which the port knows. At the port
@@ -43,6 +37,15 @@ pub fn threads_are_lawful()
     published_programs();
     workers_shares_count();
     published_agrees();
+}
+
+/// A law and no work: the headline in threads. In one such history each command that was done was judged once, by the program that
+/// was published for its slot when it was taken. The premises are those of [`threads_are_lawful`].
+pub fn threads_judge_once()
+    ensures { ThreadsJudgeOnce }
+{
+    threads_are_lawful();
+    every_history_judges_once();
 }
 
 /// A law and no work: a worked example of [`threads_are_lawful`]. Two ports serve a bank: one loads a program, and the other reads

@@ -2,10 +2,10 @@
 //!
 //! A history is lawful if each outcome is the one that looking back from its place gives ([`sched`]). The laws here leave out what
 //! cells answered, since each word of a cell has an order of its own: tickets of two words that two ports draw in opposite orders
-//! need have no order in common. [`told_apart`] says that nothing else is left out. [`one_port_is_lawful`] is the law of the only
-//! port that was served.
+//! need have no order in common. Nothing else is left out: a lawful history is one that is lawful apart from that, and in which cells
+//! answered what looking back gives. [`one_port_is_lawful`] is the law of the only port that was served.
 #![tactic(auto)]
 
 mod laws;
 
-pub use laws::{one_port_is_lawful, sample_is_lawful, threads_are_lawful, told_apart};
+pub use laws::{one_port_is_lawful, sample_is_lawful, threads_are_lawful, threads_judge_once};

@@ -5,7 +5,7 @@ use mathlib.Core.List.{IsPrefix}
 use Rattle.spw.specs.Cargo.{Cargo}
 use Rattle.rmap.specs.declared.discard.Discard.{Discard}
 use Rattle.rmap.specs.declared.places.Place.{Place}
-use Rattle.rmap.specs.declared.places.Place.TheVariants.{Bank, Control}
+use Rattle.rmap.specs.declared.places.Place.TheVariants.{Bank, Staging, LoadResult, Control}
 use Rattle.rmap.specs.declared.status.Status.{Status}
 use Rattle.bank.specs.Records.{JudgedValue, has_room}
 use Rattle.node_programs.specs.declared.publishes.Publish.{Publish}
@@ -21,7 +21,8 @@ use Rattle.annals.specs.Chains.{Due}
 use Rattle.annals.specs.Shown.{IsTakenAt}
 use Rattle.target.specs.Loads.{AsksForLoad}
 use Rattle.target.specs.Passes.{PortPass}
-use Rattle.ports.specs.Due.{Judging, stand, standing, IsBanked, IsWindowed, HasFinished, HasLoadEnd, HasDealt}
+use Rattle.ports.specs.Due.{Judging, stand, standing, IsBanked, IsWindowed, HasFinished, HasLoadEnd, HasMet, HasDealt}
+use Rattle.lemmas.proofs.Prefixes.{prefix_trans}
 use Rattle.ports.specs.Due.Deed.{Dropped, Answered, Judged}
 
 pub stopped : (h after : PortPass) (f : List Link) (p : Cargo) (d : Discard) (reply : List ℕ) → IsStopped (stops.Discarded d) p h.pass.windows reply → after.pass ≡ h.pass → after.asked ≡ h.asked → HasDealt p (standing h f) (standing after f) reply true
@@ -73,12 +74,20 @@ banked h between after f seen reached p j k reply moment is line at end =
 begins_itself : (xs : List Publish) → IsPrefix xs xs
 begins_itself xs = ([], append-nil xs)
 
+links_itself : (xs : List Link) → IsPrefix xs xs
+links_itself xs = ([], append-nil xs)
+
+-- a place of the staging is no control write
+no_control : (place own : Place) → place ≡ own → (place ≡ Staging) ⊎ (place ≡ LoadResult) → own ≡ Control → ⊥
+no_control place own same (inl bytes) at = cc (same, bytes, at)
+no_control place own same (inr loaded) at = cc (same, loaded, at)
+
 windowed : (h between after : PortPass) (f seen : List Link) (p : Cargo) (j : JudgedValue) (result : Status) (reply : List ℕ) → IsTakenAt f seen between.pass.programs → IsJudgement h.pass between.pass p j → after.asked ≡ h.asked
-    → EndsAtWindow j.place between.pass after.pass between.pass.programs between.pass.programs j result reply → HasDealt p (standing h f) (standing after seen) reply false
+    → EndsAtWindow j.place between.pass after.pass between.pass.programs between.pass.programs j result reply → (j.place ≡ Control → ⊥) → HasDealt p (standing h f) (standing after seen) reply false
 unfolding judging_of
-windowed h between after f seen p j result reply moment is line end =
+windowed h between after f seen p j result reply moment is line end other =
     let programs = between.pass.programs in
-    judged_so h after between.pass f seen seen p j reply false None moment is (inr (record { old = programs; new = programs; begins = begins_itself programs; result = result; ended = end; entered = refl; asks_for = (refl, line); front = refl }))
+    judged_so h after between.pass f seen seen p j reply false None moment is (inr (record { old = programs; new = programs; begins = begins_itself programs; result = result; ended = end; entered = refl; asks_for = (refl, line); front = links_itself seen; moment = λ at. absurd (other at) }))
 
 pub staged : (h between after : PortPass) (f seen : List Link) (p : Cargo) (j : JudgedValue) (place : Place) (result : Status) (reply : List ℕ) → IsTakenAt f seen between.pass.programs → IsJudgement h.pass between.pass p j → between.asked ≡ h.asked → place ≡ j.place → IsStagingPlace place
     → IsStagedAt between.pass after.pass j result reply → after.asked ≡ between.asked → HasDealt p (standing h f) (standing after seen) reply false
@@ -87,13 +96,13 @@ staged h between after f seen p j place result reply moment is line same at end 
     windowed h between after f seen p j result reply moment is (still ∙ line) (subst (λ x. EndsAtWindow x between.pass after.pass programs programs j result reply) same (elim at [
       | inl bytes ↦ subst (λ x. EndsAtWindow x between.pass after.pass programs programs j result reply) (sym bytes) (end, refl)
       | inr loaded ↦ subst (λ x. EndsAtWindow x between.pass after.pass programs programs j result reply) (sym loaded) (end, refl)
-    ]))
+    ])) (no_control place j.place same at)
 
-pub loaded : (h between after : PortPass) (f seen : List Link) (p : Cargo) (j : JudgedValue) (reply : List ℕ) → IsTakenAt f seen between.pass.programs → IsJudgement h.pass between.pass p j → between.asked ≡ h.asked → j.place ≡ Control
-    → HasLoadEnd between.pass after.pass between.asked after.asked j reply → HasDealt p (standing h f) (standing after seen) reply false
+pub loaded : (h between after : PortPass) (f seen reached : List Link) (p : Cargo) (j : JudgedValue) (reply : List ℕ) → IsTakenAt f seen between.pass.programs → IsJudgement h.pass between.pass p j → between.asked ≡ h.asked → j.place ≡ Control
+    → HasLoadEnd seen reached between.pass after.pass between.asked after.asked j reply → HasDealt p (standing h f) (standing after reached) reply false
 unfolding judging_of
-loaded h between after f seen p j reply moment is line at end =
-    judged_so h after between.pass f seen seen p j reply false end.loaded moment is (inr (record {
+loaded h between after f seen reached p j reply moment is line at end =
+    judged_so h after between.pass f seen reached p j reply false end.loaded moment is (inr (record {
       old = end.old;
       new = end.new;
       begins = end.begins;
@@ -101,7 +110,8 @@ loaded h between after f seen p j reply moment is line at end =
       ended = subst (λ place. EndsAtWindow place between.pass after.pass end.old end.new j end.result reply) (sym at) end.ended;
       entered = refl;
       asks_for = subst (λ (l : List Due). AsksForLoad between.pass.port end.loaded end.old end.new l after.asked) line end.asks_for;
-      front = refl;
+      front = prefix_trans seen end.moment.met reached end.moment.seen end.moment.goes;
+      moment = λ _. subst (λ (l : List Due). HasMet between.pass.port seen reached end.old end.new l after.asked) line end.moment;
     }))
 
 -- a bank that a judged command has as its place is one of the node's

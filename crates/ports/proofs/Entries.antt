@@ -92,7 +92,7 @@ step port known j h after by moment (inl banked) = elim (cases_Bool j.entered) [
 ]
 step port known j h after by moment (inr windowed) =
     subst (λ b. MatchBool b (HasEntered port known after.front j) (IsPrefix known after.front)) (sym windowed.entered)
-    (prefix_trans known h.front after.front (shown_begins known h.front j moment) (prefix_same h.front after.front windowed.front))
+    (prefix_trans known h.front after.front (shown_begins known h.front j moment) windowed.front)
 
 -- the history that a port knows may have begun earlier
 entered_since : (port : ℕ) (known first reached : List Link) (j : Judging) → IsPrefix known first → HasEntered port first reached j → HasEntered port known reached j

@@ -6,7 +6,7 @@ use mathlib.Core.List.{IsPrefix}
 use Rattle.machine.specs.declared.calls.Call.{Call}
 use Rattle.spw.specs.Cargo.{Cargo}
 use Rattle.rmap.specs.declared.discard.Discard.{Discard}
-use Rattle.rmap.specs.declared.places.Place.TheVariants.{Bank}
+use Rattle.rmap.specs.declared.places.Place.TheVariants.{Bank, Control}
 use Rattle.rmap.specs.declared.status.Status.{Status}
 use Rattle.rmap.specs.Command.{discard_of}
 use Rattle.bver.specs.Justified.{AcceptedValue}
@@ -21,7 +21,8 @@ use Rattle.node_parts.specs.Loaded.{IsLoadEnd}
 use Rattle.node_parts.specs.Served.{EndsAtWindow}
 use Rattle.annals.specs.declared.deed.Link.{Link}
 use Rattle.annals.specs.Banks.{KeptValue, takes}
-use Rattle.annals.specs.Chains.{Due}
+use Rattle.annals.specs.Chains.{Due, done_for}
+use Rattle.annals.specs.Publishes.{publishes_of}
 use Rattle.annals.specs.Shown.{IsTakenAt}
 use Rattle.target.specs.Finished.{AsksForEntry, IsFinishedAt}
 use Rattle.target.specs.Loads.{AsksForLoad}
@@ -128,9 +129,21 @@ pub record IsBanked (judging : Judging) (h after : Standing) : Type 0 where
       ≡ (takes ended.before (share_of h.pass judging.judged.place) judging.judged
       && has_room ended.before.bank judging.judged.port)
 
+-- what a port knows of the history by a load: there was a moment after all that the port knew, at which that list had been
+-- published and the port had done what it asked for; and there was one after it, at which both are what the load left
+pub record HasMet (port : ℕ) (known reached : List Link) (old new : List Publish) (asked asks : List Due) : Type 0 where
+  pub met : List Link
+  pub seen : IsPrefix known met
+  pub published : publishes_of met ≡ old
+  pub did : done_for port met ≡ asked
+  pub goes : IsPrefix met reached
+  pub publishes : publishes_of reached ≡ new
+  pub does : done_for port reached ≡ asks
+
 -- a judged control write ended, where some list had been published, which began with all that the port knew; its port asked
--- for what it published, and for nothing else
-pub record HasLoadEnd (holder after : PassValue) (asked asks : List Due) (j : JudgedValue) (reply : List ℕ) : Type 0 where
+-- for what it published, and for nothing else; and where in the history that was
+pub record HasLoadEnd (known reached : List Link) (holder after : PassValue) (asked asks : List Due) (j : JudgedValue)
+    (reply : List ℕ) : Type 0 where
   pub old : List Publish
   pub new : List Publish
   pub begins : IsPrefix holder.programs old
@@ -138,9 +151,11 @@ pub record HasLoadEnd (holder after : PassValue) (asked asks : List Due) (j : Ju
   pub ended : IsLoadEnd holder after old new j result reply
   pub loaded : Option Publish
   pub asks_for : AsksForLoad holder.port loaded old new asked asks
+  pub moment : HasMet holder.port known reached old new asked asks
 
 -- a judged command ended in the boot window, where some list had been published, which began with all that the port
--- knew; its port asked for what it published, and for nothing else, and knows of the history what it knew
+-- knew; its port asked for what it published, and for nothing else. Of a control write the port knows where in the history that
+-- was, and it forgets nothing
 pub record IsWindowed (judging : Judging) (h after : Standing) : Type 0 where
   pub old : List Publish
   pub new : List Publish
@@ -149,7 +164,9 @@ pub record IsWindowed (judging : Judging) (h after : Standing) : Type 0 where
   pub ended : EndsAtWindow judging.judged.place h.pass after.pass old new judging.judged result judging.reply
   pub entered : judging.entered ≡ false
   pub asks_for : AsksForLoad h.pass.port judging.loaded old new h.asked after.asked
-  pub front : after.front ≡ h.front
+  pub front : IsPrefix h.front after.front
+  pub moment : judging.judged.place ≡ Control
+      → HasMet h.pass.port h.front after.front old new h.asked after.asked
 
 -- the command of the packet was judged in one run, which left the port so, by the programs that readers saw at one moment of the
 -- history, after what the port knew; and it ended at some bank or in the boot window

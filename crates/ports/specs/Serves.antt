@@ -6,6 +6,8 @@ use mathlib.Core.List.{IsPrefix}
 use Rattle.annals.specs.declared.deed.Link.{Link}
 use Rattle.target.specs.Lines.{CountsAllOf}
 use Rattle.annals.specs.Chains.{done_for}
+use Rattle.annals.specs.Publishes.{publishes_of}
+use Rattle.annals.specs.Shown.{AreListed, shown_in}
 use Rattle.ports.specs.Laws.{AreAllEntries, AreAllPublishes}
 use Rattle.ports.specs.Queue.{IsServePassOf, IsServePassAfter}
 use Rattle.ports.specs.Sinks.{SentReply, cut}
@@ -101,12 +103,15 @@ IsTold log worker =
     IsPrefix worker.front log × IsPrefix worker.pass.asked (done_for worker.pass.pass.port log)
 
 -- what the workers know of the history of their node begins one list, which has no entries of their ports but those that their
--- shares count, and of their ports what they asked for, and nothing else
+-- shares count, and of their ports what they asked for, and nothing else; at each moment of it readers saw no program that was not
+-- published, and in the end they see all
 pub record ShareOneHistory {J S : Type 0} (workers : List (Worker J S)) : Type 0 where
   pub whole : List Link
   pub begin : All (λ (w : Worker J S). IsPrefix w.front whole) workers
   pub counted : All (λ (w : Worker J S). CountsAllOf w.pass.pass whole) workers
   pub asked : All (λ (w : Worker J S). done_for w.pass.pass.port whole ≡ w.pass.asked) workers
+  pub listed : AreListed whole
+  pub shown : length (publishes_of whole) ≤ shown_in whole
 
 -- each worker served its port until the end mark and stands at its place again; that report is the sum of theirs; what they
 -- know of the history of the node's banks begins one list, and of that list each entry of a worker's port, but for those

@@ -3,6 +3,9 @@
 ghost use Rattle.std.specs.Prelude.{◌≡◌, ◌+◌, ◌≤◌, ◌++◌, ◌⊎◌, true, false, IfNone, IfOk, IfSome, None, Some, OnErr, length, map, vec_len, vec_capacity};
 ghost use Rattle.std.specs.List.{All};
 ghost use Rattle.std.specs.PromisedHandle.{KeepsEach};
+ghost use mathlib.Core.List.{IsPrefix};
+ghost use Rattle.annals.specs.Publishes.{publishes_of};
+ghost use Rattle.annals.specs.Shown.{AreListed, shown_in};
 ghost use Rattle.ports.specs.Serves.{AreServed, HasRoomFor, HaveComeBack, HaveServed, IsOneMissing, IsShort, IsSumOf, IsTold, IsTotalOf, ShareOneHistory};
 
 use crate::gate::Gate;
@@ -12,7 +15,7 @@ use crate::starts::{Ended, start_each};
 use crate::worker::{Report, Worker};
 use annals::{acts_grow, loads_are_apart};
 use std::alloc::Global;
-use std::sync::{Mutex, Wait};
+use std::sync::{Mutex, MutexGuard, Wait};
 use std::thread::{Promise, PromisedHandle, Threads};
 use target::{Family, Front, Node};
 use thiserror::Error;
@@ -62,22 +65,46 @@ fn both(total: Option<Report>, report: Option<Report>) -> Option<Report>
     Some(total?.plus(report?))
 }
 
-/// What anybody knew of the history, all that the workers know of it, and all that their ports did there.
-fn all_known<J: Family, S: Sink + Drop>(ended: &[Ended<J, S>], mut known: Front<J>) -> Front<J>
-    ensures { All (λ e. IsTold result e.worker) ended.now }
+/// Somebody learns all that was published, and that readers see it.
+fn show_all<R: Wait, J: Family, Q: Wait + Drop>(rt: &R, node: &Node<J, Q>, known: &mut Front<J>)
+    ensures seen { IsPrefix known.old known.new }
+    ensures shown { length (publishes_of known.new) ≤ shown_in known.new }
+    ensures listed { AreListed known.new }
+{
+    let mut guard = node.publisher().lock(rt);
+    let publisher = &mut *guard;
+    publisher.tell(known);
+    publisher.knows_all(known);
+    MutexGuard::unlock(guard);
+}
+
+/// What anybody knew of the history, all that the workers know of it, all that their ports did there, and all that was published,
+/// which readers see.
+fn all_known<R: Wait, J: Family, Q: Wait + Drop, S: Sink + Drop>(
+    rt: &R,
+    node: &Node<J, Q>,
+    ended: &[Ended<J, S>],
+    mut known: Front<J>,
+) -> Front<J>
+    ensures told { All (λ e. IsTold result e.worker) ended.now }
+    ensures shown { length (publishes_of result) ≤ shown_in result }
+    ensures listed { AreListed result }
 {
     acts_grow();
     for one in ended {
         known.learn(&one.worker.front);
         one.worker.pass.tell(&mut known);
     }
+    show_all(rt, node, &mut known);
     known
 }
 
 /// The workers that came back, in order, in a list that has the room, and the sum of their reports where each served. What
 /// the workers know of the history begins one list, which has no entries of their ports but those that their shares count, and
 /// of their ports what they asked for.
-fn gather<J: Family, S: Sink + Drop>(
+fn gather<R: Wait, J: Family, Q: Wait + Drop, S: Sink + Drop>(
+    rt: &R,
+    node: &Node<J, Q>,
     ended: Vec<Ended<J, S>>,
     mut workers: Vec<Worker<J, S>>,
     known: Front<J>,
@@ -93,7 +120,7 @@ fn gather<J: Family, S: Sink + Drop>(
         discarded: 0,
         lost: 0,
     });
-    let whole = all_known(ended.as_slice(), known);
+    let whole = all_known(rt, node, ended.as_slice(), known);
     for one in ended {
         total = both(total, one.report);
         let mut worker = one.worker;
@@ -187,7 +214,13 @@ pub fn serve<
         threads,
         rest,
     );
-    let (workers, total) = gather(join_each(rt, started.threads, ended), back, node.front());
+    let (workers, total) = gather(
+        rt,
+        node,
+        join_each(rt, started.threads, ended),
+        back,
+        node.front(),
+    );
     match of_all(started.all, total) {
         Some(report) => (workers, Ok(report)),
         None => (with_rest(workers, started.rest), Err(ServeFault::Memory)),

@@ -6,6 +6,7 @@ ghost use Rattle.std.specs.Arc.{arc_value};
 ghost use mathlib.Core.List.{IsPrefix};
 ghost use Rattle.annals.specs.Chains.{instrument};
 ghost use Rattle.annals.specs.Publishes.{line_loading, publishes_chain, publishes_of};
+ghost use Rattle.annals.specs.Shown.{AreListed, shown_in};
 ghost use Rattle.node_programs.specs.Histories.{entry, longer_history};
 ghost use Rattle.publish.specs.Reached.{reached};
 
@@ -152,6 +153,27 @@ impl<J: Family> History<J> {
         ensures same { self.new ≡ self.old }
     {
         self.chain.has_published(&front.beginning);
+    }
+
+    /// The publishes that anybody has seen begin it.
+    pub(crate) fn knows_all(&mut self, known: &annals::Front<J>)
+        ensures begins { IsPrefix (publishes_of known.now) self.old }
+        ensures same { self.new ≡ self.old }
+    {
+        self.chain.knows_published(known);
+    }
+
+    /// Somebody learns all of it, and that readers see it.
+    pub(crate) fn tell(&self, shown_count: &ShownCount<J>, known: &mut annals::Front<J>)
+        ensures old { IsPrefix known.old known.new }
+        ensures told { IsPrefix self.now (publishes_of known.new) }
+        ensures shown { length self.now ≤ shown_in known.new }
+        ensures listed { AreListed known.new }
+    {
+        publishes_grow();
+        let own = self.chain.beginning().front();
+        let least = shown_count.count(known);
+        let _taken = shown_count.settle(known, least, &own, self.count);
     }
 
     /// Readers see its last program too, if they saw all before it.

@@ -2,7 +2,8 @@
 
 ghost use Rattle.std.specs.Prelude.{◌≡◌, ◌<◌, ◌≤◌, ◌^◌, [], length, drop, fold, IfOk, OnOk, OnErr, IfErr, Err};
 ghost use mathlib.Core.List.{IsPrefix};
-ghost use Rattle.annals.specs.Publishes.{line_loading};
+ghost use Rattle.annals.specs.Publishes.{line_loading, publishes_of};
+ghost use Rattle.annals.specs.Shown.{AreListed, shown_in};
 ghost use Rattle.node_programs.specs.Histories.{entry, longer_history};
 ghost use Rattle.node_programs.specs.Published.{sizes_of};
 ghost use Rattle.publish.specs.Reached.{reached};
@@ -126,6 +127,24 @@ impl<J: Family, R: Wait + Drop> Publisher<J, R> {
         }
         replace_with(&mut self.writer, &self.rt, |writer, rt| flushed(rt, writer));
         Ok(())
+    }
+
+    /// Somebody learns so much of the node's history that it has all that was published, and that readers see all of it.
+    pub fn tell(&self, known: &mut annals::Front<J>)
+        ensures old { IsPrefix known.old known.new }
+        ensures told { IsPrefix self.now (publishes_of known.new) }
+        ensures shown { length self.now ≤ shown_in known.new }
+        ensures listed { AreListed known.new }
+    {
+        self.history.tell(&self.shown_count, known);
+    }
+
+    /// The publishes that anybody has seen of the node's history begin what was published.
+    pub fn knows_all(&mut self, known: &annals::Front<J>)
+        ensures begins { IsPrefix (publishes_of known.now) self.old }
+        ensures same { self.new ≡ self.old }
+    {
+        self.history.knows_all(known);
     }
 
     /// What was reached of the history is a beginning of what was published.

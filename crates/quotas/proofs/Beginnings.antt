@@ -9,7 +9,7 @@ use Rattle.sched.specs.declared.event.Outcome.{Outcome}
 use Rattle.sched.specs.declared.event.Outcome.TheVariants.{Told}
 use Rattle.sched.specs.Headline.{Begins, whole, longer}
 use Rattle.sched.specs.History.{History, Then, port_of}
-use Rattle.sched.specs.Lawful.{IsLawful, told_on}
+use Rattle.sched.specs.Lawful.{IsLawful, IsToldOf}
 use Rattle.sched.specs.Looking.{Node, argument_asked, cell_asked, draws, is_cell_of_node, is_told, tickets, turn_at}
 use Rattle.quotas.specs.Matches.{IsDraw}
 
@@ -25,7 +25,7 @@ same_or_shorter (longer x) = inr x
 
 pub lawful_before : (n : Node) {a h : History} → Begins a h → IsLawful n h → IsLawful n a
 lawful_before n whole lawful = lawful
-lawful_before n (longer x) lawful = lawful_before n x lawful.0
+lawful_before n (longer x) lawful = lawful_before n x (record { but_told = lawful.but_told.0; told = lawful.told.0 })
 
 no_less : (t : Bool) (k : ℕ) → k ≤ (if t then k + 1 else k)
 no_less true k = omega arith
@@ -46,11 +46,11 @@ ticket_counts n h event outcome map key answer draw =
 
 -- ---- what a draw is told
 
-told_there : (n : Node) (h : History) (map key argument : ℕ) (cell : Option (ℕ × ℕ)) → is_cell_of_node cell map key ≡ true → told_on n h helpers.Ticket argument cell ≡ Told (tickets n h map key % 2 ^ 64)
-told_there n h map key argument None is = cc
-told_there n h map key argument (Some cell) is =
+told_there : (n : Node) (h : History) (map key argument : ℕ) (cell : Option (ℕ × ℕ)) (outcome : Outcome) → is_cell_of_node cell map key ≡ true → IsToldOf n h helpers.Ticket argument cell outcome → outcome ≡ Told (tickets n h map key % 2 ^ 64)
+told_there n h map key argument None outcome is told = absurd cc
+told_there n h map key argument (Some cell) outcome is told =
     let parts = and_parts (cell.0 == map) (cell.1 == key) is in
-    ap₂ (λ (m k : ℕ). Told (tickets n h m k % 2 ^ 64)) (eqb-true _ _ parts.0) (eqb-true _ _ parts.1)
+    told ∙ ap₂ (λ (m k : ℕ). Told (tickets n h m k % 2 ^ 64)) (eqb-true _ _ parts.0) (eqb-true _ _ parts.1)
 
 told-is : (a b : ℕ) → Told a ≡ Told b → a ≡ b
 told-is a b e = cc
@@ -65,5 +65,5 @@ told_tickets n h (Publish port) outcome map key answer lawful draw = let no_draw
 told_tickets n h (Ticket port) outcome map key answer lawful draw = by (cases_lt port n.ports)
   where
     by : (port < n.ports) ⊎ (n.ports ≤ port) → answer ≡ tickets n h map key % 2 ^ 64
-    by (inl there) = told-is _ _ (sym draw.told ∙ lawful.1.here there ∙ told_there n h map key (argument_asked (turn_at n h port)) (cell_asked helpers.Ticket (turn_at n h port)) draw.asked)
-    by (inr nowhere) = let refused = lawful.1.nowhere nowhere in let told = draw.told in cc
+    by (inl there) = told-is _ _ (sym draw.told ∙ told_there n h map key (argument_asked (turn_at n h port)) (cell_asked helpers.Ticket (turn_at n h port)) outcome draw.asked (lawful.told.1 there))
+    by (inr nowhere) = let refused = lawful.but_told.1.nowhere nowhere in let told = draw.told in cc

@@ -23,7 +23,7 @@ use Rattle.sched.specs.declared.event.Outcome.{Outcome}
 use Rattle.sched.specs.declared.event.Outcome.TheVariants.{Refused, Discarded, Answered, Taken, Told, Done}
 use Rattle.sched.specs.Headline.{Begins, EveryScheduleJudgesOnce, IsJudgedOnce, whole, longer}
 use Rattle.sched.specs.History.{History, Start, Then, Open, after_told, opened, opened_by, port_of, taken_by, with_answer}
-use Rattle.sched.specs.Lawful.{IsLawful, IsOutcomeAt, IsPublishOutcome, IsPublishedBy, effect_at_turn, effect_outcome, take_outcome, helper_outcome}
+use Rattle.sched.specs.Lawful.{IsLawful, IsOutcomeAtButTold, IsPublishOutcome, IsPublishedBy, IsSomeTold, effect_at_turn, effect_outcome, take_outcome}
 use Rattle.sched.specs.Looking.{Node, cell_asked, draws, header_in, is_cell_of_node, program_of, turn_at, turn_by, turn_of}
 use Rattle.sched.specs.Turns.{AreWords, HasAsked, HasEnded, TurnsArePaths, answers_of}
 use Rattle.quotas.specs.Matches.{IsMatched, MatchesAreCounted, from_take}
@@ -132,17 +132,15 @@ asked_for program header port before c (answered {calls = calls} {n = n} {s = s}
 -- ---- the event that told it
 
 -- an event that is told something where the program asks `ticket` for a cell draws a ticket of that
-ticket_asked : (n : Node) (h : History) (event : Event) (told map key : ℕ) (o : Open) → IsOutcomeAt n h event (Told told) → opened h (port_of event) ≡ Some o
+ticket_asked : (n : Node) (h : History) (event : Event) (told map key : ℕ) (o : Open) → IsOutcomeAtButTold n h event (Told told) → opened h (port_of event) ≡ Some o
     → turn_at n h (port_of event) ≡ Some (turns.Ask (question helpers.Ticket map key 0)) → draws (turn_at n h (port_of event)) event map key ≡ true
 ticket_asked n h (Take port packet) told map key o at is_open asks =
     let refused : take_outcome n h packet (opened h port) ≡ Refused = ap (λ (x : Option Open). take_outcome n h packet x) is_open in
     let no : Told told ≡ Refused = at ∙ refused in cc
 ticket_asked n h (Count port) told map key o at is_open asks =
-    let refused : helper_outcome n h helpers.Count (turn_at n h port) ≡ Refused = ap (helper_outcome n h helpers.Count) asks in
-    let no : Told told ≡ Refused = at ∙ refused in cc
+    let no : Told told ≡ Refused = subst (λ (t : Option Turn). IsSomeTold (cell_asked helpers.Count t) (Told told)) asks at in cc
 ticket_asked n h (Peak port) told map key o at is_open asks =
-    let refused : helper_outcome n h helpers.Peak (turn_at n h port) ≡ Refused = ap (helper_outcome n h helpers.Peak) asks in
-    let no : Told told ≡ Refused = at ∙ refused in cc
+    let no : Told told ≡ Refused = subst (λ (t : Option Turn). IsSomeTold (cell_asked helpers.Peak t) (Told told)) asks at in cc
 ticket_asked n h (Ticket port) told map key o at is_open asks =
     ap (λ (t : Option Turn). is_cell_of_node (cell_asked helpers.Ticket t) map key) asks ∙ and_from (map == map) (key == key) (eq-eqb map map refl) (eq-eqb key key refl)
 ticket_asked n h (Effect port) told map key o at is_open asks =
@@ -155,12 +153,12 @@ ticket_asked n h (Publish port) told map key o at is_open asks =
     let no : Told told ≡ Refused = subst (λ (t : Option Turn). IsPublishedBy n h port o t (Told told)) stands by_open in cc
 
 -- something is told at a port of the node alone
-told_there : (n : Node) (h : History) (event : Event) (told : ℕ) → IsLawful n (Then h event (Told told)) → IsOutcomeAt n h event (Told told)
+told_there : (n : Node) (h : History) (event : Event) (told : ℕ) → IsLawful n (Then h event (Told told)) → IsOutcomeAtButTold n h event (Told told)
 told_there n h event told lawful = by (cases_lt (port_of event) n.ports)
   where
-    by : (port_of event < n.ports) ⊎ (n.ports ≤ port_of event) → IsOutcomeAt n h event (Told told)
-    by (inl there) = lawful.1.here there
-    by (inr nowhere) = let no : Told told ≡ Refused = lawful.1.nowhere nowhere in cc
+    by : (port_of event < n.ports) ⊎ (n.ports ≤ port_of event) → IsOutcomeAtButTold n h event (Told told)
+    by (inl there) = lawful.but_told.1.here there
+    by (inr nowhere) = let no : Told told ≡ Refused = lawful.but_told.1.nowhere nowhere in cc
 
 -- ---- the match
 
@@ -234,4 +232,4 @@ quotas_are_counted paths once n h event status reply loaded o rules quota node b
     let there = j.there in
     let few = node.few_ports in
     let low : port_of event < 32 = omega (arith, there, few) in
-    matches paths n h (port_of event) o rules quota low lawful.0 is_open (run_of n h event (Done status reply loaded) o j is_open) meaning matched
+    matches paths n h (port_of event) o rules quota low (record { but_told = lawful.but_told.0; told = lawful.told.0 }) is_open (run_of n h event (Done status reply loaded) o j is_open) meaning matched

@@ -26,6 +26,7 @@ use Rattle.sched.specs.History.{History, Then, Open, port_of, opened}
 use Rattle.sched.specs.Lawful.{bank_answer, staging_answer, load_result_answer, done, effect_at_place, effect_at_turn, effect_outcome}
 use Rattle.sched.specs.Looking.{Node, place_in, turn_of, verdict_at, staging, staged_at, staged_behind, entry_left, has_room, entered, entries_at, entries, first_memory, memory}
 use Rattle.sched.specs.Worlds.{RunValue, PortValue, WorldValue, AreBanksOf, GoesOn, IsBankOf, IsJudging, IsPortOf, IsRunOf, IsShareWith, effect_due, effect_due_at, verdict_of_turn}
+use Rattle.sched.proofs.Outcomes.{then_lawful}
 use Rattle.sched.proofs.Growth.{IsPortBehind, OthersKeepCounts, at_written, ports_changed, left_all}
 use Rattle.lemmas.proofs.Places.{at_other}
 use Rattle.sched.proofs.Entering.{entries_done, numbers_same, numbers_other, entered_other, entered_memory}
@@ -374,7 +375,7 @@ effect_at_bank w port verdict k p r b status reply judged place there status_is 
     let told = done_as status reply (bank_answer n h k port (command_of o.packet) verdict) (status_is ∙ ap (λ (a : Answer). a.status) answers) (reply_is ∙ ap (λ (a : Answer). a.reply) answers) in
     let lawful = told ∙ sym (effect_told n h port verdict o (Some (places.Bank k)) command.is_open stands lies) in
     record {
-      lawful = (world.lawful, outcome_here n h (Effect port) (Done status reply None) w.ports judged.below old.ports_are.count lawful);
+      lawful = then_lawful n h (Effect port) (Done status reply None) world.lawful (outcome_here n h (Effect port) (Done status reply None) w.ports judged.below old.ports_are.count lawful) tt;
       world = record {
         windows_are = old.windows_are;
         sizes_are = old.sizes_are;
@@ -400,7 +401,7 @@ effect_at_staging w port verdict p q r new status reply place judged is none end
     let lawful = sym ends.told ∙ sym (effect_told n h port verdict o (Some place) command.is_open stands lies) in
     let stay = entries_stay n h (Effect port) status reply None o place command.is_open lies none in
     record {
-      lawful = (world.lawful, outcome_here n h (Effect port) (Done status reply None) w.ports judged.below old.ports_are.count lawful);
+      lawful = then_lawful n h (Effect port) (Done status reply None) world.lawful (outcome_here n h (Effect port) (Done status reply None) w.ports judged.below old.ports_are.count lawful) tt;
       world = record {
         windows_are = old.windows_are;
         sizes_are = old.sizes_are;
@@ -483,6 +484,6 @@ pub effect_refused : (w : WorldValue) (port : ℕ) (p : PortValue) → slice_get
 effect_refused w port p there below none n h world =
     let here = world.world.ports_are.each port p there in
     record {
-      lawful = (world.lawful, outcome_here n h (Effect port) Refused w.ports below world.world.ports_are.count (no_effect n h port (opened h port) p.run here.judging none));
+      lawful = then_lawful n h (Effect port) Refused world.lawful (outcome_here n h (Effect port) Refused w.ports below world.world.ports_are.count (no_effect n h port (opened h port) p.run here.judging none)) tt;
       world = left_all n h (Effect port) Refused w tt world.world;
     }

@@ -1,5 +1,5 @@
 -- What an event of a port does to the world, by what the world's calls say.
-use Rattle.std.proofs.Common.{◌≡◌, ◌<◌, ◌≤◌, ℕ, List, [], length, get_or, true, false, Option, Some, None, is_none, refl, sym, ap, subst, ◌∙◌, arith}
+use Rattle.std.proofs.Common.{◌≡◌, ◌<◌, ◌≤◌, ◌^◌, ℕ, List, [], length, get_or, true, false, Option, Some, None, is_none, refl, sym, ap, subst, ◌∙◌, arith}
 use Rattle.std.specs.Prelude.{IsTrue, slice_get, slice_set, slice_index_or}
 use Rattle.std.proofs.lemmas.Option.{slice_get_read}
 use Rattle.spw.specs.Cargo.{Cargo}
@@ -22,6 +22,7 @@ use Rattle.sched.specs.History.{port_of}
 use Rattle.sched.specs.Lawful.{stop_outcome}
 use Rattle.sched.specs.Looking.{argument_asked, cell_asked}
 use Rattle.sched.specs.Worlds.{RunValue, PortValue, WorldValue, GoesOn, IsPortIn, IsRunUnderIfAny, IsSameRunIfAny, IsWorld, turn_in}
+use Rattle.sched.proofs.Outcomes.{then_lawful}
 use Rattle.sched.proofs.Growth.{left_all}
 use Rattle.sched.proofs.Keeping.{port_keeps, same_under_if_any, world_with_port}
 use Rattle.plain_cells.proofs.Zeros.{cells_keep, cell_there}
@@ -172,11 +173,11 @@ pub record IsAnswered (helper : Helper) (word argument told next : ℕ) : Type 0
 
 -- the event of a helper, where the program asks it
 pub helper_told : (old w : WorldValue) (place port map key argument told next : ℕ) (helper : Helper) (p q : PortValue) → IsAsked old w place port map key helper p → argument ≡ argument_asked (turn_in p.run)
-    → IsAnswered helper (word_at w.words map key) argument told next → IsToldAt old w place port told p q → IsWorld w
+    → IsAnswered helper (word_at w.words map key) argument told next → IsToldAt old w place port told p q → IsWorld w → told < 2 ^ 64
     → GoesOn (answering helper port) (Told told) old (record w { words = with_word w.words map key next; ports = slice_set w.ports place q })
-helper_told old w place port map key argument told next helper p q asks number answered is fits =
+helper_told old w place port map key argument told next helper p q asks number answered is fits small =
     let told_as = subst (λ (x : ℕ). IsTold x p q) answered.told_is is.told_as in
-    let made = helper_goes_on w port map key argument helper p q (asked_of old w place port map key argument helper p asks number fits) told_as in
+    let made = helper_goes_on w port map key argument helper p q (asked_of old w place port map key argument helper p asks number fits) told_as (subst (λ (x : ℕ). x < 2 ^ 64) answered.told_is small) in
     subst (λ (v : WorldValue). GoesOn (answering helper port) (Told told) v (record w { words = with_word w.words map key next; ports = slice_set w.ports place q })) is.read.is
     (subst (λ (k : ℕ). GoesOn (answering helper port) (Told told) w (record w { words = with_word w.words map key next; ports = slice_set w.ports k q })) (sym is.read.place_is)
     (subst (λ (x : ℕ). GoesOn (answering helper port) (Told x) w (record w { words = with_word w.words map key next; ports = slice_set w.ports port q })) (sym answered.told_is)
@@ -187,6 +188,6 @@ helper_told old w place port map key argument told next helper p q asks number a
 -- an event of a port that is not there is refused, and the world stays
 pub nowhere : (w : WorldValue) (event : Event) → length w.ports ≤ port_of event → GoesOn event Refused w w
 nowhere w event past n h world = record {
-  lawful = (world.lawful, record { here = λ below. absurd (omega (arith, below, past, world.world.ports_are.count)); nowhere = λ _. refl });
+  lawful = then_lawful n h event Refused world.lawful (record { here = λ below. absurd (omega (arith, below, past, world.world.ports_are.count)); nowhere = λ _. refl }) tt;
   world = left_all n h event Refused w tt world.world;
 }

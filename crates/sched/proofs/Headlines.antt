@@ -10,7 +10,6 @@ use Rattle.rmap.specs.Reply.{reply_of}
 use Rattle.bpf.specs.Laws.{ImagesAreRead}
 use Rattle.bpf.specs.Program.{Program}
 use Rattle.bver.specs.Laws.{JustifiedIsSafe}
-use Rattle.machine.specs.Laws.{ArgumentsFit, NumbersFit}
 use Rattle.bank.specs.Answer.{Answer, effect_at, judged_line}
 use Rattle.bank.specs.Effect.{memory_at}
 use Rattle.bank.specs.Records.{numbers_of, replay}
@@ -23,9 +22,9 @@ use Rattle.sched.specs.declared.event.Event.{Event}
 use Rattle.sched.specs.declared.event.Event.TheVariants.{Take, Count, Ticket, Peak, Effect, Publish}
 use Rattle.sched.specs.declared.event.Outcome.{Outcome}
 use Rattle.sched.specs.declared.event.Outcome.TheVariants.{Refused, Discarded, Answered, Taken, Told, Done}
-use Rattle.sched.specs.Headline.{AreJudgedOnce, EndsBy, EveryScheduleJudgesOnce, HasBytes, IsEffectOf, IsJudgedOnce, IsJudgedOnceIfDone, IsLoadOf, IsStoppedWrite, IsNode, IsWriteEnd, memory_left}
+use Rattle.sched.specs.Headline.{AreJudgedOnce, EndsBy, EveryHistoryJudgesOnce, HasBytes, IsEffectOf, IsJudgedOnce, IsJudgedOnceIfDone, IsLoadOf, IsStoppedWrite, IsNode, IsWriteEnd, memory_left}
 use Rattle.sched.specs.History.{History, Start, Then, Open, port_of, opened}
-use Rattle.sched.specs.Lawful.{IsLawful, IsControlled, IsLoaded, bank_answer, staging_answer, load_result_answer, done, effect_at_place}
+use Rattle.sched.specs.Lawful.{IsLawfulButTold, IsControlled, IsLoaded, bank_answer, staging_answer, load_result_answer, done, effect_at_place}
 use Rattle.sched.specs.Looking.{Node, place_in, slot_of_packet, header_in, staging, staged_at, staged_behind, entry_left, has_room, entered, entries, first_memory, memory, published_behind, publishes, published, program_of}
 use Rattle.sched.specs.Turns.{TurnsArePaths}
 use Rattle.sched.proofs.Ending.{IsNoBank, entries_stay}
@@ -182,8 +181,8 @@ ends_by law n h (Peak port) outcome done end = absurd end.ended
 ends_by law n h (Effect port) outcome done end = effect_ends n h port end.verdict end.command outcome end.is_open done end.ended
 ends_by law n h (Publish port) outcome done end = write_left law n h port end.command (judged_line (command_of end.command.packet) end.verdict) outcome end.is_open end.ended.0 end.ended.1
 
-judged_once : ImagesAreRead → JustifiedIsSafe → TurnsArePaths → NumbersFit → ArgumentsFit → (n : Node) (h : History) (event : Event) (outcome : Outcome) → IsNode n → HasBytes h → IsLawful n (Then h event outcome) → IsDone outcome → IsJudgedOnce n h event outcome
-judged_once law safety paths fit asks n h event outcome node bytes lawful done =
+judged_once : ImagesAreRead → JustifiedIsSafe → TurnsArePaths → (n : Node) (h : History) (event : Event) (outcome : Outcome) → IsNode n → HasBytes h → IsLawfulButTold n (Then h event outcome) → IsDone outcome → IsJudgedOnce n h event outcome
+judged_once law safety paths n h event outcome node bytes lawful done =
     let end = lawful_end n h event outcome done lawful.1 in
     let o = end.command in
     let leads = opened_taken h (port_of event) o end.is_open in
@@ -191,7 +190,7 @@ judged_once law safety paths fit asks n h event outcome node bytes lawful done =
     let justified = published_justified law n o.before (slot_of_packet n o.packet) node first.0 in
     let safe = safety (program_of n o) n.sizes justified in
     let told = generation_told n o.before (port_of event) o.packet o.generation first.1 in
-    let words = open_words law safety paths fit asks n node h (port_of event) o bytes lawful.0 end.is_open in
+    let words = open_words n h (port_of event) o lawful.0 end.is_open in
     let kept = taken_kept n o.before (port_of event) o.packet o.generation first.1 in
     let header = header_of_command o.packet kept (began_bytes (port_of event) _ h leads bytes).1 in
     let low : port_of event < 32 = omega (arith, end.there, node.few_ports) in
@@ -212,13 +211,13 @@ judged_once law safety paths fit asks n h event outcome node bytes lawful done =
       ended = ends_by law n h event outcome done end;
     }
 
-pub every_schedule_judges_once : ImagesAreRead → JustifiedIsSafe → TurnsArePaths → NumbersFit → ArgumentsFit → EveryScheduleJudgesOnce
-every_schedule_judges_once law safety paths fit asks n h event status reply loaded node bytes lawful =
-    judged_once law safety paths fit asks n h event (Done status reply loaded) node bytes lawful tt
+pub every_history_judges_once : ImagesAreRead → JustifiedIsSafe → TurnsArePaths → EveryHistoryJudgesOnce
+every_history_judges_once law safety paths n h event status reply loaded node bytes lawful =
+    judged_once law safety paths n h event (Done status reply loaded) node bytes lawful tt
 
 -- ---- whole histories
 
-once_if_done : EveryScheduleJudgesOnce → (n : Node) (h : History) (event : Event) (outcome : Outcome) → IsNode n → HasBytes h → IsLawful n (Then h event outcome) → IsJudgedOnceIfDone n h event outcome
+once_if_done : EveryHistoryJudgesOnce → (n : Node) (h : History) (event : Event) (outcome : Outcome) → IsNode n → HasBytes h → IsLawfulButTold n (Then h event outcome) → IsJudgedOnceIfDone n h event outcome
 once_if_done law n h event Refused node bytes lawful = tt
 once_if_done law n h event (Discarded discard) node bytes lawful = tt
 once_if_done law n h event (Answered status reply) node bytes lawful = tt
@@ -227,7 +226,7 @@ once_if_done law n h event (Told told) node bytes lawful = tt
 once_if_done law n h event (Done status reply loaded) node bytes lawful = law n h event status reply loaded node bytes lawful
 
 -- each command that is done in a lawful history is judged once
-pub all_judged_once : EveryScheduleJudgesOnce → (n : Node) (h : History) → IsNode n → HasBytes h → IsLawful n h → AreJudgedOnce n h
+pub all_judged_once : EveryHistoryJudgesOnce → (n : Node) (h : History) → IsNode n → HasBytes h → IsLawfulButTold n h → AreJudgedOnce n h
 all_judged_once law n Start node bytes lawful = tt
 all_judged_once law n (Then h event outcome) node bytes lawful =
     (all_judged_once law n h node bytes.0 lawful.0, once_if_done law n h event outcome node bytes.0 lawful)

@@ -1,5 +1,5 @@
 -- What a lawful history says of a command that is done.
-use Rattle.std.proofs.Common.{◌≡◌, ◌≢◌, ◌<◌, ◌≤◌, ◌+◌, ◌^◌, ◌==◌, ◌⊎◌, ℕ, [], Bool, true, false, Option, Some, None, refl, sym, ap, subst, ◌∙◌, arith, inl, inr}
+use Rattle.std.proofs.Common.{◌≡◌, ◌≢◌, ◌<◌, ◌≤◌, ◌+◌, ◌==◌, ◌⊎◌, ℕ, [], Bool, true, false, Option, Some, None, refl, sym, ap, subst, ◌∙◌, inl, inr}
 use Rattle.std.specs.Prelude.{if◌then◌else◌}
 use Rattle.std.proofs.lemmas.Bool.{cases_lt}
 use Rattle.spw.specs.Cargo.{Cargo}
@@ -21,7 +21,6 @@ use Rattle.node_parts.specs.Loads.{published_result}
 use Rattle.rmap.specs.BootRecords.{control_of}
 use Rattle.node_parts.specs.Outcomes.{Load, IsLoad}
 use Rattle.node_parts.specs.Outcomes as loads
-use Rattle.machine.specs.declared.helpers.Helper.{Helper}
 use Rattle.machine.specs.declared.helpers.Helper.TheVariants as helpers
 use Rattle.sched.specs.declared.event.Event.{Event}
 use Rattle.sched.specs.declared.event.Event.TheVariants.{Take, Count, Ticket, Peak, Effect, Publish}
@@ -29,9 +28,9 @@ use Rattle.sched.specs.declared.event.Outcome.{Outcome}
 use Rattle.sched.specs.declared.event.Outcome.TheVariants.{Refused, Discarded, Answered, Taken, Told, Done}
 use Rattle.sched.specs.Headline.{HasBytes, IsNode, LeadsTo, same, further}
 use Rattle.sched.proofs.Firsts.{justified_after}
-use Rattle.sched.specs.History.{History, Start, Then, Open, port_of, taken_by, after_told, opened_by, opened}
-use Rattle.sched.specs.Lawful.{IsLawful, IsOutcome, IsOutcomeAt, IsControlled, IsDecided, IsLoaded, IsPublishedAt, IsPublishedBy, IsPublishOutcome, effect_at_place, effect_at_turn, effect_outcome, header_outcome, packet_outcome, take_outcome, told_on}
-use Rattle.sched.specs.Looking.{Node, windows_in, place_in, slot_of_packet, argument_asked, cell_asked, turn_at, turn_of, staging, published_at, published_behind, publishes, published}
+use Rattle.sched.specs.History.{History, Start, Then, Open, port_of, opened}
+use Rattle.sched.specs.Lawful.{IsLawfulButTold, IsOutcomeButTold, IsOutcomeAtButTold, IsSomeTold, IsControlled, IsDecided, IsLoaded, IsPublishedAt, IsPublishedBy, IsPublishOutcome, effect_at_place, effect_at_turn, effect_outcome, header_outcome, packet_outcome, take_outcome}
+use Rattle.sched.specs.Looking.{Node, windows_in, place_in, slot_of_packet, cell_asked, turn_at, turn_of, staging, published_at, published_behind, publishes, published}
 use Rattle.sched.proofs.Publishing.{loaded_program}
 
 -- ---- what is left of an outcome
@@ -59,9 +58,9 @@ no_take_end n h p None is = no_packet_end n h p (discard_of p.bytes) is
 no_take_end n h p (Some o) is = is
 
 -- nor is an answer
-no_helper_end : (n : Node) (h : History) (helper : Helper) (argument : ℕ) (cell : Option (ℕ × ℕ)) → IsDone (told_on n h helper argument cell) → ⊥
-no_helper_end n h helper argument None is = is
-no_helper_end n h helper argument (Some cell) is = is
+no_helper_end : (cell : Option (ℕ × ℕ)) (outcome : Outcome) → IsSomeTold cell outcome → IsDone outcome → ⊥
+no_helper_end None outcome is done = subst IsDone is done
+no_helper_end (Some cell) outcome is done = subst IsDone is.2 done
 
 -- ---- how a command is done
 
@@ -109,16 +108,16 @@ publish_end : (n : Node) (h : History) (port : ℕ) (outcome : Outcome) → port
 publish_end n h port outcome there done None is told = absurd (subst IsDone told done)
 publish_end n h port outcome there done (Some o) is told = publish_turn n h port o outcome there is done (turn_of n port o) refl told
 
-end_at : (n : Node) (h : History) (event : Event) (outcome : Outcome) → port_of event < n.ports → IsDone outcome → IsOutcomeAt n h event outcome → IsEnd n h event outcome
+end_at : (n : Node) (h : History) (event : Event) (outcome : Outcome) → port_of event < n.ports → IsDone outcome → IsOutcomeAtButTold n h event outcome → IsEnd n h event outcome
 end_at n h (Take port p) outcome there done told = absurd (no_take_end n h p (opened h port) (subst IsDone told done))
-end_at n h (Count port) outcome there done told = absurd (no_helper_end n h helpers.Count (argument_asked (turn_at n h port)) (cell_asked helpers.Count (turn_at n h port)) (subst IsDone told done))
-end_at n h (Ticket port) outcome there done told = absurd (no_helper_end n h helpers.Ticket (argument_asked (turn_at n h port)) (cell_asked helpers.Ticket (turn_at n h port)) (subst IsDone told done))
-end_at n h (Peak port) outcome there done told = absurd (no_helper_end n h helpers.Peak (argument_asked (turn_at n h port)) (cell_asked helpers.Peak (turn_at n h port)) (subst IsDone told done))
+end_at n h (Count port) outcome there done told = absurd (no_helper_end (cell_asked helpers.Count (turn_at n h port)) outcome told done)
+end_at n h (Ticket port) outcome there done told = absurd (no_helper_end (cell_asked helpers.Ticket (turn_at n h port)) outcome told done)
+end_at n h (Peak port) outcome there done told = absurd (no_helper_end (cell_asked helpers.Peak (turn_at n h port)) outcome told done)
 end_at n h (Effect port) outcome there done told = effect_end n h port outcome there done (opened h port) refl told
 end_at n h (Publish port) outcome there done told = publish_end n h port outcome there done (opened h port) refl told
 
 -- an event that is not refused is at a port of the node
-pub at_a_port : (n : Node) (h : History) (event : Event) (outcome : Outcome) → outcome ≢ Refused → IsOutcome n h event outcome → port_of event < n.ports
+pub at_a_port : (n : Node) (h : History) (event : Event) (outcome : Outcome) → outcome ≢ Refused → IsOutcomeButTold n h event outcome → port_of event < n.ports
 at_a_port n h event outcome other is = by (cases_lt (port_of event) n.ports)
   where
     by : (port_of event < n.ports) ⊎ (n.ports ≤ port_of event) → port_of event < n.ports
@@ -129,7 +128,7 @@ done_not_refused : (outcome : Outcome) → IsDone outcome → outcome ≢ Refuse
 done_not_refused outcome done is = subst IsDone is done
 
 -- a command that is done in a lawful history
-pub lawful_end : (n : Node) (h : History) (event : Event) (outcome : Outcome) → IsDone outcome → IsOutcome n h event outcome → IsEnd n h event outcome
+pub lawful_end : (n : Node) (h : History) (event : Event) (outcome : Outcome) → IsDone outcome → IsOutcomeButTold n h event outcome → IsEnd n h event outcome
 lawful_end n h event outcome done is =
     let there = at_a_port n h event outcome (done_not_refused outcome done) is in
     end_at n h event outcome there done (is.here there)
@@ -181,7 +180,7 @@ ended_justified law n h (Publish port) outcome made end e =
     controlled_justified law n h port end.command outcome made (judged_line (command_of end.command.packet) end.verdict) end.is_open end.ended.1 e
 
 -- what an event of a lawful history published is justified
-made_justified : (law : ImagesAreRead) (n : Node) (h : History) (event : Event) (outcome : Outcome) (made : ℕ × Program) → IsOutcome n h event outcome → published_at n h event outcome ≡ Some made → IsJustified made.1 n.sizes
+made_justified : (law : ImagesAreRead) (n : Node) (h : History) (event : Event) (outcome : Outcome) (made : ℕ × Program) → IsOutcomeButTold n h event outcome → published_at n h event outcome ≡ Some made → IsJustified made.1 n.sizes
 made_justified law n h event Refused made is e = absurd cc
 made_justified law n h event (Discarded discard) made is e = absurd cc
 made_justified law n h event (Answered status reply) made is e = absurd cc
@@ -191,7 +190,7 @@ made_justified law n h event (Done status reply loaded) made is e =
     ended_justified law n h event (Done status reply loaded) made (lawful_end n h event (Done status reply loaded) tt is) e
 
 -- the program of a slot is justified
-pub published_justified : (law : ImagesAreRead) (n : Node) (h : History) (slot : ℕ) → IsNode n → IsLawful n h → IsJustified (published n h slot).0 n.sizes
+pub published_justified : (law : ImagesAreRead) (n : Node) (h : History) (slot : ℕ) → IsNode n → IsLawfulButTold n h → IsJustified (published n h slot).0 n.sizes
 published_justified law n Start slot node lawful = justified_after n n.firsts 0 slot (n.factory, 0) node.firsts node.factory
 published_justified law n (Then h event outcome) slot node lawful =
     by (published_at n h event outcome) refl (published_justified law n h slot node lawful.0)
@@ -207,7 +206,7 @@ published_justified law n (Then h event outcome) slot node lawful =
 -- ---- the Take of an open command
 
 -- what leads on from a lawful beginning began lawfully
-pub began_lawful : (n : Node) (port : ℕ) (first h : History) → LeadsTo port first h → IsLawful n h → IsLawful n first
+pub began_lawful : (n : Node) (port : ℕ) (first h : History) → LeadsTo port first h → IsLawfulButTold n h → IsLawfulButTold n first
 began_lawful n port first h same lawful = lawful
 began_lawful n port first h (further leads others) lawful = began_lawful n port first _ leads lawful.0
 
@@ -224,7 +223,7 @@ taken_generation : (n : Node) (h : History) (p : Cargo) (generation : ℕ) (last
 taken_generation n h p generation None e = taken_packet n h p generation (discard_of p.bytes) e
 taken_generation n h p generation (Some o) e = absurd cc
 
-pub generation_told : (n : Node) (h : History) (port : ℕ) (p : Cargo) (generation : ℕ) → IsOutcome n h (Take port p) (Taken generation) → (published n h (slot_of_packet n p)).1 ≡ generation
+pub generation_told : (n : Node) (h : History) (port : ℕ) (p : Cargo) (generation : ℕ) → IsOutcomeButTold n h (Take port p) (Taken generation) → (published n h (slot_of_packet n p)).1 ≡ generation
 generation_told n h port p generation is =
     let there = at_a_port n h (Take port p) (Taken generation) (λ e. absurd cc) is in
     sym (taken_generation n h p generation (opened h port) (is.here there))
@@ -238,7 +237,7 @@ kept_where_free : (n : Node) (h : History) (p : Cargo) (generation : ℕ) (last 
 kept_where_free n h p generation None e = kept_by n h p generation (discard_of p.bytes) e
 kept_where_free n h p generation (Some o) e = absurd cc
 
-pub taken_kept : (n : Node) (h : History) (port : ℕ) (p : Cargo) (generation : ℕ) → IsOutcome n h (Take port p) (Taken generation) → discard_of p.bytes ≡ None
+pub taken_kept : (n : Node) (h : History) (port : ℕ) (p : Cargo) (generation : ℕ) → IsOutcomeButTold n h (Take port p) (Taken generation) → discard_of p.bytes ≡ None
 taken_kept n h port p generation is =
     kept_where_free n h p generation (opened h port) (is.here (at_a_port n h (Take port p) (Taken generation) (λ e. absurd cc) is))
 

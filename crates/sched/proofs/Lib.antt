@@ -2,6 +2,7 @@ pub mod Turns
 pub mod Runs
 pub mod Growth
 pub mod Keeping
+pub mod Outcomes
 pub mod Telling
 pub mod Taking
 pub mod Beginning

@@ -39,6 +39,7 @@ use Rattle.sched.specs.History.{History, Then, Open, opened}
 use Rattle.sched.specs.Lawful.{IsLawful, IsControlled, IsLoaded, IsPublishedAt, IsPublishedBy, IsPublishOutcome}
 use Rattle.sched.specs.Looking.{Node, place_in, turn_of, staging, staged_at, staged_behind, for_slot, program_loaded, loaded_by, published_at, counted, publishes, published_behind, published, entries}
 use Rattle.sched.specs.Worlds.{RunValue, PortValue, WorldValue, AreProgramsOf, GoesOn, IsFor, IsJudging, IsLawfulWorld, IsPortOf, IsShareWith, IsShownAs, IsWorldOf, publish_due, publish_due_at, verdict_of_turn}
+use Rattle.sched.proofs.Outcomes.{then_lawful}
 use Rattle.sched.proofs.Growth.{IsPortBehind, ports_changed, left_all}
 use Rattle.lemmas.proofs.Places.{at_other}
 use Rattle.sched.proofs.Ending.{IsJudgedIn, banks_same, entries_stay, lies_at, open_run, stands_at}
@@ -204,7 +205,7 @@ write_goes_on n h w port verdict p o packet decision same here lawful told behin
     let c = command_of o.packet in
     let reply = reply_of c (status_of_decision decision) [] in
     let is : IsLawfulWorld n (Then h (Publish port) (outcome_of c decision)) (world_after w port p decision) = record {
-      lawful = (lawful, outcome_here n h (Publish port) (outcome_of c decision) w.ports here.below here.old.ports_are.count (publish_told n h port verdict o (outcome_of c decision) here.is_open here.stands here.lies told));
+      lawful = then_lawful n h (Publish port) (outcome_of c decision) lawful (outcome_here n h (Publish port) (outcome_of c decision) w.ports here.below here.old.ports_are.count (publish_told n h port verdict o (outcome_of c decision) here.is_open here.stands here.lies told)) tt;
       world = world_behind n h w port verdict p o decision reply here (behind reply);
     } in
     subst (λ (x : Cargo). IsLawfulWorld n (Then h (Publish port) (outcome_of (command_of x) decision)) (world_after w port p decision)) (sym same) is
@@ -328,7 +329,7 @@ no_publish n h port (Some o) (Some r) is none =
 -- a publish is refused where none is due
 pub publish_refused : (w : WorldValue) (port : ℕ) (p : PortValue) → slice_get w.ports port ≡ Some p → port < length w.ports → None ≡ publish_due p.run → GoesOn (Publish port) Refused w w
 publish_refused w port p there below none n h world = record {
-  lawful = (world.lawful, outcome_here n h (Publish port) Refused w.ports below world.world.ports_are.count (no_publish n h port (opened h port) p.run (world.world.ports_are.each port p there).judging none));
+  lawful = then_lawful n h (Publish port) Refused world.lawful (outcome_here n h (Publish port) Refused w.ports below world.world.ports_are.count (no_publish n h port (opened h port) p.run (world.world.ports_are.each port p there).judging none)) tt;
   world = left_all n h (Publish port) Refused w tt world.world;
 }
 

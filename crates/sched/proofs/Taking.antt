@@ -19,6 +19,7 @@ use Rattle.sched.specs.Lawful.{header_outcome, packet_outcome, take_outcome, sto
 use Rattle.sched.specs.Looking.{Node, windows_in, slot_at, slot_of_packet, staging, published, entries}
 use Rattle.sched.specs.Worlds.{RunValue, PortValue, WorldValue, GoesOn, IsJudging, IsPortOf, IsRunOf, IsShownAs, IsWorldOf}
 use Rattle.sched.proofs.Growth.{IsPortBehind, LeavesAll, ports_changed, left_all}
+use Rattle.sched.proofs.Outcomes.{TellsWord, then_lawful}
 use Rattle.sched.proofs.Telling.{outcome_here}
 
 -- ---- at a busy port
@@ -33,7 +34,7 @@ pub take_refused : (w : WorldValue) (port : ℕ) (packet : Cargo) (p : PortValue
 take_refused w port packet p there below some n h world =
     let here = world.world.ports_are.each port p there in
     record {
-      lawful = (world.lawful, outcome_here n h (Take port packet) Refused w.ports below world.world.ports_are.count (busy n h port packet (opened h port) p.run here.judging some));
+      lawful = then_lawful n h (Take port packet) Refused world.lawful (outcome_here n h (Take port packet) Refused w.ports below world.world.ports_are.count (busy n h port packet (opened h port) p.run here.judging some)) tt;
       world = left_all n h (Take port packet) Refused w tt world.world;
     }
 
@@ -54,6 +55,10 @@ stop_leaves : (stop : Stop) (reply : List ℕ) → LeavesAll (stop_outcome stop 
 stop_leaves (NoCommand discard) reply = tt
 stop_leaves (Fault status) reply = tt
 
+stop_word : (stop : Stop) (reply : List ℕ) → TellsWord (stop_outcome stop reply)
+stop_word (NoCommand discard) reply = tt
+stop_word (Fault status) reply = tt
+
 -- what a packet comes to that its header stops
 pub take_stopped : (w : WorldValue) (port : ℕ) (packet : Cargo) (p : PortValue) (stop : Stop) (reply : List ℕ) (outcome : Outcome) → slice_get w.ports port ≡ Some p → port < length w.ports → is_none p.run ≡ true
     → IsStopped stop packet w.windows reply → outcome ≡ stop_outcome stop reply → GoesOn (Take port packet) outcome w w
@@ -63,7 +68,7 @@ take_stopped w port packet p stop reply outcome there below none stops is n h wo
     let stops_here = subst (λ (windows : WindowsValue). IsStopped stop packet windows reply) old.windows_are stops in
     let told = stopped_by n h packet stop reply stops_here ∙ sym (ap (take_outcome n h packet) last) in
     rw is (record {
-      lawful = (world.lawful, outcome_here n h (Take port packet) (stop_outcome stop reply) w.ports below old.ports_are.count told);
+      lawful = then_lawful n h (Take port packet) (stop_outcome stop reply) world.lawful (outcome_here n h (Take port packet) (stop_outcome stop reply) w.ports below old.ports_are.count told) (stop_word stop reply);
       world = left_all n h (Take port packet) (stop_outcome stop reply) w (stop_leaves stop reply) old;
     })
 
@@ -95,7 +100,7 @@ take_taken w port packet place p r there below none placed begun n h world =
     let placed_here = subst (λ (windows : WindowsValue). IsPlacedBy windows packet place) old.windows_are placed in
     let told = taken_outcome n h packet place r.generation placed_here (begun.generation n h old) ∙ sym (ap (take_outcome n h packet) last) in
     record {
-      lawful = (world.lawful, outcome_here n h (Take port packet) (Taken r.generation) w.ports below old.ports_are.count told);
+      lawful = then_lawful n h (Take port packet) (Taken r.generation) world.lawful (outcome_here n h (Take port packet) (Taken r.generation) w.ports below old.ports_are.count told) tt;
       world = record {
         windows_are = old.windows_are;
         sizes_are = old.sizes_are;

@@ -14,9 +14,10 @@ use Rattle.sched.specs.declared.event.Outcome.TheVariants.{Refused, Told}
 use Rattle.sched.specs.Answers.{answering}
 use Rattle.plain_cells.specs.Words.{told_of_word, word_behind, with_word, word_at}
 use Rattle.sched.specs.History.{History, Then, Open, port_of, after_told, opened}
-use Rattle.sched.specs.Lawful.{IsOutcome, IsOutcomeAt, helper_outcome, told_of_cell, told_on}
+use Rattle.sched.specs.Lawful.{told_of_cell}
 use Rattle.sched.specs.Looking.{Node, argument_asked, cell_asked, is_cell_of_node, turn_by, turn_at, staging, tickets, peaks, word_by_kind, cell_word, entries}
 use Rattle.sched.specs.Worlds.{RunValue, PortValue, WorldValue, AreWordsOf, GoesOn, IsJudging, IsPortOf, IsWorldOf, turn_in}
+use Rattle.sched.proofs.Outcomes.{IsOutcome, IsOutcomeAt, helper_outcome, then_lawful, told_on}
 use Rattle.sched.proofs.Growth.{IsPortBehind, ports_changed, left_all}
 use Rattle.plain_cells.proofs.Tickets.{word_written}
 
@@ -224,33 +225,33 @@ told_world_of n h event told w words p q there low is are old = record {
 
 -- what the event of a helper comes to at a port, and leaves
 pub helper_goes_on : (w : WorldValue) (port map key argument : ℕ) (helper : Helper) (p q : PortValue) → IsAskedOf w port map key argument helper p → IsTold (told_of_word helper (word_at w.words map key) argument) p q
-    → GoesOn (answering helper port) (Told (told_of_word helper (word_at w.words map key) argument)) w (record w { words = with_word w.words map key (word_behind helper (word_at w.words map key) argument); ports = slice_set w.ports port q })
-helper_goes_on w port map key argument helpers.Count p q is told n h world =
+    → told_of_word helper (word_at w.words map key) argument < 2 ^ 64 → GoesOn (answering helper port) (Told (told_of_word helper (word_at w.words map key) argument)) w (record w { words = with_word w.words map key (word_behind helper (word_at w.words map key) argument); ports = slice_set w.ports port q })
+helper_goes_on w port map key argument helpers.Count p q is told small n h world =
     let old = world.world in
     let at = found n h w port map key argument helpers.Count p is old in
     record {
-      lawful = (world.lawful, outcome_here n h (Count port) (Told (word_at w.words map key)) w.ports is.below old.ports_are.count (told_lawful n h port map key argument (word_at w.words map key) helpers.Count at));
+      lawful = then_lawful n h (Count port) (Told (word_at w.words map key)) world.lawful (outcome_here n h (Count port) (Told (word_at w.words map key)) w.ports is.below old.ports_are.count (told_lawful n h port map key argument (word_at w.words map key) helpers.Count at)) small;
       world = told_world_of n h (Count port) _ w _ p q is.there is.low told (helper_words n h port map key argument helpers.Count w.words is.map_there is.key_there at old.words_are) old;
     }
-helper_goes_on w port map key argument helpers.Ticket p q is told n h world =
+helper_goes_on w port map key argument helpers.Ticket p q is told small n h world =
     let old = world.world in
     let at = found n h w port map key argument helpers.Ticket p is old in
     record {
-      lawful = (world.lawful, outcome_here n h (Ticket port) (Told (word_at w.words map key)) w.ports is.below old.ports_are.count (told_lawful n h port map key argument (word_at w.words map key) helpers.Ticket at));
+      lawful = then_lawful n h (Ticket port) (Told (word_at w.words map key)) world.lawful (outcome_here n h (Ticket port) (Told (word_at w.words map key)) w.ports is.below old.ports_are.count (told_lawful n h port map key argument (word_at w.words map key) helpers.Ticket at)) small;
       world = told_world_of n h (Ticket port) _ w _ p q is.there is.low told (helper_words n h port map key argument helpers.Ticket w.words is.map_there is.key_there at old.words_are) old;
     }
-helper_goes_on w port map key argument helpers.Peak p q is told n h world =
+helper_goes_on w port map key argument helpers.Peak p q is told small n h world =
     let old = world.world in
     let at = found n h w port map key argument helpers.Peak p is old in
     record {
-      lawful = (world.lawful, outcome_here n h (Peak port) (Told (max (word_at w.words map key) argument)) w.ports is.below old.ports_are.count (told_lawful n h port map key argument (word_at w.words map key) helpers.Peak at));
+      lawful = then_lawful n h (Peak port) (Told (max (word_at w.words map key) argument)) world.lawful (outcome_here n h (Peak port) (Told (max (word_at w.words map key) argument)) w.ports is.below old.ports_are.count (told_lawful n h port map key argument (word_at w.words map key) helpers.Peak at)) small;
       world = told_world_of n h (Peak port) _ w _ p q is.there is.low told (helper_words n h port map key argument helpers.Peak w.words is.map_there is.key_there at old.words_are) old;
     }
 
 -- a helper that is not asked for is refused, and the world stays
 refused_here : (w : WorldValue) (event : Event) → port_of event < length w.ports → ((n : Node) (h : History) → IsWorldOf n h w → IsOutcomeAt n h event Refused) → GoesOn event Refused w w
 refused_here w event below is n h world = record {
-  lawful = (world.lawful, outcome_here n h event Refused w.ports below world.world.ports_are.count (is n h world.world));
+  lawful = then_lawful n h event Refused world.lawful (outcome_here n h event Refused w.ports below world.world.ports_are.count (is n h world.world)) tt;
   world = left_all n h event Refused w tt world.world;
 }
 

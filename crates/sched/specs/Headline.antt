@@ -23,7 +23,7 @@ use Rattle.sched.specs.declared.event.Event.TheVariants.{Take, Count, Ticket, Pe
 use Rattle.sched.specs.declared.event.Outcome.{Outcome}
 use Rattle.sched.specs.declared.event.Outcome.TheVariants.{Refused, Discarded, Answered, Taken, Told, Done}
 use Rattle.sched.specs.History.{History, Start, Then, Open, port_of, opened}
-use Rattle.sched.specs.Lawful.{IsLawful, IsLoaded, bank_answer, staging_answer, effect_at_place}
+use Rattle.sched.specs.Lawful.{IsLawful, IsLawfulButTold, IsLoaded, bank_answer, staging_answer, effect_at_place}
 use Rattle.sched.specs.Looking.{Node, place_in, slot_of_packet, header_in, staging, publishes, published}
 use Rattle.sched.specs.Looking.{program_of, turn_of, memory}
 use Rattle.sched.specs.Turns.{AreWords, HasEnded}
@@ -205,6 +205,13 @@ abbrev pub EveryScheduleJudgesOnce : Type 0
 EveryScheduleJudgesOnce =
     (n : Node) (h : History) (event : Event) (status : Status) (reply : List ℕ) (loaded : Option (List ℕ))
     → IsNode n → HasBytes h → IsLawful n (Then h event (Done status reply loaded))
+    → IsJudgedOnce n h event (Done status reply loaded)
+
+-- the same where cells may have answered any words: it asks for nothing that they answered
+abbrev pub EveryHistoryJudgesOnce : Type 0
+EveryHistoryJudgesOnce =
+    (n : Node) (h : History) (event : Event) (status : Status) (reply : List ℕ) (loaded : Option (List ℕ))
+    → IsNode n → HasBytes h → IsLawfulButTold n (Then h event (Done status reply loaded))
     → IsJudgedOnce n h event (Done status reply loaded)
 
 -- the command that an event ends, if it ends one, is judged once

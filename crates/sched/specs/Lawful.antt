@@ -63,14 +63,10 @@ told_of_cell n h helpers.Count map key argument = cell_word n h map key
 told_of_cell n h helpers.Ticket map key argument = tickets n h map key % 2 ^ 64
 told_of_cell n h helpers.Peak map key argument = max (peaks n h map key) argument
 
--- what the event of a helper comes to, where a program asks it for that cell, if it does
-abbrev pub told_on : Node → History → Helper → (argument : ℕ) → Option (ℕ × ℕ) → Outcome
-told_on n h helper argument None = Refused
-told_on n h helper argument (Some cell) = Told (told_of_cell n h helper cell.0 cell.1 argument)
-
--- the same at a port, where its program stands
-abbrev pub helper_outcome : Node → History → Helper → Option Turn → Outcome
-helper_outcome n h helper turn = told_on n h helper (argument_asked turn) (cell_asked helper turn)
+-- what the event of a helper comes to, if a program asks it for that cell: some word is the answer; else it is refused
+abbrev pub IsSomeTold : Option (ℕ × ℕ) → Outcome → Type 0
+IsSomeTold None outcome = outcome ≡ Refused
+IsSomeTold (Some cell) outcome = (answer : ℕ) × (answer < 2 ^ 64) × (outcome ≡ Told answer)
 
 -- ---- Effect
 
@@ -152,23 +148,56 @@ abbrev pub IsPublishOutcome : Node → History → (port : ℕ) → Option Open 
 IsPublishOutcome n h port None outcome = outcome ≡ Refused
 IsPublishOutcome n h port (Some o) outcome = IsPublishedBy n h port o (turn_of n port o) outcome
 
--- ---- all events
+-- ---- all events, apart from what cells answered
 
--- what an event comes to at a port of the node
-abbrev pub IsOutcomeAt : Node → History → Event → Outcome → Type 0
-IsOutcomeAt n h (Take port p) outcome = outcome ≡ take_outcome n h p (opened h port)
-IsOutcomeAt n h (Count port) outcome = outcome ≡ helper_outcome n h helpers.Count (turn_at n h port)
-IsOutcomeAt n h (Ticket port) outcome = outcome ≡ helper_outcome n h helpers.Ticket (turn_at n h port)
-IsOutcomeAt n h (Peak port) outcome = outcome ≡ helper_outcome n h helpers.Peak (turn_at n h port)
-IsOutcomeAt n h (Effect port) outcome = outcome ≡ effect_outcome n h port (opened h port)
-IsOutcomeAt n h (Publish port) outcome = IsPublishOutcome n h port (opened h port) outcome
+-- what an event comes to at a port of the node, apart from what a cell answers
+abbrev pub IsOutcomeAtButTold : Node → History → Event → Outcome → Type 0
+IsOutcomeAtButTold n h (Take port p) outcome = outcome ≡ take_outcome n h p (opened h port)
+IsOutcomeAtButTold n h (Count port) outcome = IsSomeTold (cell_asked helpers.Count (turn_at n h port)) outcome
+IsOutcomeAtButTold n h (Ticket port) outcome = IsSomeTold (cell_asked helpers.Ticket (turn_at n h port)) outcome
+IsOutcomeAtButTold n h (Peak port) outcome = IsSomeTold (cell_asked helpers.Peak (turn_at n h port)) outcome
+IsOutcomeAtButTold n h (Effect port) outcome = outcome ≡ effect_outcome n h port (opened h port)
+IsOutcomeAtButTold n h (Publish port) outcome = IsPublishOutcome n h port (opened h port) outcome
 
--- what an event comes to: at a port that the node does not have it is refused
-pub record IsOutcome (n : Node) (h : History) (event : Event) (outcome : Outcome) : Type 0 where
-  pub here : port_of event < n.ports → IsOutcomeAt n h event outcome
+-- what an event comes to, apart from what a cell answers: at a port that the node does not have it is refused
+pub record IsOutcomeButTold (n : Node) (h : History) (event : Event) (outcome : Outcome) : Type 0 where
+  pub here : port_of event < n.ports → IsOutcomeAtButTold n h event outcome
   pub nowhere : n.ports ≤ port_of event → outcome ≡ Refused
 
--- each outcome is the one that looking back from its place gives
-abbrev pub IsLawful : Node → History → Type 0
-IsLawful n Start = Unit {0}
-IsLawful n (Then h event outcome) = IsLawful n h × IsOutcome n h event outcome
+-- each outcome is the one that looking back from its place gives, apart from what cells answered
+abbrev pub IsLawfulButTold : Node → History → Type 0
+IsLawfulButTold n Start = Unit {0}
+IsLawfulButTold n (Then h event outcome) = IsLawfulButTold n h × IsOutcomeButTold n h event outcome
+
+-- ---- what cells answered
+
+-- the answer of a helper's event, if a program asks it for that cell with that argument, is what looking back gives
+abbrev pub IsToldOf : Node → History → Helper → (argument : ℕ) → Option (ℕ × ℕ) → Outcome → Type 0
+IsToldOf n h helper argument None outcome = Unit {0}
+IsToldOf n h helper argument (Some cell) outcome = outcome ≡ Told (told_of_cell n h helper cell.0 cell.1 argument)
+
+-- the same where the program of the port stands
+abbrev pub IsToldAt : Node → History → Helper → (port : ℕ) → Outcome → Type 0
+IsToldAt n h helper port outcome =
+    IsToldOf n h helper (argument_asked (turn_at n h port)) (cell_asked helper (turn_at n h port)) outcome
+
+-- what an event answered, if it answered something
+abbrev pub IsToldBy : Node → History → Event → Outcome → Type 0
+IsToldBy n h (Take port p) outcome = Unit {0}
+IsToldBy n h (Count port) outcome = IsToldAt n h helpers.Count port outcome
+IsToldBy n h (Ticket port) outcome = IsToldAt n h helpers.Ticket port outcome
+IsToldBy n h (Peak port) outcome = IsToldAt n h helpers.Peak port outcome
+IsToldBy n h (Effect port) outcome = Unit {0}
+IsToldBy n h (Publish port) outcome = Unit {0}
+
+-- at the ports of the node each cell answered what looking back from there gives
+abbrev pub TellsLookedBack : Node → History → Type 0
+TellsLookedBack n Start = Unit {0}
+TellsLookedBack n (Then h event outcome) = TellsLookedBack n h × (port_of event < n.ports → IsToldBy n h event outcome)
+
+-- ---- all of it
+
+-- each outcome is the one that looking back from its place gives: apart from what cells answered, and what they answered too
+pub record IsLawful (n : Node) (h : History) : Type 0 where
+  pub but_told : IsLawfulButTold n h
+  pub told : TellsLookedBack n h

@@ -6,6 +6,7 @@ ghost use Rattle.sched.specs.Worlds.{GoesOn};
 ghost use Rattle.sched.specs.declared.event.Outcome.TheVariants.{Refused as RefusedOutcome};
 
 use crate::event::Outcome;
+use crate::laws::words_are_small;
 use crate::world::World;
 use machine::Helper;
 use plain_cells::answered;
@@ -25,6 +26,7 @@ impl World {
         let argument = self.ports[at].argument();
         let word = self.words.word(map, key);
         let (told, behind) = answered(helper, word, argument);
+        words_are_small(told);
         self.words.set(map, key, behind);
         self.ports[at].tell(told);
         Outcome::Told(told)

@@ -1,16 +1,15 @@
 //! Laws of histories. Each function does no work: its contract is the law.
 
-ghost use Rattle.std.specs.Prelude.{◌<◌, All};
+ghost use Rattle.std.specs.Prelude.{◌<◌, ◌^◌, All};
 ghost use Rattle.machine.specs.Memory.{IsHeader};
 ghost use Rattle.brun.specs.Runs.{header};
 ghost use Rattle.sched.specs.Agreement.{PublishedAgrees};
-ghost use Rattle.sched.specs.Headline.{BringsBytes, EveryScheduleJudgesOnce, OpenedAreTaken, OpenedBehindDone};
+ghost use Rattle.sched.specs.Headline.{BringsBytes, EveryHistoryJudgesOnce, EveryScheduleJudgesOnce, OpenedAreTaken, OpenedBehindDone};
 ghost use Rattle.sched.specs.Turns.{TurnsArePaths};
 
 use crate::event::Event;
 use bpf::image_laws;
 use bver::justified_programs;
-use machine::{numbers_fit, steps_ask};
 use node_programs::published_programs;
 
 /// A law and no work: where a safe program stands after some answers, which are words, is where its paths lead.
@@ -24,6 +23,11 @@ fn bytes_are_small(bytes: &[u8])
 {
     let _ = bytes.len();
 }
+
+/// A law and no work: a word is below 2^64.
+pub(crate) fn words_are_small(word: u64)
+    ensures { word < 2 ^ 64 }
+{}
 
 /// A law and no work: the packet that an event brings has bytes alone.
 pub(crate) fn event_brings_bytes(event: &Event)
@@ -55,11 +59,16 @@ pub fn opened_are_taken()
 pub fn every_schedule_judges_once()
     ensures { EveryScheduleJudgesOnce }
 {
+    every_history_judges_once();
+}
+
+/// A law and no work: the same over each history that is lawful apart from what cells answered, as that of threads is.
+pub fn every_history_judges_once()
+    ensures { EveryHistoryJudgesOnce }
+{
     turns_are_paths();
     justified_programs();
     image_laws();
-    numbers_fit();
-    steps_ask();
 }
 
 /// A law and no work: what is published in a slot is what judges there, with its generation, by each list of publishes that

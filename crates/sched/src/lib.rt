@@ -19,8 +19,8 @@ mod world;
 pub use event::{Event, Outcome};
 pub use faults::WorldFault;
 pub use laws::{
-    arrays_are_headers, every_schedule_judges_once, opened_are_taken, published_agrees,
-    turns_are_paths,
+    arrays_are_headers, every_history_judges_once, every_schedule_judges_once, opened_are_taken,
+    published_agrees, turns_are_paths,
 };
 pub use reply::Reply;
 pub use schedule::{run_schedule, step};

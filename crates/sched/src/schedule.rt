@@ -10,7 +10,7 @@ ghost use Rattle.sched.specs.declared.event.Outcome.TheVariants.{Refused as Refu
 
 use crate::event::{Event, Outcome};
 use crate::faults::WorldFault;
-use crate::laws::{event_brings_bytes, every_schedule_judges_once};
+use crate::laws::{event_brings_bytes, every_history_judges_once};
 use crate::world::World;
 use bpf::Image;
 use machine::Helper;
@@ -61,7 +61,7 @@ pub fn run_schedule(
     ensures count { IfOk result (λ ran. length ran.1.items ≡ length events.items) }
     ensures fault { IfErr result (IsWorldFault (limit_fault config.now) config.now.sizes factory.now) }
 {
-    every_schedule_judges_once();
+    every_history_judges_once();
     let mut world = World::new(alloc, config, factory)?;
     let mut outcomes = Vec::with_capacity(alloc, events.len())?;
     for event in events {

@@ -4,3 +4,4 @@ pub mod Judgements
 pub mod Fresh
 pub mod Finishing
 pub mod Lining
+pub mod Setting

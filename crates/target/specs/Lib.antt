@@ -4,3 +4,4 @@ pub mod Nodes
 pub mod Finished
 pub mod Lines
 pub mod Loads
+pub mod Unshared

@@ -6,7 +6,8 @@
 //! program that is staged.
 //!
 //! [`Node`] has locks round its banks and its publisher, so that each port may have its thread: the lock of a bank is held
-//! round [`finish`] alone. What one port has of it is its [`Pass`].
+//! round [`finish`] alone. What one port has of it is its [`Pass`]. Before it is shared it is an [`UnsharedNode`], into whose banks
+//! bytes may be put.
 #![tactic(auto)]
 
 mod finished;
@@ -17,6 +18,7 @@ mod parts;
 mod pass;
 mod staged;
 mod step;
+mod unshared;
 
 pub use annals::{Front, Line};
 pub use finished::finish;
@@ -28,3 +30,4 @@ pub use pass::Pass;
 pub use publish::{Family, Opened};
 pub use staged::stage;
 pub use step::{Step, judge};
+pub use unshared::UnsharedNode;

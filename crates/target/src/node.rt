@@ -1,11 +1,9 @@
 //! A node, as threads share it.
 
-ghost use Rattle.std.specs.Prelude.{◌≡◌, ◌<◌, ◌≤◌, ◌+◌, ◌-◌, [], All, length, IfOk, IfErr, None};
+ghost use Rattle.std.specs.Prelude.{◌≡◌, ◌<◌, ◌≤◌, ◌-◌, [], All, length, IfOk, IfErr, None};
 ghost use base.Stored.{Gv};
 ghost use Rattle.std.specs.List.{All};
-ghost use Rattle.annals.specs.Banks.{IsFresh};
 ghost use Rattle.annals.specs.Chains.{instrument};
-ghost use Rattle.annals.specs.Publishes.{publishes_chain, publishes_of};
 ghost use Rattle.cells.specs.Seats.{cells};
 ghost use Rattle.node_parts.specs.Nodes.{IsNodeFault, first_passes, limit_fault};
 ghost use Rattle.publish.specs.Lines.{opening_line};
@@ -14,15 +12,14 @@ ghost use Rattle.target.specs.Nodes.{AreNumbered, informed_passes};
 ghost use Rattle.target.specs.Passes.{unasked};
 
 use crate::lock::BankLock;
-use crate::parts::cells_and_passes;
 use crate::pass::Pass;
-use annals::{BANK_CHAINS, Chain, Family, Front, Kept, Line};
+use crate::unshared::UnsharedNode;
+use annals::{Family, Front, Line};
 use bver::Accepted;
 use cells::Cells;
-use node_parts::{Banks, NodeConfig, NodeFault};
+use node_parts::{NodeConfig, NodeFault};
 use publish::{Opened, Publisher};
-use rmap::MAX_BANKS;
-use std::alloc::{AllocError, Global};
+use std::alloc::Global;
 use std::marker::Model;
 use std::sync::{Mutex, Wait};
 
@@ -46,64 +43,6 @@ impl<J: Family, R: Wait + Drop> Model for Node<J, R> {
     ghost view = { λ n. length n.banks.items };
 
     ghost invariant = { λ n. AreNumbered n.banks.items × (n.front ≡ []) };
-}
-
-/// The banks behind their locks, in order, with their numbers, each with the chain of its number in the history. Chains of
-/// banks that are not there are left out. It ends with `AllocError` also where a chain has begun before (no test met that).
-fn locks<J: Family>(
-    alloc: Global,
-    banks: Banks,
-    history: &mut annals::Opened,
-) -> Result<Vec<BankLock<J>>, AllocError>
-    requires family { history.old.0 ≡ J.book }
-    requires chains { history.old.1 ≡ 42 }
-    requires few { length banks ≤ MAX_BANKS }
-    requires fresh { All IsFresh banks }
-    ensures count { IfOk result (λ locks. length locks.items ≡ length banks) }
-    ensures numbers { IfOk result (λ locks. AreNumbered locks.items) }
-    ensures chains { IfOk result (λ _. history.new.1 + publishes_chain ≡ 42) }
-    ensures family { IfOk result (λ _. history.new.0 ≡ history.old.0) }
-{
-    let mut locks = Vec::with_capacity(alloc, banks.len())?;
-    let mut number = 0;
-    for bank in banks.into_banks() {
-        let Some(kept) = Kept::new(number, bank, history) else {
-            return Err(AllocError);
-        };
-        locks.push(BankLock::new(number, kept))?;
-        number += 1;
-    }
-    history.skip(BANK_CHAINS - number);
-    Ok(locks)
-}
-
-/// The banks behind their locks, as [`locks`] makes them, the chain of what is published, which is empty, and the instrument's
-/// line, in which nothing was asked for. Behind it stand the lines of ports.
-fn locks_and_chain<J: Family>(
-    alloc: Global,
-    banks: Banks,
-    history: &mut annals::Opened,
-) -> Result<(Vec<BankLock<J>>, Chain<J>, Line<J>), AllocError>
-    requires family { history.old.0 ≡ J.book }
-    requires chains { history.old.1 ≡ 42 }
-    requires few { length banks ≤ MAX_BANKS }
-    requires fresh { All IsFresh banks }
-    ensures count { IfOk result (λ made. length made.0.items ≡ length banks) }
-    ensures numbers { IfOk result (λ made. AreNumbered made.0.items) }
-    ensures chain { IfOk result (λ made. made.1.number ≡ publishes_chain) }
-    ensures none { IfOk result (λ made. publishes_of made.1.log ≡ []) }
-    ensures line { IfOk result (λ made. made.2 ≡ record { port = instrument; asked = [] }) }
-    ensures chains { IfOk result (λ _. history.new.1 ≡ 32) }
-    ensures family { IfOk result (λ _. history.new.0 ≡ history.old.0) }
-{
-    let locks = locks(alloc, banks, history)?;
-    let Some(chain) = history.publishes() else {
-        return Err(AllocError);
-    };
-    let Some(line) = Line::of_instrument(history) else {
-        return Err(AllocError);
-    };
-    Ok((locks, chain, line))
 }
 
 impl<J: Family, R: Wait + Drop> Node<J, R> {
@@ -190,28 +129,29 @@ impl<J: Family, R: Wait + Drop> Node<J, R> {
         ensures limits { IfOk result (λ _. limit_fault config.now ≡ None) }
         ensures fault { IfErr result (IsNodeFault (limit_fault config.now)) }
     {
-        let mut history = opened.into_chains();
-        let front = history.front();
-        let (banks, mut by_port) = Banks::new(alloc, config)?;
-        let (banks, chain, mut line) = locks_and_chain(alloc, banks, &mut history)?;
-        let (cells, publisher, passes) = cells_and_passes(
-            alloc,
-            rt,
-            chain,
-            &mut line,
-            history,
-            config,
-            factory,
-            firsts,
-            &mut by_port,
+        let (unshared, cells, passes, line) = UnsharedNode::with_programs(
+            alloc, rt, opened, config, factory, firsts,
         )?;
-        let publisher = Mutex::new(publisher);
-        let node = Node {
-            banks,
-            publisher,
-            front,
-        };
+        let node = unshared.share(alloc)?;
         Ok((node, cells, passes, line))
+    }
+
+    /// The node of these: banks behind their locks, each with its place for its number, what publishes its programs, and what a
+    /// port knows at first.
+    pub(crate) fn of_parts(
+        banks: Vec<BankLock<J>>,
+        publisher: Publisher<J, R>,
+        front: Front<J>,
+    ) -> Node<J, R>
+        requires numbers { AreNumbered banks.items }
+        requires front { front ≡ [] }
+        ensures { result ≡ length banks.items }
+    {
+        Node {
+            banks,
+            publisher: Mutex::new(publisher),
+            front,
+        }
     }
 
     /// How many banks the node has.

@@ -18,7 +18,7 @@ use std::marker::Model;
 
 /// What one port has of its node: its context, with its seat at the cells, its reader of the programs that judge, a share
 /// of each bank, its staging, and its line of the node's history. Contracts see what it has, and what it asked for in its line.
-/// Only [`Node`](crate::Node) makes passes.
+/// Only [`Node`](crate::Node) and [`UnsharedNode`](crate::UnsharedNode) make passes.
 #[derive(Drop)]
 pub struct Pass<J: Family> {
     pub(crate) context: RunContext<CellSeat>,

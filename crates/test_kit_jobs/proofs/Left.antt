@@ -29,12 +29,13 @@ use Rattle.commands.specs.Performed.{IsDone, IsEnded, Performs}
 use Rattle.commands.specs.declared.jobs.Job.{Job}
 use Rattle.commands.specs.declared.jobs.Job.TheVariants.{Judge, Serve, Simulate, Trace, Assemble, Disassemble}
 use Rattle.commands.specs.declared.jobs.Job.TheVariants.{Verify, Policy, Explain, Why, Weigh, Node, Packet, Show}
-use Rattle.commands.specs.declared.jobs.Job.TheVariants.{Decide, Compare, Map, Rehearse}
+use Rattle.commands.specs.declared.jobs.Job.TheVariants.{Decide, Compare, Map, Rehearse, Suite}
 use Rattle.test_kit_jobs.proofs.ChartsLeft.{compares_file, maps_file, uncompared, unmapped}
 use Rattle.test_kit_jobs.proofs.DecidesLeft.{decides_file, undecided}
 use Rattle.test_kit_jobs.proofs.RehearsesLeft.{rehearses_file, unrehearsed}
 use Rattle.test_kit_jobs.proofs.NodesLeft.{asked, no_node, some_read, unread, untold}
 use Rattle.test_kit_jobs.proofs.PacketsLeft.{made_file, unmade, unshown}
+use Rattle.test_kit_jobs.proofs.SuitesLeft.{no_suite, prints_suite}
 use Rattle.folders.specs.Folders.{FolderReads, FolderValue, FolderWrites, Sets}
 use Rattle.test_kit_jobs.specs.Jobs.{AssemblesIn, CompilesIn, Leaves}
 
@@ -232,6 +233,7 @@ done_leaves (Trace args) before after old new status done = traced args before a
 done_leaves (Compare words) before after old new status done = compares_file words before after old new status done
 done_leaves (Map words) before after old new status done = maps_file words before after old new status done
 done_leaves (Rehearse words) before after old new status done = rehearses_file words before after old new status done
+done_leaves (Suite words) before after old new status done = prints_suite words before after old new done.1
 
 -- a job that a fault ended
 ended_leaves : (job : Job) (before after : FolderValue) (old new : Option (List ℕ)) (fault : Fault)
@@ -254,6 +256,7 @@ ended_leaves (Trace args) before after old new fault ended = untraced args befor
 ended_leaves (Compare words) before after old new fault ended = uncompared words before after fault ended.0
 ended_leaves (Map words) before after old new fault ended = unmapped words before after fault ended.0
 ended_leaves (Rehearse words) before after old new fault ended = unrehearsed words before after old new fault ended
+ended_leaves (Suite words) before after old new fault ended = no_suite words before after fault ended.0
 
 -- what a job that ended with this status leaves
 pub performed_leaves : (job : Job) (before after : FolderValue) (old new : Option (List ℕ)) (status : Status)

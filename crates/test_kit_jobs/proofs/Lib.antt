@@ -4,3 +4,4 @@ mod DecidesLeft
 mod NodesLeft
 mod PacketsLeft
 mod RehearsesLeft
+mod SuitesLeft

@@ -5,7 +5,7 @@ use Rattle.basm.specs.Relation.{IsText}
 use Rattle.commands.specs.declared.jobs.Job.{Job}
 use Rattle.commands.specs.declared.jobs.Job.TheVariants.{Judge, Serve, Simulate, Trace, Assemble, Disassemble}
 use Rattle.commands.specs.declared.jobs.Job.TheVariants.{Verify, Policy, Explain, Why, Weigh, Node, Packet, Show}
-use Rattle.commands.specs.declared.jobs.Job.TheVariants.{Decide, Compare, Map, Rehearse}
+use Rattle.commands.specs.declared.jobs.Job.TheVariants.{Decide, Compare, Map, Rehearse, Suite}
 use Rattle.machine.specs.Sizes.{Maps}
 use Rattle.policy.specs.Compiled.{IsPortCompiled}
 use Rattle.policy_table.specs.Policies.{PolicyValue}
@@ -55,3 +55,4 @@ Leaves (Trace args) before after status = after ≡ before
 Leaves (Compare words) before after status = after ≡ before
 Leaves (Map words) before after status = after ≡ before
 Leaves (Rehearse words) before after status = after ≡ before
+Leaves (Suite words) before after status = after ≡ before

@@ -12,5 +12,7 @@ returns c =
     let chart = c.in_ok-map.ensures.shape ∙ ap with_node c.in_ok-map_command.ensures.shape in
     let with_map = c.in_ok-subcommand-2.ensures.shape c.in_ok-map.ensures.local
     ∙ ap₂ with_subcommand with_compare (ap (λ (a : App). a.top) chart) in
-    IfOk-weaker c.subcommand-3.result _ _ (λ m h. h.shape c.in_ok-rehearse.ensures.local
-    ∙ ap₂ with_subcommand with_map (ap (λ (a : App). a.top) c.in_ok-rehearse.ensures.shape)) c.subcommand-3.ensures
+    let with_rehearse = c.in_ok-subcommand-3.ensures.shape c.in_ok-rehearse.ensures.local
+    ∙ ap₂ with_subcommand with_map (ap (λ (a : App). a.top) c.in_ok-rehearse.ensures.shape) in
+    IfOk-weaker c.subcommand-4.result _ _ (λ m h. h.shape c.in_ok-suite.ensures.local
+    ∙ ap₂ with_subcommand with_rehearse (ap (λ (a : App). a.top) c.in_ok-suite.ensures.shape)) c.subcommand-4.ensures

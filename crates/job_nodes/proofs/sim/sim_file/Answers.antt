@@ -26,7 +26,7 @@ simulates_file reads args before after old new text shown made first last gives 
       left = last;
       scheduled = scheduled reads args before text made after first gives is;
       all = subst (λ (t : List ℕ). SimulatesFrom held.node Start (lines_of t) last old new) same
-          (simulates_from held.node Start (lines_of shown) first last old new (record { lawful = tt; world = held.is_world }) all);
+          (simulates_from held.node Start (lines_of shown) first last old new (record { lawful = record { but_told = tt; told = tt }; world = held.is_world }) all);
     }
 
 -- a stop at a line of the text that was read
@@ -41,7 +41,7 @@ stops_short reads args before after old new text shown made first last (Ended fa
       node = held.node;
       scheduled = scheduled reads args before text made after first gives is;
       cut_short = subst (λ (t : List ℕ). IsCutShort held.node Start (lines_of t) old new fault) same
-          (cuts_short held.node Start (lines_of shown) first last old new fault (record { lawful = tt; world = held.is_world }) stop);
+          (cuts_short held.node Start (lines_of shown) first last old new fault (record { lawful = record { but_told = tt; told = tt }; world = held.is_world }) stop);
     })
 
 pub returns-clause-done : goal.returns-clause-done

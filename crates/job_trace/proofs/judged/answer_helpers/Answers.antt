@@ -1,8 +1,12 @@
 use Rattle.std.proofs.Common.{rules, ◌≡◌, ◌++◌, ◌∷◌, [], ℕ, List, sym, subst}
 use Rattle.sched.specs.declared.event.Outcome.TheVariants.{Told}
 use Rattle.job_trace.specs.Judged.{AnswersHelpers}
-use Rattle.job_trace.proofs.Histories.{answers_more}
+use Rattle.job_trace.proofs.Histories.{answers_more, answers_none}
 use Rattle.job_trace.proofs.judged.answer_helpers.Goals as goal
+
+pub loop-question-init : goal.loop-question-init
+loop-question-init c =
+    subst (λ (items : List ℕ). AnswersHelpers c.args.port items c.args.world.now c.args.world.now) (sym c.new-answers.ensures.items) (answers_none c.args.port c.args.world.now)
 
 pub loop-question-preserved : goal.loop-question-preserved
 loop-question-preserved c =

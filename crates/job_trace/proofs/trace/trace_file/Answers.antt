@@ -28,7 +28,7 @@ module _ {S : Type 0} (reads : Reads S) (args : NodeLines) (before after : S) (o
       → AreTaken TracesLineFrom (lines_of shown) first last old new → TracesFile reads args before after old new
   traces_file shown first last on empty same all =
       let n = held.node in
-      let lawful = subst (λ (w : WorldValue). IsLawfulWorld n Start w) (sym on) (record { lawful = tt; world = held.is_world }) in
+      let lawful = subst (λ (w : WorldValue). IsLawfulWorld n Start w) (sym on) (record { lawful = record { but_told = tt; told = tt }; world = held.is_world }) in
       let traced = traces_all n Start (lines_of shown) first last old new lawful all in
       let feeds = empty ∙ ap (λ (k : ℕ). replicate k []) held.is_world.ports_are.count in
       record {
@@ -49,7 +49,7 @@ module _ {S : Type 0} (reads : Reads S) (args : NodeLines) (before after : S) (o
   stops_short shown first last (Unwritten refused) on empty same stop = tt
   stops_short shown first last (Ended fault) on empty same stop =
       let n = held.node in
-      let lawful = subst (λ (w : WorldValue). IsLawfulWorld n Start w) (sym on) (record { lawful = tt; world = held.is_world }) in
+      let lawful = subst (λ (w : WorldValue). IsLawfulWorld n Start w) (sym on) (record { lawful = record { but_told = tt; told = tt }; world = held.is_world }) in
       let cut = cuts_short n Start (lines_of shown) first last old new fault lawful stop in
       let feeds = empty ∙ ap (λ (k : ℕ). replicate k []) held.is_world.ports_are.count in
       inr (record {

@@ -29,7 +29,7 @@ returns-in-Staging-clause-dealt g c =
 
 pub returns-in-Control-clause-dealt : goal.returns-in-Control-clause-dealt
 returns-in-Control-clause-dealt g c =
-    loaded _ _ _ _ _ _ _ _ (subst (λ (l : List Link). IsTakenAt l c.judge.new.front c.judge.new.pass.pass.programs) c.again-seen.ensures c.in-Judged.ensures.moment) c.in-Judged.ensures.step.0 (search rules) (sym c.place.ensures.value ∙ c.in-Control.is) c.load_locked.ensures.ended
+    loaded _ _ _ _ _ _ _ _ _ (subst (λ (l : List Link). IsTakenAt l c.judge.new.front c.judge.new.pass.pass.programs) c.again-seen.ensures c.in-Judged.ensures.moment) c.in-Judged.ensures.step.0 (search rules) (sym c.place.ensures.value ∙ c.in-Control.is) c.load_locked.ensures.ended
 
 pub returns-in-Answered-clause-dealt : goal.returns-in-Answered-clause-dealt
 returns-in-Answered-clause-dealt g c = answered _ _ _ _ c.in-Answered.field-0 _ (search rules) (search rules) (search rules)

@@ -1,5 +1,7 @@
 use Rattle.std.proofs.Common.{arith, subst}
 use mathlib.Core.List.{IsPrefix}
+use Rattle.annals.specs.Chains.{done_for}
+use Rattle.std.specs.Prelude.{slice_index_or}
 use Rattle.lemmas.proofs.Prefixes.{prefix_trans}
 use Rattle.ports.proofs.Served.{known_more}
 use Rattle.ports.specs.Serves.{IsTold}
@@ -13,5 +15,13 @@ loop-one-preserved g c =
     known_more c.acts_grow.ensures c.loop-one.one-index c.args.ended.now old new c.one-item.result c.loop-one-test.true longer
     (subst (λ e. IsTold new e.worker) c.one-item.is (prefix_trans _ c.learn.new.self new c.learn.ensures.that c.tell.ensures.known, c.tell.ensures.told)) c.loop-one.invariant
 
-pub returns : goal.returns
-returns g c = λ k d within. c.loop-one.invariant k d (omega (arith, within, c.loop-one-test.false))
+pub returns-clause-told : goal.returns-clause-told
+returns-clause-told g c = λ k d within.
+    let e = slice_index_or c.args.ended.now k d in
+    let known = c.loop-one.known in
+    let last = c.show_all.new.known in
+    let was = c.loop-one.invariant k d (omega (arith, within, c.loop-one-test.false)) in (
+      prefix_trans e.worker.front known last was.0 c.show_all.ensures.seen,
+      prefix_trans e.worker.pass.asked (done_for e.worker.pass.pass.port known) (done_for e.worker.pass.pass.port last) was.1
+          (c.acts_grow.ensures e.worker.pass.pass.port known last c.show_all.ensures.seen),
+    )

@@ -17,7 +17,7 @@ pub loop-one-init : goal.loop-one-init
 loop-one-init g c =
     let whole = c.all_known-whole.result in
     let none = c.requires.0 in
-    let known = subst (All (λ e. IsTold whole e.worker)) c.as_slice.ensures.value c.all_known-whole.ensures in (
+    let known = subst (All (λ e. IsTold whole e.worker)) c.as_slice.ensures.value c.all_known-whole.ensures.told in (
       empty_is c.args.workers.items (sym c.args.workers.ok.0 ∙ none),
       search rules,
       search rules,
@@ -57,4 +57,4 @@ loop-one-preserved g c =
     )
 
 pub returns-clause-history : goal.returns-clause-history
-returns-clause-history g c = record { whole = c.all_known-whole.result; begin = c.loop-one.invariant.5; counted = c.loop-one.invariant.6; asked = c.loop-one.invariant.7 }
+returns-clause-history g c = record { whole = c.all_known-whole.result; begin = c.loop-one.invariant.5; counted = c.loop-one.invariant.6; asked = c.loop-one.invariant.7; listed = c.all_known-whole.ensures.listed; shown = c.all_known-whole.ensures.shown }

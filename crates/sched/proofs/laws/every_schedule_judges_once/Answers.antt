@@ -1,5 +1,4 @@
-use Rattle.sched.proofs.Headlines.{every_schedule_judges_once}
 use Rattle.sched.proofs.laws.every_schedule_judges_once.Goals as goal
 
 pub returns : goal.returns
-returns c = every_schedule_judges_once c.image_laws.ensures.read c.justified_programs.ensures.safe c.turns_are_paths.ensures c.numbers_fit.ensures.numbers c.steps_ask.ensures.arguments
+returns c = λ n h event status reply loaded node bytes lawful. c.every_history_judges_once.ensures n h event status reply loaded node bytes lawful.but_told

@@ -1,19 +1,9 @@
-use Rattle.std.proofs.Common.{ℕ, List, subst}
+use Rattle.std.proofs.Common.{List, subst}
 use mathlib.Core.List.{IsPrefix}
 use Rattle.annals.specs.declared.deed.Link.{Link}
-use Rattle.annals.specs.Chains.{chain_of}
-use Rattle.annals.specs.Publishes.{publishes_chain, publishes_of}
-use Rattle.annals.proofs.Dues.{chain_prefix}
-use Rattle.annals.proofs.Publishings.{publishes_prefix}
+use Rattle.annals.specs.Publishes.{publishes_of}
 use Rattle.annals.proofs.chains.Chain.has_published.Goals as goal
 
 pub returns-clause-begins : goal.returns-clause-begins
 returns-clause-begins g c =
-    let all = c.args.self.now.log in
-    let seen = c.front-known.result in
-    let k = c.args.self.now.number in
-    let is = c.begins_with.ensures.whole in
-    let begins_own : IsPrefix (chain_of k seen) (chain_of k all) = subst (λ (l : List Link). IsPrefix (chain_of k seen) l) is.whole (chain_prefix k seen is.log is.seen) in
-    let begins : IsPrefix (chain_of publishes_chain seen) (chain_of publishes_chain all) =
-    subst (λ (n : ℕ). IsPrefix (chain_of n seen) (chain_of n all)) c.requires.number begins_own in
-    subst (λ (l : List Link). IsPrefix (publishes_of l) (publishes_of all)) c.front-known.ensures (publishes_prefix _ _ begins)
+    subst (λ (l : List Link). IsPrefix (publishes_of l) (publishes_of c.args.self.now.log)) c.front-known.ensures c.knows_published.ensures.begins

@@ -32,3 +32,9 @@ returns-clause-taken g c = λ far.
     let low : shown_in known ≤ c.args.count = omega (arith, c.requires.least, least) in
     let high : c.args.count ≤ shown_in reached = grind (arith, nat_tests, c.loop-shown-test.false, was.2) in
     taken_at known reached c.args.table.now c.args.count (between_seen known reached c.args.count was.0 low high) c.is_listed.ensures was.1 (sym c.requires.count)
+
+pub returns-clause-shown : goal.returns-clause-shown
+returns-clause-shown g c = let was = c.loop-shown.invariant in grind (arith, nat_tests, c.loop-shown-test.false, was.2)
+
+pub returns-clause-listed : goal.returns-clause-listed
+returns-clause-listed g c = c.is_listed.ensures

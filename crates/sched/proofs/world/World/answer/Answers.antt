@@ -69,5 +69,5 @@ returns-clause-goes_on c =
     let number = subst (λ p. argument ≡ argument_asked (turn_in p.run)) (sym (read_again _ w _ _ _ _ second again)) c.argument-argument.ensures in
     let told_at : IsToldAt c.args.self.now w c.from-at.result c.args.port told c.index_mut.result.now c.tell.new.self = record { read = again; told_as = record { rest = c.tell.ensures.rest; run = c.tell.ensures.run }; same = c.tell.ensures.same } in
     let answered : IsAnswered c.args.helper (word_at w.words c.in-Some.map c.in-Some.key) argument told next = rw (← c.word-word.ensures) (record { told_is = c.answered-told.ensures.told; next_is = c.answered-told.ensures.behind }) in
-    let made = helper_told _ w _ _ c.in-Some.map c.in-Some.key argument told next c.args.helper _ _ asks_again number answered told_at c.self.invariant in
+    let made = helper_told _ w _ _ c.in-Some.map c.in-Some.key argument told next c.args.helper _ _ asks_again number answered told_at c.self.invariant c.words_are_small.ensures in
     subst (λ words. GoesOn (answering c.args.helper c.args.port) (Told told) c.args.self.now (record w { words = words; ports = slice_set w.ports c.from-at.result c.tell.new.self })) (sym c.set.ensures) made

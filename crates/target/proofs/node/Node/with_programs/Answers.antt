@@ -1,8 +1,8 @@
-use Rattle.std.proofs.Common.{sym, subst}
-use Rattle.std.specs.List.{All}
-use Rattle.annals.specs.Banks.{IsFresh}
-use Rattle.target.proofs.Fresh.{banks_are_fresh}
+use Rattle.std.proofs.Common.{◌∙◌, ap, length}
+use Rattle.std.proofs.lemmas.List.{length-map}
+use Rattle.node_parts.specs.Nodes.{bank_of}
 use Rattle.target.proofs.node.Node.with_programs.Goals as goal
 
-pub locks_and_chain-requires-clause-fresh : goal.locks_and_chain-requires-clause-fresh
-locks_and_chain-requires-clause-fresh g c = subst (All IsFresh) (sym c.in_ok-banks.ensures.banks) (banks_are_fresh _ _)
+pub returns-clause-banks : goal.returns-clause-banks
+returns-clause-banks g c =
+    c.in_ok-node.ensures ∙ ap (λ l. length l) c.in_ok-unshared.ensures.banks ∙ length-map c.args.config.now.banks.now (bank_of c.args.config.now.ports)

@@ -1,7 +1,0 @@
-use Rattle.job_nodes.proofs.node.JobNode.take_line.Goals as goal
-
-pub returns-in_default-clause-taken : goal.returns-in_default-clause-taken
-returns-in_default-clause-taken c =
-    let given = c.in_ok-port.ensures.fed in
-    let is = c.in_default.is in
-    rw is at given

@@ -1,0 +1,11 @@
+pub mod Checks
+pub mod Rows
+pub mod Reach
+pub mod Ranges
+pub mod Judges
+pub mod Comings
+pub mod Trials
+pub mod Marks
+pub mod SuiteJob
+pub mod Tables
+pub mod SuiteFile

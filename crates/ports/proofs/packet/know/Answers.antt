@@ -1,0 +1,15 @@
+use mathlib.Core.List.{IsPrefix}
+use Rattle.annals.specs.Chains.{done_for}
+use Rattle.annals.specs.Publishes.{publishes_of}
+use Rattle.lemmas.proofs.Prefixes.{both_begin, prefix_trans}
+use Rattle.ports.proofs.packet.know.Goals as goal
+
+pub returns-clause-seen : goal.returns-clause-seen
+returns-clause-seen g c = prefix_trans _ c.tell.new.known _ c.tell.ensures.known c.tell-2.ensures.old
+
+pub returns-clause-published : goal.returns-clause-published
+returns-clause-published g c = both_begin _ _ c.knows_all.ensures.begins c.tell-2.ensures.told
+
+pub returns-clause-did : goal.returns-clause-did
+returns-clause-did g c =
+    both_begin _ _ c.knows_entries.ensures.begins (prefix_trans _ _ _ c.tell.ensures.told (c.acts_grow.ensures _ _ _ c.tell-2.ensures.old))
