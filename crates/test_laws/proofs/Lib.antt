@@ -1,1 +1,3 @@
 mod Laws
+mod SampleProgram
+mod Sample

@@ -1,14 +1,16 @@
 //! Runs on which laws hold, and calls that the product does not make: what a law promises of a run is a clause of the function
 //! that makes the run, and a condition that no call of the product meets is met here. Tests make these runs; `rmapctl` does
-//! not stand on this crate.
+//! not stand on this crate. A worked example of a law has a program and packets here that fit it.
 #![tactic(auto)]
 
 mod alone;
 mod calls;
+mod samples;
 mod schedules;
 mod workers;
 
 pub use alone::{served_alone, taken, told};
 pub use calls::{fresh_cell, loads_told, remade};
+pub use samples::a_sample_is_lawful;
 pub use schedules::{generation, ran};
 pub use workers::accounted;
