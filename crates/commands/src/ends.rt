@@ -129,7 +129,7 @@ fn add_failed(
             None => Ok(()),
         },
         Some(Fault::Refused(_)) => add_place_in(text, alloc, noted),
-        Some(Fault::NoMemory) => Ok(()),
+        Some(Fault::NoMemory | Fault::Damaged) => Ok(()),
     }
 }
 
