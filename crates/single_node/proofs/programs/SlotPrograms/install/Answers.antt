@@ -2,7 +2,7 @@ use Rattle.std.proofs.Common.{◌≡◌, ◌≢◌, ◌<◌, ◌∙◌, ℕ, ap,
 use Rattle.std.specs.Prelude.{slice_get}
 use Rattle.node_programs.specs.Published.{sizes_of}
 use Rattle.single_node.specs.Slots.{placed_at}
-use Rattle.single_node.proofs.Placing.{inside, longer_placed, same_items}
+use Rattle.single_node.proofs.Placing.{inside, longer_placed}
 use Rattle.single_node.proofs.programs.SlotPrograms.install.Goals as goal
 
 pub free_place-place-requires : goal.free_place-place-requires
