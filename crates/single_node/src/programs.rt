@@ -161,11 +161,11 @@ impl SlotPrograms {
         let place = own_place(&self.programs, &self.slots, slot);
         name_slot(&mut self.programs, place, slot);
         let list = self.list.with(own_program(&self.programs, place));
-        let generation = 1 + self.count;
-        set_place(&mut self.slots, slot, place, generation);
+        let next = self.count + 1;
+        set_place(&mut self.slots, slot, place, next);
         self.list = list;
-        self.count = generation;
-        Ok(generation)
+        self.count = next;
+        Ok(next)
     }
 }
 
