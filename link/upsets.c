@@ -4,8 +4,8 @@
  *   upsets IMAGES REGION TRIALS SEED [EACH]
  *                                       a line a trial: region, place, bit, class, first other packet, what was done at its end
  *   upsets IMAGES scrubs                scrubs packets and sizes that changed, and programs, of which none can be mended
- *   upsets IMAGES words EACH            a line a word of the node's handle and control: region, block, its size, word, what it has, and
- *                                       for each bit what came of its flip, a letter each (LETTERS)
+ *   upsets IMAGES words EACH STEP       a line a word of the node's handle and control: region, block, its size, word, what it has, and
+ *                                       for each bit, or each STEP-th, what came of its flip, a letter each (`letter_of`)
  *
  * IMAGES has the programs of slots 0 to 3, a line of digits each: those of tests/cases/upsets.cases, which `rules` says again.
  * With EACH the program that judges is scrubbed before each packet of so many. Generations are then not compared, nor what a scrub
@@ -947,16 +947,16 @@ static char letter_of(const char *name) {
   return '?';
 }
 
-/* Each bit of each word of a block flips, if the block has control. */
-static void print_block(uint32_t at, uint32_t size, uint32_t number) {
+/* Each bit of each word of a block flips, or each of so many, if the block has control. */
+static void print_block(uint32_t at, uint32_t size, uint32_t number, uint32_t step) {
   for (uint32_t word = at; word + 8 <= at + size; word += 8) {
     uint64_t value;
     char classes[65] = {0};
     if (region_of[word] != CONTROL && region_of[word] != HANDLE) continue;
     memcpy(&value, arena + word, sizeof value);
-    for (uint32_t bit = 0; bit < 64; bit += 1) {
+    for (uint32_t bit = 0; bit < 64; bit += step) {
       flip_at(true, word + bit / 8, bit % 8);
-      classes[bit] = letter_of(class_of());
+      classes[bit / step] = letter_of(class_of());
     }
     printf("%s %u %u %u ", names[region_of[word]], number, size, (word - at) / 8);
     print_value(value);
@@ -965,16 +965,17 @@ static void print_block(uint32_t at, uint32_t size, uint32_t number) {
   }
 }
 
-static void print_words(void) {
+static void print_words(uint32_t step) {
   run_unflipped();
-  print_block(0, sizeof *node, 0);
-  for (uint32_t k = 0; k < piece_count; k += 1) print_block(pieces[k].at, pieces[k].size, k + 1);
+  print_block(0, sizeof *node, 0, step);
+  for (uint32_t k = 0; k < piece_count; k += 1) print_block(pieces[k].at, pieces[k].size, k + 1, step);
 }
 
 int main(int count, char **words) {
-  if (count < 2 || count > 6 || (count == 4 && strcmp(words[2], "words") != 0))
-    fail("IMAGES, or IMAGES REGION TRIALS SEED [EACH], or IMAGES scrubs, or IMAGES words EACH");
-  if (count == 6 || count == 4) each = (uint32_t)strtoul(words[count - 1], NULL, 10);
+  bool is_words = count == 5 && strcmp(words[2], "words") == 0;
+  if (count < 2 || count == 4 || count > 6)
+    fail("IMAGES, or IMAGES REGION TRIALS SEED [EACH], or IMAGES scrubs, or IMAGES words EACH STEP");
+  if (count == 6 || is_words) each = (uint32_t)strtoul(words[is_words ? 3 : 5], NULL, 10);
   prepare(words[1]);
   if (count == 2) {
     for (int region = HANDLE; region < ANY; region += 1)
@@ -988,8 +989,10 @@ int main(int count, char **words) {
     withdraw();
     return 0;
   }
-  if (count == 4) {
-    print_words();
+  if (is_words) {
+    uint32_t step = (uint32_t)strtoul(words[4], NULL, 10);
+    if (step == 0 || step > 64) fail("a step of 1 to 64");
+    print_words(step);
     return 0;
   }
   enum region region = HANDLE;
