@@ -20,12 +20,12 @@ returns-clause-judged c = λ p admission.
     let shares = c.self.inside.shares.items in
     let staging = c.self.inside.staging in
     let admitted = c.args.admitted in
-    let program = c.shown-program.result.0.now in
-    let generation = c.shown-program.result.1 in
+    let program = c.shown-generation.result.0.now in
+    let generation = c.shown-generation.result.1 in
     let at : c.slot-slot.result ≡ slot_of (command_kind (command_of admitted.packet)) admitted.place = search rules in
     let shows : judging_program programs c.slot-slot.result ≡ Some (program, generation)
-    = c.shown-program.ensures.value in
-    let accepted : IsJustified program.program program.sizes = c.shown-program.ensures.justified in
+    = c.shown-generation.ensures.value in
+    let accepted : IsJustified program.program program.sizes = c.shown-generation.ensures.justified in
     let admitted_here : IsAdmission admitted p b.windows = subst (λ (h : PassValue). IsAdmission admitted p h.windows) (sym c.self.view_is) admission in
     let begins = subst (λ (h : PassValue). IsPrefix h.programs programs) (sym c.self.view_is) c.requires.informed.begins in
     let judged : IsLastJudgement programs c.args.cells.now.words c.judge.new.cells.words (pass_of b known shares staging) (pass_of left programs shares staging) p c.judge.result

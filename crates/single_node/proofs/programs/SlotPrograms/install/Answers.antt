@@ -9,8 +9,8 @@ pub free_place-place-requires : goal.free_place-place-requires
 free_place-place-requires c = λ k few.
     inside c.self.inside.list c.self.inside.programs.items c.self.inside.slots c.self.inside.count c.self.inside.sizes k few c.self.invariant
 
-pub invariant_of-self : goal.invariant_of-self
-invariant_of-self c =
+pub invariant_of-self-2 : goal.invariant_of-self-2
+invariant_of-self-2 c =
     let h = c.self.inside.list in
     let xs = c.self.inside.programs.items in
     let ys = c.hold.new.programs.items in

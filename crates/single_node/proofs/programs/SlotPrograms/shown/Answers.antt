@@ -16,7 +16,7 @@ returns-clause-value c =
     let own = c.own_program-own.result.now in
     let is = c.own_place-place.ensures.own (inside c.self.inside.list xs slots c.self.inside.count c.self.inside.sizes c.args.slot c.requires c.self.invariant) in
     let there : slice_get xs (placed_at slots c.args.slot).place ≡ Some own = subst (λ (n : ℕ). slice_get xs n ≡ Some own) is c.own_program-own.ensures in
-    rw (← c.self.view_is, c.placed_at.ensures) (placed_shows c.self.inside.list xs slots c.self.inside.count c.self.inside.sizes c.args.slot own c.requires c.self.invariant there)
+    rw (← c.self.view_is, c.placed_at-generation.ensures) (placed_shows c.self.inside.list xs slots c.self.inside.count c.self.inside.sizes c.args.slot own c.requires c.self.invariant there)
 
 pub returns-clause-sizes : goal.returns-clause-sizes
 returns-clause-sizes c =
