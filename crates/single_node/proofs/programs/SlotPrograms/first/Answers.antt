@@ -9,4 +9,4 @@ pub invariant_of-result : goal.invariant_of-result
 invariant_of-result c =
     rw (c.first-list.ensures, c.in_ok-push.ensures.items, c.in_ok-programs.ensures.items, c.first_slots.ensures)
     (subst (λ (sizes : Maps). ArePlaced (first_programs c.args.factory) (record { slot = 0; program = c.args.factory } ∷ []) first_slots 0 sizes)
-    (sym c.sizes-sizes.ensures) (first_are (record { slot = 0; program = c.args.factory })))
+    (sym c.sizes-sizes.ensures.value) (first_are (record { slot = 0; program = c.args.factory })))
