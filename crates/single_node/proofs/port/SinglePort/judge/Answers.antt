@@ -1,4 +1,4 @@
-use Rattle.std.proofs.Common.{◌≡◌, List, Some, rules, subst, sym, ◌∙◌, ℕ}
+use Rattle.std.proofs.Common.{◌≡◌, List, Some, rules, subst, sym}
 use mathlib.Core.List.{IsPrefix}
 use Rattle.rmap.specs.Command.{command_kind, command_of}
 use Rattle.bver.specs.Justified.{IsJustified}

@@ -1,6 +1,6 @@
-use Rattle.std.proofs.Common.{◌≡◌, ℕ, ◌∙◌, Some, ap, refl, subst, sym}
+use Rattle.std.proofs.Common.{◌≡◌, ℕ, Some, refl, subst}
 use Rattle.std.specs.Prelude.{slice_get}
-use Rattle.single_node.specs.Slots.{ArePlaced, placed_at}
+use Rattle.single_node.specs.Slots.{placed_at}
 use Rattle.single_node.proofs.Placing.{again_placed, inside, named_there, own_judges, same_placed, some_inside}
 use Rattle.single_node.proofs.programs.SlotPrograms.publish_again.Goals as goal
 

@@ -1,7 +1,6 @@
 use Rattle.std.proofs.Common.{◌≡◌, ℕ, Some, subst}
 use Rattle.std.specs.Prelude.{slice_get}
 use Rattle.single_node.specs.Slots.{placed_at}
-use Rattle.single_node.specs.declared.publishing.Publishing.{Publishing}
 use Rattle.single_node.proofs.Placing.{inside, placed_shows, placed_sizes, some_inside}
 use Rattle.single_node.proofs.programs.SlotPrograms.shown.Goals as goal
 
