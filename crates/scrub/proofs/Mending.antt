@@ -12,7 +12,8 @@ use Rattle.node_programs.specs.Codes.{IsUnpublished}
 use Rattle.node_programs.specs.declared.faults.PublishFault.TheVariants.{GenerationsFull}
 use Rattle.scrub.specs.Guarded.{IsPublishedAs, IsWithdrawn, LooksAt, PublishesAs, Repairs, RepairsUnless, Scrubs, ScrubsSlot, Watched, health_at, health_by}
 use Rattle.scrub.specs.declared.guard.Scrubbed.{Scrubbed}
-use Rattle.scrub.specs.Mending.{IsUnread, empty, read_fault, refused as refused_by, unspelled}
+use Rattle.scrub.specs.declared.kept.SlotSums.{SlotSums}
+use Rattle.scrub.specs.Mending.{IsUnlent, IsUnread, empty, read_fault, refused as refused_by, unspelled}
 use Rattle.scrub.specs.declared.guard.Health.{Health}
 use Rattle.scrub.specs.declared.guard.Health.TheVariants.{Whole, Mended, Unmended, Withdrawn}
 use Rattle.scrub.specs.declared.made.MendFault.{MendFault}
@@ -47,6 +48,12 @@ unread sizes image (faults.Insn slot fault) some fails = unspelled (faults.Insn 
 pub refused : (sizes : Maps) (image : List ℕ) (program : Program) (told : Refused) → image ≡ image_bytes program → TellsUnjustified program sizes told → told.code ≢ RefusedMemory → IsUnread sizes image Image
 refused sizes image program told spelled tells other =
     refused_by (record { program = program; spelled = spelled; unjustified = λ justified. tells other justified })
+
+-- of what is not read no sum is taken
+pub unlent : (sizes : Maps) (image : List ℕ) (kept : SlotSums) (fault : MendFault) → IsUnread sizes image fault → IsUnlent sizes image kept fault
+unlent sizes image kept Memory is = is
+unlent sizes image kept Image is = inl is
+unlent sizes image kept Full is = is
 
 -- no slot whose program was not mended is found whole or mended
 pub repairs_by : (fault : MendFault) (health : Health) (slot : ℕ) (image : List ℕ) (before after : Watched) → health ≡ health_by fault → IsWithdrawn health slot image before after → Repairs health slot image before after

@@ -1,5 +1,5 @@
 -- A node whose programs are scrubbed.
-use Rattle.std.specs.Prelude.{◌≡◌, ◌≢◌, ◌<◌, ◌≤◌, ◌^◌, ◌⊎◌, ◌==◌, ◌&&◌, not, if◌then◌else◌, ⊥, ℕ, Bool, false, true, List, [], length, Option, None, Some, slice_get, slice_set}
+use Rattle.std.specs.Prelude.{◌≡◌, ◌≢◌, ◌<◌, ◌≤◌, ◌^◌, ◌⊎◌, ◌==◌, ◌&&◌, not, if◌then◌else◌, ℕ, Bool, false, true, List, [], length, Option, None, Some, slice_get, slice_set}
 use Rattle.bver.specs.Justified.{AcceptedValue}
 use Rattle.node_parts.specs.declared.served.Served.TheVariants.{Unread}
 use Rattle.node_programs.specs.Published.{program_at, sizes_of}

@@ -1,5 +1,5 @@
 -- The program of an image that is lent to a scrub.
-use Rattle.std.specs.Prelude.{◌≡◌, ◌≢◌, ◌⊎◌, ⊥, ℕ, false, true, List, []}
+use Rattle.std.specs.Prelude.{◌≡◌, ◌≢◌, ◌⊎◌, ℕ, false, true, List, []}
 use Rattle.bpf.specs.Program.{Program, image_bytes}
 use Rattle.bpf.specs.Reading.{Fails, image_reading}
 use Rattle.bpf.specs.declared.fault.ImageFault.{ImageFault}

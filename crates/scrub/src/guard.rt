@@ -234,6 +234,7 @@ impl Guard {
         requires { slot < 4 }
         ensures { PublishesAs result slot sum (beside self.old node.old) (beside self.new node.new) }
     {
+        let _program = node.program(slot);
         match node.publish_again(slot) {
             Ok(_generation) => {
                 self.keep(slot, SlotSums::of(sum));
