@@ -332,7 +332,7 @@ uint32_t sandbar_word(sandbar_node *node, uint8_t map, uint16_t cell, uint64_t *
  * The part of programs compares each slot's program, as it is run, with the sum that was kept when it was published. If a
  * program differs, it is made again of its image, in its own memory. If it has then that sum, it has the next generation; a program
  * that several slots share is so mended for each of them. Else the program of @p image is published for the slot, if the verifier
- * accepts it and it has that sum: this asks for memory as a load does. Else the slot is withdrawn: each command for it is answered by
+ * accepts it and it has that sum. This asks for memory as a load does. Else the slot is withdrawn: each command for it is answered by
  * a general error (status 1, ::SANDBAR_ANSWERED). Each later scrub tries it again, and a load publishes another program. If slot 3 is
  * withdrawn, no load is permitted: so the program of @p image is then published for it, if it may judge. An image of no bytes is
  * none, and no memory is asked for then.
