@@ -75,12 +75,12 @@ after_ranges sum banks =
     (slice_get banks 0)) (slice_get banks 1)) (slice_get banks 2)) (slice_get banks 3))
     (slice_get banks 4)) (slice_get banks 5)) (slice_get banks 6)) (slice_get banks 7)
 
--- the sum after where the windows of a node have a bank, if they have it
+-- the sum after the range of a bank by the windows of a node, if they have that bank
 abbrev pub after_place : (sum : ℕ) → Option (ℕ × ℕ) → ℕ
 after_place sum None = sum
 after_place sum (Some place) = after_word (after_word sum place.0) place.1
 
--- the sum after where they have the banks
+-- the sum after the ranges of all banks by them
 abbrev pub after_places : (sum : ℕ) → List (ℕ × ℕ) → ℕ
 after_places sum places =
     after_place (after_place (after_place (after_place
@@ -88,7 +88,7 @@ after_places sum places =
     (slice_get places 0)) (slice_get places 1)) (slice_get places 2)) (slice_get places 3))
     (slice_get places 4)) (slice_get places 5)) (slice_get places 6)) (slice_get places 7)
 
--- the sum after the windows under which the ports serve, if there is a port: the node's address, and where the banks lie
+-- the sum after the windows under which the ports serve, if there is a port: the node's address, and the ranges of the banks
 abbrev pub after_windows : (sum : ℕ) → Option PassValue → ℕ
 after_windows sum None = sum
 after_windows sum (Some h) = after_places (after_word sum h.windows.node_address) h.windows.banks

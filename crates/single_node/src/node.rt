@@ -34,11 +34,11 @@ use spw::{PORTS, Packet, put_front};
 use std::alloc::{AllocError, Global};
 use std::marker::Model;
 
-/// A node of one thread: where its banks lie, the banks, the cells of its maps, the program of each slot, what each of its ports
-/// has, and room for a reply. Contracts see the banks, the word of each cell, the list of what was published, and each port's pass.
+/// A node of one thread: its windows, banks and cells, the program of each slot, what each of its ports has, and room
+/// for a reply. Contracts see the banks, the word of each cell, the list of what was published, and the pass of each port.
 #[derive(Drop)]
 pub struct SingleNode {
-    /// Its address, and where its banks lie: the ports are lent it.
+    /// Its address, and the ranges of its banks: the ports are lent them.
     windows: Windows,
     banks: Banks,
     cells: PlainCells,
