@@ -34,7 +34,7 @@ use spw::{PORTS, Packet, put_front};
 use std::alloc::{AllocError, Global};
 use std::marker::Model;
 
-/// A node of one thread: its windows, banks and cells, the program of each slot, what each of its ports has, and room
+/// A node of one thread: its windows, banks and cells, the program of each slot, what each port has, and room
 /// for a reply. Contracts see the banks, the word of each cell, the list of what was published, and the pass of each port.
 #[derive(Drop)]
 pub struct SingleNode {
