@@ -106,8 +106,7 @@ after_maps sum sizes =
     (slice_get sizes.cells 0)) (slice_get sizes.cells 1)) (slice_get sizes.cells 2)) (slice_get sizes.cells 3))
     (slice_get sizes.cells 4)) (slice_get sizes.cells 5)) (slice_get sizes.cells 6)) (slice_get sizes.cells 7)
 
--- the sum of what a node's sizes are from its opening on: how many ports and banks it has, its address, where the banks lie, by
--- its windows and by the banks themselves, and how many cells its maps have
+-- the sum of a node's sizes at its opening: its ports and banks, its address, the ranges of its windows and banks, and its cells
 abbrev pub sizes_sum : SingleNodeValue → ℕ
 sizes_sum node =
     after_maps

@@ -192,8 +192,7 @@ fn after_maps(sum: u64, sizes: &MapSizes) -> u64
     after_cells(seven, sizes, 7)
 }
 
-/// The sum of what a node's sizes are from its opening on: how many ports and banks it has, its address, where the banks lie, by its
-/// windows and by the banks themselves, and how many cells its maps have.
+/// The sum of a node's sizes at its opening: its ports and banks, its address, the ranges of its windows and banks, and its cells.
 pub(crate) fn sizes_sum(node: &SingleNode) -> u64
     ensures { result ≡ sizes_sum node.now }
 {
