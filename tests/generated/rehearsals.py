@@ -173,12 +173,15 @@ def of_table(room: Room, new: Policy, ports: int, node: list[str]) -> None:
     same = list(open_to(new, MAPS, own, ports, LEAD)) or [LEAD + " by nobody"]
     lead = f"    loads of {len(own)} bytes"
     both = plain + [line.replace(LEAD, lead, 1) for line in same] * (same != plain)
-    same_lines("map", told_lines(room.job("map", "new", *node)), both)
+    drawn = room.job("map", "new", *node)
+    same_lines("map", told_lines(drawn), both)
+    never = ["    " + line for line in drawn.out.decode().splitlines() if " never matches: " in line]
     wanted = both if (plain == [LEAD + " by nobody"]) != (same == [LEAD + " by nobody"]) else []
     if plain == same == [LEAD + " by nobody"]:
         wanted = ["    in slot 3 this table lets nobody load another", MENDS, "    --final says that it is meant, and then nothing is said"]
-    same_lines("policy", told_lines(room.job("policy", "new", "made", *node)), wanted)
-    same_lines("policy --final", told_lines(room.job("policy", "new", "made", "--final", *node)), [])
+    same_lines("policy", told_lines(room.job("policy", "new", "made", *node)), wanted + never)
+    same_lines("policy --final", told_lines(room.job("policy", "new", "made", "--final", *node)), never)
+    same_lines("policy --quiet", told_lines(room.job("policy", "new", "made", "--quiet", *node)), [])
 
 
 def check(random: Random, room: Room, seen: Counter[str]) -> None:

@@ -169,6 +169,7 @@ fn policy_on(words: PolicyWords, sizes: MapSizes) -> PolicyWords
         image: words.image,
         sizes,
         is_final: words.is_final,
+        is_quiet: words.is_quiet,
     }
 }
 
@@ -192,6 +193,7 @@ fn map_on(words: MapWords, sizes: MapSizes) -> MapWords
         table: words.table,
         sizes,
         markdown: words.markdown,
+        is_quiet: words.is_quiet,
     }
 }
 

@@ -9,7 +9,7 @@ use Rattle.policy_table.specs.Ports.{rules_at}
 use Rattle.policy_table.specs.declared.rules.Rule.{Rule}
 use Rattle.policy_table.specs.declared.text_faults.TextFault.{TextFault}
 use Rattle.regions.specs.declared.points.Point.{Point}
-use Rattle.job_decide.specs.Tables.{HoldsBadTable, HoldsTable}
+use Rattle.job_decide.specs.Tables.{HoldsBadDrawn, HoldsDrawn}
 use Rattle.job_parts.specs.Files.{Reads}
 use Rattle.job_parts.specs.Reading.{TextUnread}
 use Rattle.job_parts.specs.TwoFiles.{TellsNamedFault}
@@ -74,18 +74,18 @@ TellsTables markdown one other old new Misused = ⊥
 abbrev pub IsNoNamed : {S : Type 0} → (reads : Reads S) → (name : List ℕ) → Maps → (before after : S) → NoPair → Type 0
 IsNoNamed reads name sizes before after (Ended fault) = TextUnread reads before name after fault
 IsNoNamed reads name sizes before after (BadTable own fault) =
-    (own.now ≡ name) × HoldsBadTable reads before name sizes fault after
+    (own.now ≡ name) × HoldsBadDrawn reads before name sizes fault after
 
 module _ {S : Type 0} (reads : Reads S) (words : CompareWords) where
-  -- the file of the old table has a table without a fault for these maps
+  -- the file of the old table has a table whose lines have no fault for these maps
   abbrev pub HoldsOld : (before : S) → PolicyValue → (after : S) → Type 0
-  HoldsOld before policy after = HoldsTable reads before (string_bytes words.old) words.sizes policy after
+  HoldsOld before policy after = HoldsDrawn reads before (string_bytes words.old) words.sizes policy after
 
   -- the files were read in this order, and have such tables
   pub record AreTables (before : S) (one other : PolicyValue) (after : S) : Type 0 where
     pub between : S
     pub first : HoldsOld before one between
-    pub second : HoldsTable reads between (string_bytes words.new) words.sizes other after
+    pub second : HoldsDrawn reads between (string_bytes words.new) words.sizes other after
 
   -- the new table cannot be read, behind the old one
   pub record NewUnread (before after : S) (fault : Fault) : Type 0 where
@@ -99,7 +99,7 @@ module _ {S : Type 0} (reads : Reads S) (words : CompareWords) where
     pub between : S
     pub policy : PolicyValue
     pub first : HoldsOld before policy between
-    pub held : HoldsBadTable reads between (string_bytes words.new) words.sizes fault after
+    pub held : HoldsBadDrawn reads between (string_bytes words.new) words.sizes fault after
 
   -- a file cannot be read
   abbrev pub IsUnread : (before after : S) → Fault → Type 0
@@ -109,7 +109,7 @@ module _ {S : Type 0} (reads : Reads S) (words : CompareWords) where
   -- the table in the file of this name has this first fault
   abbrev pub IsBad : (before after : S) → (name : List ℕ) → TextFault → Type 0
   IsBad before after name fault =
-      ((name ≡ string_bytes words.old) × HoldsBadTable reads before (string_bytes words.old) words.sizes fault after)
+      ((name ≡ string_bytes words.old) × HoldsBadDrawn reads before (string_bytes words.old) words.sizes fault after)
       ⊎ ((name ≡ string_bytes words.new) × NewIsBad before after fault)
 
   -- why there are no two tables

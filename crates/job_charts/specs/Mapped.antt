@@ -147,6 +147,12 @@ abbrev pub TellsPorts : PolicyValue → (tells : AskedValue → (before after : 
 TellsPorts policy tells count before after =
     TellsFirst (TellsPort (λ port. is_named port policy.rules) (λ port. tells (asked_at policy port))) count before after
 
+-- at each port the rules that never match
+pub record TellsNotesAlone (policy : PolicyValue) (text : List ℕ) : Type 0 where
+  pub notes : List RowValue
+  pub notes_told : TellsPorts policy (TellsNotes false) 32 [] notes
+  pub is : text ≡ with_rows false (λ port. is_named port policy.rules) notes [] notes
+
 -- what is before all rows: in markdown the headings
 abbrev pub head_of : (markdown : Bool) → List ℕ
 head_of markdown = if markdown then map_head else []

@@ -3,7 +3,7 @@ use Rattle.std.specs.Prelude.{◌≡◌, ◌⊎◌, ℕ, List, Option, string_by
 use Rattle.std.specs.Io.KnownBytes.{Appends}
 use Rattle.policy_table.specs.Policies.{PolicyValue}
 use Rattle.policy_table.specs.declared.text_faults.TextFault.{TextFault}
-use Rattle.job_decide.specs.Tables.{HoldsBadTable, HoldsText, TellsTableFault}
+use Rattle.job_decide.specs.Tables.{HoldsBadDrawn, HoldsText, TellsTableFault}
 use Rattle.job_parts.specs.Files.{Reads}
 use Rattle.job_parts.specs.Reading.{TextUnread}
 use Rattle.job_parts.specs.declared.faults.Fault.{Fault}
@@ -17,7 +17,7 @@ use Rattle.job_charts.specs.declared.map.MapWords.{MapWords}
 use Rattle.spw.specs.Line.{lines_of}
 
 module _ {S : Type 0} (reads : Reads S) (words : MapWords) where
-  -- the file has this text, which is a table without a fault for these maps
+  -- the file has this text, which is a table whose lines have no fault for these maps
   abbrev pub IsGiven : (before : S) → (written : List ℕ) → PolicyValue → (after : S) → Type 0
   IsGiven before written policy after = HoldsText reads before (string_bytes words.table) words.sizes written policy after
 
@@ -33,7 +33,7 @@ module _ {S : Type 0} (reads : Reads S) (words : MapWords) where
   -- the table has a fault, which was told with its place
   pub record TellsTable (before after : S) (old new : Option (List ℕ)) : Type 0 where
     pub fault : TextFault
-    pub held : HoldsBadTable reads before (string_bytes words.table) words.sizes fault after
+    pub held : HoldsBadDrawn reads before (string_bytes words.table) words.sizes fault after
     pub told : TellsTableFault fault old new
 
   -- what `map` reads and prints where no fault ends it, by its exit status: 0 where the map was printed, 1 where the table has

@@ -11,7 +11,7 @@ ghost use Rattle.job_charts.specs.CompareJob.{NamesCompare, RefusesCompare, comp
 ghost use Rattle.job_charts.specs.ComparedFile.{AreTables, AreSameAtAll, AreSameIfCharted, ComparesFile, DifferAt, DifferSomewhere, HaveDifference, IsNoNamed, IsNoPair, IsNotCompared, TellsTables};
 ghost use Rattle.job_parts.specs.Inputs.{AreInputs, input};
 ghost use Rattle.job_parts.specs.declared.inputs.Content.TheVariants.{Table};
-ghost use Rattle.job_decide.specs.Tables.{HoldsTable};
+ghost use Rattle.job_decide.specs.Tables.{HoldsDrawn};
 ghost use Rattle.job_parts.specs.declared.faults.Fault.TheVariants.{NoMemory};
 
 use crate::asked::Asked;
@@ -19,7 +19,7 @@ use crate::compared::comparison_text;
 use crate::ports::{PORTS, Tables};
 use charts::first_difference;
 use clap::{ArgMatches, Command};
-use job_decide::tables::{NoTable, table_in};
+use job_decide::tables::{NoTable, drawn_in};
 use job_parts::arguments::{file, flag, is_set, name_of};
 use job_parts::faults::Fault;
 use job_parts::inputs::{Content, InputFile, Inputs};
@@ -120,11 +120,11 @@ fn named_table<'a, F: Files>(
     sizes: &MapSizes,
 ) -> Result<Policy, NoPair<'a>>
     ensures table { IfOk result (λ table.
-        HoldsTable F.reads files.old name.now sizes.now table files.new) }
+        HoldsDrawn F.reads files.old name.now sizes.now table files.new) }
     ensures none { IfErr result
         (IsNoNamed F.reads name.now sizes.now files.old files.new) }
 {
-    match table_in(alloc, files, name, sizes) {
+    match drawn_in(alloc, files, name, sizes) {
         Ok(table) => Ok(table),
         Err(NoTable::Ended(fault)) => Err(NoPair::Ended(fault)),
         Err(NoTable::BadTable(fault)) => Err(NoPair::BadTable(name, fault)),
@@ -208,7 +208,7 @@ fn print_comparison<'a, W: Write>(
 }
 
 /// Prints `same` where the tables of two files decide all commands alike at each port, and else where they differ: with `--markdown`
-/// as a table in markdown. Where a table has a fault that is printed, with the name of its file and the place, and the job failed.
+/// as a table in markdown. Where a line of a table has a fault that is printed, with the name of its file and the place, and the job failed.
 ///
 /// Faults are found in this order: the file of the old table (`CannotRead`, also where it is not UTF-8), that table, the file
 /// of the new one, and that table.

@@ -9,9 +9,12 @@ ghost use Rattle.job_parts.specs.Inputs.{AreInputs, input};
 ghost use Rattle.job_parts.specs.declared.inputs.Content.TheVariants.{Table};
 ghost use Rattle.job_parts.specs.Stops.{StopsBy};
 ghost use Rattle.job_charts.specs.MapJob.{NamesMap, RefusesMap, map_app};
+ghost use Rattle.job_charts.specs.Mapped.{TellsNotesAlone};
 ghost use Rattle.job_charts.specs.MappedFile.{IsNotMapped, MapsFile};
 
-use crate::mapped::map_text;
+use crate::mapped::{map_text, note_rows};
+use crate::ports::Tables;
+use crate::rows::add_rows;
 use crate::styles::Style;
 use clap::{ArgMatches, Command};
 use job_decide::tables::{NoTable, print_table_fault, text_and_table};
@@ -24,6 +27,7 @@ use job_parts::stops::Halt;
 use job_parts::storage::Files;
 use job_parts::usage::UsageFault;
 use machine::MapSizes;
+use policy::Policy;
 use std::alloc::{AllocError, Global};
 use std::io::Write;
 
@@ -36,6 +40,8 @@ pub struct MapWords {
     pub sizes: MapSizes,
     /// Whether the map is printed in markdown.
     pub markdown: bool,
+    /// Whether nothing is said of the table beside the map.
+    pub is_quiet: bool,
 }
 
 impl MapWords {
@@ -47,7 +53,7 @@ impl MapWords {
     }
 }
 
-/// `map TABLE [--maps LIST] [--markdown]`.
+/// `map TABLE [--maps LIST] [--markdown] [--quiet]`.
 pub fn map_command<'a>(alloc: Global) -> Result<Command<'a>, AllocError>
     ensures shape { IfOk result (λ c. app_of c ≡ map_app) }
     ensures local { IfOk result (λ c. (fields_of c).has_globals ≡ false) }
@@ -57,11 +63,14 @@ pub fn map_command<'a>(alloc: Global) -> Result<Command<'a>, AllocError>
     let maps = maps_option(alloc);
     let help = "Print a table in markdown, with the comments of the rules";
     let markdown = flag(alloc, "markdown", help);
+    let help = "Say nothing of the table on standard error";
+    let quiet = flag(alloc, "quiet", help);
     Command::new(alloc, "map")
         .about("Prints what a policy table decides, for each command one line")
         .arg(table)?
         .arg(maps)?
-        .arg(markdown)
+        .arg(markdown)?
+        .arg(quiet)
 }
 
 /// The words of `map` with these matches.
@@ -72,16 +81,19 @@ pub fn map_job(alloc: Global, found: &ArgMatches) -> Result<MapWords, UsageFault
     let table = name_of(alloc, found, "table")?;
     let sizes = sizes_of(alloc, found)?;
     let markdown = is_set(found, "markdown");
+    let is_quiet = is_set(found, "quiet");
     Ok(MapWords {
         table,
         sizes,
         markdown,
+        is_quiet,
     })
 }
 
 /// Prints what the table of a file decides: at each port each command lies in one line alone, with the rules that the table asks
 /// there; and behind these the rules that never match. With `--markdown` the lines are a table in markdown, with the comments of the
-/// rules. Where the table has a fault that is printed, with its place, and the job failed.
+/// rules. Where a line of the table has a fault that is printed, with its place, and the job failed. A table that is too long for a
+/// program is drawn.
 ///
 /// Faults are found in this order: the file (`CannotRead`, also where it is not UTF-8), and the table.
 pub fn map_file<'a, F: Files, W: Write>(
@@ -108,4 +120,21 @@ pub fn map_file<'a, F: Files, W: Write>(
             Ok(Status::Failed)
         }
     }
+}
+
+/// The lines of `map` for the rules of a table that never match.
+pub fn notes_text(alloc: Global, policy: &Policy) -> Result<String, AllocError>
+    ensures { IfOk result (λ text. TellsNotesAlone policy.now (string_bytes text)) }
+{
+    let how = Style::of(alloc, false, "")?;
+    let notes = note_rows(alloc, &how, policy)?;
+    let mut text = String::new(alloc);
+    add_rows(
+        &mut text,
+        alloc,
+        false,
+        Tables::One(policy),
+        notes.as_slice(),
+    )?;
+    Ok(text)
 }

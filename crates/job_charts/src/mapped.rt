@@ -420,7 +420,7 @@ fn line_rows(alloc: Global, how: &Style<'_>, policy: &Policy) -> Result<Vec<Row>
 }
 
 /// The rows of the rules that never match, at each port.
-fn note_rows(alloc: Global, how: &Style<'_>, policy: &Policy) -> Result<Vec<Row>, AllocError>
+pub fn note_rows(alloc: Global, how: &Style<'_>, policy: &Policy) -> Result<Vec<Row>, AllocError>
     ensures { IfOk result (λ rows. TellsPorts policy.now
         (TellsNotes how.now.markdown) 32 [] rows.items) }
 {
