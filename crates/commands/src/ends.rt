@@ -5,9 +5,9 @@ use crate::in_place::add_source;
 use crate::jobs::{Job, JobEnd};
 use crate::line_paths::{LinePaths, may_have_paths};
 use crate::noted::{Cause, Noted};
+use crate::odd::add_odd;
 use crate::slips::{self, told_output};
 use crate::{denied_loads, hints};
-use job_charts::map::notes_text;
 use job_config::sources::NodeSource;
 use job_packets::orders::Order;
 use job_packets::packet::PacketWords;
@@ -16,8 +16,6 @@ use job_parts::faults::Fault;
 use job_parts::forms::form_line;
 use job_parts::status::Status;
 use job_rehearse::table_loads::{told_loaders, told_policy};
-use machine::MapSizes;
-use policy::Policy;
 use spw::{LineFault, lines_of};
 use std::alloc::{AllocError, Global};
 
@@ -190,26 +188,9 @@ fn add_load(
     }
 }
 
-/// Adds which rules of a table never match, and why.
-fn add_notes(
-    text: &mut String,
-    alloc: Global,
-    table: &str,
-    sizes: &MapSizes,
-) -> Result<(), AllocError> {
-    let Ok(policy) = Policy::read_for(alloc, table, sizes) else {
-        return Ok(());
-    };
-    let notes = notes_text(alloc, &policy)?;
-    for line in lines_of(notes.as_str()) {
-        write!(text, "    {line}\n")?;
-    }
-    Ok(())
-}
-
-/// Adds what is told of a job that is done: of `policy`, that its table lets nobody load another, unless that is meant, and which of
-/// its rules never match; of `map`,
-/// whose loads pass; of `map` and of NEW of `compare`, that a table is too long for a program; of loads, what [`add_load`] adds.
+/// Adds what is told of a job that is done: of `policy`, that its table lets nobody load another, unless that is meant; of `map`,
+/// whose loads pass; of both what is odd in the table, of which `map` printed the rules that never match; of `map` and of NEW of
+/// `compare`, that a table is too long for a program; of loads, what [`add_load`] adds.
 fn add_done(
     text: &mut String,
     alloc: Global,
@@ -225,13 +206,14 @@ fn add_done(
                 let told = told_policy(alloc, table, &words.sizes, noted.ports())?;
                 text.push_str(told.as_str())?;
             }
-            add_notes(text, alloc, table, &words.sizes)
+            add_odd(text, alloc, table, &words.sizes, noted.node(), true)
         }
         (Job::Map(words), Some(table)) if !words.is_quiet => {
             let told = hints::told_length(alloc, table, &words.sizes)?;
             text.push_str(told.as_str())?;
             let told = told_loaders(alloc, table, &words.sizes, noted.ports())?;
-            text.push_str(told.as_str())
+            text.push_str(told.as_str())?;
+            add_odd(text, alloc, table, &words.sizes, noted.node(), false)
         }
         (Job::Compare(words), Some(table)) => {
             let told = hints::told_length(alloc, table, &words.sizes)?;

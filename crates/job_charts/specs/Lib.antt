@@ -13,3 +13,4 @@ pub mod CompareJob
 pub mod ComparedFile
 pub mod MapJob
 pub mod MappedFile
+pub mod Missed

@@ -5,6 +5,7 @@ use Rattle.charts.specs.Deciders.{Matches, NeverMatches}
 use Rattle.charts.specs.Lines.{IsMap}
 use Rattle.charts.specs.Meetings.{Meet, NeverMeet}
 use Rattle.charts.specs.Plain.{IsPlain}
+use Rattle.charts.specs.Tickets.{is_of}
 use Rattle.charts.specs.declared.lines.Line.{Line}
 use Rattle.policy_table.specs.declared.rules.Quota.{Quota}
 use Rattle.policy_table.specs.declared.rules.Rule.{Rule}
@@ -79,45 +80,86 @@ AreStops rules place (suc stop) numbers = (before : List ℕ) × AreStops rules 
 abbrev pub comma_line : (lines : List ℕ) → (number : ℕ) → List ℕ
 comma_line lines number = codes ", " ++ decimal (line_of lines number)
 
--- that the rule of one line is before it
-abbrev pub stop_text : (line : ℕ) → List ℕ
-stop_text line = codes "rule " ++ decimal line ++ codes " is before it wherever it agrees"
+-- what is said where there is no such rule
+abbrev pub no_words : (draws : Bool) → List ℕ
+no_words draws =
+    if draws then codes "draws before it leave no ticket below its limit" else codes "no command has its words"
 
--- the reason where these rules, in these lines, are before it, or no command has its words
-abbrev pub stops_text : (lines numbers : List ℕ) → List ℕ
-stops_text lines [] = codes "no command has its words"
-stops_text lines (number ∷ rest) =
-    if length rest == 0 then stop_text (line_of lines number)
-    else codes "rules " ++ decimal (line_of lines number) ++ flat_map (comma_line lines) rest
-    ++ codes " are before it wherever it agrees"
+-- what one such rule does, behind its line: it draws of the cell, or it decides
+abbrev pub one_words : (draws : Bool) → List ℕ
+one_words draws =
+    if draws then codes " draws of its cell before it and leaves no ticket below its limit"
+    else codes " is before it wherever it agrees"
+
+-- what several do
+abbrev pub some_words : (draws : Bool) → List ℕ
+some_words draws =
+    if draws then codes " draw of its cell before it and leave no ticket below its limit"
+    else codes " are before it wherever it agrees"
+
+-- the reason where these rules, in these lines, are before it: they draw of its cell, or they decide
+abbrev pub rules_text : (draws : Bool) → (lines numbers : List ℕ) → List ℕ
+rules_text draws lines [] = no_words draws
+rules_text draws lines (number ∷ rest) =
+    if length rest == 0 then codes "rule " ++ decimal (line_of lines number) ++ one_words draws
+    else codes "rules " ++ decimal (line_of lines number) ++ flat_map (comma_line lines) rest ++ some_words draws
+
+-- whether both have a quota, of one cell
+abbrev pub share_cell : Option Quota → Option Quota → Bool
+share_cell None other = false
+share_cell (Some quota) None = false
+share_cell (Some quota) (Some other) = is_of quota other.map other.cell
+
+-- the rules of two places have quotas of one cell, or not
+abbrev pub ShareCell : List Rule → (one other : ℕ) → Bool → Type 0
+ShareCell rules one other shared = (d : Rule) → shared ≡ share_cell (get_or rules one d).quota (get_or rules other d).quota
+
+-- the rule of a place draws of the cell of the rule of another, at a point at which that holds
+abbrev pub DrawsOfCell : List Rule → (place draw : ℕ) → Type 0
+DrawsOfCell rules place draw = ShareCell rules draw place true × Meet draw false place rules
+
+-- it does so at none
+abbrev pub DrawsOfNone : List Rule → (place draw : ℕ) → Type 0
+DrawsOfNone rules place draw = ShareCell rules draw place false ⊎ NeverMeet draw false place rules
+
+-- the number of a rule behind others, if it draws of the cell of the rule of the place at a point at which that holds
+abbrev pub AddsDraw : List Rule → (place draw : ℕ) → (before numbers : List ℕ) → Type 0
+AddsDraw rules place draw before numbers =
+    (DrawsOfCell rules place draw × (numbers ≡ before ++ (draw + 1) ∷ [])) ⊎ (DrawsOfNone rules place draw × (numbers ≡ before))
+
+-- the numbers of all such rules among so many, the first ones
+abbrev pub AreDraws : List Rule → (place count : ℕ) → (numbers : List ℕ) → Type 0
+AreDraws rules place count numbers = TellsFirst (AddsDraw rules place) count [] numbers
 
 -- whether a rule has a quota whose limit is 0
 abbrev pub has_no_ticket : Option Quota → Bool
 has_no_ticket None = false
 has_no_ticket (Some quota) = quota.limit == 0
 
--- the reason where the rule is asked
-abbrev pub draws_text : Option Quota → List ℕ
-draws_text quota =
-    if has_no_ticket quota then codes "its limit is 0" else codes "draws before it leave no ticket below its limit"
+-- why the rule of a place never matches that is asked, with this quota: no ticket is below its limit, or draws before it leave none
+abbrev pub IsTicketReason : List Rule → (lines : List ℕ) → (place : ℕ) → Option Quota → (text : List ℕ) → Type 0
+IsTicketReason rules lines place quota text =
+    ((has_no_ticket quota ≡ true) × (text ≡ codes "its limit is 0"))
+    ⊎ ((has_no_ticket quota ≡ false)
+    × ((numbers : List ℕ) × AreDraws rules place place numbers × (text ≡ rules_text true lines numbers)))
 
 -- why the rule of a place never matches, where it is asked at some point
-pub record IsAskedReason (rules : List Rule) (place : ℕ) (text : List ℕ) : Type 0 where
+pub record IsAskedReason (rules : List Rule) (lines : List ℕ) (place : ℕ) (text : List ℕ) : Type 0 where
   pub asked : Meet place false place rules
   pub rule : Rule
   pub own : (d : Rule) → get_or rules place d ≡ rule
-  pub is : text ≡ draws_text rule.quota
+  pub is : IsTicketReason rules lines place rule.quota text
 
 -- why it never matches, where it is asked at none
 pub record IsStoppedReason (rules : List Rule) (lines : List ℕ) (place : ℕ) (text : List ℕ) : Type 0 where
   pub never : NeverMeet place false place rules
   pub numbers : List ℕ
   pub stops : AreStops rules place place numbers
-  pub is : text ≡ stops_text lines numbers
+  pub is : text ≡ rules_text false lines numbers
 
 -- why it never matches
 abbrev pub IsReason : List Rule → (lines : List ℕ) → (place : ℕ) → (text : List ℕ) → Type 0
-IsReason rules lines place text = IsAskedReason rules place text ⊎ IsStoppedReason rules lines place text
+IsReason rules lines place text = IsAskedReason rules lines place text ⊎ IsStoppedReason rules lines place text
 
 -- the row of the rule of a line that never matches at a port, with the reason
 abbrev pub note_row : (markdown : Bool) → (port line : ℕ) → (reason : List ℕ) → RowValue

@@ -8,6 +8,7 @@ mod courses;
 pub mod map;
 mod mapped;
 mod markdown;
+pub mod missed;
 mod packets;
 mod ports;
 mod rows;

@@ -9,7 +9,7 @@ ghost use Rattle.differences.specs.Steps.{steps_at};
 ghost use Rattle.policy_table.specs.PortTables.{is_named};
 ghost use Rattle.job_charts.specs.AskedTables.{asked_at};
 ghost use Rattle.job_charts.specs.Courses.{with_course};
-ghost use Rattle.job_charts.specs.Mapped.{AddsStop, AreStops, IsReason, TellsLine, TellsLines, TellsMap, TellsNever, TellsNote, TellsNotes, TellsPorts, comma_line, draws_text, has_no_ticket, head_of, line_row, markdown_row, note_row, note_text, paragraph_text, plain_row, stops_text};
+ghost use Rattle.job_charts.specs.Mapped.{AddsDraw, AddsStop, AreDraws, AreStops, IsReason, IsTicketReason, ShareCell, TellsLine, TellsLines, TellsMap, TellsNever, TellsNote, TellsNotes, TellsPorts, comma_line, has_no_ticket, head_of, line_row, markdown_row, no_words, note_row, note_text, one_words, paragraph_text, plain_row, rules_text, share_cell, some_words};
 ghost use Rattle.job_charts.specs.Markdown.{map_back};
 ghost use Rattle.job_charts.specs.Rows.{TellsPort};
 ghost use Rattle.job_charts.specs.Telling.{TellsFirst};
@@ -24,7 +24,9 @@ use crate::styles::Style;
 use crate::witnesses::{line_at, some_point};
 use crate::words::add_words;
 use chart_lines::map_of;
-use charts::{Line, charts_are_read, is_asked, is_stopped_by, never_matches};
+use charts::{
+    Line, charts_are_read, is_asked, is_asked_where, is_of_one_cell, is_stopped_by, never_matches,
+};
 use differences::course;
 use job_decide::tables::line_of;
 use policy::Policy;
@@ -180,7 +182,7 @@ fn push_stop(
 }
 
 /// The numbers of the rules without quota that decide where the rule of a place holds.
-fn stops_before(alloc: Global, rules: &[Rule], place: usize) -> Result<Vec<usize>, AllocError>
+pub fn stops_before(alloc: Global, rules: &[Rule], place: usize) -> Result<Vec<usize>, AllocError>
     requires { place < length rules.now }
     ensures { IfOk result (λ numbers. AreStops rules.now place place numbers.items) }
 {
@@ -211,21 +213,60 @@ fn add_comma_lines(text: &mut String, lines: &[usize], numbers: &[usize]) -> Res
     Ok(())
 }
 
-/// Adds which rules are before one.
-fn add_stops(text: &mut String, lines: &[usize], numbers: &[usize]) -> Result<(), AllocError>
+/// What is said where no rule is before one: none that draws of its cell, or none that decides.
+fn no_words(draws: bool) -> &'static str
+    ensures { result.now ≡ no_words draws }
+{
+    if draws {
+        "draws before it leave no ticket below its limit"
+    } else {
+        "no command has its words"
+    }
+}
+
+/// What one rule does before another, behind its line.
+fn one_words(draws: bool) -> &'static str
+    ensures { result.now ≡ one_words draws }
+{
+    if draws {
+        " draws of its cell before it and leaves no ticket below its limit"
+    } else {
+        " is before it wherever it agrees"
+    }
+}
+
+/// What several do.
+fn some_words(draws: bool) -> &'static str
+    ensures { result.now ≡ some_words draws }
+{
+    if draws {
+        " draw of its cell before it and leave no ticket below its limit"
+    } else {
+        " are before it wherever it agrees"
+    }
+}
+
+/// Adds which rules are before one, and whether they draw of its cell or decide.
+fn add_before(
+    text: &mut String,
+    draws: bool,
+    lines: &[usize],
+    numbers: &[usize],
+) -> Result<(), AllocError>
     ensures { OnOk result (string_bytes text.new
-        ≡ string_bytes text.old ++ stops_text lines.now numbers.now) }
+        ≡ string_bytes text.old ++ rules_text draws lines.now numbers.now) }
 {
     let Some((first, rest)) = numbers.split_first() else {
-        return text.push_str("no command has its words");
+        return text.push_str(no_words(draws));
     };
     let line = line_of(lines, *first);
     if rest.is_empty() {
-        return write!(text, "rule {line} is before it wherever it agrees");
+        write!(text, "rule {line}")?;
+        return text.push_str(one_words(draws));
     }
     write!(text, "rules {line}")?;
     add_comma_lines(text, lines, rest)?;
-    text.push_str(" are before it wherever it agrees")
+    text.push_str(some_words(draws))
 }
 
 /// Whether a rule has a quota whose limit is 0.
@@ -238,24 +279,88 @@ fn has_no_ticket(quota: Option<Quota>) -> bool
     }
 }
 
-/// The reason why a rule never matches that is asked.
-fn draws_text(quota: Option<Quota>) -> &'static str
-    ensures { result.now ≡ draws_text quota }
+/// Which rules are before one, and whether they draw of its cell or decide.
+fn rules_text(
+    alloc: Global,
+    draws: bool,
+    lines: &[usize],
+    numbers: &[usize],
+) -> Result<String, AllocError>
+    ensures { IfOk result (λ text. string_bytes text ≡ rules_text draws lines.now numbers.now) }
 {
-    if has_no_ticket(quota) {
-        "its limit is 0"
-    } else {
-        "draws before it leave no ticket below its limit"
+    let mut text = String::new(alloc);
+    add_before(&mut text, draws, lines, numbers)?;
+    Ok(text)
+}
+
+/// Whether both have a quota, of one cell.
+fn share_cell(one: Option<Quota>, other: Option<Quota>) -> bool
+    ensures { result ≡ share_cell one other }
+{
+    match one {
+        Some(one) => match other {
+            Some(other) => is_of_one_cell(&one, &other),
+            None => false,
+        },
+        None => false,
     }
 }
 
-/// Why the rule of a place never matches that is not asked.
-fn stops_text(alloc: Global, lines: &[usize], numbers: &[usize]) -> Result<String, AllocError>
-    ensures { IfOk result (λ text. string_bytes text ≡ stops_text lines.now numbers.now) }
+/// Whether the rules of two places have quotas of one cell.
+fn share_cell_at(rules: &[Rule], one: usize, other: usize) -> bool
+    requires one { one < length rules.now }
+    requires other { other < length rules.now }
+    ensures { ShareCell rules.now one other result }
 {
-    let mut text = String::new(alloc);
-    add_stops(&mut text, lines, numbers)?;
-    Ok(text)
+    share_cell(rules[one].quota, rules[other].quota)
+}
+
+/// Adds the number of a rule, if it draws of the cell of the rule of a place somewhere where that holds.
+fn push_draw(
+    numbers: &mut Vec<usize>,
+    rules: &[Rule],
+    draw: usize,
+    place: usize,
+) -> Result<(), AllocError>
+    requires draw { draw < place }
+    requires place { place < length rules.now }
+    ensures { OnOk result (AddsDraw rules.now place draw numbers.old.items numbers.new.items) }
+{
+    if share_cell_at(rules, draw, place) && is_asked_where(rules, draw, place) {
+        numbers.push(draw + 1)?;
+    }
+    Ok(())
+}
+
+/// The numbers of the rules that draw of the cell of the rule of a place, where it holds.
+fn draws_before(alloc: Global, rules: &[Rule], place: usize) -> Result<Vec<usize>, AllocError>
+    requires { place < length rules.now }
+    ensures { IfOk result (λ numbers. AreDraws rules.now place place numbers.items) }
+{
+    let mut numbers = Vec::new(alloc);
+    for draw in 0..place {
+        push_draw(&mut numbers, rules, draw, place)?;
+    }
+    Ok(numbers)
+}
+
+/// Why the rule of a place never matches that is asked, with this quota.
+fn ticket_reason(
+    alloc: Global,
+    rules: &[Rule],
+    lines: &[usize],
+    place: usize,
+    quota: Option<Quota>,
+) -> Result<String, AllocError>
+    requires { place < length rules.now }
+    ensures { IfOk result (λ text.
+        IsTicketReason rules.now lines.now place quota (string_bytes text)) }
+{
+    if has_no_ticket(quota) {
+        return String::from_str(alloc, "its limit is 0");
+    }
+    let draws = draws_before(alloc, rules, place)?;
+    rules_text(alloc, true, lines, draws.as_slice())
 }
 
 /// Why the rule of a place never matches.
@@ -269,10 +374,10 @@ fn reason(
     ensures { IfOk result (λ text. IsReason rules.now lines.now place (string_bytes text)) }
 {
     if is_asked(rules, place) {
-        return String::from_str(alloc, draws_text(rules[place].quota));
+        return ticket_reason(alloc, rules, lines, place, rules[place].quota);
     }
     let stops = stops_before(alloc, rules, place)?;
-    stops_text(alloc, lines, stops.as_slice())
+    rules_text(alloc, false, lines, stops.as_slice())
 }
 
 /// What is before a paragraph in markdown.

@@ -15,3 +15,4 @@ mod PortTables
 mod ReadingSo
 mod FaultCodes
 mod ReportOf
+mod UnusedLines

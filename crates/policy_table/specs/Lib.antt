@@ -25,3 +25,4 @@ pub mod Room
 pub mod Slots
 pub mod Policies
 pub mod Surveys
+pub mod Unused

@@ -31,6 +31,7 @@ mod surveys;
 mod tables;
 mod text_faults;
 mod tickets;
+mod unused;
 mod versions;
 mod words;
 
@@ -51,5 +52,6 @@ pub use statement_faults::StatementFault;
 pub use surveys::reported;
 pub use tables::Table;
 pub use text_faults::TextFault;
+pub use unused::unused_ranges;
 pub use versions::TableVersion;
 pub use words::RuleWord;

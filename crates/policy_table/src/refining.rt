@@ -21,7 +21,7 @@ fn third_word(text: &str) -> Option<&str>
 
 /// The fifth word of a text.
 #[tactic(auto, unfolding(crate::specs::Refined::fifth_word))]
-fn fifth_word(text: &str) -> Option<&str>
+pub fn fifth_word(text: &str) -> Option<&str>
     ensures { option_map (λ word. word.now) result ≡ fifth_word (words_of text.now) }
 {
     let (_first, rest) = next_word(text)?;
