@@ -23,7 +23,6 @@ async function seen() {
     const map = await perform(['map', 'new.policy', ...place()]);
     if (stale()) return;
     showMap(map);
-    if (map.status === 0) addNotes(picture.readMap(map.text).notes, image);
     const compare = $('both').checked ? await perform(['compare', 'old.policy', 'new.policy', ...place()]) : null;
     const differences = compare ? differencesIn(compare) : [];
     if (is_node() && differences) await findPackets(differences, stale);
@@ -47,12 +46,6 @@ const isStill = () => timer === 0 && seeing === 0 && calls.size === 0;
 function showTable(id, done) {
   const text = (done.status === 0 ? done.told : done.text + done.told).trimEnd(), lines = linesOf(text);
   mark(id, text, done.status === 0 ? [] : lines, done.status === 0 ? lines : []);
-}
-
-// The rules that never match, after what policy said.
-function addNotes(notes, image) {
-  const text = [image.told.trimEnd(), ...notes].filter(Boolean).join('\n');
-  mark('new', text, [], linesOf(text));
 }
 
 function keepImage(image, old_image) {

@@ -57,7 +57,7 @@ fn add_unused(text: &mut String, alloc: Global, table: &str) -> Result<(), Alloc
     for line in unused.as_slice() {
         write!(
             text,
-            "    no rule has the name of the range in line {line}\n"
+            "    line {line} names a range that no rule uses\n"
         )?;
     }
     Ok(())
