@@ -1,5 +1,5 @@
 -- Rules of a table that match no command of a node.
-use Rattle.std.specs.Prelude.{◌≡◌, ◌==◌, ◌||◌, ◌+◌, ◌-◌, ◌^◌, ℕ, Bool, true, false, min, nat_lt, is_some, if◌then◌else◌}
+use Rattle.std.specs.Prelude.{◌≡◌, ◌==◌, ◌||◌, ◌+◌, ◌-◌, ◌^◌, ℕ, Bool, min, nat_lt, is_some, if◌then◌else◌}
 use Rattle.std.specs.Prelude.{List, [], ◌∷◌, ◌++◌, length, slice_get, Option, Some, None}
 use Rattle.std.specs.Option.{option_or}
 use Rattle.policy_table.specs.declared.port_rules.PortRule.{PortRule}
@@ -52,14 +52,9 @@ pub record AreMet (windows : WindowsValue) (rule : Rule) (met : List ℕ) : Type
   pub are : ArePlaces windows places
   pub stops : AreStops (places ++ rule ∷ []) (length places) (length places) met
 
--- there is none
-abbrev pub is_none_met : List ℕ → Bool
-is_none_met [] = true
-is_none_met (number ∷ rest) = false
-
 -- whether a rule holds at no command of a node
 abbrev pub MeetsNone : WindowsValue → Rule → Bool → Type 0
-MeetsNone windows rule is = (met : List ℕ) × AreMet windows rule met × (is ≡ is_none_met met)
+MeetsNone windows rule is = (met : List ℕ) × AreMet windows rule met × (is ≡ (length met == 0))
 
 -- the port of a rule is one that the node does not have
 abbrev pub port_missed : (ports : ℕ) → Option ℕ → Option Missed

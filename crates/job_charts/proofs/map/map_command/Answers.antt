@@ -8,4 +8,5 @@ returns-clause-shape c =
     let named : app_of c.about.result ≡ new_app (codes "map") = ap app_of_fields c.about.ensures ∙ c.new.ensures.app in
     let first = c.in_ok-arg.ensures.shape c.file-table.ensures.local ∙ ap₂ with_rule named c.file-table.ensures.rule in
     let second = c.in_ok-arg-2.ensures.shape c.maps_option-maps.ensures.local ∙ ap₂ with_rule first c.maps_option-maps.ensures.rule in
-    IfOk-weaker c.arg-3.result _ _ (λ m h. h.shape c.flag-markdown.ensures.local ∙ ap₂ with_rule second c.flag-markdown.ensures.rule) c.arg-3.ensures
+    let third = c.in_ok-arg-3.ensures.shape c.flag-markdown.ensures.local ∙ ap₂ with_rule second c.flag-markdown.ensures.rule in
+    IfOk-weaker c.arg-4.result _ _ (λ m h. h.shape c.flag-quiet.ensures.local ∙ ap₂ with_rule third c.flag-quiet.ensures.rule) c.arg-4.ensures

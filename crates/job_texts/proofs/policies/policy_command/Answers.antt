@@ -9,4 +9,5 @@ returns-clause-shape c =
     let first = c.in_ok-arg.ensures.shape c.file-table.ensures.local ∙ ap₂ with_rule named c.file-table.ensures.rule in
     let second = c.in_ok-arg-2.ensures.shape c.file-image.ensures.local ∙ ap₂ with_rule first c.file-image.ensures.rule in
     let third = c.in_ok-arg-3.ensures.shape c.maps_option-maps.ensures.local ∙ ap₂ with_rule second c.maps_option-maps.ensures.rule in
-    IfOk-weaker c.arg-4.result _ _ (λ m h. h.shape c.flag-last.ensures.local ∙ ap₂ with_rule third c.flag-last.ensures.rule) c.arg-4.ensures
+    let fourth = c.in_ok-arg-4.ensures.shape c.flag-last.ensures.local ∙ ap₂ with_rule third c.flag-last.ensures.rule in
+    IfOk-weaker c.arg-5.result _ _ (λ m h. h.shape c.flag-quiet.ensures.local ∙ ap₂ with_rule fourth c.flag-quiet.ensures.rule) c.arg-5.ensures
