@@ -166,21 +166,43 @@ def told_lines(done: Done) -> list[str]:
     return done.err.decode().splitlines()
 
 
+def missed(own: PortRule, ports: int) -> str | None:
+    """Why a rule matches no command of the node of `check`, if it does not."""
+    extended, low, high = own.rule.fields[2], own.rule.low, own.rule.high
+    places = {0x00: [(0xA000_0000, 0xA000_FFFF)], 0xFF: [(0, 0x3FFF), (0x1_0000, 0x1_0007)]}
+    has_byte = any(low <= last and first <= high for place, of in places.items() if extended in (None, place) for first, last in of)
+    if own.port is not None and own.port >= ports:
+        return f"it has no port {own.port}"
+    if has_byte:
+        return None
+    return {None: "it", 0x00: "its bank 00", 0xFF: "its boot window"}[extended] + " has no byte of the range"
+
+
+def odd_lines(room: Room, rules: list[PortRule], ports: int) -> list[str]:
+    """What is said on standard error of the rules that match no command of the node of `check`."""
+    lines = (room.content("new") or b"").decode().splitlines()
+    first = len(lines) - len(rules) + 1
+    told = [(number, missed(own, ports)) for number, own in enumerate(rules, first)]
+    return [f"    rule {number} matches no command of this node: {why}" for number, why in told if why]
+
+
 def of_table(room: Room, new: Policy, ports: int, node: list[str]) -> None:
-    """`map` and `policy` print whose loads a table lets pass: of the smallest image, and of its own if these are others."""
+    """`map` and `policy` print whose loads a table lets pass: of the smallest image, and of its own if these are others. They also print
+    what is odd in it."""
     own = new.image.spelled()
     plain = list(open_to(new, MAPS, SMALLEST, ports, LEAD)) or [LEAD + " by nobody"]
     same = list(open_to(new, MAPS, own, ports, LEAD)) or [LEAD + " by nobody"]
     lead = f"    loads of {len(own)} bytes"
     both = plain + [line.replace(LEAD, lead, 1) for line in same] * (same != plain)
     drawn = room.job("map", "new", *node)
-    same_lines("map", told_lines(drawn), both)
-    never = ["    " + line for line in drawn.out.decode().splitlines() if " never matches: " in line]
+    odd = odd_lines(room, new.rules or [], ports) if "--node" in node else []
+    same_lines("map", told_lines(drawn), both + odd)
+    odd = ["    " + line for line in drawn.out.decode().splitlines() if " never matches: " in line] + odd
     wanted = both if (plain == [LEAD + " by nobody"]) != (same == [LEAD + " by nobody"]) else []
     if plain == same == [LEAD + " by nobody"]:
         wanted = ["    in slot 3 this table lets nobody load another", MENDS, "    --final says that it is meant, and then nothing is said"]
-    same_lines("policy", told_lines(room.job("policy", "new", "made", *node)), wanted + never)
-    same_lines("policy --final", told_lines(room.job("policy", "new", "made", "--final", *node)), never)
+    same_lines("policy", told_lines(room.job("policy", "new", "made", *node)), wanted + odd)
+    same_lines("policy --final", told_lines(room.job("policy", "new", "made", "--final", *node)), odd)
     same_lines("policy --quiet", told_lines(room.job("policy", "new", "made", "--quiet", *node)), [])
 
 

@@ -1,7 +1,8 @@
 //! Rules of a table that match no command of a node.
 
-ghost use Rattle.std.specs.Prelude.{◌≡◌, ◌++◌, [], IfOk, OnOk, slice_get};
+ghost use Rattle.std.specs.Prelude.{◌≡◌, ◌++◌, ◌∷◌, [], IfOk, OnOk, length};
 ghost use Rattle.std.specs.Option.{option_or};
+ghost use Rattle.job_charts.specs.Mapped.{AreStops};
 ghost use Rattle.job_charts.specs.Missed.{AddsBank, ArePlaces, IsMissed, MeetsNone, bank_missed, bank_rules, boot_rules, port_missed, range_missed, window_rule};
 ghost use Rattle.job_charts.specs.Telling.{TellsFirst};
 
@@ -91,14 +92,30 @@ fn places_of(alloc: Global, windows: &Windows) -> Result<Vec<Rule>, AllocError>
     Ok(places)
 }
 
+/// Rules with one more behind them.
+fn with_rule(alloc: Global, places: &[Rule], own: &Rule) -> Result<Vec<Rule>, AllocError>
+    ensures { IfOk result (λ rules. rules.items ≡ places.now ++ own.now ∷ []) }
+{
+    let mut rules = Vec::from_slice(alloc, places)?;
+    rules.push(*own)?;
+    Ok(rules)
+}
+
+/// The numbers of the places that have a command at which a rule holds.
+fn met_at(alloc: Global, places: &[Rule], own: &Rule) -> Result<Vec<usize>, AllocError>
+    ensures { IfOk result (λ met. AreStops (places.now ++ own.now ∷ []) (length places.now)
+        (length places.now) met.items) }
+{
+    let rules = with_rule(alloc, places, own)?;
+    stops_before(alloc, rules.as_slice(), places.len())
+}
+
 /// Whether a rule holds at no command of a node.
 fn meets_none(alloc: Global, windows: &Windows, own: &Rule) -> Result<bool, AllocError>
     ensures { IfOk result (MeetsNone windows.now own.now) }
 {
-    let mut places = places_of(alloc, windows)?;
-    let count = places.len();
-    places.push(*own)?;
-    let met = stops_before(alloc, places.as_slice(), count)?;
+    let places = places_of(alloc, windows)?;
+    let met = met_at(alloc, places.as_slice(), own)?;
     Ok(met.is_empty())
 }
 

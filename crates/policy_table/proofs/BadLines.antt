@@ -1,5 +1,5 @@
 -- Lines that are no rules.
-use Rattle.std.proofs.Common.{◌≡◌, ◌++◌, ℕ, List, [], ◌∷◌, length, get_or, sym, ap, subst, ◌∙◌}
+use Rattle.std.proofs.Common.{◌≡◌, ◌++◌, ℕ, List, [], ◌∷◌, length, get_or, inl, inr, sym, ap, subst, ◌∙◌}
 use Rattle.spw.specs.Line.{words_of}
 use Rattle.policy_table.specs.Fields.{IsAddress, IsField, IsKind, IsQuota, IsVerdict}
 use Rattle.policy_table.specs.Lines.{AreNoRules, IsReadFault, IsRule}
@@ -9,7 +9,6 @@ use Rattle.policy_table.specs.declared.faults.PolicyFault.{PolicyFault}
 use Rattle.policy_table.specs.declared.faults.PolicyFault.TheVariants.{BadLine}
 use Rattle.policy_table.specs.declared.rules.Rule.{Rule}
 use Rattle.policy_table.specs.declared.statement_faults.StatementFault.{StatementFault}
-use Rattle.policy_table.specs.declared.statement_faults.StatementFault.TheVariants as wrong
 use Rattle.policy_table.specs.declared.words.RuleWord.{RuleWord}
 use Rattle.policy_table.specs.declared.words.RuleWord.TheVariants.{Kind, Key, Initiator, Extended, Low, High, Quota, Verdict}
 use Rattle.policy_table.proofs.Readings.{no_rules}
@@ -70,25 +69,8 @@ count_bad line words bad rule is = bad.1 (ap (λ (ws : List (List ℕ)). length 
 
 -- a line that is no rule is none
 pub no_rule : (line : List ℕ) (fault : StatementFault) → IsNoRule line fault → (rule : Rule) → ¬ IsRule line rule
-no_rule line wrong.Version bad = absurd bad
-no_rule line wrong.Comment bad = absurd bad
-no_rule line wrong.Directive bad = absurd bad
-no_rule line (wrong.RangeCount words) bad = absurd bad
-no_rule line wrong.RangeJoined bad = absurd bad
-no_rule line wrong.RangeName bad = absurd bad
-no_rule line wrong.RangeTwice bad = absurd bad
-no_rule line wrong.RangeLow bad = absurd bad
-no_rule line wrong.RangeHigh bad = absurd bad
-no_rule line (wrong.LineCount words) bad = count_bad line words bad
-no_rule line (wrong.RuleCount words) bad = absurd bad
-no_rule line wrong.RuleJoined bad = absurd bad
-no_rule line (wrong.Word word named) bad = word_bad line word bad.0
-no_rule line (wrong.Port named) bad = absurd bad
-no_rule line wrong.RangeOrder bad = absurd bad
-no_rule line wrong.RuleOrder bad = absurd bad
-no_rule line (wrong.NoCell named) bad = absurd bad
-no_rule line wrong.TooManyRules bad = absurd bad
-no_rule line (wrong.TooManySlots slots left) bad = absurd bad
+no_rule line fault (inl bad) = count_bad line bad.0 bad.2
+no_rule line fault (inr bad) = word_bad line bad.0 bad.2
 
 -- why lines are not read of which one is no rule
 pub unread : (lines before rest : List (List ℕ)) (line : List ℕ) (fault : PolicyFault) → before ++ line ∷ rest ≡ lines

@@ -34,67 +34,20 @@ abbrev IsOfLine : StatementFault → Type 0
 IsOfLine fault = policy_fault_in fault ≡ faults.BadLine
 
 rule_bad : (line : List ℕ) (fault : StatementFault) → IsNoRule line fault → IsOfLine fault
-rule_bad line wrong.Version bad = refl
-rule_bad line wrong.Comment bad = refl
-rule_bad line wrong.Directive bad = refl
-rule_bad line (wrong.RangeCount words) bad = refl
-rule_bad line wrong.RangeJoined bad = refl
-rule_bad line wrong.RangeName bad = refl
-rule_bad line wrong.RangeTwice bad = refl
-rule_bad line wrong.RangeLow bad = refl
-rule_bad line wrong.RangeHigh bad = refl
-rule_bad line (wrong.LineCount words) bad = refl
-rule_bad line (wrong.RuleCount words) bad = refl
-rule_bad line wrong.RuleJoined bad = refl
-rule_bad line (wrong.Word word named) bad = refl
-rule_bad line (wrong.Port named) bad = refl
-rule_bad line wrong.RangeOrder bad = absurd bad
-rule_bad line wrong.RuleOrder bad = absurd bad
-rule_bad line (wrong.NoCell named) bad = absurd bad
-rule_bad line wrong.TooManyRules bad = absurd bad
-rule_bad line (wrong.TooManySlots slots left) bad = absurd bad
+rule_bad line fault (inl bad) = ap policy_fault_in bad.1
+rule_bad line fault (inr bad) = ap policy_fault_in bad.1
 
 words_bad : (ranges : List RangeText) (words : List (List ℕ)) (fault : StatementFault) → IsNoRuleLine ranges words fault → IsOfLine fault
-words_bad ranges words wrong.Version bad = refl
-words_bad ranges words wrong.Comment bad = refl
-words_bad ranges words wrong.Directive bad = refl
-words_bad ranges words (wrong.RangeCount count) bad = refl
-words_bad ranges words wrong.RangeJoined bad = refl
-words_bad ranges words wrong.RangeName bad = refl
-words_bad ranges words wrong.RangeTwice bad = refl
-words_bad ranges words wrong.RangeLow bad = refl
-words_bad ranges words wrong.RangeHigh bad = refl
-words_bad ranges words (wrong.LineCount count) bad = refl
-words_bad ranges words (wrong.RuleCount count) bad = refl
-words_bad ranges words wrong.RuleJoined bad = refl
-words_bad ranges words (wrong.Word word named) bad = refl
-words_bad ranges words (wrong.Port named) bad = refl
-words_bad ranges words wrong.RangeOrder bad = absurd bad
-words_bad ranges words wrong.RuleOrder bad = absurd bad
-words_bad ranges words (wrong.NoCell named) bad = absurd bad
-words_bad ranges words wrong.TooManyRules bad = absurd bad
-words_bad ranges words (wrong.TooManySlots slots left) bad = absurd bad
+words_bad ranges words fault (inl bad) = ap policy_fault_in bad.0
+words_bad ranges words fault (inr (inl bad)) = ap policy_fault_in bad.2
+words_bad ranges words fault (inr (inr bad)) = ap policy_fault_in bad.1
 
 range_bad : (ranges : List RangeText) (words : List (List ℕ)) (fault : StatementFault) → IsNoRange ranges words fault → IsOfLine fault
-range_bad ranges words wrong.Version bad = refl
-range_bad ranges words wrong.Comment bad = refl
-range_bad ranges words wrong.Directive bad = refl
-range_bad ranges words (wrong.RangeCount count) bad = refl
-range_bad ranges words wrong.RangeJoined bad = refl
-range_bad ranges words wrong.RangeName bad = refl
-range_bad ranges words wrong.RangeTwice bad = refl
-range_bad ranges words wrong.RangeLow bad = refl
-range_bad ranges words wrong.RangeHigh bad = refl
-range_bad ranges words (wrong.LineCount count) bad = refl
-range_bad ranges words (wrong.RuleCount count) bad = refl
-range_bad ranges words wrong.RuleJoined bad = refl
-range_bad ranges words (wrong.Word word named) bad = refl
-range_bad ranges words (wrong.Port named) bad = refl
-range_bad ranges words wrong.RangeOrder bad = absurd bad
-range_bad ranges words wrong.RuleOrder bad = absurd bad
-range_bad ranges words (wrong.NoCell named) bad = absurd bad
-range_bad ranges words wrong.TooManyRules bad = absurd bad
-range_bad ranges words (wrong.TooManySlots slots left) bad = absurd bad
+range_bad ranges words fault (inl bad) = ap policy_fault_in bad.0
+range_bad ranges words fault (inr (inl bad)) = ap policy_fault_in bad.0
+range_bad ranges words fault (inr (inr (inl bad))) = ap policy_fault_in bad.0
+range_bad ranges words fault (inr (inr (inr (inl bad)))) = ap policy_fault_in bad.0
+range_bad ranges words fault (inr (inr (inr (inr bad)))) = ap policy_fault_in bad.0
 
 two_bad : (ranges : List RangeText) (words : List (List ℕ)) (fault : StatementFault) → IsBadTwo ranges words fault → IsOfLine fault
 two_bad ranges [] fault bad = absurd bad

@@ -1,14 +1,9 @@
 -- Lines of a table of version 1 that are no rules.
-use Rattle.std.specs.Prelude.{◌≡◌, ℕ, Bool, true, false, List, length}
+use Rattle.std.specs.Prelude.{◌≡◌, ◌⊎◌, ℕ, false, List, length}
 use Rattle.spw.specs.Line.{words_of}
 use Rattle.policy_table.specs.Words.{IsFirstBad, LineWords, in_order}
 use Rattle.policy_table.specs.declared.statement_faults.StatementFault.{StatementFault}
-use Rattle.policy_table.specs.declared.statement_faults.StatementFault.TheVariants.{Version, Comment, Directive}
-use Rattle.policy_table.specs.declared.statement_faults.StatementFault.TheVariants.{RangeCount, RangeJoined, RangeName}
-use Rattle.policy_table.specs.declared.statement_faults.StatementFault.TheVariants.{RangeTwice, RangeLow, RangeHigh}
-use Rattle.policy_table.specs.declared.statement_faults.StatementFault.TheVariants.{LineCount, RuleCount, RuleJoined}
-use Rattle.policy_table.specs.declared.statement_faults.StatementFault.TheVariants.{Word, Port, RangeOrder, RuleOrder}
-use Rattle.policy_table.specs.declared.statement_faults.StatementFault.TheVariants.{NoCell, TooManyRules, TooManySlots}
+use Rattle.policy_table.specs.declared.statement_faults.StatementFault.TheVariants.{LineCount, Word}
 use Rattle.policy_table.specs.declared.words.RuleWord.{RuleWord}
 
 -- the line has so many words, which are not eight
@@ -23,22 +18,6 @@ pub record HasBadWord (line : List ℕ) (word : RuleWord) : Type 0 where
 
 -- why the line is no rule of version 1
 abbrev pub IsNoRule : (line : List ℕ) → StatementFault → Type 0
-IsNoRule line Version = ⊥
-IsNoRule line Comment = ⊥
-IsNoRule line Directive = ⊥
-IsNoRule line (RangeCount words) = ⊥
-IsNoRule line RangeJoined = ⊥
-IsNoRule line RangeName = ⊥
-IsNoRule line RangeTwice = ⊥
-IsNoRule line RangeLow = ⊥
-IsNoRule line RangeHigh = ⊥
-IsNoRule line (LineCount words) = HasWords line words
-IsNoRule line (RuleCount words) = ⊥
-IsNoRule line RuleJoined = ⊥
-IsNoRule line (Word word named) = HasBadWord line word × (named ≡ false)
-IsNoRule line (Port named) = ⊥
-IsNoRule line RangeOrder = ⊥
-IsNoRule line RuleOrder = ⊥
-IsNoRule line (NoCell named) = ⊥
-IsNoRule line TooManyRules = ⊥
-IsNoRule line (TooManySlots slots left) = ⊥
+IsNoRule line fault =
+    ((words : ℕ) × (fault ≡ LineCount words) × HasWords line words)
+    ⊎ ((word : RuleWord) × (fault ≡ Word word false) × HasBadWord line word)

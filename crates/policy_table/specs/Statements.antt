@@ -1,5 +1,5 @@
 -- The words of the lines of a table of version 2: a range that has a name, or a rule with or without a port.
-use Rattle.std.specs.Prelude.{◌≡◌, ◌==◌, ℕ, Bool, true, false, ◌&&◌, ◌||◌, nat_lt, bytes_eq, is_none, IsSome}
+use Rattle.std.specs.Prelude.{◌≡◌, ◌⊎◌, ◌==◌, ℕ, Bool, true, false, ◌&&◌, ◌||◌, nat_lt, bytes_eq, is_none, IsSome}
 use Rattle.std.specs.Prelude.{if◌then◌else◌, List, [], ◌∷◌, length, codes, Option, Some, None}
 use Rattle.std.specs.List.{before_first}
 use Rattle.basm_lex.specs.Lines.{is_semicolon}
@@ -9,12 +9,8 @@ use Rattle.policy_table.specs.Ranges.{RangeText, is_name, range_named}
 use Rattle.policy_table.specs.Words.{AreWordsOf, IsFirstBad, LineWords, WritesNone, WritesSome, texts_of}
 use Rattle.policy_table.specs.declared.rules.Rule.{Rule}
 use Rattle.policy_table.specs.declared.statement_faults.StatementFault.{StatementFault}
-use Rattle.policy_table.specs.declared.statement_faults.StatementFault.TheVariants.{Version, Comment, Directive}
-use Rattle.policy_table.specs.declared.statement_faults.StatementFault.TheVariants.{RangeCount, RangeJoined, RangeName}
-use Rattle.policy_table.specs.declared.statement_faults.StatementFault.TheVariants.{RangeTwice, RangeLow, RangeHigh}
-use Rattle.policy_table.specs.declared.statement_faults.StatementFault.TheVariants.{LineCount, RuleCount, RuleJoined}
-use Rattle.policy_table.specs.declared.statement_faults.StatementFault.TheVariants.{Word, Port, RangeOrder, RuleOrder}
-use Rattle.policy_table.specs.declared.statement_faults.StatementFault.TheVariants.{NoCell, TooManyRules, TooManySlots}
+use Rattle.policy_table.specs.declared.statement_faults.StatementFault.TheVariants.{Port, RangeCount, RangeHigh, RangeLow}
+use Rattle.policy_table.specs.declared.statement_faults.StatementFault.TheVariants.{RangeName, RangeTwice, RuleCount, Word}
 use Rattle.policy_table.specs.declared.statements.RuleParts.{RuleParts}
 use Rattle.policy_table.specs.declared.statements.Span.{Span}
 use Rattle.policy_table.specs.declared.statements.WordKind.{WordKind}
@@ -173,25 +169,10 @@ pub record HasBadPort (ranges : List RangeText) (words : List (List ℕ)) (named
 
 -- why the words are no rule: too few, a word that is none of its field, or what stands after the verdict
 abbrev pub IsNoRuleLine : List RangeText → List (List ℕ) → StatementFault → Type 0
-IsNoRuleLine ranges words Version = ⊥
-IsNoRuleLine ranges words Comment = ⊥
-IsNoRuleLine ranges words Directive = ⊥
-IsNoRuleLine ranges words (RangeCount count) = ⊥
-IsNoRuleLine ranges words RangeJoined = ⊥
-IsNoRuleLine ranges words RangeName = ⊥
-IsNoRuleLine ranges words RangeTwice = ⊥
-IsNoRuleLine ranges words RangeLow = ⊥
-IsNoRuleLine ranges words RangeHigh = ⊥
-IsNoRuleLine ranges words (LineCount count) = ⊥
-IsNoRuleLine ranges words (RuleCount count) = (rule_parts ranges words ≡ None) × (count ≡ length words)
-IsNoRuleLine ranges words RuleJoined = ⊥
-IsNoRuleLine ranges words (Word word named) = HasBadRuleWord ranges words word named
-IsNoRuleLine ranges words (Port named) = HasBadPort ranges words named
-IsNoRuleLine ranges words RangeOrder = ⊥
-IsNoRuleLine ranges words RuleOrder = ⊥
-IsNoRuleLine ranges words (NoCell named) = ⊥
-IsNoRuleLine ranges words TooManyRules = ⊥
-IsNoRuleLine ranges words (TooManySlots slots left) = ⊥
+IsNoRuleLine ranges words fault =
+    ((fault ≡ RuleCount (length words)) × (rule_parts ranges words ≡ None))
+    ⊎ (((word : RuleWord) × (named : Bool) × (fault ≡ Word word named) × HasBadRuleWord ranges words word named)
+    ⊎ ((named : Bool) × (fault ≡ Port named) × HasBadPort ranges words named))
 
 -- ---- ranges
 
@@ -223,24 +204,13 @@ pub record IsNew (ranges : List RangeText) (words : List (List ℕ)) (range : Ra
 -- why the words after `.range` define no range: not three; the first is no name, or that of a range above; the second or
 -- the third is no address
 abbrev pub IsNoRange : List RangeText → List (List ℕ) → StatementFault → Type 0
-IsNoRange ranges words Version = ⊥
-IsNoRange ranges words Comment = ⊥
-IsNoRange ranges words Directive = ⊥
-IsNoRange ranges words (RangeCount count) = (three_words words ≡ None) × (count ≡ length words)
-IsNoRange ranges words RangeJoined = ⊥
-IsNoRange ranges words RangeName = (range : RangeText) × (three_words words ≡ Some range) × (is_name range.name ≡ false)
-IsNoRange ranges words RangeTwice = (range : RangeText) × (three_words words ≡ Some range) × (is_name range.name ≡ true)
-    × IsSome (range_named ranges range.name)
-IsNoRange ranges words RangeLow = (range : RangeText) × IsNew ranges words range × WritesNone IsAddress range.low
-IsNoRange ranges words RangeHigh = (range : RangeText) × IsNew ranges words range × WritesSome IsAddress range.low
-    × WritesNone IsAddress range.high
-IsNoRange ranges words (LineCount count) = ⊥
-IsNoRange ranges words (RuleCount count) = ⊥
-IsNoRange ranges words RuleJoined = ⊥
-IsNoRange ranges words (Word word named) = ⊥
-IsNoRange ranges words (Port named) = ⊥
-IsNoRange ranges words RangeOrder = ⊥
-IsNoRange ranges words RuleOrder = ⊥
-IsNoRange ranges words (NoCell named) = ⊥
-IsNoRange ranges words TooManyRules = ⊥
-IsNoRange ranges words (TooManySlots slots left) = ⊥
+IsNoRange ranges words fault =
+    ((fault ≡ RangeCount (length words)) × (three_words words ≡ None))
+    ⊎ (((fault ≡ RangeName)
+    × ((range : RangeText) × (three_words words ≡ Some range) × (is_name range.name ≡ false)))
+    ⊎ (((fault ≡ RangeTwice)
+    × ((range : RangeText) × (three_words words ≡ Some range) × (is_name range.name ≡ true) × IsSome (range_named ranges range.name)))
+    ⊎ (((fault ≡ RangeLow)
+    × ((range : RangeText) × IsNew ranges words range × WritesNone IsAddress range.low))
+    ⊎ ((fault ≡ RangeHigh)
+    × ((range : RangeText) × IsNew ranges words range × WritesSome IsAddress range.low × WritesNone IsAddress range.high)))))
