@@ -61,7 +61,7 @@ pub use job_weigh::weigh::WeighWords;
 pub use jobs::{Job, JobEnd, perform, perform_told};
 pub use losses::{Untold, told_loss};
 pub use node_jobs::{NodeJob, node_inputs};
-pub use noted::{Cause, Noted, OwnNode};
+pub use noted::{Cause, FileNode, Noted};
 pub use refusals::{Refusal, Stream, argument_fault, stream_of, told_fault, usage_end};
 pub use shows::show_talk;
 pub use slips::{OWN_CONTENTS, OWN_SOURCE, told_option};

@@ -42,21 +42,21 @@ pub enum Cause {
 
 /// What a node's file says of the node of a job, besides its maps.
 #[derive(Drop)]
-pub struct OwnNode {
+pub struct FileNode {
     /// How many ports it has.
     pub ports: u8,
     /// Its address, and where its banks lie.
     pub windows: Windows,
 }
 
-impl OwnNode {
+impl FileNode {
     /// The node of this configuration. The condition is banks that a node may have.
-    pub fn of(own: &Configuration) -> OwnNode
+    pub fn of(own: &Configuration) -> FileNode
         requires { are_within own.now.banks.items ≡ true }
         ensures ports { result.ports ≡ own.now.ports }
         ensures windows { result.windows ≡ windows_of own.now.address own.now.banks.items }
     {
-        OwnNode {
+        FileNode {
             ports: own.ports,
             windows: own.windows(),
         }
@@ -68,7 +68,7 @@ impl OwnNode {
 pub struct Noted<'a> {
     inputs: Inputs<'a>,
     is_dump: bool,
-    node: Option<OwnNode>,
+    node: Option<FileNode>,
     maps: Option<MapSizes>,
     cause: Option<Cause>,
     lines: Option<String>,
@@ -174,7 +174,7 @@ impl<'a> Noted<'a> {
 
     /// Nothing yet, of the files that the job reads; the node whose file says the job's maps, if one says them. The
     /// lines of a dump are given as its packet lines, and of the text of a program or a table in the place of an image the image is given.
-    pub fn of_job(job: &'a Job, node: Option<OwnNode>) -> Noted<'a>
+    pub fn of_job(job: &'a Job, node: Option<FileNode>) -> Noted<'a>
         ensures dump { reads_dump result ≡ is_dump job.now }
         ensures maps { maps_for result ≡ maps_of_job job.now }
     {
@@ -204,7 +204,7 @@ impl<'a> Noted<'a> {
     }
 
     /// The node whose file says the maps of the job, if one says them.
-    pub fn node(&self) -> Option<&OwnNode>
+    pub fn node(&self) -> Option<&FileNode>
         ensures { option_copied result ≡ self.now.node }
     {
         self.node.as_ref()

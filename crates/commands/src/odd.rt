@@ -1,6 +1,6 @@
 //! What is odd in a table without a fault.
 
-use crate::noted::OwnNode;
+use crate::noted::FileNode;
 use job_charts::map::notes_text;
 use job_charts::missed::{Missed, missed};
 use machine::MapSizes;
@@ -39,7 +39,7 @@ fn add_missed(
     text: &mut String,
     alloc: Global,
     policy: &Policy,
-    node: &OwnNode,
+    node: &FileNode,
 ) -> Result<(), AllocError> {
     for own in policy.rules() {
         if let Some(reason) = missed(alloc, &node.windows, node.ports, own)? {
@@ -55,10 +55,7 @@ fn add_missed(
 fn add_unused(text: &mut String, alloc: Global, table: &str) -> Result<(), AllocError> {
     let unused = unused_ranges(alloc, table)?;
     for line in unused.as_slice() {
-        write!(
-            text,
-            "    line {line} names a range that no rule uses\n"
-        )?;
+        write!(text, "    line {line} names a range that no rule uses\n")?;
     }
     Ok(())
 }
@@ -74,7 +71,7 @@ pub fn add_odd(
     alloc: Global,
     table: &str,
     sizes: &MapSizes,
-    node: Option<&OwnNode>,
+    node: Option<&FileNode>,
     with_notes: bool,
 ) -> Result<(), AllocError> {
     let Ok(policy) = Policy::read_drawn(alloc, table, sizes) else {

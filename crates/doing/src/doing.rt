@@ -12,7 +12,7 @@ use crate::desk::Desk;
 use crate::slate::Slate;
 use crate::talks::Speech;
 use commands::{
-    Asked, Fault, Job, JobEnd, LiveWords, NodeJob, Noted, OWN_SOURCE, OwnNode, ShowWords, Status,
+    Asked, Fault, FileNode, Job, JobEnd, LiveWords, NodeJob, Noted, OWN_SOURCE, ShowWords, Status,
     UsageFault, Work, asked_of, configuration_in, live, node_inputs, show_talk, told_end,
     told_node, told_option, words_or_judge,
 };
@@ -74,7 +74,7 @@ fn told<'a>(
 fn do_job<'a>(
     alloc: Global,
     job: &Job,
-    node: Option<OwnNode>,
+    node: Option<FileNode>,
     folder: Folder<'a>,
 ) -> Result<Left<'a>, AllocError>
     requires { IsAlone job.now }
@@ -164,7 +164,7 @@ fn show_input<'a>(
 fn do_once<'a>(
     alloc: Global,
     job: &Job,
-    node: Option<OwnNode>,
+    node: Option<FileNode>,
     folder: Folder<'a>,
 ) -> Result<Left<'a>, AllocError>
     ensures { IfOk result (DoesOnce job.now folder.entry) }
@@ -245,7 +245,7 @@ fn do_on_node<'a>(alloc: Global, own: NodeJob, folder: Folder<'a>) -> Result<Lef
     let mut desk = Desk::new(folder, Noted::new(node_inputs(name)));
     match configuration_in(alloc, &mut desk, name) {
         Ok(configuration) => {
-            let own = OwnNode::of(&configuration);
+            let own = FileNode::of(&configuration);
             do_once(
                 alloc,
                 &job.placed(&configuration),

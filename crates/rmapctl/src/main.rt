@@ -11,8 +11,8 @@ ghost use Rattle.job_parts.specs.declared.usage.UsageFault.TheVariants.{Memory};
 ghost use Rattle.node_parts.specs.Nodes.{are_within};
 
 use commands::{
-    Asked, Configuration, Course, DumpTalk, Fault, HostLink, HostTalk, Job, JobEnd, LiveWords,
-    NodeJob, OWN_CONTENTS, OWN_SOURCE, OwnNode, Refusal, ShowWords, Status, Stream, ToldFiles,
+    Asked, Configuration, Course, DumpTalk, Fault, FileNode, HostLink, HostTalk, Job, JobEnd,
+    LiveWords, NodeJob, OWN_CONTENTS, OWN_SOURCE, Refusal, ShowWords, Status, Stream, ToldFiles,
     ToldTalk, Untold, UsageFault, Waits, Work, WriteFault, argument_fault, asked_of,
     configuration_in, live, live_frames, node_inputs, own_contents, own_source, perform_told,
     show_talk, stream_of, told_end, told_fault, told_loss, told_node, told_wait, usage_end,
@@ -85,7 +85,7 @@ fn do_job<R: rt::Files + Input + Print + Eprint + Threads + Wait + Sync>(
     rt: &R,
     alloc: Global,
     job: &Job,
-    node: Option<OwnNode>,
+    node: Option<FileNode>,
 ) -> Status {
     if let Some(name) = own_source(rt, &job.inputs()) {
         return refuse_output(rt, name, OWN_SOURCE);
@@ -163,7 +163,7 @@ fn do_on_node<R: rt::Files + Input + Print + Eprint + Threads + Wait + Sync>(
         Err(status) => return status,
     };
     let NodeJob { job, .. } = own;
-    let own = OwnNode::of(&configuration);
+    let own = FileNode::of(&configuration);
     do_job(rt, alloc, &job.placed(&configuration), Some(own))
 }
 
