@@ -1,7 +1,7 @@
 -- The numbers of the faults of lines.
 use Rattle.std.specs.Prelude.{if◌then◌else◌, option_map, bytes_eq, codes}
 use Rattle.std.specs.Option.{option_or}
-use Rattle.std.proofs.Common.{◌≡◌, ◌⊎◌, ◌++◌, ℕ, Bool, true, false, List, [], ◌∷◌, Option, Some, None, refl, sym, ap, ◌∙◌, subst, inl, inr}
+use Rattle.std.proofs.Common.{◌≡◌, ◌++◌, ℕ, Bool, true, false, List, [], ◌∷◌, Option, Some, None, refl, sym, ap, ◌∙◌, subst, inl, inr}
 use Rattle.std.proofs.lemmas.List.Folds.{find-append}
 use Rattle.machine.specs.Sizes.{Maps}
 use Rattle.policy_table.specs.Drafts.{IsBad, IsBadTwo, IsNoStatement, line_words}

@@ -1,6 +1,6 @@
 -- Rules with ports and ranges with names, one by one.
 use Rattle.std.specs.Prelude.{◌-◌, ◌^◌, min, bytes_eq, if◌then◌else◌}
-use Rattle.std.proofs.Common.{◌≡◌, ◌<◌, ◌+◌, ℕ, suc, Bool, true, false, List, [], ◌∷◌, ◌++◌, length, get_or, drop, Option, Some, None, refl, sym, ap, ◌∙◌, subst, arith, add-one, append_assoc}
+use Rattle.std.proofs.Common.{◌≡◌, ◌<◌, ◌+◌, ℕ, suc, Bool, true, false, List, [], ◌∷◌, ◌++◌, length, get_or, drop, Option, Some, sym, ap, ◌∙◌, arith, add-one, append_assoc}
 use Rattle.std.proofs.Math.Seq.{drop-cons}
 use Rattle.policy_table.specs.Ports.{at_every_port, on_lines}
 use Rattle.policy_table.specs.Ranges.{RangeText, range_named, range_text, range_texts}

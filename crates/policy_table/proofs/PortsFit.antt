@@ -1,11 +1,10 @@
 -- The numbers of rules with ports fit their fields.
 use Rattle.std.specs.Prelude.{All}
-use Rattle.std.proofs.Common.{◌≡◌, ◌<◌, ℕ, suc, List, [], ◌∷◌, Option, Some, None, sym, subst}
+use Rattle.std.proofs.Common.{◌<◌, ℕ, suc, List, [], ◌∷◌, Option, Some, None, sym, subst}
 use Rattle.std.proofs.lemmas.List.Elements.{All-cons, All-head, All-nil, All-push, All-tail}
 use Rattle.spw.specs.Line.{WritesPort}
 use Rattle.policy_table.specs.Drafts.{DraftValue, IsStatement, IsStatementOne, IsStatementTwo, LinesWrite, TakesLine, after}
 use Rattle.policy_table.specs.Limits.{FitsFields}
-use Rattle.policy_table.specs.Lines.{IsRule}
 use Rattle.policy_table.specs.Ports.{FitsPort, IsPortField, at_every_port, on_lines}
 use Rattle.policy_table.specs.Ranges.{RangeText}
 use Rattle.policy_table.specs.Statements.{IsPort, IsRuleLine, statement_words}

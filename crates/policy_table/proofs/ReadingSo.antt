@@ -2,7 +2,7 @@
 use Rattle.std.proofs.Common.{◌≡◌, ℕ, suc, List, Option, ap, ◌∙◌, subst}
 use Rattle.machine.specs.Sizes.{Maps}
 use Rattle.policy_table.specs.Drafts.{DraftValue, HasBadLine, LinesWrite, empty_draft}
-use Rattle.policy_table.specs.Policies.{PolicyValue, ReadingValue, WritesReading, policy_value, reading}
+use Rattle.policy_table.specs.Policies.{ReadingValue, WritesReading, policy_value, reading}
 use Rattle.policy_table.specs.Surveys.{HasFaults}
 use Rattle.policy_table.specs.declared.port_rules.PortRule.{PortRule}
 use Rattle.policy_table.specs.declared.text_faults.TextFault.{TextFault}

@@ -1,5 +1,5 @@
 -- Ranges of a table that no rule names.
-use Rattle.std.specs.Prelude.{ℕ, suc, Bool, false, not, ◌&&◌, bytes_eq, if◌then◌else◌, List, [], ◌∷◌, ◌++◌, codes}
+use Rattle.std.specs.Prelude.{ℕ, suc, Bool, false, not, bytes_eq, if◌then◌else◌, List, [], ◌∷◌, ◌++◌, codes}
 use Rattle.std.specs.Prelude.{Option, Some, None}
 use Rattle.std.specs.List.{list_any}
 use Rattle.policy_table.specs.Refined.{fifth_word}

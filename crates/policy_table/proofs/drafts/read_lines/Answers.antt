@@ -1,6 +1,5 @@
 use Rattle.std.proofs.Common.{◌≡◌, ◌+◌, ◌∷◌, List, ℕ, suc, length, sym, ap, subst, arith, inr, add-one}
-use Rattle.policy_table.specs.Drafts.{DraftValue, HasBadLine, LinesWrite, TakesLine}
-use Rattle.policy_table.specs.declared.text_faults.TextFault.{TextFault}
+use Rattle.policy_table.specs.Drafts.{HasBadLine, LinesWrite, TakesLine}
 use Rattle.policy_table.specs.declared.versions.TableVersion.{TableVersion}
 use Rattle.policy_table.proofs.drafts.read_lines.Goals as goal
 

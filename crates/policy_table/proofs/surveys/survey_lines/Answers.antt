@@ -1,6 +1,6 @@
 use Rattle.std.proofs.Common.{◌≡◌, ◌+◌, ◌∷◌, List, ℕ, suc, length, sym, ap, subst, arith, add-one}
 use Rattle.machine.specs.Sizes.{Maps}
-use Rattle.policy_table.specs.Surveys.{FindsLine, FindsLines, SurveyValue}
+use Rattle.policy_table.specs.Surveys.{FindsLine, FindsLines}
 use Rattle.policy_table.specs.declared.versions.TableVersion.{TableVersion}
 use Rattle.policy_table.proofs.surveys.survey_lines.Goals as goal
 

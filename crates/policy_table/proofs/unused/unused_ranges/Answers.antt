@@ -1,6 +1,5 @@
-use Rattle.std.proofs.Common.{◌≡◌, ◌+◌, ◌∷◌, ◌++◌, List, ℕ, suc, length, ap, arith, subst, add-one}
+use Rattle.std.proofs.Common.{◌≡◌, ◌+◌, ◌∷◌, List, ℕ, length, ap, arith, add-one}
 use Rattle.spw.specs.Line.{lines_of}
-use Rattle.policy_table.specs.Unused.{is_unused, number_if}
 use Rattle.policy_table.proofs.UnusedLines.{more_unused}
 use Rattle.policy_table.proofs.unused.unused_ranges.Goals as goal
 
