@@ -2,7 +2,7 @@
 
 use crate::noted::FileNode;
 use job_charts::map::notes_text;
-use job_charts::missed::{Missed, missed};
+use job_charts::missed::{Missed, why_missed};
 use machine::MapSizes;
 use policy::{Policy, PortRule};
 use policy_table::unused_ranges;
@@ -42,7 +42,7 @@ fn add_missed(
     node: &FileNode,
 ) -> Result<(), AllocError> {
     for own in policy.rules() {
-        if let Some(reason) = missed(alloc, &node.windows, node.ports, own)? {
+        if let Some(reason) = why_missed(alloc, &node.windows, node.ports, own)? {
             let line = own.line;
             write!(text, "    rule {line} matches no command of this node: ")?;
             add_reason(text, own, reason)?;

@@ -168,7 +168,7 @@ fn first_of(port: Option<Missed>, bank: Option<Missed>, range: Option<Missed>) -
 /// # Errors
 ///
 /// If memory was refused.
-pub fn missed(
+pub fn why_missed(
     alloc: Global,
     windows: &Windows,
     ports: u8,
