@@ -13,7 +13,7 @@ use Rattle.job_charts.specs.Telling.{TellsFirst}
 use Rattle.job_charts.specs.declared.missed.Missed.{Missed}
 use Rattle.job_charts.specs.declared.missed.Missed.TheVariants.{Port, Bank, Range}
 
--- a rule of all commands to so many bytes from an address on
+-- a rule of all commands to a number of bytes from an address on
 abbrev pub window_rule : (extended base size : ℕ) → Rule
 window_rule extended base size = record {
   kind = Any;
@@ -71,7 +71,7 @@ bank_missed windows (Some number) =
 abbrev pub range_missed : Bool → Option Missed
 range_missed missed = if missed then Some Range else None
 
--- why a rule matches no command of a node with these windows and so many ports, or that it does
+-- why a rule matches no command of a node with these windows and this number of ports, or that it does
 abbrev pub IsMissed : WindowsValue → (ports : ℕ) → PortRule → Option Missed → Type 0
 IsMissed windows ports own found =
     (is : Bool) × MeetsNone windows own.rule is
