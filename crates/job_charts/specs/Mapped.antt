@@ -127,7 +127,7 @@ abbrev pub AddsDraw : List Rule → (place draw : ℕ) → (before numbers : Lis
 AddsDraw rules place draw before numbers =
     (DrawsOfCell rules place draw × (numbers ≡ before ++ (draw + 1) ∷ [])) ⊎ (DrawsOfNone rules place draw × (numbers ≡ before))
 
--- the numbers of all such rules among so many, the first ones
+-- the numbers of all such rules among the first ones
 abbrev pub AreDraws : List Rule → (place count : ℕ) → (numbers : List ℕ) → Type 0
 AreDraws rules place count numbers = TellsFirst (AddsDraw rules place) count [] numbers
 
