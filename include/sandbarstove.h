@@ -186,7 +186,7 @@ typedef struct sandbar_served {
  */
 typedef struct sandbar_scrubbed {
   uint64_t first;    /**< the place of the first damaged entry of the first journal that has one (at 0) */
-  uint8_t mended;    /**< a bit a slot: its program was damaged, and was made again of its image (at 8) */
+  uint8_t mended;    /**< a bit a slot: its program was damaged, and was made again of its image or of the one lent (at 8) */
   uint8_t withdrawn; /**< a bit a slot: its program was damaged and not mended (at 9) */
   uint8_t restored;  /**< 1: the image that was lent is now the program of slot 3, which was withdrawn; else 0 (at 10) */
   uint8_t sizes;     /**< ::sandbar_difference, or 0 (at 11) */
@@ -329,11 +329,13 @@ uint32_t sandbar_word(sandbar_node *node, uint8_t map, uint16_t cell, uint64_t *
 /**
  * Compares a part of the node, a ::sandbar_part, with what was kept of it.
  *
- * The part of programs compares each slot's program, as it is run, with the sum that was kept when it was published. A
- * program that differs is made again of its image, by the next generation, if the verifier accepts it and it has that sum.
- * The call asks for memory for that. Else its slot is withdrawn: each command for it is answered by a general error (status 1,
- * ::SANDBAR_ANSWERED). A later scrub may mend it, and a load publishes another program. If slot 3 is withdrawn, no load is
- * permitted: so the program of @p image is then published for it, if it may judge. An image of no bytes is none.
+ * The part of programs compares each slot's program, as it is run, with the sum that was kept when it was published. If a
+ * program differs, it is made again of its image, in its own memory. If it has then that sum, it has the next generation; a program
+ * that several slots share is so mended for each of them. Else the program of @p image is published for the slot, if the verifier
+ * accepts it and it has that sum. This asks for memory as a load does. Else the slot is withdrawn: each command for it is answered by
+ * a general error (status 1, ::SANDBAR_ANSWERED). Each later scrub tries it again, and a load publishes another program. If slot 3 is
+ * withdrawn, no load is permitted: so the program of @p image is then published for it, if it may judge. An image of no bytes is
+ * none, and no memory is asked for then.
  *
  * If a slot is withdrawn since memory was refused, the code is ::SANDBAR_NO_MEMORY. The rest was done, and @p scrubbed was
  * written. Call it again when there is memory.
@@ -347,8 +349,10 @@ uint32_t sandbar_scrub(sandbar_node *node, uint8_t part, const uint8_t *image, s
 
 /**
  * From now on scrubs the program that judges a packet, before each packet of that number: 1 is each, 2 each second one. At 0,
- * with which a node is opened, it scrubs none. If no program judges the packet before which a scrub is due, the scrub stays
- * due until a packet comes that one judges. Before each packet the sizes are compared, too (::sandbar_serve). @c found and @c found_slot of ::sandbar_served say what a scrub found. Codes:
+ * with which a node is opened, it scrubs none. If that program is damaged, the programs of all slots are scrubbed, with no image that
+ * is lent. If no program judges the packet before which a scrub is due, the scrub stays due until a packet comes that one judges.
+ * Before each packet the sizes are compared, too (::sandbar_serve). @c found and @c found_slot of ::sandbar_served say what a scrub
+ * found. Codes:
  * ::SANDBAR_NO_NODE.
  */
 SANDBAR_CALL

@@ -4,13 +4,16 @@
  *   upsets IMAGES REGION TRIALS SEED [EACH]
  *                                       a line a trial: region, place, bit, class, first other packet, what was done at its end
  *   upsets IMAGES scrubs                scrubs packets and sizes that changed, and programs, of which none can be mended
+ *   upsets IMAGES words EACH STEP       a line a word of the node's handle and control: region, block, its size, word, what it has, and
+ *                                       for each bit, or each STEP-th, what came of its flip, a letter each (`letter_of`)
  *
  * IMAGES has the programs of slots 0 to 3, a line of digits each: those of tests/cases/upsets.cases, which `rules` says again.
  * With EACH the program that judges is scrubbed before each packet of so many. Generations are then not compared, nor what a scrub
  * found: a program that is mended has a new one. REGION is a name of the first form, `any` for all of them by their bytes, or
- * `none`: then nothing flips. Each trial is a process, so that it may end as it likes. The node's memory lies between pages that
- * nobody may touch. The same seed gives the same flips. `link/upsets` makes the table of docs/TESTING.md of the lines. It wants a
- * system with fork and signals. */
+ * `none`: then nothing flips. `pairs` is two flips: one in what switches scrubs (`switches`, if there are scrubs), and 20 packets
+ * later one in operations. Each trial is a process, so that it may end as it likes. The node's memory lies between pages that nobody
+ * may touch. The same seed gives the same flips. `link/upsets` makes the table of docs/TESTING.md of the lines. It wants a system
+ * with fork and signals. */
 #include "packets.h"
 #include "sandbarstove_heap.h"
 #ifdef SOURCE
@@ -443,13 +446,13 @@ static void note(int made) {
 
 enum region {
   NOBODYS, HANDLE, CONTROL, BUFFERS, OPERATIONS, IMAGE, ACCESSES, BANK, FIRST, CELLS, ENTRIES, ROOM_LEFT, PACKETS, STACKS,
-  STAGINGS,
+  STAGINGS, SWITCHES,
   INSTANCE, OWN_STACK, CONSTANTS, HEADS, /* of the C source */
-  ANY, NONE
+  ANY, NONE, PAIRS
 };
 static const char *const names[] = {"nobody's", "handle", "control", "buffers", "operations", "images", "accesses", "banks",
-                                    "first_banks", "cells", "entries", "room", "packets", "stacks", "staging", "instance",
-                                    "own_stack", "constants", "heads", "any", "none"};
+                                    "first_banks", "cells", "entries", "room", "packets", "stacks", "staging", "switches", "instance",
+                                    "own_stack", "constants", "heads", "any", "none", "pairs"};
 static uint8_t *region_of; /* of each byte of the arena */
 
 static void mark(uint32_t at, size_t size, enum region region) { memset(region_of + at, (int)region, size); }
@@ -527,6 +530,14 @@ static uint32_t bytes_of(enum region region) {
   return count;
 }
 
+/* What switches scrubs, if there are scrubs: the marks of the slots, and how many packets there are to each, with complements. */
+static void mark_switches(void) {
+  const uint32_t open = 0x5A3C96E1u, counts[4] = {each, each, ~each, ~each};
+  if (each == 0) return;
+  if (mark_bytes(&open, sizeof open, 0, sizeof open, SWITCHES) != SLOTS) fail("the marks of the slots are not found");
+  if (each == 1 && mark_bytes(counts, sizeof counts, 0, sizeof counts, SWITCHES) != 1) fail("the counts of scrubs are not found");
+}
+
 /* The cells by their words and the complements of these, the stacks by the table that the program of slot 1 leaves at their
  * ends, and the buffers by what was last in them. */
 static void mark_found(void) {
@@ -543,6 +554,7 @@ static void mark_found(void) {
   }
   if (mark_bytes(table, sizeof table, STACK - sizeof table, STACK, STACKS) != PORTS) fail("the stacks are not found");
   if (mark_bytes(reply, last_reply, 0, SANDBAR_MAX_REPLY, BUFFERS) == 0) fail("the buffer of a reply is not found");
+  mark_switches();
 #ifdef SOURCE
   if (mark_bytes(packets[BEFORE - 1].bytes, packets[BEFORE - 1].length, 0, SANDBAR_MAX_PACKET, BUFFERS) == 0) fail("no buffer");
 #endif
@@ -688,11 +700,16 @@ static void compare(const struct packet *packet, uint32_t k, const struct answer
   seen->refused = answer->code != SANDBAR_OK || (is_done(&wanted[k]) && !is_done(answer));
 }
 
+/* The second flip of two: where, unless there is none, and which bit. It comes so many packets after the first. */
+enum { LATER = 20 };
+static uint32_t later, later_bit;
+
 /* What comes after the flip of a bit. */
 static void go_wrong(void) {
   uint32_t counts[QUOTAS];
   memcpy(counts, passed, sizeof counts);
   for (uint32_t k = 0; k < AFTER; k += 1) {
+    if (k == LATER && later != 0) arena[later] ^= (uint8_t)(1u << later_bit);
     begin_patience(1);
     struct answer answer = serve(&packets[BEFORE + k]);
     compare(&packets[BEFORE + k], k, &answer, counts);
@@ -731,9 +748,8 @@ static const char *class_of(void) {
   return seen->mended ? "mended" : "nothing";
 }
 
-/* Flips a bit of the byte at a place, unless nothing is to flip. */
-static void trial(bool flips, uint32_t at) {
-  uint32_t bit = any(8);
+/* Flips a bit of the byte at a place, unless nothing is to flip: what comes then is in `seen`. */
+static void flip_at(bool flips, uint32_t at, uint32_t bit) {
   memset(seen, 0, sizeof *seen);
   seen->first = AFTER;
   fflush(NULL);
@@ -747,6 +763,11 @@ static void trial(bool flips, uint32_t at) {
   int status;
   if (child < 0 || waitpid(child, &status, 0) != child) fail("no process");
   if (WIFSIGNALED(status)) seen->signal = WTERMSIG(status);
+}
+
+static void trial(bool flips, uint32_t at) {
+  uint32_t bit = any(8);
+  flip_at(flips, at, bit);
   const char *name = names[flips ? region_of[at] : NONE];
   printf("%s %u %u %s %u %s\n", name, at, bit, class_of(), seen->first, moments[seen->moment]);
 }
@@ -825,7 +846,7 @@ static void damage_packets(void) {
   check(reported > 0, "no entry is damaged");
 }
 
-/* A bit of the first address of each bank flips, and back. */
+/* A bit of the first address of each bank flips, and back: the bank's own, and that of the node's windows. */
 static void damage_sizes(void) {
   uint32_t reported = 0;
   for (uint32_t at = 0; at + 4 <= ARENA; at += 1)
@@ -838,7 +859,7 @@ static void damage_sizes(void) {
       reported += told.sizes;
       arena[at] ^= 1;
     }
-  check(reported >= BANKS, "no other size");
+  check(reported >= 2 * BANKS, "no other size");
 }
 
 /* How many entries the journals have. */
@@ -858,20 +879,27 @@ static void flip_each(enum region region) {
   for (uint32_t k = 0; k < piece_count; k += 1) {
     if (region_of[pieces[k].at] != region) continue;
     uint32_t end = region == IMAGE ? pieces[k].size : 32;
-    for (uint32_t at = 16; at < end; at += 32) arena[pieces[k].at + at] ^= 1;
+    for (uint32_t at = region == IMAGE ? 16 : 1; at < end; at += 32) arena[pieces[k].at + at] ^= 1;
   }
 }
 
-/* All four programs change, and there is memory for packets alone: each slot is withdrawn, and nothing that comes is judged. Their
- * images change, too: then the image that is lent is the program of slot 3. Once the images are as they were, the next scrub mends
- * the other three, and each slot can be loaded. */
+/* All four programs change, and there is memory for packets alone: each is mended in its own memory. Then their images change, too: each
+ * slot is withdrawn, and nothing that comes is judged. The image that is lent mends the program whose sum it has, if there is memory.
+ * One that has another sum is the program of slot 3. Once the images are as they were, the next scrub mends the other slots, and each
+ * slot can be loaded. */
 static void withdraw(void) {
   sandbar_scrubbed told;
   uint64_t before = entries_now();
   flip_each(OPERATIONS);
   most = 1100;
-  check(sandbar_scrub(node, SANDBAR_PROGRAMS, yes_image, 0, &told) == SANDBAR_NO_MEMORY, "the scrub");
-  check(told.mended == 0 && told.withdrawn == 15 && told.restored == 0, "not all slots are");
+  check(sandbar_scrub(node, SANDBAR_PROGRAMS, yes_image, 0, &told) == SANDBAR_OK, "the scrub");
+  check(told.mended == 15 && told.withdrawn == 0 && told.restored == 0, "not all slots are mended without memory");
+  flip_each(OPERATIONS);
+  flip_each(IMAGE);
+  check(sandbar_scrub(node, SANDBAR_PROGRAMS, yes_image, 0, &told) == SANDBAR_OK, "the scrub without an image");
+  check(told.mended == 0 && told.withdrawn == 15 && told.restored == 0, "not all slots are withdrawn");
+  check(sandbar_scrub(node, SANDBAR_PROGRAMS, images[1].bytes, images[1].length, &told) == SANDBAR_NO_MEMORY, "the short scrub");
+  check(told.mended == 0 && told.withdrawn == 15 && told.restored == 0, "a slot is mended without memory");
   for (uint32_t k = 0; k < AFTER; k += 1) {
     struct answer answer = serve(&packets[BEFORE + k]);
     if (packets[BEFORE + k].length > most) continue;
@@ -880,12 +908,13 @@ static void withdraw(void) {
   }
   check(entries_now() == before, "a journal has one more entry");
   most = SIZE_MAX;
-  flip_each(IMAGE);
   check(sandbar_scrub(node, SANDBAR_PROGRAMS, yes_image, sizeof yes_image, &told) == SANDBAR_OK, "the second scrub");
   check(told.mended == 0 && told.withdrawn == 15 && told.restored == 1, "slot 3 is not restored");
+  check(sandbar_scrub(node, SANDBAR_PROGRAMS, images[1].bytes, images[1].length, &told) == SANDBAR_OK, "the scrub with an image");
+  check(told.mended == 2 && told.withdrawn == 5 && told.restored == 0, "slot 1 is not mended by the image that is lent");
   flip_each(IMAGE);
-  check(sandbar_scrub(node, SANDBAR_PROGRAMS, yes_image, 0, &told) == SANDBAR_OK, "the scrub with memory");
-  check(told.mended == 7 && told.withdrawn == 0 && told.restored == 0, "not all slots are mended");
+  check(sandbar_scrub(node, SANDBAR_PROGRAMS, yes_image, 0, &told) == SANDBAR_OK, "the scrub with whole images");
+  check(told.mended == 5 && told.withdrawn == 0 && told.restored == 0, "not all slots are mended");
   for (uint8_t slot = 0; slot < SLOTS; slot += 1) {
     struct packet two[2];
     put_load(two, slot, slot);
@@ -899,9 +928,54 @@ static void withdraw(void) {
   check(sandbar_close(node) == SANDBAR_OK && !freed_twice, "the closing");
 }
 
+/* ---- words */
+
+/* What a word has: an address in the arena, by the region that is there, or a number. */
+static void print_value(uint64_t value) {
+  uint64_t at = value - (uint64_t)(uintptr_t)arena;
+  if (at < ARENA && region_of[at] != NOBODYS) printf("%s", names[region_of[at]]);
+  else if (at < ARENA) printf("nobody's");
+  else printf("%llx", (unsigned long long)value);
+}
+
+/* The letter of a class in the lines of words. */
+static char letter_of(const char *name) {
+  static const char *const letters[] = {"Ddenied", "Qquota", "Wwild_write", "Rwild_read", "Hhang", "Sstopped", "rrefused", "aanswer",
+                                        "mmemory", "eentry", "preported", "cclosing", "Mmended", ".nothing"};
+  for (size_t k = 0; k < sizeof letters / sizeof *letters; k += 1)
+    if (strcmp(letters[k] + 1, name) == 0) return letters[k][0];
+  return '?';
+}
+
+/* Each bit of each word of a block flips, or each of so many, if the block has control. */
+static void print_block(uint32_t at, uint32_t size, uint32_t number, uint32_t step) {
+  for (uint32_t word = at; word + 8 <= at + size; word += 8) {
+    uint64_t value;
+    char classes[65] = {0};
+    if (region_of[word] != CONTROL && region_of[word] != HANDLE) continue;
+    memcpy(&value, arena + word, sizeof value);
+    for (uint32_t bit = 0; bit < 64; bit += step) {
+      flip_at(true, word + bit / 8, bit % 8);
+      classes[bit / step] = letter_of(class_of());
+    }
+    printf("%s %u %u %u ", names[region_of[word]], number, size, (word - at) / 8);
+    print_value(value);
+    printf(" %s\n", classes);
+    fflush(stdout);
+  }
+}
+
+static void print_words(uint32_t step) {
+  run_unflipped();
+  print_block(0, sizeof *node, 0, step);
+  for (uint32_t k = 0; k < piece_count; k += 1) print_block(pieces[k].at, pieces[k].size, k + 1, step);
+}
+
 int main(int count, char **words) {
-  if (count < 2 || count == 4 || count > 6) fail("IMAGES, or IMAGES REGION TRIALS SEED [EACH], or IMAGES scrubs");
-  if (count == 6) each = (uint32_t)strtoul(words[5], NULL, 10);
+  bool is_words = count == 5 && strcmp(words[2], "words") == 0;
+  if (count < 2 || count == 4 || count > 6)
+    fail("IMAGES, or IMAGES REGION TRIALS SEED [EACH], or IMAGES scrubs, or IMAGES words EACH STEP");
+  if (count == 6 || is_words) each = (uint32_t)strtoul(words[is_words ? 3 : 5], NULL, 10);
   prepare(words[1]);
   if (count == 2) {
     for (int region = HANDLE; region < ANY; region += 1)
@@ -915,17 +989,27 @@ int main(int count, char **words) {
     withdraw();
     return 0;
   }
+  if (is_words) {
+    uint32_t step = (uint32_t)strtoul(words[4], NULL, 10);
+    if (step == 0 || step > 64) fail("a step of 1 to 64");
+    print_words(step);
+    return 0;
+  }
   enum region region = HANDLE;
-  while (region <= NONE && strcmp(names[region], words[2]) != 0) region += 1;
-  if (region > NONE) fail("no region %s", words[2]);
-  static uint32_t places[ARENA];
-  uint32_t bytes = 0;
-  for (uint32_t at = 0; at < ARENA; at += 1)
-    if (is_in(at, region)) places[bytes++] = at;
+  while (region <= PAIRS && strcmp(names[region], words[2]) != 0) region += 1;
+  if (region > PAIRS) fail("no region %s", words[2]);
+  static uint32_t places[ARENA], others[ARENA];
+  uint32_t bytes = 0, other_bytes = 0;
+  for (uint32_t at = 0; at < ARENA; at += 1) {
+    if (is_in(at, region == PAIRS ? SWITCHES : region)) places[bytes++] = at;
+    if (region == PAIRS && region_of[at] == OPERATIONS) others[other_bytes++] = at;
+  }
   if (bytes == 0 && region != NONE) fail("%s has no bytes", words[2]);
   run_unflipped();
   state = strtoul(words[4], NULL, 10);
-  for (unsigned long trials = strtoul(words[3], NULL, 10); trials > 0; trials -= 1)
+  for (unsigned long trials = strtoul(words[3], NULL, 10); trials > 0; trials -= 1) {
+    if (other_bytes != 0) later = others[any(other_bytes)], later_bit = any(8);
     trial(bytes != 0, bytes != 0 ? places[any(bytes)] : 0);
+  }
   return 0;
 }

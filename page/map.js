@@ -6,11 +6,22 @@ const roomOf = (id) => Math.max(260, $(id).clientWidth - 4);
 // What is shown of the last table without a fault: what map printed, the differences, and the chart that is drawn of it.
 let shown = null;
 
+// The fields above the map: of which commands it is asked. An empty one asks of all.
+const ASK_FIELDS = { '--kind': 'ask-kind', '--key': 'ask-key', '--initiator': 'ask-initiator', '--extended': 'ask-extended', '--address': 'ask-address', '--port': 'ask-port' };
+const question = () => Object.entries(ASK_FIELDS).flatMap(([option, id]) => ($(id).value.trim() ? [option, $(id).value.trim()] : []));
+
+// What is said above the map: of which commands it is, or why it is the one from before.
+function saidOfMap(map) {
+  if (map.status === 2) return 'A field above the map has a value that it may not have. This is the map from before.';
+  if (map.status !== 0) return 'The table has a fault. This is the map of the last one without.';
+  return question().length > 0 ? `The map and the differences are of these commands only: ${question().join(' ')}` : '';
+}
+
 function showMap(map) {
   $('map-text').textContent = map.text + map.told;
   const is_bad = map.status !== 0;
   $('map').classList.toggle('stale', is_bad);
-  $('said-map').textContent = is_bad ? 'The table has a fault. This is the map of the last one without.' : '';
+  $('said-map').textContent = saidOfMap(map);
   if (is_bad) return;
   shown = { text: map.text, differences: [] };
   drawMap();

@@ -20,11 +20,10 @@ async function seen() {
     if (old_image) showTable('old', old_image);
     await showLoaders(image, old_image, stale);
     if (stale()) return;
-    const map = await perform(['map', 'new.policy', ...place()]);
+    const map = await perform(['map', 'new.policy', ...question(), ...place()]);
     if (stale()) return;
     showMap(map);
-    if (map.status === 0) addNotes(picture.readMap(map.text).notes, image);
-    const compare = $('both').checked ? await perform(['compare', 'old.policy', 'new.policy', ...place()]) : null;
+    const compare = $('both').checked ? await perform(['compare', 'old.policy', 'new.policy', ...question(), ...place()]) : null;
     const differences = compare ? differencesIn(compare) : [];
     if (is_node() && differences) await findPackets(differences, stale);
     if (stale()) return;
@@ -47,12 +46,6 @@ const isStill = () => timer === 0 && seeing === 0 && calls.size === 0;
 function showTable(id, done) {
   const text = (done.status === 0 ? done.told : done.text + done.told).trimEnd(), lines = linesOf(text);
   mark(id, text, done.status === 0 ? [] : lines, done.status === 0 ? lines : []);
-}
-
-// The rules that never match, after what policy said.
-function addNotes(notes, image) {
-  const text = [image.told.trimEnd(), ...notes].filter(Boolean).join('\n');
-  mark('new', text, [], linesOf(text));
 }
 
 function keepImage(image, old_image) {
@@ -257,6 +250,8 @@ function listenForms() {
   $('make').addEventListener('submit', (event) => addPacket(event).catch(told));
   $('rehearse').addEventListener('submit', (event) => { event.preventDefault(); seen(); });
   for (const [id] of Object.values(LOAD_FIELDS)) $(id).addEventListener('input', () => { changed(); soon(); });
+  for (const id of Object.values(ASK_FIELDS)) $(id).addEventListener('input', soon);
+  $('question').addEventListener('submit', (event) => { event.preventDefault(); seen(); });
   $('typed').addEventListener('submit', typed);
   $('line').addEventListener('keydown', goBack);
   $('stop').addEventListener('click', stop);

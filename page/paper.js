@@ -35,7 +35,8 @@ function headOfPaper() {
   const now = new Date();
   const rows = [['Printed', `${now.toISOString().slice(0, 16).replace('T', ' ')} UTC`], ['Page', $('build').textContent.split(', ')[0]],
     ['Module', `${BUILD.proof}, SHA-256 ${BUILD.sum}`],
-    ['Node', is_node() ? 'of node.toml, with new.policy in place of its program' : `address FE, 32 ports, one bank of 65,536 bytes at A0000000, maps ${$('maps').value.trim() || 'none'}`]];
+    ['Node', is_node() ? 'of node.toml, with new.policy in place of its program' : `address FE, 32 ports, one bank of 65,536 bytes at A0000000, maps ${$('maps').value.trim() || 'none'}`],
+    ...(question().length > 0 ? [['Asked of', `commands of ${question().join(' ')} only, in the map and the differences`]] : [])];
   const working = !isStill() ? [made('p', { className: 'answer warn', textContent: 'The page still worked when this was printed: print it again.' })] : [];
   return [made('h1', { textContent: 'Review of new.policy' }), ...working, tableOf('facts', ['', ''], rows),
     tableOf('sums', ['File', 'Bytes', 'SHA-256', 'Of what'], fileRows())];

@@ -1,6 +1,6 @@
 // ---- the packet of a difference at the node of a node's file
-// compare prints its packets for the node of judge. Here one is chosen for the node of the file, and decide says of it, by both
-// tables, that it is a packet of this difference: the rules and the verdicts are those of the difference.
+// compare chooses its packets by the address and the banks of the node, and not by its ports. Here one is chosen by all of the file, and
+// decide says of it, by both tables, that it is a packet of this difference: the rules and the verdicts are those of the difference.
 
 const BITS = { write: 0x20, rmw: 0x10 };
 

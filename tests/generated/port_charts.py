@@ -190,7 +190,7 @@ def check_map(random: Random, room: Room, name: str, table: list[Asked], seen: C
             lines.append(line_of(words.split()))
             courses.append(course)
         else:
-            never.append(re.fullmatch(r"rule (\d+)(?: port (\S+))? never matches: .+", text))
+            never.append(re.fullmatch(r"rule (\d+) never matches: .+", text))
     if len(set(lines)) != len(lines):
         raise Differs("map: a line twice")
     for _ in range(POINTS):
@@ -203,8 +203,10 @@ def check_map(random: Random, room: Room, name: str, table: list[Asked], seen: C
         seen["points of lines with ports"] += lines[found[0]].ports != "*"
         seen["points of else"] += lines[found[0]].addresses == "else"
         line, _ = decided(table, it)
-        if any(note is None or int(note[1]) == line and is_in(note[2] or "*", it.port, 10) for note in never):
+        if any(note is None or int(note[1]) == line for note in never):
             raise Differs(f"map: {never} of {it}, which rule {line} decides")
+    if len({note[1] for note in never if note}) != len(never):
+        raise Differs(f"map: a rule twice: {never}")
     seen["rules that never match"] += len(never)
 
 

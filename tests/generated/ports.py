@@ -43,15 +43,18 @@ CAMERA = [".version 2", "; Camera electronics: who may do what", ".range registe
           "", "read  20 *  00 registers          - 0", "read  20 67 00 frames             - 0", "write 20 67 00 frames         0:0:2 0 port 1",
           "any   *  67 FF 00000000 FFFFFFFF  - 0 port 1     ; loads: the ground's computer, by port 1 only"]
 
+# What a rule of version 2 has that ends too early.
+EIGHT = "and a rule has 8: KIND KEY INIT EXT LOW HIGH QUOTA VERDICT, or NAME for LOW HIGH"
+
 # A spoilt form of each line that can be spoilt after the first, and what is told of it.
-SPOILT_LINES = {2: (CAMERA[1][2:], "ends after word 6, and a rule after VERDICT"),
+SPOILT_LINES = {2: (CAMERA[1][2:], f"ends after word 6, {EIGHT}"),
                 3: (CAMERA[2][:-1], "word 4: HIGH is eight hexadecimal digits"),
                 4: (CAMERA[3].replace("A0002000", "A000200"), "word 3: LOW is eight hexadecimal digits"),
-                5: ("read", "ends after word 1, and a rule after VERDICT"),
+                5: ("read", f"ends after word 1, {EIGHT}"),
                 6: (CAMERA[5].replace("20", "2"), "word 2: KEY is two hexadecimal digits, or *"),
                 7: (CAMERA[6].replace("frames", "frame"), "word 5: NAME is of no range above"),
                 8: (CAMERA[7].replace("0:0:2", "0:0"), "word 6: QUOTA is - or MAP:CELL:LIMIT in decimal, with LIMIT at most 2147483647"),
-                9: (CAMERA[8].replace("port 1 ", "port 32 "), "word 9: after VERDICT stands nothing, or port P with P from 0 to 31")}
+                9: (CAMERA[8].replace("port 1 ", "port 32 "), "word 9: after VERDICT only port P may come, with P from 0 to 31")}
 
 
 class ByTable(World):
@@ -138,8 +141,8 @@ def camera_spoilt(room: Room) -> Iterator[str | None]:
     room.put("spoilt", "\n".join([".version 3", *CAMERA[1:]]))
     done = room.job("policy", "spoilt", "none", "--maps", "1")
     told = {int(it) for it in findall(r"(?m)^    line (\d+) ", done.err.decode())}
-    # Of version 1 no line is right.
-    yield None if done.out == b"policy fault 5\n" and told == set(range(1, len(CAMERA) + 1)) else f"version 3: {done.out.decode()}{told}"
+    # All other lines are those of version 2.
+    yield None if done.out == b"policy fault 5\n" and told == {1} else f"version 3: {done.out.decode()}{told}"
 
 
 def tables_without_news(room: Room) -> Iterator[str | None]:

@@ -1,11 +1,12 @@
 #!/usr/bin/env python3
 """Random policies and who loads: `rehearse` prints what a node at which they judge answers to the packets of the loads, and with `--any`
 whose loads pass, as `map` and `policy` do; `packet load` says if the same load is denied after it. The node, the tables and the packets
-were written from docs/PROTOCOL.md and docs/POLICIES.md alone."""
+were written from docs/PROTOCOL.md and docs/POLICIES.md alone, and what `policy` says of a table from docs/COMMANDS.md."""
 from __future__ import annotations
 
 import sys
 from collections import Counter
+from dataclasses import replace
 from pathlib import Path
 from random import Random
 from typing import NamedTuple
@@ -14,7 +15,7 @@ sys.dont_write_bytecode = True
 sys.path.insert(0, str(Path(__file__).resolve().parent.parent))
 from generator import main, same_lines
 from models.images import assembled, parsed
-from models.loads import PART, PLAIN, Loader, Node, Policy, load_of, open_to
+from models.loads import PART, PLAIN, Loader, Node, Policy, askers, lets_load, load_of, open_to
 from models.tables import PortRule, Rule
 from rmapctl import Done, Room
 
@@ -166,19 +167,72 @@ def told_lines(done: Done) -> list[str]:
     return done.err.decode().splitlines()
 
 
+def missed(own: PortRule, ports: int) -> str | None:
+    """Why a rule matches no command of the node of `check`, if it does not."""
+    extended, low, high = own.rule.fields[2], own.rule.low, own.rule.high
+    places = {0x00: [(0xA000_0000, 0xA000_FFFF)], 0xFF: [(0, 0x3FFF), (0x1_0000, 0x1_0007)]}
+    has_byte = any(low <= last and first <= high for place, of in places.items() if extended in (None, place) for first, last in of)
+    if own.port is not None and own.port >= ports:
+        return f"it has no port {own.port}"
+    if has_byte:
+        return None
+    return {None: "it", 0x00: "its bank 00", 0xFF: "its boot window"}[extended] + " has no byte of the range"
+
+
+def odd_lines(room: Room, rules: list[PortRule], ports: int) -> list[str]:
+    """What is said on standard error of the rules that match no command of the node of `check`."""
+    lines = (room.content("new") or b"").decode().splitlines()
+    first = len(lines) - len(rules) + 1
+    told = [(number, missed(own, ports)) for number, own in enumerate(rules, first)]
+    return [f"    rule {number} matches no command of this node: {why}" for number, why in told if why]
+
+
+def able(policy: Policy, ports: int) -> set[Loader]:
+    """Who loads the smallest image, on cells that nobody asked or on such that are past every quota, at ports that rules name and one more."""
+    named = {own.port for own in policy.rules or []}
+    others = [port for port in range(ports) if port not in named]
+    asked = [Loader(port, initiator, key) for port in range(ports) if port in {*named, *others[:1]}
+             for (initiator, _), (key, _) in askers(policy)]
+    return {it for it in asked if any(lets_load(policy, MAPS, SMALLEST, it, is_spent) for is_spent in (False, True))}
+
+
+def short_lines(room: Room, new: Policy, ports: int) -> list[str]:
+    """What is said of rules without whose quota, which has a ticket, somebody loads the smallest image who cannot with it."""
+    rules = new.rules or []
+    lines = (room.content("new") or b"").decode().splitlines(keepends=True)
+    first, with_it, told = len(lines) - len(rules), None, []
+    for number, own in enumerate(rules, first):
+        if own.rule.quota and own.rule.quota[2] > 0:
+            freed = replace(own, rule=replace(own.rule, quota=None))
+            text = freed.text("") if first else freed.rule.text()
+            room.put("freed", "".join([*lines[:number], text, *lines[number + 1:]]))
+            room.printed("policy", "freed", "image", *LIST, "--quiet")
+            without = Policy(parsed(room.content("image") or b""), [*rules[:number - first], freed, *rules[number - first + 1:]])
+            with_it = able(new, ports) if with_it is None else with_it
+            if able(without, ports) - with_it:
+                told.append(f"    rule {number + 1} has a quota that lets no whole load pass")
+    return told
+
+
 def of_table(room: Room, new: Policy, ports: int, node: list[str]) -> None:
-    """`map` and `policy` print whose loads a table lets pass: of the smallest image, and of its own if these are others."""
+    """`map` and `policy` print whose loads a table lets pass: of the smallest image, and of its own if these are others. They also print
+    what is odd in it."""
     own = new.image.spelled()
     plain = list(open_to(new, MAPS, SMALLEST, ports, LEAD)) or [LEAD + " by nobody"]
     same = list(open_to(new, MAPS, own, ports, LEAD)) or [LEAD + " by nobody"]
     lead = f"    loads of {len(own)} bytes"
     both = plain + [line.replace(LEAD, lead, 1) for line in same] * (same != plain)
-    same_lines("map", told_lines(room.job("map", "new", *node)), both)
+    drawn = room.job("map", "new", *node)
+    odd = odd_lines(room, new.rules or [], ports) if "--node" in node else []
+    short = short_lines(room, new, ports)
+    same_lines("map", told_lines(drawn), both + short + odd)
+    odd = ["    " + line for line in drawn.out.decode().splitlines() if " never matches: " in line] + odd
     wanted = both if (plain == [LEAD + " by nobody"]) != (same == [LEAD + " by nobody"]) else []
     if plain == same == [LEAD + " by nobody"]:
         wanted = ["    in slot 3 this table lets nobody load another", MENDS, "    --final says that it is meant, and then nothing is said"]
-    same_lines("policy", told_lines(room.job("policy", "new", "made", *node)), wanted)
-    same_lines("policy --final", told_lines(room.job("policy", "new", "made", "--final", *node)), [])
+    same_lines("policy", told_lines(room.job("policy", "new", "made", *node)), wanted + short + odd)
+    same_lines("policy --final", told_lines(room.job("policy", "new", "made", "--final", *node)), odd)
+    same_lines("policy --quiet", told_lines(room.job("policy", "new", "made", "--quiet", *node)), [])
 
 
 def check(random: Random, room: Room, seen: Counter[str]) -> None:

@@ -11,7 +11,7 @@ use Rattle.annals.specs.declared.deed.Deed.TheVariants.{Opens, Does, Asks, Shows
 use Rattle.annals.specs.declared.deed.Link.{Link}
 use Rattle.annals.specs.Chains.{IsDue}
 use Rattle.annals.specs.Publishes.{publishes_of}
-use Rattle.annals.specs.Shown.{AreListed, IsTakenAt, shown_in, shown_of, shows}
+use Rattle.annals.specs.Shown.{AreListed, IsTakenAt, shown_in, shows}
 use Rattle.lemmas.proofs.Prefixes.{prefix_either, prefix_length, prefix_self, prefix_shorter, prefix_trans, prefix_whole}
 use Rattle.annals.proofs.Publishings.{publishes_begin}
 

@@ -10,7 +10,7 @@ use Rattle.annals.specs.declared.deed.Act.TheVariants.{Leaves, Sets, Rotates, Pu
 use Rattle.annals.specs.declared.deed.Deed.{Deed}
 use Rattle.annals.specs.declared.deed.Deed.TheVariants.{Opens, Does, Asks, Shows}
 use Rattle.annals.specs.declared.deed.Link.{Link}
-use Rattle.annals.specs.Chains.{Due, LineValue, at_bank, at_chain, chain_of, left_in, link, IsFirst}
+use Rattle.annals.specs.Chains.{Due, at_bank, at_chain, chain_of, left_in, link, IsFirst}
 use Rattle.annals.specs.Publishes.{EntriesAreNoLoads, LoadsAreListed, LoadsAreNoEntries, loads_in, published_in, with_published, with_publish, publishes_in, publishes_of, publishes_chain}
 use Rattle.annals.proofs.Dues.{acts_append, at_append, chain_prefix, own_snoc}
 

@@ -1,16 +1,16 @@
 -- The steps that read and raise how many programs readers see keep the rule.
-use Rattle.std.proofs.Common.{◌≡◌, ◌≢◌, ℕ, ◌+◌, ◌<◌, ◌≤◌, ◌==◌, Bool, true, false, List, [], ◌∷◌, ◌++◌, length, refl, ap, sym, ◌∙◌, subst, arith, inl, length-append, None, slice_set}
+use Rattle.std.proofs.Common.{◌≡◌, ◌≢◌, ℕ, ◌+◌, ◌<◌, ◌≤◌, ◌==◌, Bool, true, false, List, [], ◌∷◌, ◌++◌, length, refl, ap, sym, ◌∙◌, arith, inl, None, slice_set}
 use Rattle.std.proofs.lemmas.List.{append-nil, get_or-set_same, get_or-set_other}
 use Rattle.std.proofs.lemmas.Bool.Decides.{nat_tests}
 use mathlib.Core.List.{IsPrefix}
 use prog.Atomic.{either}
 use Rattle.logbook.specs.Pages.{Cell, cell, keeps, no_nib, step, Moves, Goes}
 use Rattle.annals.specs.declared.deed.Link.{Link}
-use Rattle.annals.specs.Chains.{AreHome, chain_of}
+use Rattle.annals.specs.Chains.{chain_of}
 use Rattle.annals.specs.Publishes.{publishes_of}
 use Rattle.annals.specs.Rule.{AreChained, Counts, Raises, shown_word, showing}
 use Rattle.annals.specs.Shown.{shown_in}
-use Rattle.lemmas.proofs.Prefixes.{prefix_length, prefix_self}
+use Rattle.lemmas.proofs.Prefixes.{prefix_length}
 use Rattle.annals.proofs.Dues.{none_asked}
 use Rattle.annals.proofs.Listing.{listed_snoc, shown_append}
 use Rattle.annals.proofs.Publishings.{publishes_begin}

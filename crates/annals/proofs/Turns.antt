@@ -1,14 +1,13 @@
 -- The steps on the history keep its rule.
 use Rattle.std.proofs.Common.{◌≡◌, ◌≢◌, ℕ, zero, suc, ◌+◌, ◌<◌, ◌==◌, Bool, true, false, cond, List, [], ◌∷◌, ◌++◌, length, refl, ap, sym, ◌∙◌, subst, arith, inl, length-append, None, slice_set}
 use Rattle.std.proofs.lemmas.List.{append-nil, get_or-set_same, get_or-set_other, get_or-replicate, set-get_or}
-use Rattle.std.proofs.lemmas.List.Elements.{filter-append}
 use Rattle.std.proofs.lemmas.Bool.Decides.{nat_tests}
 use mathlib.Core.List.{IsPrefix}
 use lib.ListN.{replicate}
 use prog.Atomic.{either}
 use Rattle.logbook.specs.Pages.{Book, Named, Cell, cell, keeps, gives, adds, Nib, no_nib, may_write, step, Moves, Goes}
 use Rattle.annals.specs.declared.deed.Link.{Link}
-use Rattle.annals.specs.Chains.{asked_in, chain_of, next_of, with_asked, IsHome, AreHome, AreAsked, IsDue, Draws, Begins, Adds, Looks, link, IsAdded, IsFirst, word_of}
+use Rattle.annals.specs.Chains.{asked_in, chain_of, next_of, with_asked, IsHome, AreHome, AreAsked, IsDue, Draws, Begins, Adds, Looks, IsAdded, IsFirst, word_of}
 use Rattle.annals.specs.Rule.{AreChained, shown_word}
 use Rattle.annals.specs.Shown.{shows}
 use Rattle.annals.specs.Banks.{memory_after, after_link, after_deed, zeros, entries_of, entries_in, with_entry}

@@ -1,7 +1,6 @@
 -- The history of a node's banks, and what it says of each.
 use Rattle.std.specs.Prelude.{ℕ, ◌≡◌, ◌≢◌, ◌<◌, ◌==◌, ◌&&◌, Bool, List, [], ◌∷◌, None, fold, length, map, replicate, slice_index, true}
 use Rattle.std.specs.List.{filter, range_with_len}
-use mathlib.Core.List.{IsPrefix}
 use Rattle.rmap.specs.declared.places.Place.TheVariants.{Bank}
 use Rattle.rmap.specs.declared.status.Status.TheVariants.{GeneralError}
 use Rattle.rmap.specs.Command.{command_of}

@@ -2,7 +2,7 @@
 -- pen adds the next entry of that chain. The chain of a bank has the number of the bank, and a word of that key; one more has
 -- the publishes of programs. Each port has a chain too, its line, and so has the instrument: there each asks for what it does
 -- at the other chains before that is done.
-use Rattle.std.specs.Prelude.{ℕ, ◌≡◌, ◌<◌, ◌≤◌, ◌+◌, ◌==◌, true, List, [], ◌∷◌, ◌++◌, length, map, MatchBool, if◌then◌else◌}
+use Rattle.std.specs.Prelude.{ℕ, ◌≡◌, ◌<◌, ◌+◌, ◌==◌, true, List, [], ◌∷◌, ◌++◌, length, map, MatchBool, if◌then◌else◌}
 use Rattle.std.specs.List.{filter}
 use mathlib.Core.List.{IsPrefix}
 use Rattle.logbook.specs.Pages.{Cell, cell, Step, View, Book, Named, Nib, may_make, may_write}

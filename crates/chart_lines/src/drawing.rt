@@ -125,6 +125,15 @@ impl Field {
         set
     }
 
+    /// The values of the field that points of a region have.
+    fn of(self, region: &Region) -> &ByteSet {
+        match self {
+            Field::Key => &region.keys,
+            Field::Initiator => &region.initiators,
+            Field::Extended => &region.extended,
+        }
+    }
+
     /// All points that have one of these values in the field.
     fn words(self, bytes: &ByteSet) -> Region {
         let mut words = Region::whole();
@@ -158,12 +167,17 @@ fn agreeing(
     Ok(found)
 }
 
-/// The values of a field that rules want, one by one, and the others together, each with one of them.
-fn values(alloc: Global, rules: &[Rule], field: Field) -> Result<Vec<(ByteSet, u8)>, AllocError> {
+/// The values of a field, of these, that rules want, one by one, and the others together, each with one of them.
+fn values(
+    alloc: Global,
+    asked: &ByteSet,
+    rules: &[Rule],
+    field: Field,
+) -> Result<Vec<(ByteSet, u8)>, AllocError> {
     let mut values = Vec::new(alloc);
-    let mut others = ByteSet::all();
+    let mut others = *asked;
     for byte in 0..=u8::MAX {
-        if is_named(rules, field, byte) {
+        if asked.has(byte) && is_named(rules, field, byte) {
             let own = ByteSet::only(byte);
             others = others.without(&own);
             values.push((own, byte))?;
@@ -187,7 +201,7 @@ fn field_parts(
         return address_parts(alloc, tables, rules, point);
     };
     let mut groups: Vec<Group> = Vec::new(alloc);
-    for (bytes, byte) in &values(alloc, rules, *field)? {
+    for (bytes, byte) in &values(alloc, field.of(tables.asked), rules, *field)? {
         let found = agreeing(alloc, rules, *field, *byte)?;
         let parts = field_parts(
             alloc,
@@ -230,6 +244,9 @@ fn kind_words(kind: Kind) -> Region {
 fn all_parts(alloc: Global, tables: &Tables<'_>) -> Result<Vec<Part>, AllocError> {
     let mut groups: Vec<Group> = Vec::new(alloc);
     for kind in [Kind::Read, Kind::Write, Kind::Rmw] {
+        if !tables.asked.kinds.has(kind) {
+            continue;
+        }
         let rules = of_kind(alloc, tables, kind)?;
         let point = Point {
             kind,
@@ -246,13 +263,21 @@ fn all_parts(alloc: Global, tables: &Tables<'_>) -> Result<Vec<Part>, AllocError
     parts_of(alloc, groups.as_slice())
 }
 
+/// The points of both regions, with no first address behind all last ones, and no last one before all first ones.
+fn within(region: &Region, asked: &Region) -> Region {
+    let mut own = region.both(asked);
+    own.first = own.first.below(own.last.end);
+    own.last = own.last.from(own.first.start);
+    own
+}
+
 /// The lines of the parts of which something is told.
 fn lines(alloc: Global, tables: &Tables<'_>) -> Result<Vec<Line>, AllocError> {
     let mut lines = Vec::new(alloc);
     for part in &all_parts(alloc, tables)? {
         if part.label.told {
             lines.push(Line {
-                region: part.region,
+                region: within(&part.region, tables.asked),
                 rest: part.rest,
                 point: part.point,
             })?;
@@ -261,7 +286,7 @@ fn lines(alloc: Global, tables: &Tables<'_>) -> Result<Vec<Line>, AllocError> {
     Ok(lines)
 }
 
-/// The lines of a map of a table: what it decides, each point that a command has in one line alone.
+/// The lines of a map of a table for the points of a region: what it decides, each of them that a command has in one line alone.
 ///
 /// Addresses of which the same is told are gathered in boxes, bytes and kinds in sets; the addresses that have the most boxes
 /// are told as the rest of the others.
@@ -269,37 +294,51 @@ fn lines(alloc: Global, tables: &Tables<'_>) -> Result<Vec<Line>, AllocError> {
 /// # Errors
 ///
 /// Only where memory was refused.
-pub fn map_of(alloc: Global, rules: &[Rule]) -> Result<Vec<Line>, AllocError>
-    ensures { IfOk result (λ lines. IsMap rules.now lines.items) }
+pub fn map_of(alloc: Global, asked: &Region, rules: &[Rule]) -> Result<Vec<Line>, AllocError>
+    ensures { IfOk result (λ lines. IsMap asked.now rules.now lines.items) }
 {
     let all = true;
     let lines = lines(
         alloc,
         &Tables {
+            asked,
             old: rules,
             new: &[],
             all,
         },
     )?;
-    if is_map(rules, lines.as_slice()) {
+    if is_map(asked, rules, lines.as_slice()) {
         return Ok(lines);
     }
-    map_cells(alloc, rules)
+    map_cells(alloc, asked, rules)
 }
 
-/// The lines of a comparison of two tables: where they decide differently, each such point that a command has in one line
-/// alone, and no other in any. They are gathered as those of [`map_of`], and what is alike is the rest that is not told.
+/// The lines of a comparison of two tables for the points of a region: where they decide differently, each such point that a command
+/// has in one line alone, and no other in any. They are gathered as those of [`map_of`], and what is alike is the rest that is not told.
 ///
 /// # Errors
 ///
 /// Only where memory was refused.
-pub fn comparison_of(alloc: Global, old: &[Rule], new: &[Rule]) -> Result<Vec<Line>, AllocError>
-    ensures { IfOk result (λ lines. IsComparison old.now new.now lines.items) }
+pub fn comparison_of(
+    alloc: Global,
+    asked: &Region,
+    old: &[Rule],
+    new: &[Rule],
+) -> Result<Vec<Line>, AllocError>
+    ensures { IfOk result (λ lines. IsComparison asked.now old.now new.now lines.items) }
 {
     let all = false;
-    let lines = lines(alloc, &Tables { old, new, all })?;
-    if is_comparison(old, new, lines.as_slice()) {
+    let lines = lines(
+        alloc,
+        &Tables {
+            asked,
+            old,
+            new,
+            all,
+        },
+    )?;
+    if is_comparison(asked, old, new, lines.as_slice()) {
         return Ok(lines);
     }
-    comparison_cells(alloc, old, new)
+    comparison_cells(alloc, asked, old, new)
 }

@@ -16,9 +16,10 @@ pub(crate) struct Label {
     new: u64,
 }
 
-/// Two tables, and whether each point is told, or those at which they differ.
+/// Two tables, the points that are asked, and whether each of them is told, or those at which the tables differ.
 #[derive(Clone, Copy)]
 pub(crate) struct Tables<'a> {
+    pub(crate) asked: &'a Region,
     pub(crate) old: &'a [Rule],
     pub(crate) new: &'a [Rule],
     pub(crate) all: bool,

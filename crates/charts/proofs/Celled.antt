@@ -3,11 +3,13 @@ use Rattle.std.proofs.Common.{◌≡◌, inl, inr, ◌&&◌, ◌||◌, Bool, tru
 use Rattle.std.specs.Prelude.{map, if◌then◌else◌}
 use Rattle.policy_table.specs.declared.rules.Rule.{Rule}
 use Rattle.regions.specs.Cells.{AreCellsOf, IsFiledAt, cells_at}
-use Rattle.regions.specs.Questions.{IsSettledBy}
+use Rattle.std.proofs.lemmas.List.Elements.{All-tail}
+use Rattle.regions.specs.Questions.{AreTestedAlike, IsSettledBy}
 use Rattle.regions.specs.Regions.{lies_in}
 use Rattle.regions.specs.declared.cutting.Cell.{Cell}
 use Rattle.regions.specs.declared.points.Point.{Point}
-use Rattle.charts.specs.Lines.{IsChart, IsToldRightly, is_left, is_told, line_of, lines_of}
+use Rattle.regions.specs.declared.regions.Region.{Region}
+use Rattle.charts.specs.Lines.{IsChart, IsToldRightly, is_left, is_told, line_of, lines_of, told_tests}
 use Rattle.charts.specs.Points.{tests_of}
 use Rattle.charts.specs.declared.lines.Line.{Line}
 use Rattle.charts.proofs.RuleShapes.{first_of_both, second_of_both}
@@ -24,19 +26,20 @@ lines_at before (cell ∷ cells) p =
     kept false left rest found e = e
 
 -- what is told is settled by the rules
-pub untold_settled : (all : Bool) (old new : List Rule) → IsSettledBy (tests_of (old ++ new)) (λ p. is_told all old new p ≡ false)
-untold_settled all old new p q _ _ same untold = sym (told_alike all old new p q (first_of_both old new p q same) (second_of_both old new p q same)) ∙ untold
+pub untold_settled : (asked : Region) (all : Bool) (old new : List Rule) → IsSettledBy (told_tests asked old new) (λ p. is_told asked all old new p ≡ false)
+untold_settled asked all old new p q _ _ same untold = sym (told_alike asked all old new p q same) ∙ untold
 
 -- the lines of the cells of which something is told are a chart
-pub chart_of : (all : Bool) (old new : List Rule) (cells : List Cell)
-    → AreCellsOf (tests_of (old ++ new)) (λ p. is_told all old new p ≡ false) (λ p. is_told all old new p ≡ true) cells → IsChart all old new (map line_of cells)
-chart_of all old new cells are p has = by_cells (are p has)
+pub chart_of : (asked : Region) (all : Bool) (old new : List Rule) (cells : List Cell)
+    → AreCellsOf (told_tests asked old new) (λ p. is_told asked all old new p ≡ false) (λ p. is_told asked all old new p ≡ true) cells → IsChart asked all old new (map line_of cells)
+chart_of asked all old new cells are p has = by_cells (are p has)
   where
-    by_cells : IsFiledAt (tests_of (old ++ new)) (λ r. is_told all old new r ≡ false) (λ r. is_told all old new r ≡ true) [] cells p → IsToldRightly (is_told all old new p) old new (map line_of cells) p
+    by_cells : IsFiledAt (told_tests asked old new) (λ r. is_told asked all old new r ≡ false) (λ r. is_told asked all old new r ≡ true) [] cells p → IsToldRightly (is_told asked all old new p) old new (map line_of cells) p
     by_cells (inl h) =
-        let olds = first_of_both old new p h.cell.point h.same in
-        let news = second_of_both old new p h.cell.point h.same in
-        subst (λ (t : Bool). IsToldRightly t old new (map line_of cells) p) (sym (sym (told_alike all old new p h.cell.point olds news) ∙ h.answer))
+        let rules = All-tail (AreTestedAlike p h.cell.point) (lies_in asked) (tests_of (old ++ new)) h.same in
+        let olds = first_of_both old new p h.cell.point rules in
+        let news = second_of_both old new p h.cell.point rules in
+        subst (λ (t : Bool). IsToldRightly t old new (map line_of cells) p) (sym (sym (told_alike asked all old new p h.cell.point h.same) ∙ h.answer))
         (record {
           line = line_of h.cell;
           alone = lines_at [] cells p ∙ ap (λ (cs : List Cell). map line_of cs) h.alone;

@@ -1,6 +1,6 @@
 -- The tests of a chart, by number.
-use Rattle.std.proofs.Common.{◌≡◌, ◌≤◌, ◌<◌, ◌+◌, ◌-◌, ℕ, zero, suc, Bool, List, [], ◌∷◌, ◌++◌, length, get_or, refl, ap, sym, ◌∙◌, arith}
-use Rattle.std.specs.Prelude.{map}
+use Rattle.std.proofs.Common.{◌≡◌, ◌≤◌, ◌<◌, ◌+◌, ◌-◌, ℕ, zero, suc, Bool, List, [], ◌∷◌, ◌++◌, Option, Some, None, length, get_or, refl, ap, sym, subst, ◌∙◌, arith}
+use Rattle.std.specs.Prelude.{MatchOption, map}
 use Rattle.std.proofs.Math.Seq.{get_or-append_right}
 use Rattle.std.proofs.lemmas.List.{get_or_append_left}
 use Rattle.policy_table.specs.declared.rules.Rule.{Rule}
@@ -8,7 +8,6 @@ use Rattle.regions.specs.Questions.{IsShapeAt}
 use Rattle.regions.specs.Regions.{lies_in}
 use Rattle.regions.specs.declared.points.Point.{Point}
 use Rattle.regions.specs.declared.regions.Region.{Region}
-use Rattle.charts.specs.Lines.{tests_with}
 use Rattle.charts.specs.Points.{tests_of}
 use Rattle.charts.specs.declared.lines.Line.{Line}
 use Rattle.charts.proofs.RuleShapes.{length_tests}
@@ -36,9 +35,24 @@ line_test_at [] n d t p lt = absurd (omega arith)
 line_test_at (line ∷ lines) zero d t p lt = refl
 line_test_at (line ∷ lines) (suc n) d t p lt = line_test_at lines n d t p (omega arith)
 
+-- a test before others has the number 0
+pub first_shape : (region : Region) (xs : List (Point → Bool)) (number : ℕ) → number ≡ 0 → IsShapeAt (lies_in region ∷ xs) number region
+first_shape region xs zero e = record { there = omega arith; same = λ d p has. refl }
+first_shape region xs (suc number) e = absurd (cc)
+
+-- and each of the others one more
+pub later_shape : (x : Point → Bool) (xs : List (Point → Bool)) (number : ℕ) (found : Option Region) → 0 < number
+    → MatchOption found (length xs ≤ number - 1) (IsShapeAt xs (number - 1)) → MatchOption found (length (x ∷ xs) ≤ number) (IsShapeAt (x ∷ xs) number)
+later_shape x xs zero found lt is = absurd (omega (arith, lt))
+later_shape x xs (suc number) None lt none = omega (arith, none)
+later_shape x xs (suc number) (Some region) lt at =
+    let behind : suc number - 1 ≡ number = omega arith in
+    let own : IsShapeAt xs number region = subst (λ (n : ℕ). IsShapeAt xs n region) behind at in
+    record { there = omega (arith, own.there); same = own.same }
+
 -- behind the rules of both tables stand the lines
 pub line_shape_at : (old new : List Rule) (lines : List Line) (number : ℕ) (d : Line) → length (old ++ new) ≤ number → number - length old - length new < length lines
-    → IsShapeAt (tests_with old new lines) number (get_or lines (number - length old - length new) d).region
+    → IsShapeAt (tests_of (old ++ new) ++ map (λ line. lies_in line.region) lines) number (get_or lines (number - length old - length new) d).region
 line_shape_at old new lines number d behind lt =
     let rules : length (tests_of (old ++ new)) ≡ length old + length new = length_tests (old ++ new) ∙ length_joined old new in
     let place : number - length (tests_of (old ++ new)) ≡ number - length old - length new = omega (arith, rules) in

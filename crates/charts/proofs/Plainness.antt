@@ -65,11 +65,11 @@ rightly told old new lines p is e h = subst (λ (t : Bool). IsToldRightly t old 
 
 pub charts_are_read : ChartsAreRead
 charts_are_read = record {
-  told = λ all old new lines chart p has e.
-      let once : IsToldOnce old new lines p = rightly (is_told all old new p) old new lines p true e (chart p has) in
+  told = λ asked all old new lines chart p has e.
+      let once : IsToldOnce old new lines p = rightly (is_told asked all old new p) old new lines p true e (chart p has) in
       (once.line, sym (first_line [] lines p tt) ∙ ap first_of once.alone, once.old_course, once.new_course);
-  untold = λ all old new lines chart p has e.
-      let none : lines_of [] lines p ≡ [] = rightly (is_told all old new p) old new lines p false e (chart p has) in
+  untold = λ asked all old new lines chart p has e.
+      let none : lines_of [] lines p ≡ [] = rightly (is_told asked all old new p) old new lines p false e (chart p has) in
       sym (first_line [] lines p tt) ∙ ap first_of none;
 }
 
@@ -102,9 +102,9 @@ none_is [] own rest e = absurd (cc)
 none_is (first ∷ others) own rest e = absurd (cc)
 
 -- the line of a place that has a point of a chart is the one in which the point lies
-alone : (all : Bool) (old new : List Rule) (lines : List Line) → IsChart all old new lines → (place : ℕ) (line : Line) → place < length lines → ((d : Line) → get_or lines place d ≡ line)
+alone : (asked : Region) (all : Bool) (old new : List Rule) (lines : List Line) → IsChart asked all old new lines → (place : ℕ) (line : Line) → place < length lines → ((d : Line) → get_or lines place d ≡ line)
     → (p : Point) → HasCommand p → has_point (take place lines) line p ≡ true → lines_of [] lines p ≡ line ∷ []
-alone all old new lines chart place line lt own p has e = by_told (is_told all old new p) (chart p has)
+alone asked all old new lines chart place line lt own p has e = by_told (is_told asked all old new p) (chart p has)
   where
     split : (front : List Line) × (lines_of [] lines p ≡ front ++ lines_of (take place lines) (drop place lines) p)
     split = split_at lines p line place (omega (arith, lt))
@@ -151,11 +151,11 @@ lasts region p e =
     second_of_both (meets side.FirstBefore region p) (meets_last 2 region p) (second_of_both (meets side.FirstFrom region p) (meets_last 3 region p) e)
 
 pub lines_are_plain : LinesArePlain
-lines_are_plain all old new lines chart place line lt own p has e =
+lines_are_plain asked all old new lines chart place line lt own p has e =
     let lies = first_of_both (lies_in line.region p) (not line.rest || is_left (take place lines) line p) e in
     let four = addresses line.region p lies in
     record {
       first = first_has line.region p has four;
       last = last_has line.region p has (lasts line.region p four);
-      alone = alone all old new lines chart place line lt own p has e;
+      alone = alone asked all old new lines chart place line lt own p has e;
     }

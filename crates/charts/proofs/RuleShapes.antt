@@ -13,6 +13,7 @@ use Rattle.regions.specs.declared.byte_sets.ByteSet.{ByteSet}
 use Rattle.regions.specs.declared.points.Point.{Point}
 use Rattle.regions.specs.declared.regions.Kinds.{Kinds}
 use Rattle.regions.specs.declared.regions.Region.{Region}
+use Rattle.charts.specs.Lines.{told_tests}
 use Rattle.charts.specs.Points.{AreAlike, IsRuleAt, holds_at, tests_of}
 use Rattle.charts.proofs.Sameness.{HoldsAlike, alike_there}
 
@@ -103,8 +104,11 @@ rule_shape_at rules number d region there is = record {
 }
 
 -- where all rules hold alike, the tables decide alike at both points
-pub settled : (old new : List Rule) → IsSettledBy (tests_of (old ++ new)) (AreAlike old new)
-settled old new p q _ _ same alike = alike_there old new p q (first_of_both old new p q same) (second_of_both old new p q same) alike
+pub settled : (asked : Region) (old new : List Rule) → IsSettledBy (told_tests asked old new) (λ p. lies_in asked p ≡ true → AreAlike old new p)
+settled asked old new p q _ _ same alike = λ lies.
+    let rules = All-tail (AreTestedAlike p q) (lies_in asked) (tests_of (old ++ new)) same in
+    let there : lies_in asked q ≡ true = sym (All-head (AreTestedAlike p q) (lies_in asked) (tests_of (old ++ new)) same) ∙ lies in
+    alike_there old new p q (first_of_both old new p q rules) (second_of_both old new p q rules) (alike there)
 
 pub turned_of : (o : Option Point) (P R : Type 0) (Q S : Point → Type 0) → (P → R) → ((p : Point) → Q p → S p) → MatchOption o P Q → MatchOption o R S
 turned_of None P R Q S f g h = f h

@@ -7,8 +7,9 @@ use Rattle.policy_table.specs.declared.rules.Rule.{Rule}
 use Rattle.regions.specs.Questions.{AreTestedAlike, IsSettledBy}
 use Rattle.regions.specs.Regions.{lies_in}
 use Rattle.regions.specs.declared.points.Point.{Point}
+use Rattle.regions.specs.declared.regions.Region.{Region}
 use Rattle.charts.specs.Alike.{alike_said, held}
-use Rattle.charts.specs.Lines.{IsToldRightly, course, course_from, goes_on, has_point, have_same_words, is_left, is_told, lines_of, tests_with}
+use Rattle.charts.specs.Lines.{IsToldRightly, course, course_from, goes_on, has_point, have_same_words, is_left, is_told, lines_of, tests_with, told_tests}
 use Rattle.charts.specs.Points.{holds_at, tests_of}
 use Rattle.charts.specs.declared.lines.Line.{Line}
 use Rattle.charts.proofs.Sameness.{HoldsAlike}
@@ -102,19 +103,23 @@ lie_alike (line ∷ lines) p q same =
     (lie_alike lines p q (All-tail (AreTestedAlike p q) (lies_in line.region) (map (λ line. lies_in line.region) lines) same))
 
 -- a point is told where another is at which the rules hold alike
-pub told_alike : (all : Bool) (old new : List Rule) (p q : Point) → All (HoldsAlike p q) old → All (HoldsAlike p q) new → is_told all old new q ≡ is_told all old new p
-told_alike all old new p q olds news =
-    ap (λ (os : List Rule). all || not (alike_said os (held q new))) (sym (held_same old p q olds)) ∙ ap (λ (ns : List Rule). all || not (alike_said (held p old) ns)) (sym (held_same new p q news))
+pub told_alike : (asked : Region) (all : Bool) (old new : List Rule) (p q : Point) → All (AreTestedAlike p q) (told_tests asked old new) → is_told asked all old new q ≡ is_told asked all old new p
+told_alike asked all old new p q same =
+    let rules = All-tail (AreTestedAlike p q) (lies_in asked) (tests_of (old ++ new)) same in
+    ap (λ (t : Bool). t && (all || not (alike_said (held q old) (held q new)))) (sym (All-head (AreTestedAlike p q) (lies_in asked) (tests_of (old ++ new)) same))
+    ∙ ap (λ (os : List Rule). lies_in asked p && (all || not (alike_said os (held q new)))) (sym (held_same old p q (first_of_both old new p q rules)))
+    ∙ ap (λ (ns : List Rule). lies_in asked p && (all || not (alike_said (held p old) ns))) (sym (held_same new p q (second_of_both old new p q rules)))
 
-pub told_settled : (all : Bool) (old new : List Rule) (lines : List Line) → IsSettledBy (tests_with old new lines) (λ p. IsToldRightly (is_told all old new p) old new lines p)
-told_settled all old new lines p q _ _ same right =
-    let rules : All (AreTestedAlike p q) (tests_of (old ++ new)) = tests_before (tests_of (old ++ new)) (map (λ line. lies_in line.region) lines) p q same in
+pub told_settled : (asked : Region) (all : Bool) (old new : List Rule) (lines : List Line) → IsSettledBy (tests_with asked old new lines) (λ p. IsToldRightly (is_told asked all old new p) old new lines p)
+told_settled asked all old new lines p q _ _ same right =
+    let first : All (AreTestedAlike p q) (told_tests asked old new) = tests_before (told_tests asked old new) (map (λ line. lies_in line.region) lines) p q same in
+    let rules : All (AreTestedAlike p q) (tests_of (old ++ new)) = All-tail (AreTestedAlike p q) (lies_in asked) (tests_of (old ++ new)) first in
     let olds : All (HoldsAlike p q) old = first_of_both old new p q rules in
     let news : All (HoldsAlike p q) new = second_of_both old new p q rules in
     let there : lines_of [] lines p ≡ lines_of [] lines q =
-    lines_same [] lines p q (All-nil (LieAlike p q)) (lie_alike lines p q (tests_behind (tests_of (old ++ new)) (map (λ line. lies_in line.region) lines) p q same)) in
-    let told : is_told all old new q ≡ is_told all old new p = told_alike all old new p q olds news in
-    turned (is_told all old new p) (course_same 1 old p q olds) (course_same 1 new p q news) there (subst (λ (t : Bool). IsToldRightly t old new lines q) told right)
+    lines_same [] lines p q (All-nil (LieAlike p q)) (lie_alike lines p q (tests_behind (told_tests asked old new) (map (λ line. lies_in line.region) lines) p q same)) in
+    let told : is_told asked all old new q ≡ is_told asked all old new p = told_alike asked all old new p q first in
+    turned (is_told asked all old new p) (course_same 1 old p q olds) (course_same 1 new p q news) there (subst (λ (t : Bool). IsToldRightly t old new lines q) told right)
   where
     turned : (t : Bool) → course old p ≡ course old q → course new p ≡ course new q → lines_of [] lines p ≡ lines_of [] lines q → IsToldRightly t old new lines q → IsToldRightly t old new lines p
     turned true o n e h = record { line = h.line; alone = e ∙ h.alone; old_course = o ∙ h.old_course; new_course = n ∙ h.new_course }

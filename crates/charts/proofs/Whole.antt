@@ -1,5 +1,5 @@
 -- From all points to all headers.
-use Rattle.std.proofs.Common.{◌≡◌, inl, inr, subst, ◌<◌, ℕ, suc, List, [], ◌∷◌, length, get_or, refl, ap, sym, ◌∙◌, arith}
+use Rattle.std.proofs.Common.{◌≡◌, inl, inr, subst, ◌<◌, ℕ, suc, true, List, [], ◌∷◌, length, get_or, refl, ap, sym, ◌∙◌, arith}
 use Rattle.std.specs.Prelude.{All, if◌then◌else◌}
 use Rattle.machine.specs.declared.calls.Call.{Call}
 use Rattle.machine.specs.Memory.{Header}
@@ -9,6 +9,8 @@ use Rattle.policy_table.specs.Meaning.{decision, holds, ruled}
 use Rattle.charts.specs.Points.{AreAlike, decision_at, point_of}
 use Rattle.charts.specs.Tickets.{AreTickets, AreTicketsOfOne}
 use Rattle.regions.specs.Points.{HasCommand}
+use Rattle.regions.specs.Regions.{lies_in}
+use Rattle.regions.specs.declared.regions.Region.{Region}
 use Rattle.regions.specs.Questions.{HoldsAll}
 use Rattle.policy_table.specs.declared.rules.Rule.{Rule}
 
@@ -20,9 +22,9 @@ at_point (rule ∷ rules) h told =
 byte_at : (xs : List ℕ) (n k : ℕ) → length xs ≡ n → All (λ b. b < 256) xs → k < n → get_or xs k 0 < 256
 byte_at xs n k len bytes lt = bytes k 0 (omega arith)
 
-pub whole : (old new : List Rule) → HoldsAll (AreAlike old new) → AreSame old new
-whole old new alike h may told one =
-    at_point old h told ∙ alike (point_of h) (has_command h may) told (by_one one) ∙ sym (at_point new h told)
+pub whole : (asked : Region) (old new : List Rule) → HoldsAll (λ p. lies_in asked p ≡ true → AreAlike old new p) → AreSame asked old new
+whole asked old new alike h may lies told one =
+    at_point old h told ∙ alike (point_of h) (has_command h may) lies told (by_one one) ∙ sym (at_point new h told)
   where
     by_one : AreTicketsOfOne (decision old h told).0 (decision new h told).0 → AreTicketsOfOne (decision_at old (point_of h) told).0 (decision_at new (point_of h) told).0
     by_one (inl k) = inl (subst (λ (d : List Call × ℕ). AreTickets d.0) (at_point old h told) k)

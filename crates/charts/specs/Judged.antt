@@ -1,9 +1,12 @@
 -- The commands that a node brings to its table are among those of which the question is asked.
-use Rattle.std.specs.Prelude.{◌≡◌, ◌≤◌, ◌<◌, ◌+◌, ◌^◌, ℕ, List, All, None}
+use Rattle.std.specs.Prelude.{◌≡◌, ◌≤◌, ◌<◌, ◌+◌, ◌^◌, ℕ, true, List, All, None}
 use Rattle.machine.specs.Memory.{header}
 use Rattle.rmap.specs.Checks.{header_line}
 use Rattle.rmap.specs.Command.{CommandValue, IsHeader}
 use Rattle.rmap.specs.Windows.{WindowsValue}
+use Rattle.regions.specs.Regions.{lies_in}
+use Rattle.regions.specs.declared.regions.Region.{Region}
+use Rattle.charts.specs.Points.{point_of}
 use Rattle.charts.specs.Same.{AreSame, MayBeJudged}
 use Rattle.charts.specs.Tickets.{AreTicketsOfOne}
 use Rattle.policy_table.specs.Meaning.{decision}
@@ -24,10 +27,11 @@ JudgedMayBe =
     (c : CommandValue) (w : WindowsValue) → IsHeader c → HasBytesAlone c → All EndsInTime w.banks → header_line c w ≡ None
     → MayBeJudged (header c.front c.tail)
 
--- under two tables that are the same each node decides each command alike, whatever tickets it is told
+-- under two tables that are the same for a region each node decides each command alike whose point is in it, whatever tickets it is
+-- told
 abbrev pub NodesDecideAlike : Type 0
 NodesDecideAlike =
-    (old new : List Rule) → AreSame old new → (c : CommandValue) (w : WindowsValue) → IsHeader c → HasBytesAlone c → All EndsInTime w.banks
-    → header_line c w ≡ None → (told : ℕ → ℕ)
+    (asked : Region) (old new : List Rule) → AreSame asked old new → (c : CommandValue) (w : WindowsValue) → IsHeader c → HasBytesAlone c → All EndsInTime w.banks
+    → header_line c w ≡ None → lies_in asked (point_of (header c.front c.tail)) ≡ true → (told : ℕ → ℕ)
     → AreTicketsOfOne (decision old (header c.front c.tail) told).0 (decision new (header c.front c.tail) told).0
     → decision old (header c.front c.tail) told ≡ decision new (header c.front c.tail) told

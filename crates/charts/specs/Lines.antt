@@ -81,39 +81,44 @@ IsToldRightly false old new lines p = lines_of [] lines p ≡ []
 abbrev pub IsToldWrongly : (told : Bool) → (old new : List Rule) → List Line → Point → Type 0
 IsToldWrongly told old new lines p = ¬ (IsToldRightly told old new lines p)
 
--- whether a point is told: each, or where two tables decide differently
-abbrev pub is_told : (all : Bool) → (old new : List Rule) → Point → Bool
-is_told all old new p = all || not (alike_said (held p old) (held p new))
+-- whether a point is told, where the points of a region are asked: each of them, or where two tables decide differently
+abbrev pub is_told : (asked : Region) → (all : Bool) → (old new : List Rule) → Point → Bool
+is_told asked all old new p = lies_in asked p && (all || not (alike_said (held p old) (held p new)))
 
 -- each point that a command has is told rightly
-abbrev pub IsChart : (all : Bool) → (old new : List Rule) → List Line → Type 0
-IsChart all old new lines = HoldsAll (λ p. IsToldRightly (is_told all old new p) old new lines p)
+abbrev pub IsChart : (asked : Region) → (all : Bool) → (old new : List Rule) → List Line → Type 0
+IsChart asked all old new lines = HoldsAll (λ p. IsToldRightly (is_told asked all old new p) old new lines p)
 
--- each point that a command has lies in one line alone, with the course of the table there
-abbrev pub IsMap : List Rule → List Line → Type 0
-IsMap rules lines = IsChart true rules [] lines
+-- each point of the region that a command has lies in one line alone, with the course of the table there, and each other in none
+abbrev pub IsMap : (asked : Region) → List Rule → List Line → Type 0
+IsMap asked rules lines = IsChart asked true rules [] lines
 
--- each point that a command has, at which two tables decide differently, lies in one line alone, with the courses of both
--- there, and each other in none
-abbrev pub IsComparison : (old new : List Rule) → List Line → Type 0
-IsComparison old new lines = IsChart false old new lines
+-- each point of the region that a command has, at which two tables decide differently, lies in one line alone, with the courses of
+-- both there, and each other in none
+abbrev pub IsComparison : (asked : Region) → (old new : List Rule) → List Line → Type 0
+IsComparison asked old new lines = IsChart asked false old new lines
 
 -- some point that a command has is not told rightly
-pub record IsNoChart (all : Bool) (old new : List Rule) (lines : List Line) : Type 0 where
+pub record IsNoChart (asked : Region) (all : Bool) (old new : List Rule) (lines : List Line) : Type 0 where
   pub point : Point
-  pub found : IsFound (λ p. IsToldWrongly (is_told all old new p) old new lines p) point
+  pub found : IsFound (λ p. IsToldWrongly (is_told asked all old new p) old new lines p) point
 
--- some point that a command has lies in no line or in several, or the table has another course there
-abbrev pub IsNoMap : List Rule → List Line → Type 0
-IsNoMap rules lines = IsNoChart true rules [] lines
+-- some point of the region that a command has lies in no line or in several, or the table has another course there, or some other
+-- lies in a line
+abbrev pub IsNoMap : (asked : Region) → List Rule → List Line → Type 0
+IsNoMap asked rules lines = IsNoChart asked true rules [] lines
 
 -- the same of a point at which two tables decide differently, or another lies in some line
-abbrev pub IsNoComparison : (old new : List Rule) → List Line → Type 0
-IsNoComparison old new lines = IsNoChart false old new lines
+abbrev pub IsNoComparison : (asked : Region) → (old new : List Rule) → List Line → Type 0
+IsNoComparison asked old new lines = IsNoChart asked false old new lines
 
--- the tests by which it is settled whether a point is told rightly
-abbrev pub tests_with : (old new : List Rule) → List Line → List (Point → Bool)
-tests_with old new lines = tests_of (old ++ new) ++ map (λ line. lies_in line.region) lines
+-- the tests by which it is settled whether a point is told
+abbrev pub told_tests : (asked : Region) → (old new : List Rule) → List (Point → Bool)
+told_tests asked old new = lies_in asked ∷ tests_of (old ++ new)
+
+-- and those by which it is settled whether it is told rightly
+abbrev pub tests_with : (asked : Region) → (old new : List Rule) → List Line → List (Point → Bool)
+tests_with asked old new lines = told_tests asked old new ++ map (λ line. lies_in line.region) lines
 
 -- the line of a cell
 abbrev pub line_of : Cell → Line

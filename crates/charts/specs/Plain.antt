@@ -4,6 +4,7 @@ use Rattle.policy_table.specs.declared.rules.Rule.{Rule}
 use Rattle.regions.specs.Points.{HasCommand}
 use Rattle.regions.specs.Regions.{lies_in}
 use Rattle.regions.specs.declared.points.Point.{Point}
+use Rattle.regions.specs.declared.regions.Region.{Region}
 use Rattle.regions.specs.declared.stretches.Stretch.{Stretch}
 use Rattle.charts.specs.Lines.{IsChart, course, has_point, is_told, lines_of}
 use Rattle.charts.specs.declared.lines.Line.{Line}
@@ -27,16 +28,16 @@ pub record IsPlain (lines : List Line) (line : Line) (p : Point) : Type 0 where
 -- the lines of a chart are read in their order: of a point that is told, the first line whose words have it is the line in which
 -- it lies, with the courses of the tables there, and the words of none have a point that is not told
 pub record ChartsAreRead : Type 0 where
-  pub told : (all : Bool) (old new : List Rule) (lines : List Line) → IsChart all old new lines → (p : Point) → HasCommand p
-      → is_told all old new p ≡ true
+  pub told : (asked : Region) (all : Bool) (old new : List Rule) (lines : List Line) → IsChart asked all old new lines → (p : Point) → HasCommand p
+      → is_told asked all old new p ≡ true
       → (line : Line) × (first_with lines p ≡ Some line) × (course old p ≡ course old line.point)
       × (course new p ≡ course new line.point)
-  pub untold : (all : Bool) (old new : List Rule) (lines : List Line) → IsChart all old new lines → (p : Point) → HasCommand p
-      → is_told all old new p ≡ false → first_with lines p ≡ None
+  pub untold : (asked : Region) (all : Bool) (old new : List Rule) (lines : List Line) → IsChart asked all old new lines → (p : Point) → HasCommand p
+      → is_told asked all old new p ≡ false → first_with lines p ≡ None
 
 -- the line of a place of a chart is plain, where it has a point of a command
 abbrev pub LinesArePlain : Type 0
 LinesArePlain =
-    (all : Bool) (old new : List Rule) (lines : List Line) → IsChart all old new lines → (place : ℕ) (line : Line)
+    (asked : Region) (all : Bool) (old new : List Rule) (lines : List Line) → IsChart asked all old new lines → (place : ℕ) (line : Line)
     → place < length lines → ((d : Line) → get_or lines place d ≡ line) → (p : Point) → HasCommand p → has_point (take place lines) line p ≡ true
     → IsPlain lines line p

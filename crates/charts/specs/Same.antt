@@ -1,10 +1,13 @@
 -- Two tables that decide all commands alike.
-use Rattle.std.specs.Prelude.{◌≡◌, ℕ, List}
+use Rattle.std.specs.Prelude.{◌≡◌, ℕ, true, List}
 use Rattle.machine.specs.Memory.{Header, IsHeader}
 use Rattle.policy_table.specs.Meaning.{decision}
 use Rattle.policy_table.specs.declared.rules.Rule.{Rule}
 use Rattle.regions.specs.Points.{IsSpan}
-use Rattle.charts.specs.Points.{point_of}
+use Rattle.regions.specs.Regions.{lies_in}
+use Rattle.regions.specs.declared.points.Point.{Point}
+use Rattle.regions.specs.declared.regions.Region.{Region}
+use Rattle.charts.specs.Points.{IsDifference, point_of}
 use Rattle.charts.specs.Tickets.{AreTicketsOfOne}
 
 -- a header of a command that a node may bring to its table: of a kind that is used, with at most 4,096 bytes of data, and of
@@ -13,9 +16,14 @@ pub record MayBeJudged (h : Header) : Type 0 where
   pub header : IsHeader h
   pub span : IsSpan (point_of h).kind (point_of h).first (point_of h).last
 
--- two tables decide each such command alike: whatever tickets one of them is told, they make the same draws and give the same
--- verdict
-abbrev pub AreSame : (old new : List Rule) → Type 0
-AreSame old new =
-    (h : Header) → MayBeJudged h → (told : ℕ → ℕ) → AreTicketsOfOne (decision old h told).0 (decision new h told).0
+-- two tables decide each such command alike whose point is in a region: whatever tickets one of them is told, they make the same
+-- draws and give the same verdict
+abbrev pub AreSame : (asked : Region) → (old new : List Rule) → Type 0
+AreSame asked old new =
+    (h : Header) → MayBeJudged h → lies_in asked (point_of h) ≡ true → (told : ℕ → ℕ) → AreTicketsOfOne (decision old h told).0 (decision new h told).0
     → decision old h told ≡ decision new h told
+
+-- some command has the point, which is in the region, and there two tables decide differently
+pub record IsDifferenceIn (asked : Region) (old new : List Rule) (p : Point) : Type 0 where
+  pub lies : lies_in asked p ≡ true
+  pub is : IsDifference old new p

@@ -1,46 +1,53 @@
 //! Where two tables decide differently.
 
-ghost use Rattle.std.specs.Prelude.{◌≡◌, ◌++◌, All, MatchOption};
+ghost use Rattle.std.specs.Prelude.{◌≡◌, All, MatchOption, true};
 ghost use Rattle.charts.specs.Alike.{DifferWithinLimits, HasLimit};
-ghost use Rattle.charts.specs.Points.{AreAlike, IsDifference, tests_of};
-ghost use Rattle.charts.specs.Same.{AreSame};
+ghost use Rattle.regions.specs.Regions.{lies_in};
+ghost use Rattle.charts.specs.Lines.{told_tests};
+ghost use Rattle.charts.specs.Points.{AreAlike};
+ghost use Rattle.charts.specs.Same.{AreSame, IsDifferenceIn};
 
 use crate::decisions::alike;
-use crate::shapes::{region_of, rule_at};
+use crate::told::rule_shape;
 use policy_table::Rule;
 use regions::{Point, Question, Region, search};
 
-/// Whether two tables decide alike.
+/// Whether two tables decide alike at the points of a region.
 #[derive(Drop)]
 struct Comparison<'a> {
+    asked: &'a Region,
     old: &'a [Rule],
     new: &'a [Rule],
 }
 
 impl Question for Comparison<'_> {
-    ghost tests = { λ q. tests_of (q.old.now ++ q.new.now) };
+    ghost tests = { λ q. told_tests q.asked.now q.old.now q.new.now };
 
-    ghost holds = { λ q. AreAlike q.old.now q.new.now };
+    ghost holds = { λ q p. lies_in q.asked.now p ≡ true → AreAlike q.old.now q.new.now p };
 
-    ghost fails = { λ q. DifferWithinLimits q.old.now q.new.now };
+    ghost fails = { λ q p. (lies_in q.asked.now p ≡ true) × DifferWithinLimits q.old.now q.new.now p };
 
     fn shape(&self, number: usize) -> Option<Region> {
-        let Some(rule) = rule_at(self.old, self.new, number) else {
-            return None;
-        };
-        Some(region_of(&rule))
+        if number == 0 {
+            return Some(*self.asked);
+        }
+        rule_shape(self.old, self.new, number - 1)
     }
 
     fn ask(&self, point: &Point) -> bool {
+        if !self.asked.has(point) {
+            return true;
+        }
         alike(self.old, self.new, point)
     }
 }
 
-/// The point of a command that two tables decide differently, or `None` where they decide each alike.
-pub fn first_difference(old: &[Rule], new: &[Rule]) -> Option<Point>
+/// The point of a command, of those of a region, that two tables decide differently, or `None` where they decide each alike.
+pub fn first_difference(asked: &Region, old: &[Rule], new: &[Rule]) -> Option<Point>
     requires old_limits { All HasLimit old.now }
     requires new_limits { All HasLimit new.now }
-    ensures { MatchOption result (AreSame old.now new.now) (IsDifference old.now new.now) }
+    ensures { MatchOption result (AreSame asked.now old.now new.now)
+        (IsDifferenceIn asked.now old.now new.now) }
 {
-    search(&Comparison { old, new })
+    search(&Comparison { asked, old, new })
 }

@@ -1,7 +1,9 @@
 //! The lines of a chart.
 
-ghost use Rattle.std.specs.Prelude.{◌≡◌, ◌≤◌, ◌<◌, ◌+◌, ◌^◌, ◌&&◌, [], MatchBool, MatchOption, drop, length, take};
+ghost use Rattle.std.specs.Prelude.{◌≡◌, ◌≤◌, ◌<◌, ◌+◌, ◌-◌, ◌^◌, ◌++◌, ◌&&◌, [], MatchBool, MatchOption, drop, length, map, take};
+ghost use Rattle.regions.specs.Questions.{IsShapeAt};
 ghost use Rattle.regions.specs.Regions.{lies_in};
+ghost use Rattle.charts.specs.Points.{tests_of};
 ghost use Rattle.charts.specs.Lines.{IsComparison, IsMap, IsNextLine, IsNoComparison, IsNoMap, IsToldRightly, IsToldWrongly, has_point, have_same_words, is_left, is_told, lines_of, tests_with};
 
 use crate::decisions::are_alike;
@@ -83,9 +85,10 @@ fn next_line(lines: &[Line], from: usize, point: &Point) -> Option<NextLine>
     None
 }
 
-/// Two tables, the lines of their chart, and which points are told.
+/// Two tables, the lines of their chart, and which points are told: of those that are asked.
 #[derive(Drop)]
 struct Chart<'a> {
+    asked: &'a Region,
     old: &'a [Rule],
     new: &'a [Rule],
     lines: &'a [Line],
@@ -106,40 +109,54 @@ fn is_told_rightly(told: bool, old: &[Rule], new: &[Rule], lines: &[Line], point
     has_same_course(old, point, &next.line.point) && has_same_course(new, point, &next.line.point)
 }
 
+/// The points of the rule of that number, or else of the line behind all rules.
+fn rule_or_line(old: &[Rule], new: &[Rule], lines: &[Line], number: usize) -> Option<Region>
+    ensures { MatchOption result
+        (length (tests_of (old.now ++ new.now) ++ map (λ line. lies_in line.region) lines.now) ≤ number)
+        (IsShapeAt (tests_of (old.now ++ new.now) ++ map (λ line. lies_in line.region) lines.now) number) }
+{
+    if let Some(rule) = rule_at(old, new, number) {
+        return Some(region_of(&rule));
+    }
+    let number = number - old.len() - new.len();
+    if number < lines.len() {
+        return Some(lines[number].region);
+    }
+    None
+}
+
 impl Question for Chart<'_> {
-    ghost tests = { λ q. tests_with q.old.now q.new.now q.lines.now };
+    ghost tests = { λ q. tests_with q.asked.now q.old.now q.new.now q.lines.now };
 
     ghost holds = { λ q p.
-        IsToldRightly (is_told q.all q.old.now q.new.now p) q.old.now q.new.now q.lines.now p };
+        IsToldRightly (is_told q.asked.now q.all q.old.now q.new.now p) q.old.now q.new.now q.lines.now p };
 
     ghost fails = { λ q p.
-        IsToldWrongly (is_told q.all q.old.now q.new.now p) q.old.now q.new.now q.lines.now p };
+        IsToldWrongly (is_told q.asked.now q.all q.old.now q.new.now p) q.old.now q.new.now q.lines.now p };
 
     fn shape(&self, number: usize) -> Option<Region> {
-        if let Some(rule) = rule_at(self.old, self.new, number) {
-            return Some(region_of(&rule));
+        if number == 0 {
+            return Some(*self.asked);
         }
-        let number = number - self.old.len() - self.new.len();
-        if number < self.lines.len() {
-            return Some(self.lines[number].region);
-        }
-        None
+        rule_or_line(self.old, self.new, self.lines, number - 1)
     }
 
     fn ask(&self, point: &Point) -> bool {
-        let told = self.all || !are_alike(self.old, self.new, point);
+        let told = self.asked.has(point) && (self.all || !are_alike(self.old, self.new, point));
         is_told_rightly(told, self.old, self.new, self.lines, point)
     }
 }
 
-/// Whether lines are a map of a table: each point that a command has lies in one of them alone, with the course of the table
-/// there. If it says no, some point that a command has does not.
-pub fn is_map(rules: &[Rule], lines: &[Line]) -> bool
-    requires { length rules.now + length lines.now < 2 ^ 64 }
-    ensures { MatchBool result (IsMap rules.now lines.now) (IsNoMap rules.now lines.now) }
+/// Whether lines are a map of a table for the points of a region: each that a command has lies in one of them alone, with the course
+/// of the table there, and each other in none. If it says no, it is not so of some point that a command has.
+pub fn is_map(asked: &Region, rules: &[Rule], lines: &[Line]) -> bool
+    requires { length rules.now + length lines.now < 2 ^ 64 - 1 }
+    ensures { MatchBool result (IsMap asked.now rules.now lines.now)
+        (IsNoMap asked.now rules.now lines.now) }
 {
     let all = true;
     search(&Chart {
+        asked,
         old: rules,
         new: &[],
         lines,
@@ -148,16 +165,17 @@ pub fn is_map(rules: &[Rule], lines: &[Line]) -> bool
     .is_none()
 }
 
-/// Whether lines are those of a comparison of two tables: each point that a command has, and at which the tables decide
-/// differently, lies in one of them alone, with the courses of both there, and each other in none. If it says no, it is not so
-/// of some point that a command has.
-pub fn is_comparison(old: &[Rule], new: &[Rule], lines: &[Line]) -> bool
-    requires { length old.now + length new.now + length lines.now < 2 ^ 64 }
-    ensures { MatchBool result (IsComparison old.now new.now lines.now)
-        (IsNoComparison old.now new.now lines.now) }
+/// Whether lines are those of a comparison of two tables for the points of a region: each that a command has, and at which the tables
+/// decide differently, lies in one of them alone, with the courses of both there, and each other in none. If it says no, it is not
+/// so of some point that a command has.
+pub fn is_comparison(asked: &Region, old: &[Rule], new: &[Rule], lines: &[Line]) -> bool
+    requires { length old.now + length new.now + length lines.now < 2 ^ 64 - 1 }
+    ensures { MatchBool result (IsComparison asked.now old.now new.now lines.now)
+        (IsNoComparison asked.now old.now new.now lines.now) }
 {
     let all = false;
     search(&Chart {
+        asked,
         old,
         new,
         lines,

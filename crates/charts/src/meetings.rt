@@ -104,3 +104,12 @@ pub fn is_stopped_by(rules: &[Rule], stop: usize, place: usize) -> bool
     let ends = true;
     meet(rules, stop, ends, place)
 }
+
+/// Whether some command has a point at which the rule of a place, from 0 on, is asked, and that of another holds.
+pub fn is_asked_where(rules: &[Rule], asked: usize, place: usize) -> bool
+    ensures { MatchBool result (Meet asked false place rules.now)
+        (NeverMeet asked false place rules.now) }
+{
+    let ends = false;
+    meet(rules, asked, ends, place)
+}

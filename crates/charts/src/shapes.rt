@@ -36,7 +36,7 @@ fn bytes_of(wanted: Option<u8>) -> ByteSet
 }
 
 /// The points at which the conditions of a rule hold.
-pub(crate) fn region_of(rule: &Rule) -> Region
+pub fn region_of(rule: &Rule) -> Region
     ensures { (p : Point) → HasCommand p → lies_in result p ≡ holds_at rule.now p }
 {
     let kinds = kinds_of(rule.kind);

@@ -1,8 +1,9 @@
 //! Charts with a line for each cell of a search.
 
-ghost use Rattle.std.specs.Prelude.{◌≡◌, ◌++◌, false, map, true, IfOk};
-ghost use Rattle.charts.specs.Lines.{IsChart, IsComparison, IsMap, is_told, line_of};
+ghost use Rattle.std.specs.Prelude.{◌≡◌, ◌≤◌, ◌++◌, false, length, map, true, IfOk, MatchOption};
+ghost use Rattle.charts.specs.Lines.{IsChart, IsComparison, IsMap, is_told, line_of, told_tests};
 ghost use Rattle.charts.specs.Points.{tests_of};
+ghost use Rattle.regions.specs.Questions.{IsShapeAt};
 
 use crate::decisions::are_alike;
 use crate::lines::Line;
@@ -14,27 +15,39 @@ use std::alloc::{AllocError, Global};
 /// Whether nothing is told of a point of two tables.
 #[derive(Drop)]
 struct Told<'a> {
+    asked: &'a Region,
     old: &'a [Rule],
     new: &'a [Rule],
     all: bool,
 }
 
+/// The points of the rule of that number.
+pub(crate) fn rule_shape(old: &[Rule], new: &[Rule], number: usize) -> Option<Region>
+    ensures { MatchOption result (length (tests_of (old.now ++ new.now)) ≤ number)
+        (IsShapeAt (tests_of (old.now ++ new.now)) number) }
+{
+    let Some(rule) = rule_at(old, new, number) else {
+        return None;
+    };
+    Some(region_of(&rule))
+}
+
 impl Question for Told<'_> {
-    ghost tests = { λ q. tests_of (q.old.now ++ q.new.now) };
+    ghost tests = { λ q. told_tests q.asked.now q.old.now q.new.now };
 
-    ghost holds = { λ q p. is_told q.all q.old.now q.new.now p ≡ false };
+    ghost holds = { λ q p. is_told q.asked.now q.all q.old.now q.new.now p ≡ false };
 
-    ghost fails = { λ q p. is_told q.all q.old.now q.new.now p ≡ true };
+    ghost fails = { λ q p. is_told q.asked.now q.all q.old.now q.new.now p ≡ true };
 
     fn shape(&self, number: usize) -> Option<Region> {
-        let Some(rule) = rule_at(self.old, self.new, number) else {
-            return None;
-        };
-        Some(region_of(&rule))
+        if number == 0 {
+            return Some(*self.asked);
+        }
+        rule_shape(self.old, self.new, number - 1)
     }
 
     fn ask(&self, point: &Point) -> bool {
-        let told = self.all || !are_alike(self.old, self.new, point);
+        let told = self.asked.has(point) && (self.all || !are_alike(self.old, self.new, point));
         !told
     }
 }
@@ -55,33 +68,50 @@ fn lines_of(alloc: Global, cells: &[Cell]) -> Result<Vec<Line>, AllocError>
 }
 
 /// The lines of the cells of which something is told.
-fn cell_lines(alloc: Global, old: &[Rule], new: &[Rule], all: bool) -> Result<Vec<Line>, AllocError>
-    ensures { IfOk result (λ lines. IsChart all old.now new.now lines.items) }
+fn cell_lines(
+    alloc: Global,
+    asked: &Region,
+    old: &[Rule],
+    new: &[Rule],
+    all: bool,
+) -> Result<Vec<Line>, AllocError>
+    ensures { IfOk result (λ lines. IsChart asked.now all old.now new.now lines.items) }
 {
-    let found = cells(alloc, &Told { old, new, all })?;
+    let told = Told {
+        asked,
+        old,
+        new,
+        all,
+    };
+    let found = cells(alloc, &told)?;
     lines_of(alloc, found.as_slice())
 }
 
-/// A map of a table with a line for each cell of a search.
+/// A map of a table for the points of a region, with a line for each cell of a search.
 ///
 /// # Errors
 ///
 /// Only where memory was refused.
-pub fn map_cells(alloc: Global, rules: &[Rule]) -> Result<Vec<Line>, AllocError>
-    ensures { IfOk result (λ lines. IsMap rules.now lines.items) }
+pub fn map_cells(alloc: Global, asked: &Region, rules: &[Rule]) -> Result<Vec<Line>, AllocError>
+    ensures { IfOk result (λ lines. IsMap asked.now rules.now lines.items) }
 {
     let all = true;
-    cell_lines(alloc, rules, &[], all)
+    cell_lines(alloc, asked, rules, &[], all)
 }
 
-/// A comparison of two tables with a line for each cell of a search.
+/// A comparison of two tables for the points of a region, with a line for each cell of a search.
 ///
 /// # Errors
 ///
 /// Only where memory was refused.
-pub fn comparison_cells(alloc: Global, old: &[Rule], new: &[Rule]) -> Result<Vec<Line>, AllocError>
-    ensures { IfOk result (λ lines. IsComparison old.now new.now lines.items) }
+pub fn comparison_cells(
+    alloc: Global,
+    asked: &Region,
+    old: &[Rule],
+    new: &[Rule],
+) -> Result<Vec<Line>, AllocError>
+    ensures { IfOk result (λ lines. IsComparison asked.now old.now new.now lines.items) }
 {
     let all = false;
-    cell_lines(alloc, old, new, all)
+    cell_lines(alloc, asked, old, new, all)
 }

@@ -2,7 +2,7 @@
 use Rattle.std.proofs.Common.{◌≡◌, Bool, true, false, List, Option, None, Some, string_bytes, ap, inl, inr, subst, refl, sym}
 use Rattle.std.specs.Prelude.{if◌then◌else◌, is_some, not}
 use Rattle.clap.specs.Walk.{Row, Text}
-use Rattle.commands.specs.CommandLine.{IsPlacedBy, Names, NamesPlaced, NamesPlain, Refuses, RefusesPlace, RefusesPlaced, RefusesPlain, SpoilsInput, SpoilsPlace}
+use Rattle.commands.specs.CommandLine.{IsPlacedBy, Names, NamesPlaced, NamesPlain, Refuses, RefusesPlace, RefusesPlaced, RefusesPlain, SpoilsPlace}
 use Rattle.commands.specs.OnNodes.{are_left, own_file, takes_file}
 use Rattle.commands.specs.OneInput.{reads_input_twice}
 use Rattle.commands.specs.Words.{name_of}

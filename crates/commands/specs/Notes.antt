@@ -10,6 +10,7 @@ use Rattle.commands.specs.declared.jobs.Job.TheVariants.{Judge, Serve, Simulate,
 use Rattle.commands.specs.declared.jobs.Job.TheVariants.{Verify, Policy, Explain, Why, Weigh, Node, Packet, Show}
 use Rattle.commands.specs.declared.jobs.Job.TheVariants.{Decide, Compare, Map, Rehearse, Suite}
 use Rattle.commands.specs.declared.noted.Noted.{Noted}
+use Rattle.commands.specs.declared.noted.FileNode.{FileNode}
 use Rattle.commands.specs.declared.noted.TheConstants.{MAX_TEXT}
 
 -- whether the lines that the job reads are those of a dump, which are read as its packet lines
@@ -73,9 +74,9 @@ abbrev pub GivesPlaced : Noted → Content → (bytes given : List ℕ) → Type
 GivesPlaced noted content bytes given = GivesFor (maps_for noted) (may_be_text content) bytes given
 
 -- how many ports the node of a job has: those that its file says, or 32
-abbrev pub ports_of : Option ℕ → ℕ
+abbrev pub ports_of : Option FileNode → ℕ
 ports_of None = 32
-ports_of (Some ports) = min ports 32
+ports_of (Some node) = min node.ports 32
 
 -- how many bytes are read of a file that has to be that: one that has as many is too long, or has enough
 abbrev pub most_of : Content → ℕ

@@ -66,7 +66,7 @@ placed (Decide words) own = Decide (record words {
   windows = windows_of own.address own.banks;
 })
 placed (Trace args) own = Trace args
-placed (Compare words) own = Compare (record words { sizes = own.sizes })
+placed (Compare words) own = Compare (record words { sizes = own.sizes; windows = windows_of own.address own.banks })
 placed (Map words) own = Map (record words { sizes = own.sizes })
 placed (Rehearse words) own = Rehearse words
 placed (Suite words) own = Suite words

@@ -5,6 +5,8 @@ use crate::in_place::add_source;
 use crate::jobs::{Job, JobEnd};
 use crate::line_paths::{LinePaths, may_have_paths};
 use crate::noted::{Cause, Noted};
+use crate::odd::add_odd;
+use crate::short_quotas::add_short_quotas;
 use crate::slips::{self, told_output};
 use crate::{denied_loads, hints};
 use job_config::sources::NodeSource;
@@ -130,7 +132,7 @@ fn add_failed(
             None => Ok(()),
         },
         Some(Fault::Refused(_)) => add_place_in(text, alloc, noted),
-        Some(Fault::NoMemory) => Ok(()),
+        Some(Fault::NoMemory | Fault::Damaged) => Ok(()),
     }
 }
 
@@ -206,7 +208,8 @@ fn add_load(
 }
 
 /// Adds what is told of a job that is done: of `policy`, that its table lets nobody load another, unless that is meant; of `map`,
-/// whose loads pass; of loads, what [`add_load`] adds.
+/// whose loads pass; of both what is odd in the table, of which `map` printed the rules that never match; of `map` and of NEW of
+/// `compare`, that a table is too long for a program; of loads, what [`add_load`] adds.
 fn add_done(
     text: &mut String,
     alloc: Global,
@@ -217,12 +220,24 @@ fn add_done(
         (Job::Packet(words), _) if matches!(words.order, Order::Load { .. }) => {
             add_load(text, alloc, words, noted.last())
         }
-        (Job::Policy(words), Some(table)) if !words.is_final => {
-            let told = told_policy(alloc, table, &words.sizes, noted.ports())?;
-            text.push_str(told.as_str())
+        (Job::Policy(words), Some(table)) if !words.is_quiet => {
+            if !words.is_final {
+                let told = told_policy(alloc, table, &words.sizes, noted.ports())?;
+                text.push_str(told.as_str())?;
+                add_short_quotas(text, alloc, table, &words.sizes, noted.ports())?;
+            }
+            add_odd(text, alloc, table, &words.sizes, noted.node(), true)
         }
-        (Job::Map(words), Some(table)) => {
+        (Job::Map(words), Some(table)) if !words.is_quiet => {
+            let told = hints::told_length(alloc, table, &words.sizes)?;
+            text.push_str(told.as_str())?;
             let told = told_loaders(alloc, table, &words.sizes, noted.ports())?;
+            text.push_str(told.as_str())?;
+            add_short_quotas(text, alloc, table, &words.sizes, noted.ports())?;
+            add_odd(text, alloc, table, &words.sizes, noted.node(), false)
+        }
+        (Job::Compare(words), Some(table)) => {
+            let told = hints::told_length(alloc, table, &words.sizes)?;
             text.push_str(told.as_str())
         }
         _ => Ok(()),

@@ -1,159 +1,15 @@
-//! What more is told of a text or a table with a fault, behind the line that tells the fault.
+//! What more is told of a text or a table with a fault, after the line that tells the fault.
 
 use crate::jobs::Job;
 use basm::{AsmCode, AsmFault, assemble};
 use basm_lex::{is_name, read_mnemonic};
 use machine::{MapKind, MapSizes};
-use policy::{Policy, RuleWord, StatementFault, Table, TableFault, TableVersion, TextFault};
-use spw::{first_word, lines_of, words_of};
+use policy::{Policy, PolicyFault, PortRule, TableVersion, TextFault};
+use policy_table::{port_rule_slots, reported, table_slots};
+use spw::lines_of;
 use std::alloc::{AllocError, Global};
-use std::collections::BTreeMap;
 
-/// The number of the word of a rule that may be the name of a range, from 0.
-const RANGE_WORD: usize = 4;
-
-/// The fault of version 1 with this line as its place.
-fn placed(fault: TableFault, line: usize) -> TableFault {
-    match fault {
-        TableFault::TooLong(rules) => TableFault::TooLong(rules),
-        TableFault::BadRange(_) => TableFault::BadRange(line),
-        TableFault::Memory => TableFault::Memory,
-        TableFault::NoCell(_) => TableFault::NoCell(line),
-        TableFault::BadCount { words, .. } => TableFault::BadCount { line, words },
-        TableFault::BadWord { word, .. } => TableFault::BadWord { line, word },
-    }
-}
-
-/// The fault of the line of this number of a table of version 1.
-fn plain_fault(
-    alloc: Global,
-    text: &str,
-    line: usize,
-    sizes: &MapSizes,
-) -> Result<Option<TextFault>, AllocError> {
-    let alone = format!(in alloc; "{text}\n")?;
-    match Table::read_for(alloc, alone.as_str(), sizes) {
-        Ok(_) => Ok(None),
-        Err(TableFault::Memory) => Err(AllocError),
-        Err(fault) => Ok(Some(TextFault::Plain(placed(fault, line)))),
-    }
-}
-
-/// The word of that number of a line, from 0.
-fn word_at(text: &str, number: usize) -> Option<&str> {
-    let mut rest = text;
-    for _ in 0..number {
-        let (_, after) = first_word(rest)?;
-        rest = after;
-    }
-    let (word, _) = first_word(rest)?;
-    Some(word)
-}
-
-/// The name in a line of version 2 that a range may have: after `.range`, or in the place of addresses.
-fn name_in(text: &str) -> Option<&str> {
-    match word_at(text, 0) {
-        Some(".range") => word_at(text, 1),
-        _ => word_at(text, RANGE_WORD),
-    }
-}
-
-/// A table of version 2 of one range.
-fn range_text(alloc: Global, name: &str) -> Result<String, AllocError> {
-    format!(in alloc; ".version 2\n.range {name} 00000000 FFFFFFFF\n")
-}
-
-/// The fault of the line of this number of a table of version 2, where ranges have these names.
-fn line_fault(
-    alloc: Global,
-    names: &BTreeMap<&str, usize>,
-    text: &str,
-    line: usize,
-    sizes: &MapSizes,
-) -> Result<Option<TextFault>, AllocError> {
-    let mut alone = match name_in(text) {
-        Some(name) if names.contains_key(name) => range_text(alloc, name)?,
-        _ => String::from_str(alloc, ".version 2\n")?,
-    };
-    alone.push_str(text)?;
-    alone.push('\n')?;
-    match Policy::read_for(alloc, alone.as_str(), sizes) {
-        Ok(_) | Err(TextFault::TooLong(_)) => Ok(None),
-        Err(TextFault::Plain(_)) => Err(AllocError),
-        Err(TextFault::Line { fault, .. }) => Ok(Some(TextFault::Line { line, fault })),
-    }
-}
-
-/// The name that a line of version 2 gives to a range, also where its addresses are none.
-fn defined_in(alloc: Global, text: &str) -> Result<Option<&str>, AllocError> {
-    if word_at(text, 0) != Some(".range") {
-        return Ok(None);
-    }
-    let Some(name) = word_at(text, 1) else {
-        return Ok(None);
-    };
-    let alone = range_text(alloc, name)?;
-    Ok(match Policy::read(alloc, alone.as_str()) {
-        Ok(_) => Some(name),
-        Err(_) => None,
-    })
-}
-
-/// Whether a text is a table of version 2.
-fn is_two(alloc: Global, table: &str) -> bool {
-    let Some(first) = lines_of(table).next() else {
-        return false;
-    };
-    match Policy::read(alloc, first) {
-        Ok(policy) => policy.version() == TableVersion::Two,
-        Err(_) => false,
-    }
-}
-
-/// Adds each fault of the lines of a table, in lines of their own, but that of the line of this number.
-///
-/// # Errors
-///
-/// Where memory was refused.
-fn add_further(
-    text: &mut String,
-    alloc: Global,
-    table: &str,
-    sizes: &MapSizes,
-    first: Option<usize>,
-) -> Result<(), AllocError> {
-    let two = is_two(alloc, table);
-    let mut names: BTreeMap<&str, usize> = BTreeMap::new(alloc);
-    let mut number: usize = 0;
-    for line in lines_of(table) {
-        number = number.saturating_add(1);
-        if two && number == 1 {
-            continue;
-        }
-        let found = if two {
-            line_fault(alloc, &names, line, number, sizes)?
-        } else {
-            plain_fault(alloc, line, number, sizes)?
-        };
-        if let Some(fault) = found {
-            if first != Some(number) {
-                write!(text, "    {fault}\n")?;
-            }
-        }
-        if two {
-            if let Some(name) = defined_in(alloc, line)? {
-                names.insert(name, number).map_err(|_| AllocError)?;
-            }
-        }
-    }
-    Ok(())
-}
-
-/// How a table is written.
-const TABLE_FORM: &str =
-    "lines end in only a line feed; words are parted by spaces; there are no comments";
-
-/// How a table of version 2 is written.
+/// How the lines of a text or a table end, and what is between their words.
 const TEXT_FORM: &str = "lines end in only a line feed; words are parted by spaces";
 
 /// How the lines of a program's text end.
@@ -168,8 +24,8 @@ const IS_PROGRAM: &str = "    this is the text of a program\n";
 /// What is told of a line that is a bare name.
 const LOOSE_NAME: &str = "a label ends in a colon";
 
-/// The words of a rule.
-const RULE_WORDS: &str = "KIND KEY INIT EXT LOW HIGH QUOTA VERDICT";
+/// The most slots of an image.
+const MAX_SLOTS: usize = 512;
 
 /// The line of that number of a text, from 1; an empty one where there is none.
 fn line_at(text: &str, number: usize) -> &str {
@@ -191,56 +47,6 @@ fn is_seen(text: &str) -> bool {
         }
     }
     true
-}
-
-/// Whether a line begins as a comment does elsewhere.
-fn is_comment(line: &str) -> bool {
-    let line = line.trim_start();
-    line.starts_with('#') || line.starts_with(';') || line.starts_with('/')
-}
-
-/// The number of the line of a table's fault, where it has one.
-fn line_of(fault: TableFault) -> Option<usize> {
-    match fault {
-        TableFault::TooLong(_) | TableFault::Memory => None,
-        TableFault::BadRange(line)
-        | TableFault::NoCell(line)
-        | TableFault::BadCount { line, .. }
-        | TableFault::BadWord { line, .. } => Some(line),
-    }
-}
-
-/// Adds a word of a rule as it is written, with what cannot be seen spelled.
-fn add_word(
-    text: &mut String,
-    alloc: Global,
-    line: &str,
-    word: RuleWord,
-) -> Result<(), AllocError> {
-    let words = words_of(alloc, line)?;
-    let place = usize::from(word.number()).saturating_sub(1);
-    let Some(written) = words.as_slice().get(place).copied() else {
-        return Ok(());
-    };
-    let spelled = written.escape_debug();
-    write!(text, "    the word is {spelled}")?;
-    if !is_seen(written) {
-        write!(text, ": {TABLE_FORM}")?;
-    }
-    text.push('\n')
-}
-
-/// Adds how many words a line has, and which a rule has.
-fn add_count(text: &mut String, line: &str, number: usize, words: usize) -> Result<(), AllocError> {
-    write!(
-        text,
-        "    line {number} has {words} words, a rule has 8: {RULE_WORDS}\n"
-    )?;
-    if is_seen(line) && !is_comment(line) {
-        return Ok(());
-    }
-    let spelled = line.escape_debug();
-    write!(text, "    the line is {spelled}: {TABLE_FORM}\n")
 }
 
 /// Adds the maps as `--maps` writes them.
@@ -271,138 +77,250 @@ fn add_cells(text: &mut String, sizes: &MapSizes) -> Result<(), AllocError> {
     text.push('\n')
 }
 
-/// What says the maps.
-fn teller(is_on_node: bool) -> &'static str {
-    if is_on_node {
-        "the node's file"
-    } else {
-        "--maps"
+/// How many maps the quotas of rules name, at least.
+fn maps_of(rules: &[PortRule]) -> u16 {
+    let mut maps: u16 = 0;
+    for own in rules {
+        if let Some(quota) = own.rule.quota {
+            maps = maps.max(u16::from(quota.map).saturating_add(1));
+        }
+    }
+    maps
+}
+
+/// How many cells of that map the quotas of rules name, at least.
+fn cells_of(rules: &[PortRule], map: u16) -> u16 {
+    let mut cells: u16 = 1;
+    for own in rules {
+        if let Some(quota) = own.rule.quota {
+            if u16::from(quota.map) == map {
+                cells = cells.max(quota.cell.saturating_add(1));
+            }
+        }
+    }
+    cells
+}
+
+/// The least maps that have the cells of the quotas of rules, if a node can have them.
+fn least_maps(alloc: Global, rules: &[PortRule]) -> Result<Option<MapSizes>, AllocError> {
+    let mut cells = Vec::new(alloc);
+    for map in 0..maps_of(rules) {
+        cells.push(cells_of(rules, map))?;
+    }
+    Ok(MapSizes::new(cells.as_slice()).ok())
+}
+
+/// Adds the least list of maps with which a table is read, which was tried.
+fn add_least(text: &mut String, alloc: Global, policy: &Policy) -> Result<(), AllocError> {
+    let Some(sizes) = least_maps(alloc, policy.rules())? else {
+        return text.push_str("    no node has the maps of its quotas\n");
+    };
+    match policy.fault_for(&sizes) {
+        Some(fault) if fault.fault() == PolicyFault::NoCell => Ok(()),
+        _ => {
+            text.push_str("    --maps ")?;
+            add_list(text, &sizes)?;
+            text.push_str(" is the least list for its quotas\n")
+        }
     }
 }
 
-/// That there are no maps.
-fn no_maps(is_on_node: bool) -> &'static str {
-    if is_on_node {
-        "the node's file has no maps"
-    } else {
-        "without --maps there are no maps"
-    }
-}
-
-/// Adds the quota of a line, and which cells the maps have.
-fn add_quota(
+/// Adds that there are no maps, and of a table that is read the least list for it.
+fn add_no_maps(
     text: &mut String,
     alloc: Global,
-    line: &str,
-    sizes: &MapSizes,
+    table: &str,
     is_on_node: bool,
 ) -> Result<(), AllocError> {
-    let words = words_of(alloc, line)?;
-    let place = usize::from(RuleWord::Quota.number()).saturating_sub(1);
-    let Some(written) = words.as_slice().get(place).copied() else {
-        return Ok(());
-    };
-    let spelled = written.escape_debug();
-    if sizes.maps() == 0 {
-        let none = no_maps(is_on_node);
-        return write!(text, "    QUOTA is {spelled}: {none}\n");
+    if is_on_node {
+        return text.push_str("    the node's file has no maps\n");
     }
-    write!(text, "    QUOTA is {spelled}, of the maps ")?;
-    add_list(text, sizes)?;
-    let teller = teller(is_on_node);
-    write!(text, ", as {teller} says")?;
-    add_cells(text, sizes)
+    text.push_str("    without --maps there are no maps\n")?;
+    match Policy::read(alloc, table) {
+        Ok(policy) => add_least(text, alloc, &policy),
+        Err(_) => Ok(()),
+    }
 }
 
-/// Adds what is told of a fault of a table of version 1.
-fn add_plain(
+/// Adds which cells the maps have.
+fn add_maps(
     text: &mut String,
     alloc: Global,
     table: &str,
     sizes: &MapSizes,
     is_on_node: bool,
-    fault: TableFault,
 ) -> Result<(), AllocError> {
-    let line = match line_of(fault) {
-        Some(number) => line_at(table, number),
-        None => "",
-    };
-    match fault {
-        TableFault::BadWord { word, .. } => add_word(text, alloc, line, word),
-        TableFault::BadCount {
-            line: number,
-            words,
-        } => add_count(text, line, number, words),
-        TableFault::NoCell(_) => add_quota(text, alloc, line, sizes, is_on_node),
-        TableFault::TooLong(_) | TableFault::BadRange(_) | TableFault::Memory => Ok(()),
+    if sizes.maps() == 0 {
+        return add_no_maps(text, alloc, table, is_on_node);
+    }
+    text.push_str(if is_on_node {
+        "    the node's file says "
+    } else {
+        "    --maps says "
+    })?;
+    add_list(text, sizes)?;
+    add_cells(text, sizes)
+}
+
+/// Adds how many slots each rule takes of those that stand in these lines and take so many.
+fn add_cost(text: &mut String, first: usize, last: usize, slots: u8) -> Result<(), AllocError> {
+    if first == last {
+        write!(text, "    the rule of line {first} takes {slots} slots\n")
+    } else {
+        write!(
+            text,
+            "    each rule of lines {first} to {last} takes {slots} slots\n"
+        )
     }
 }
 
-/// Adds what is told of a fault of a line of a table of version 2: the line, and of a quota which cells the maps have.
-fn add_line(
-    text: &mut String,
-    line: &str,
-    sizes: &MapSizes,
-    is_on_node: bool,
-    fault: StatementFault,
-) -> Result<(), AllocError> {
+/// Adds how many slots each rule takes.
+fn add_costs(text: &mut String, rules: &[PortRule]) -> Result<(), AllocError> {
+    let mut same: Option<(usize, usize, u8)> = None;
+    for own in rules {
+        let slots = port_rule_slots(own);
+        same = match same {
+            Some((first, _, own_slots)) if own_slots == slots => Some((first, own.line, slots)),
+            Some((first, last, own_slots)) => {
+                add_cost(text, first, last, own_slots)?;
+                Some((own.line, own.line, slots))
+            }
+            None => Some((own.line, own.line, slots)),
+        };
+    }
+    match same {
+        Some((first, last, slots)) => add_cost(text, first, last, slots),
+        None => Ok(()),
+    }
+}
+
+/// Adds what the rules take of a table that is too long.
+fn add_length(text: &mut String, alloc: Global, table: &str) -> Result<(), AllocError> {
+    let Ok(policy) = Policy::read(alloc, table) else {
+        return Ok(());
+    };
+    add_costs(text, policy.rules())?;
+    let slots = table_slots(policy.rules());
+    write!(
+        text,
+        "    all take {slots} slots, with those before and after them"
+    )?;
+    if policy.version() == TableVersion::One && slots <= MAX_SLOTS {
+        text.push_str(": they fit if .version 2 is line 1")?;
+    }
+    text.push('\n')
+}
+
+/// Adds what the line of a fault holds that has a word, with what cannot be seen spelled.
+fn add_line(text: &mut String, line: &str) -> Result<(), AllocError> {
+    if line.trim().is_empty() {
+        return Ok(());
+    }
     let spelled = line.escape_debug();
     write!(text, "    the line is {spelled}")?;
     if !is_seen(line) {
         write!(text, ": {TEXT_FORM}")?;
     }
-    text.push('\n')?;
-    let StatementFault::NoCell { .. } = fault else {
-        return Ok(());
-    };
-    if sizes.maps() == 0 {
-        let none = no_maps(is_on_node);
-        return write!(text, "    {none}\n");
-    }
-    let teller = teller(is_on_node);
-    write!(text, "    {teller} says ")?;
-    add_list(text, sizes)?;
-    add_cells(text, sizes)
+    text.push('\n')
 }
 
-/// What more is told of the first fault of a table, for a node with maps of these sizes, and where each further fault is.
-fn told_table(
+/// Adds what the line of a fault holds; of a quota which cells the maps have, and of a rule for which there is no room what all rules
+/// take.
+fn add_details(
+    text: &mut String,
     alloc: Global,
     table: &str,
     sizes: &MapSizes,
     is_on_node: bool,
+    fault: TextFault,
+) -> Result<(), AllocError> {
+    add_line(text, line_at(table, fault.line()))?;
+    match fault.fault() {
+        PolicyFault::NoCell => add_maps(text, alloc, table, sizes, is_on_node),
+        PolicyFault::TooLong => add_length(text, alloc, table),
+        PolicyFault::BadRange | PolicyFault::Memory | PolicyFault::BadLine => Ok(()),
+    }
+}
+
+/// The faults of a table, for a node with maps of these sizes; if it is to be drawn without that it is too long for a program.
+fn faults_of(
+    alloc: Global,
+    table: &str,
+    sizes: &MapSizes,
+    is_drawn: bool,
+) -> Result<Vec<TextFault>, AllocError> {
+    let all = Policy::faults(alloc, table, sizes)?;
+    if !is_drawn {
+        return Ok(all);
+    }
+    let mut faults = Vec::new(alloc);
+    for fault in all.as_slice() {
+        if fault.fault() != PolicyFault::TooLong {
+            faults.push(*fault)?;
+        }
+    }
+    Ok(faults)
+}
+
+/// What more is told of the faults of a table: what the line holds of the one that is reported, and each other fault in a line of its
+/// own. The reported one was told with its place, except if that is to come here.
+fn told_faults(
+    alloc: Global,
+    table: &str,
+    sizes: &MapSizes,
+    is_on_node: bool,
+    faults: &[TextFault],
+    is_placed: bool,
 ) -> Result<String, AllocError> {
     let mut text = String::new(alloc);
-    let Err(fault) = Policy::read_for(alloc, table, sizes) else {
+    let Some(first) = reported(faults) else {
         return Ok(text);
     };
-    let first = match fault {
-        TextFault::Plain(fault) => {
-            add_plain(&mut text, alloc, table, sizes, is_on_node, fault)?;
-            line_of(fault)
+    if !is_placed {
+        add_details(&mut text, alloc, table, sizes, is_on_node, first)?;
+    }
+    for fault in faults {
+        if is_placed || *fault != first {
+            write!(text, "    {fault}\n")?;
         }
-        TextFault::Line { line, fault } => {
-            add_line(&mut text, line_at(table, line), sizes, is_on_node, fault)?;
-            Some(line)
+        if is_placed && *fault == first {
+            add_details(&mut text, alloc, table, sizes, is_on_node, first)?;
         }
-        TextFault::TooLong(_) => None,
-    };
-    add_further(&mut text, alloc, table, sizes, first)?;
+    }
     Ok(text)
 }
 
-/// The same of a job that told the fault's number alone: where it is, too, and first.
+/// What is told of a table that was drawn and is too long for a program; it is empty if it is not.
+///
+/// # Errors
+///
+/// Where memory was refused.
+pub fn told_length(alloc: Global, table: &str, sizes: &MapSizes) -> Result<String, AllocError> {
+    let mut text = String::new(alloc);
+    let faults = Policy::faults(alloc, table, sizes)?;
+    match reported(faults.as_slice()) {
+        Some(fault) if fault.fault() == PolicyFault::TooLong => {
+            write!(text, "    no program has this table: {fault}\n")?;
+            add_length(&mut text, alloc, table)?;
+        }
+        _ => {}
+    }
+    Ok(text)
+}
+
+/// All that is told of the faults of a table of a job that told the number of one: where each is.
+///
+/// # Errors
+///
+/// Where memory was refused.
 pub fn told_placed(
     alloc: Global,
     table: &str,
     sizes: &MapSizes,
     is_on_node: bool,
 ) -> Result<String, AllocError> {
-    let Err(fault) = Policy::read_for(alloc, table, sizes) else {
-        return Ok(String::new(alloc));
-    };
-    let more = told_table(alloc, table, sizes, is_on_node)?;
-    format!(in alloc; "    {fault}\n{more}")
+    let faults = faults_of(alloc, table, sizes, false)?;
+    told_faults(alloc, table, sizes, is_on_node, faults.as_slice(), true)
 }
 
 /// Whether a line is a bare name, as of a label without its colon.
@@ -523,8 +441,13 @@ pub fn advice(
     if assemble(alloc, text).is_ok() {
         return String::from_str(alloc, IS_PROGRAM);
     }
-    match job {
-        Job::Policy(_) => told_placed(alloc, text, sizes, is_on_node),
-        _ => told_table(alloc, text, sizes, is_on_node),
+    if let Job::Policy(_) = job {
+        return told_placed(alloc, text, sizes, is_on_node);
     }
+    let is_drawn = matches!(job, Job::Map(_) | Job::Compare(_));
+    let faults = faults_of(alloc, text, sizes, is_drawn)?;
+    if is_drawn && faults.is_empty() {
+        return told_length(alloc, text, sizes);
+    }
+    told_faults(alloc, text, sizes, is_on_node, faults.as_slice(), false)
 }

@@ -14,7 +14,7 @@ use job_config::sources::NodeSource;
 use job_parts::faults::Fault;
 use job_parts::options::no_maps;
 use machine::MapSizes;
-use policy::{Policy, TableFault, TextFault, compile_policy};
+use policy::{Policy, TextFault, compile_policy};
 use spw::lines_of;
 use std::alloc::{AllocError, Global};
 
@@ -77,7 +77,7 @@ fn compiled(alloc: Global, text: &str, sizes: &MapSizes) -> Result<Option<Image>
 /// Whether memory was refused to a table.
 fn is_memory(fault: &TextFault) -> bool {
     match fault {
-        TextFault::Plain(TableFault::Memory) => true,
+        TextFault::Memory => true,
         _ => false,
     }
 }

@@ -170,18 +170,25 @@ fn policy_on(words: PolicyWords, sizes: MapSizes) -> PolicyWords
         image: words.image,
         sizes,
         is_final: words.is_final,
+        is_quiet: words.is_quiet,
     }
 }
 
-/// The words with those maps.
-fn compare_on(words: CompareWords, sizes: MapSizes) -> CompareWords
-    ensures { result ≡ record words { sizes = sizes } }
+/// The words with the address, the banks and the maps of a node.
+fn compare_on(words: CompareWords, own: &Configuration) -> CompareWords
+    requires { are_within own.now.banks.items ≡ true }
+    ensures { result ≡ record words {
+      sizes = own.now.sizes;
+      windows = windows_of own.now.address own.now.banks.items;
+    } }
 {
     CompareWords {
         old: words.old,
         new: words.new,
-        sizes,
+        sizes: own.sizes,
         markdown: words.markdown,
+        windows: own.windows(),
+        asking: words.asking,
     }
 }
 
@@ -193,6 +200,8 @@ fn map_on(words: MapWords, sizes: MapSizes) -> MapWords
         table: words.table,
         sizes,
         markdown: words.markdown,
+        is_quiet: words.is_quiet,
+        asking: words.asking,
     }
 }
 
@@ -242,8 +251,8 @@ fn packet_on(words: PacketWords, target: u8) -> PacketWords
 
 impl Job {
     /// The job for a node of this configuration, in place of what its options say of a node: with its maps, if it takes maps;
-    /// `decide` with its address, its ports and its banks too; `packet` with its address as the target's. The condition is banks
-    /// that a node may have.
+    /// `decide` with its address, its ports and its banks too; `compare` with its address and its banks; `packet` with its address as
+    /// the target's. The condition is banks that a node may have.
     pub fn placed(self, own: &Configuration) -> Job
         requires { are_within own.now.banks.items ≡ true }
         ensures { result ≡ placed self (numbers_in own.now) }
@@ -253,7 +262,7 @@ impl Job {
             Job::Why(args) => Job::Why(image_on(args, own.sizes)),
             Job::Weigh(words) => Job::Weigh(weigh_on(words, own.sizes)),
             Job::Policy(words) => Job::Policy(policy_on(words, own.sizes)),
-            Job::Compare(words) => Job::Compare(compare_on(words, own.sizes)),
+            Job::Compare(words) => Job::Compare(compare_on(words, own)),
             Job::Map(words) => Job::Map(map_on(words, own.sizes)),
             Job::Decide(words) => Job::Decide(decide_on(words, own)),
             Job::Packet(words) => Job::Packet(packet_on(words, own.address)),

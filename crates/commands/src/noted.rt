@@ -1,16 +1,19 @@
 //! What is noted of the files that a job reads: why one could not be read or written, and what was read last.
 
-ghost use Rattle.std.specs.Prelude.{◌≡◌, ◌≤◌, IfOk, IfSome, None, Some, false, is_some, option_copied, option_map, string_bytes};
+ghost use Rattle.std.specs.Prelude.{◌≡◌, ◌≤◌, IfOk, IfSome, None, Some, false, is_some, option_copied, option_map, string_bytes, true};
 ghost use Rattle.commands.specs.InPlace.{maps_of_job, maps_of_node};
 ghost use Rattle.commands.specs.Notes.{GivesPlaced, is_dump, maps_for, may_be_text, most_of, next_content, ports_of, reads_dump};
+ghost use Rattle.node_parts.specs.Nodes.{are_within, windows_of};
 
 use crate::dumps::dump_lines;
 use crate::in_place::{bytes_in_place, maps_of_job, maps_of_node};
 use crate::jobs::Job;
+use job_config::configuration::Configuration;
 use job_config::sources::NodeSource;
 use job_parts::inputs::{Content, Inputs};
 use job_parts::storage::Cannot;
 use machine::MapSizes;
+use rmap::Windows;
 use simdutf8::{from_utf8_baseline, is_utf8_baseline};
 use spw::PORTS;
 use std::alloc::{AllocError, Global};
@@ -37,12 +40,35 @@ pub enum Cause {
     TooLong,
 }
 
+/// What a node's file says of the node of a job, besides its maps.
+#[derive(Drop)]
+pub struct FileNode {
+    /// How many ports it has.
+    pub ports: u8,
+    /// Its address, and where its banks lie.
+    pub windows: Windows,
+}
+
+impl FileNode {
+    /// The node of this configuration. The condition is banks that a node may have.
+    pub fn of(own: &Configuration) -> FileNode
+        requires { are_within own.now.banks.items ≡ true }
+        ensures ports { result.ports ≡ own.now.ports }
+        ensures windows { result.windows ≡ windows_of own.now.address own.now.banks.items }
+    {
+        FileNode {
+            ports: own.ports,
+            windows: own.windows(),
+        }
+    }
+}
+
 /// What is noted of the files that a job reads, in the order in which it reads them.
 #[derive(Drop)]
 pub struct Noted<'a> {
     inputs: Inputs<'a>,
     is_dump: bool,
-    ports: Option<u8>,
+    node: Option<FileNode>,
     maps: Option<MapSizes>,
     cause: Option<Cause>,
     lines: Option<String>,
@@ -138,7 +164,7 @@ impl<'a> Noted<'a> {
         Noted {
             inputs,
             is_dump: false,
-            ports: None,
+            node: None,
             maps: None,
             cause: None,
             lines: None,
@@ -146,15 +172,15 @@ impl<'a> Noted<'a> {
         }
     }
 
-    /// Nothing yet, of the files that the job reads; how many ports the node has whose file says the job's maps, if one says them. The
+    /// Nothing yet, of the files that the job reads; the node whose file says the job's maps, if one says them. The
     /// lines of a dump are given as its packet lines, and of the text of a program or a table in the place of an image the image is given.
-    pub fn of_job(job: &'a Job, ports: Option<u8>) -> Noted<'a>
+    pub fn of_job(job: &'a Job, node: Option<FileNode>) -> Noted<'a>
         ensures dump { reads_dump result ≡ is_dump job.now }
         ensures maps { maps_for result ≡ maps_of_job job.now }
     {
         let mut noted = Noted::new(job.inputs());
         noted.is_dump = shows_dump(job);
-        noted.ports = ports;
+        noted.node = node;
         noted.maps = maps_of_job(job);
         noted
     }
@@ -172,18 +198,25 @@ impl<'a> Noted<'a> {
 
     /// Whether a node's file says the maps of the job.
     pub fn is_on_node(&self) -> bool
-        ensures { result ≡ is_some self.now.ports }
+        ensures { result ≡ is_some self.now.node }
     {
-        self.ports.is_some()
+        self.node.is_some()
+    }
+
+    /// The node whose file says the maps of the job, if one says them.
+    pub fn node(&self) -> Option<&FileNode>
+        ensures { option_copied result ≡ self.now.node }
+    {
+        self.node.as_ref()
     }
 
     /// How many ports the node of the job has: those of its file, which has no more than 32, or 32.
     pub fn ports(&self) -> u8
-        ensures value { result ≡ ports_of self.now.ports }
+        ensures value { result ≡ ports_of self.now.node }
         ensures few { result ≤ 32 }
     {
-        match self.ports {
-            Some(ports) => ports.min(PORTS),
+        match &self.node {
+            Some(node) => node.ports.min(PORTS),
             None => PORTS,
         }
     }

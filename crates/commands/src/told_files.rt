@@ -6,7 +6,7 @@ ghost use Rattle.commands.specs.Notes.{is_dump, reads_dump};
 
 use crate::ends::told_end;
 use crate::jobs::{Job, JobEnd};
-use crate::noted::{Cause, MAX_TEXT, Noted, most_of};
+use crate::noted::{Cause, FileNode, MAX_TEXT, Noted, most_of};
 use crate::whole_file::write_whole;
 use job_config::contents_named::contents_paths;
 use job_config::sources::NodeSource;
@@ -118,15 +118,20 @@ impl<'a, R: rt::Files + Input> ToldFiles<'a, R> {
         }
     }
 
-    /// The files that the job reads; how many ports the node has whose file says the job's maps, if one says them. The lines of a
+    /// The files that the job reads; the node whose file says the job's maps, if one says them. The lines of a
     /// dump are given as its packet lines.
-    pub fn of_job(rt: &'a R, alloc: Global, job: &'a Job, ports: Option<u8>) -> ToldFiles<'a, R>
+    pub fn of_job(
+        rt: &'a R,
+        alloc: Global,
+        job: &'a Job,
+        node: Option<FileNode>,
+    ) -> ToldFiles<'a, R>
         ensures { reads_dump result.noted ≡ is_dump job.now }
     {
         ToldFiles {
             rt,
             alloc,
-            noted: Noted::of_job(job, ports),
+            noted: Noted::of_job(job, node),
         }
     }
 

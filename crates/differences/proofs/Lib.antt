@@ -1,4 +1,2 @@
 pub mod Stepping
-pub mod Ending
 pub mod Gaining
-pub mod Advancing

@@ -1,42 +1,56 @@
--- Which of two courses of rules lets more commands pass.
-use Rattle.std.specs.Prelude.{◌≡◌, ◌==◌, ◌&&◌, ◌||◌, ◌++◌, ℕ, Bool, true, false, max, not, nat_lt, if◌then◌else◌, List, [], ◌∷◌, Option, Some, None}
-use Rattle.machine.specs.declared.calls.Call.{Call}
+-- Which of two courses of rules lets more commands pass, from the same words of the cells.
+use Rattle.std.specs.Prelude.{◌≡◌, ◌<◌, ◌+◌, ◌-◌, ◌^◌, ◌==◌, ◌&&◌, ◌||◌, ◌++◌, ℕ, suc, Bool, true, false, max, not, nat_lt, if◌then◌else◌, List, [], ◌∷◌, length, Option, Some, None}
 use Rattle.rmap.specs.Verdict.{verdict_number}
-use Rattle.rmap.specs.declared.verdict.Verdict.TheVariants.{Authorised}
-use Rattle.policy_table.specs.Meaning.{AreWords}
+use Rattle.rmap.specs.declared.verdict.Verdict.TheVariants.{Authorised, NotAuthorised}
 use Rattle.policy_table.specs.declared.rules.Quota.{Quota}
 use Rattle.policy_table.specs.declared.rules.Rule.{Rule}
-use Rattle.charts.specs.Alike.{HasLimit, said}
-use Rattle.charts.specs.Tickets.{AreTickets, is_of, least_from, least_of}
+use Rattle.charts.specs.Alike.{HasLimit}
+use Rattle.charts.specs.Tickets.{is_of}
 use Rattle.differences.specs.declared.courses.Step.{Step}
-use Rattle.differences.specs.declared.signs.Pair.{Pair}
 use Rattle.differences.specs.declared.signs.Sign.{Sign}
 use Rattle.differences.specs.declared.signs.Sign.TheVariants.{Both, Fewer, More, Other}
 
--- ---- what is gained
+-- ---- what rules say from the words of the cells
 
 -- whether a verdict of this number lets a command pass
 abbrev pub passes : (code : ℕ) → Bool
 passes code = code == verdict_number Authorised
 
--- as long as both draw of one cell, both are given the same answers
-abbrev pub AreAnsweredAlike : (one other : List Call) → Type 0
-AreAnsweredAlike [] others = Unit {0}
-AreAnsweredAlike (call ∷ calls) [] = Unit {0}
-AreAnsweredAlike (call ∷ calls) (other ∷ others) =
-    call.question ≡ other.question → (call.answer ≡ other.answer) × AreAnsweredAlike calls others
+-- one draw more, where a rule draws of the cell
+abbrev pub with_draw : Option Quota → (map cell : ℕ) → (draws : ℕ) → ℕ
+with_draw None map cell draws = draws
+with_draw (Some quota) map cell draws = if is_of quota map cell then suc draws else draws
 
--- some tickets, the same as long as both draw of one cell, let a command pass by the new rules and not by the old ones
+-- how many draws of a cell rules make that do not match, after this many
+abbrev pub draws_from : (draws : ℕ) → List Rule → (map cell : ℕ) → ℕ
+draws_from draws [] map cell = draws
+draws_from draws (rule ∷ rules) map cell = draws_from (with_draw rule.quota map cell draws) rules map cell
+
+-- how many they make
+abbrev pub draws_of : List Rule → (map cell : ℕ) → ℕ
+draws_of rules map cell = draws_from 0 rules map cell
+
+-- the ticket of a quota after rules that do not match: the word of its cell, and one more for each draw of it
+abbrev pub ticket_of : (cells : (map cell : ℕ) → ℕ) → (passed : List Rule) → Quota → ℕ
+ticket_of cells passed quota = cells quota.map quota.cell + draws_of passed quota.map quota.cell
+
+-- whether a rule that holds matches, after rules that do not match
+abbrev pub is_met : (cells : (map cell : ℕ) → ℕ) → (passed : List Rule) → Option Quota → Bool
+is_met cells passed None = true
+is_met cells passed (Some quota) = nat_lt (ticket_of cells passed quota) quota.limit
+
+-- the number of the verdict of rules that hold, after others that do not match, if the cells have these words
+abbrev pub code_from : (cells : (map cell : ℕ) → ℕ) → (passed : List Rule) → List Rule → ℕ
+code_from cells passed [] = verdict_number NotAuthorised
+code_from cells passed (rule ∷ rules) =
+    if is_met cells passed rule.quota then verdict_number rule.verdict else code_from cells (passed ++ rule ∷ []) rules
+
+-- some words of the cells, the same before both, let a command pass by the new rules and not by the old ones, and no draw wraps
 pub record Gains (old new : List Rule) : Type 0 where
-  pub told : ℕ → ℕ
-  pub new_told : ℕ → ℕ
-  pub words : AreWords told
-  pub new_words : AreWords new_told
-  pub tickets : AreTickets (said old told).0
-  pub new_tickets : AreTickets (said new new_told).0
-  pub alike : AreAnsweredAlike (said old told).0 (said new new_told).0
-  pub stopped : passes (said old told).1 ≡ false
-  pub passed : passes (said new new_told).1 ≡ true
+  pub cells : (map cell : ℕ) → ℕ
+  pub fit : (map cell : ℕ) → cells map cell + (length old + length new) < 2 ^ 64
+  pub stopped : passes (code_from cells [] old) ≡ false
+  pub passed : passes (code_from cells [] new) ≡ true
 
 -- the sign of a difference: by what is gained under the new rules, and by what under the old ones
 abbrev pub IsSign : Sign → (old new : List Rule) → Type 0
@@ -45,83 +59,53 @@ IsSign Fewer old new = ¬ (Gains old new) × Gains new old
 IsSign Both old new = Gains old new × Gains new old
 IsSign Other old new = ¬ (Gains old new) × ¬ (Gains new old)
 
--- ---- how it is found
+-- ---- how it is found: a rule of the old course that stops, and one of the new that passes, and the least words that lead to both
 
 -- the limit of a step's rule is such as a table has
 abbrev pub HasStepLimit : Step → Type 0
 HasStepLimit step = HasLimit step.rule
 
--- whether both are, or both are not
-abbrev pub is_same : (one other : Bool) → Bool
-is_same one other = if one then other else not other
+-- the least word of a cell with which a rule does not match either, after this many draws of the cell
+abbrev pub with_least : Option Quota → (map cell : ℕ) → (draws least : ℕ) → ℕ
+with_least None map cell draws least = least
+with_least (Some quota) map cell draws least = if is_of quota map cell then max least (quota.limit - draws) else least
 
--- the least ticket of a cell behind rules of two courses that drew of the same cells, and then some of one of them
-abbrev pub least_then : (olds news passed : List Rule) → (map cell : ℕ) → ℕ
-least_then olds news passed map cell = least_from (least_of olds news map cell) passed map cell
+-- the least word of a cell with which none of the rules matches that draw of it, after others
+abbrev pub least_from : (draws least : ℕ) → List Rule → (map cell : ℕ) → ℕ
+least_from draws least [] map cell = least
+least_from draws least (rule ∷ rules) map cell =
+    least_from (with_draw rule.quota map cell draws) (with_least rule.quota map cell draws least) rules map cell
 
--- a rule that ends a command so, where it matches, or else what is behind it
-abbrev pub ends_by : (least : (map cell : ℕ) → ℕ) → Option Quota → (ends : Bool) → (rest : Bool) → Bool
-ends_by least None ends rest = ends
-ends_by least (Some quota) ends rest = (ends && nat_lt (least quota.map quota.cell) quota.limit) || rest
+-- the least word with which none of them matches
+abbrev pub least_word : List Rule → (map cell : ℕ) → ℕ
+least_word rules map cell = least_from 0 0 rules map cell
 
--- whether rules let a command pass for some tickets, or else stop it for some, behind others
-abbrev pub may_end : (pass : Bool) → (olds news passed : List Rule) → List Rule → Bool
-may_end pass olds news passed [] = not pass
-may_end pass olds news passed (rule ∷ rules) =
-    ends_by (least_then olds news passed) rule.quota (is_same (passes (verdict_number rule.verdict)) pass)
-    (may_end pass olds news (passed ++ rule ∷ []) rules)
+-- the least words with which none of two courses' rules match
+abbrev pub least_of : (own others : List Rule) → (map cell : ℕ) → ℕ
+least_of own others map cell = max (least_word own map cell) (least_word others map cell)
 
--- whether some ticket that is not below the least ends a command by one of two rules with quotas of one cell, so that it is stopped
--- by the old and passes by the new
-abbrev pub gains_at : (least : ℕ) (one : Quota) (stopped may_be_stopped : Bool) (other : Quota) (passed may_pass : Bool) → Bool
-gains_at least one stopped may_be_stopped other passed may_pass =
-    (nat_lt least one.limit && (nat_lt least other.limit && (stopped && passed)))
-    || ((nat_lt (max least one.limit) other.limit && (passed && may_be_stopped))
-    || (nat_lt (max least other.limit) one.limit && (stopped && may_pass)))
+-- whether a rule after others can match, if those of another course do not match
+abbrev pub may_meet : (own others : List Rule) → Option Quota → Bool
+may_meet own others quota = is_met (least_of own others) own quota
 
--- where the first rules both have quotas, of one cell: what is gained at them, or behind them; and else whatever ends there are
-abbrev pub gains_by : (one other : Option Quota) → (at : Quota → Quota → Bool) → (behind apart : Bool) → Bool
-gains_by None other at behind apart = apart
-gains_by (Some one) None at behind apart = apart
-gains_by (Some one) (Some other) at behind apart = if is_of one other.map other.cell then at one other || behind else apart
+-- whether what is after a rule can be asked
+abbrev pub goes_on : Option Quota → Bool
+goes_on None = false
+goes_on (Some quota) = true
 
--- whether both are quotas of one cell
-abbrev pub are_of_one_cell : (one other : Option Quota) → Bool
-are_of_one_cell None other = false
-are_of_one_cell (Some one) None = false
-are_of_one_cell (Some one) (Some other) = is_of one other.map other.cell
+-- whether a rule of a new course, after others, can pass, if a rule of the old course matches after others
+abbrev pub may_pass : (olds : List Rule) → Option Quota → (news new : List Rule) → Bool
+may_pass olds stop news [] = false
+may_pass olds stop news (rule ∷ rules) =
+    (passes (verdict_number rule.verdict) && (may_meet olds news stop && may_meet news olds rule.quota))
+    || (goes_on rule.quota && may_pass olds stop (news ++ rule ∷ []) rules)
 
--- whether two courses both begin with a draw of one cell
-abbrev pub draw_together : (old new : List Rule) → Bool
-draw_together [] others = false
-draw_together (rule ∷ rules) [] = false
-draw_together (rule ∷ rules) (other ∷ others) = are_of_one_cell rule.quota other.quota
-
--- they do, with these rules, and others behind them
-pub record IsPair (old new : List Rule) (pair : Pair) : Type 0 where
-  pub olds : List Rule
-  pub news : List Rule
-  pub old_is : old ≡ pair.old ∷ olds
-  pub new_is : new ≡ pair.new ∷ news
-  pub one : pair.old.quota ≡ Some pair.one
-  pub other : pair.new.quota ≡ Some pair.other
-  pub cell : is_of pair.one pair.other.map pair.other.cell ≡ true
-
--- whether something is gained by new rules, behind others
-abbrev pub gains_behind : (olds news old new : List Rule) → Bool
-gains_behind olds news [] others = may_end false olds news [] [] && may_end true olds news [] others
-gains_behind olds news (rule ∷ rules) [] = may_end false olds news [] (rule ∷ rules) && may_end true olds news [] []
-gains_behind olds news (rule ∷ rules) (other ∷ others) =
-    gains_by rule.quota other.quota
-    (λ one limit. gains_at (least_of olds news one.map one.cell)
-    one (not (passes (verdict_number rule.verdict))) (may_end false olds news (rule ∷ []) rules)
-    limit (passes (verdict_number other.verdict)) (may_end true olds news (other ∷ []) others))
-    (gains_behind (olds ++ rule ∷ []) (news ++ other ∷ []) rules others)
-    (may_end false olds news [] (rule ∷ rules) && may_end true olds news [] (other ∷ others))
-
--- whether something is gained by new rules
-abbrev pub gains : (old new : List Rule) → Bool
-gains old new = gains_behind [] [] old new
+-- whether some rule of an old course, after others, can stop if one of a new course can pass
+abbrev pub gains_behind : (olds old new : List Rule) → Bool
+gains_behind olds [] new = may_pass olds None [] new
+gains_behind olds (rule ∷ rules) new =
+    (not (passes (verdict_number rule.verdict)) && may_pass olds rule.quota [] new)
+    || (goes_on rule.quota && gains_behind (olds ++ rule ∷ []) rules new)
 
 -- the sign where something is gained under the new rules, or not, and something under the old ones, or not
 abbrev pub sign_with : (more fewer : Bool) → Sign

@@ -12,7 +12,7 @@ use crate::desk::Desk;
 use crate::slate::Slate;
 use crate::talks::Speech;
 use commands::{
-    Asked, Fault, Job, JobEnd, LiveWords, NodeJob, Noted, OWN_SOURCE, ShowWords, Status,
+    Asked, Fault, FileNode, Job, JobEnd, LiveWords, NodeJob, Noted, OWN_SOURCE, ShowWords, Status,
     UsageFault, Work, asked_of, configuration_in, live, node_inputs, show_talk, told_end,
     told_node, told_option, words_or_judge,
 };
@@ -70,17 +70,17 @@ fn told<'a>(
     Ok(Left { done, folder })
 }
 
-/// Does a job over the files of a folder. If a node's file says its maps, that node has so many ports.
+/// Does a job over the files of a folder. The node is that whose file says its maps, if one says them.
 fn do_job<'a>(
     alloc: Global,
     job: &Job,
-    ports: Option<u8>,
+    node: Option<FileNode>,
     folder: Folder<'a>,
 ) -> Result<Left<'a>, AllocError>
     requires { IsAlone job.now }
     ensures { IfOk result (DoesJob job.now folder.entry) }
 {
-    let mut desk = Desk::new(folder, Noted::of_job(job, ports));
+    let mut desk = Desk::new(folder, Noted::of_job(job, node));
     let mut out = Vec::new(alloc);
     let Ok(end) = perform_alone(alloc, job, &mut desk, &mut out) else {
         return Err(AllocError);
@@ -159,12 +159,12 @@ fn show_input<'a>(
     Ok(Left { done, folder })
 }
 
-/// Does a job: `show -` as a talk, `serve` not at all, and each other over the files of the folder. If a node's file says its maps,
-/// that node has so many ports.
+/// Does a job: `show -` as a talk, `serve` not at all, and each other over the files of the folder. The node is that whose
+/// file says its maps, if one says them.
 fn do_once<'a>(
     alloc: Global,
     job: &Job,
-    ports: Option<u8>,
+    node: Option<FileNode>,
     folder: Folder<'a>,
 ) -> Result<Left<'a>, AllocError>
     ensures { IfOk result (DoesOnce job.now folder.entry) }
@@ -174,7 +174,7 @@ fn do_once<'a>(
         Job::Show(words) if words.lines.as_str() == STANDARD_INPUT => {
             show_input(alloc, words, folder)
         }
-        _ => do_job(alloc, job, ports, folder),
+        _ => do_job(alloc, job, node, folder),
     }
 }
 
@@ -245,11 +245,11 @@ fn do_on_node<'a>(alloc: Global, own: NodeJob, folder: Folder<'a>) -> Result<Lef
     let mut desk = Desk::new(folder, Noted::new(node_inputs(name)));
     match configuration_in(alloc, &mut desk, name) {
         Ok(configuration) => {
-            let ports = Some(configuration.ports);
+            let own = FileNode::of(&configuration);
             do_once(
                 alloc,
                 &job.placed(&configuration),
-                ports,
+                Some(own),
                 desk.into_folder(),
             )
         }

@@ -7,9 +7,9 @@ use Rattle.policy_table.specs.Policies.{PolicyValue}
 use Rattle.policy_table.specs.PortTables.{AreAskedAlike, UnnamedPortsAreAlike, is_named}
 use Rattle.policy_table.specs.Ports.{rules_at}
 use Rattle.policy_table.specs.declared.rules.Rule.{Rule}
-use Rattle.job_charts.specs.Compared.{is_named_by}
+use Rattle.regions.specs.declared.regions.Region.{Region}
 use Rattle.job_charts.specs.ComparedFile.{AreSameAt, AreSameAtAll, AreSameIfCharted}
-use Rattle.job_charts.specs.Rows.{are_named}
+use Rattle.chart_lines.specs.Ports.{are_named, is_named_by}
 
 both : (s t : Bool) → s ≡ true → t ≡ true → (s && t) ≡ true
 both true true e h = refl
@@ -53,39 +53,39 @@ free_below : (named : ℕ → Bool) (port : ℕ) → FreeBelow named port
 free_below named zero = inl refl
 free_below named (suc port) = free_next named port (named port) refl (free_below named port)
 
-module _ (law : UnnamedPortsAreAlike) (one other : PolicyValue) (same : (port : ℕ) → port < 32 → AreSameIfCharted one other port) where
+module _ (asked : Region) (law : UnnamedPortsAreAlike) (one other : PolicyValue) (same : (port : ℕ) → port < 32 → AreSameIfCharted asked one other port) where
   abbrev pub named : ℕ → Bool
   named port = is_named_by one other port
 
   -- two ports that neither table names
-  moved : (port free : ℕ) → named port ≡ false → named free ≡ false → AreSameAt one other free → AreSameAt one other port
+  moved : (port free : ℕ) → named port ≡ false → named free ≡ false → AreSameAt asked one other free → AreSameAt asked one other port
   moved port free is_free own are =
       let first : AreAskedAlike one.rules free port = law one.rules free port (first_no (is_named free one.rules) (is_named free other.rules) own) (first_no (is_named port one.rules) (is_named port other.rules) is_free) in
       let second : AreAskedAlike other.rules free port = law other.rules free port (second_no (is_named free one.rules) (is_named free other.rules) own) (second_no (is_named port one.rules) (is_named port other.rules) is_free) in
-      subst (λ (rules : List Rule). AreSame rules (rules_at port other.rules)) first.same_rules
-      (subst (λ (rules : List Rule). AreSame (rules_at free one.rules) rules) second.same_rules are)
+      subst (λ (rules : List Rule). AreSame asked rules (rules_at port other.rules)) first.same_rules
+      (subst (λ (rules : List Rule). AreSame asked (rules_at free one.rules) rules) second.same_rules are)
 
-  found : (port : ℕ) → port < 32 → named port ≡ false → FreeBelow named port → AreSameAt one other port
+  found : (port : ℕ) → port < 32 → named port ≡ false → FreeBelow named port → AreSameAt asked one other port
   found port within is (inl all) = same port within (right (named port) (are_named named port) all)
   found port within is (inr (free, at)) =
       moved port free is at.own (same free (omega (arith, at.below, within)) (right (named free) (are_named named free) at.first))
 
-  at_port : (port : ℕ) (t : Bool) → port < 32 → named port ≡ t → AreSameAt one other port
+  at_port : (port : ℕ) (t : Bool) → port < 32 → named port ≡ t → AreSameAt asked one other port
   at_port port true within is = same port within (left (named port) (are_named named port) is)
   at_port port false within is = found port within is (free_below named port)
 
 -- two tables that are the same at each port of which a chart is made are the same at each
-pub same_at_all : UnnamedPortsAreAlike → (one other : PolicyValue) → ((port : ℕ) → port < 32 → AreSameIfCharted one other port) → AreSameAtAll one other
-same_at_all law one other same port within = at_port law one other same port (is_named_by one other port) within refl
+pub same_at_all : (asked : Region) → UnnamedPortsAreAlike → (one other : PolicyValue) → ((port : ℕ) → port < 32 → AreSameIfCharted asked one other port) → AreSameAtAll asked one other
+same_at_all asked law one other same port within = at_port asked law one other same port (is_named_by one other port) within refl
 
 -- a port more of which something holds
-one_more : (P : ℕ → Type 0) (count port : ℕ) (t : Bool) → nat_lt port count ≡ t → ((own : ℕ) → own < count → P own) → P count → port < count + 1 → P port
+pub one_more : (P : ℕ → Type 0) (count port : ℕ) (t : Bool) → nat_lt port count ≡ t → ((own : ℕ) → own < count → P own) → P count → port < count + 1 → P port
 one_more P count port true is below own within =
     let less : port < count = grind (arith, nat_tests) in below port less
 one_more P count port false is below own within =
     let last : count ≡ port = grind (arith, nat_tests) in subst P last own
 
-pub same_more : (one other : PolicyValue) (count : ℕ) → ((port : ℕ) → port < count → AreSameIfCharted one other port) → AreSameIfCharted one other count
-    → (port : ℕ) → port < count + 1 → AreSameIfCharted one other port
-same_more one other count below own port within =
-    one_more (λ p. AreSameIfCharted one other p) count port (nat_lt port count) refl below own within
+pub same_more : (asked : Region) (one other : PolicyValue) (count : ℕ) → ((port : ℕ) → port < count → AreSameIfCharted asked one other port) → AreSameIfCharted asked one other count
+    → (port : ℕ) → port < count + 1 → AreSameIfCharted asked one other port
+same_more asked one other count below own port within =
+    one_more (λ p. AreSameIfCharted asked one other p) count port (nat_lt port count) refl below own within

@@ -4,26 +4,27 @@ use Rattle.charts.specs.Same.{AreSame}
 use Rattle.policy_table.specs.Policies.{PolicyValue}
 use Rattle.policy_table.specs.Ports.{rules_at}
 use Rattle.policy_table.specs.declared.rules.Rule.{Rule}
-use Rattle.job_charts.specs.AskedTables.{AskedValue, asked_at}
-use Rattle.job_charts.specs.ComparedFile.{AreSameIfCharted, DifferAt, HaveDifference}
+use Rattle.regions.specs.declared.regions.Region.{Region}
+use Rattle.chart_lines.specs.AskedTables.{AskedValue, asked_at}
+use Rattle.job_charts.specs.ComparedFile.{AreSameAt, AreSameIfCharted, DifferAt, HaveDifference, HaveDifferenceAt}
 
--- where they do not differ
-pub not_apart : (one other : PolicyValue) (port : ℕ) (is : Bool) → is ≡ false → MatchBool is (DifferAt one other port) (AreSameIfCharted one other port)
-    → AreSameIfCharted one other port
-not_apart one other port true e known = absurd (cc)
-not_apart one other port false e known = known
+module _ (asked : Region) (one other : PolicyValue) (port : ℕ) where
+  -- where they do not differ
+  pub not_apart : (is : Bool) → is ≡ false → MatchBool is (DifferAt asked one other port) (AreSameIfCharted asked one other port)
+      → AreSameIfCharted asked one other port
+  not_apart true e known = absurd (cc)
+  not_apart false e known = known
 
-by_rules : (one other : PolicyValue) (port : ℕ) (is : Bool) → port < 32
-    → MatchBool is (HaveDifference (rules_at port one.rules) (rules_at port other.rules)) (AreSame (rules_at port one.rules) (rules_at port other.rules))
-    → MatchBool is (DifferAt one other port) (AreSameIfCharted one other port)
-by_rules one other port true within known = record { is_port = within; differ = known }
-by_rules one other port false within known = λ charted. known
+  -- at a port of which a chart is made
+  pub charted : (is : Bool) → port < 32 → MatchBool is (HaveDifferenceAt asked one other port) (AreSameAt asked one other port)
+      → MatchBool is (DifferAt asked one other port) (AreSameIfCharted asked one other port)
+  charted true within known = record { is_port = within; differ = known }
+  charted false within known = λ charted. known
 
--- by what each asks
-pub by_asked : (one other : PolicyValue) (port : ℕ) (old new : AskedValue) (is : Bool) → port < 32 → old ≡ asked_at one port → new ≡ asked_at other port
-    → MatchBool is (HaveDifference old.rules new.rules) (AreSame old.rules new.rules)
-    → MatchBool is (DifferAt one other port) (AreSameIfCharted one other port)
-by_asked one other port old new is within first second known =
-    by_rules one other port is within
-    (subst (λ (rules : List Rule). MatchBool is (HaveDifference (rules_at port one.rules) rules) (AreSame (rules_at port one.rules) rules)) (ap (λ (a : AskedValue). a.rules) second)
-    (subst (λ (rules : List Rule). MatchBool is (HaveDifference rules new.rules) (AreSame rules new.rules)) (ap (λ (a : AskedValue). a.rules) first) known))
+  -- by what each asks
+  pub by_asked : (old new : AskedValue) (is : Bool) → old ≡ asked_at one port → new ≡ asked_at other port
+      → MatchBool is (HaveDifference asked old.rules new.rules) (AreSame asked old.rules new.rules)
+      → MatchBool is (HaveDifferenceAt asked one other port) (AreSameAt asked one other port)
+  by_asked old new is first second known =
+      subst (λ (rules : List Rule). MatchBool is (HaveDifference asked (rules_at port one.rules) rules) (AreSame asked (rules_at port one.rules) rules)) (ap (λ (a : AskedValue). a.rules) second)
+      (subst (λ (rules : List Rule). MatchBool is (HaveDifference asked rules new.rules) (AreSame asked rules new.rules)) (ap (λ (a : AskedValue). a.rules) first) known)

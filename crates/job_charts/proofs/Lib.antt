@@ -1,8 +1,7 @@
-mod Limits
 mod PacketBytes
-mod WitnessPoints
-mod Telling
 mod Charted
-mod Comments
-mod RowsTold
 mod DifferAt
+mod Telling
+mod Meeting
+mod AskingFault
+mod Addresses

@@ -1,15 +1,14 @@
 -- What the job `compare` reads and prints.
-use Rattle.std.specs.Prelude.{◌≡◌, ◌⊎◌, ◌<◌, Bool, true, ℕ, List, [], ◌∷◌, ◌++◌, Option, codes, string_bytes}
+use Rattle.std.specs.Prelude.{◌≡◌, ◌⊎◌, ◌<◌, Bool, true, ℕ, List, [], ◌∷◌, ◌++◌, Option, Some, None, codes, string_bytes}
 use Rattle.std.specs.Io.KnownBytes.{Appends}
-use Rattle.charts.specs.Points.{IsDifference}
-use Rattle.charts.specs.Same.{AreSame}
+use Rattle.charts.specs.Same.{AreSame, IsDifferenceIn}
 use Rattle.machine.specs.Sizes.{Maps}
 use Rattle.policy_table.specs.Policies.{PolicyValue}
 use Rattle.policy_table.specs.Ports.{rules_at}
 use Rattle.policy_table.specs.declared.rules.Rule.{Rule}
 use Rattle.policy_table.specs.declared.text_faults.TextFault.{TextFault}
 use Rattle.regions.specs.declared.points.Point.{Point}
-use Rattle.job_decide.specs.Tables.{HoldsBadTable, HoldsTable}
+use Rattle.job_decide.specs.Tables.{HoldsBadDrawn, HoldsDrawn}
 use Rattle.job_parts.specs.Files.{Reads}
 use Rattle.job_parts.specs.Reading.{TextUnread}
 use Rattle.job_parts.specs.TwoFiles.{TellsNamedFault}
@@ -17,75 +16,103 @@ use Rattle.job_parts.specs.declared.faults.Fault.{Fault}
 use Rattle.job_parts.specs.declared.faults.Fault.TheVariants.{NoMemory}
 use Rattle.job_parts.specs.declared.status.Status.{Status}
 use Rattle.job_parts.specs.declared.status.Status.TheVariants.{Done, Failed, Misused}
-use Rattle.job_charts.specs.Compared.{TellsComparison, is_named_by}
-use Rattle.job_charts.specs.Rows.{is_charted}
+use Rattle.chart_lines.specs.Compared.{AreDifferenceRows}
+use Rattle.chart_lines.specs.Ports.{is_charted, is_named_by}
+use Rattle.chart_lines.specs.Rows.{RowValue}
+use Rattle.regions.specs.declared.regions.Region.{Region}
+use Rattle.job_charts.specs.Asking.{IsAskedRegion}
+use Rattle.job_charts.specs.declared.asking.Asking.{Asking}
 use Rattle.job_charts.specs.declared.compare.CompareWords.{CompareWords}
 use Rattle.job_charts.specs.declared.compare.NoPair.{NoPair}
 use Rattle.job_charts.specs.declared.compare.NoPair.TheVariants.{BadTable, Ended}
 
--- ---- where tables differ
+-- ---- where tables differ, of the commands of a region
 
--- two tables of a port decide the command of a point differently
-abbrev pub HaveDifference : (one other : List Rule) → Type 0
-HaveDifference one other = (point : Point) × IsDifference one other point
+module _ (asked : Region) where
+  -- two tables of a port decide the command of a point differently
+  abbrev pub HaveDifference : (one other : List Rule) → Type 0
+  HaveDifference one other = (point : Point) × IsDifferenceIn asked one other point
 
--- two tables do so at a port
-pub record DifferAt (one other : PolicyValue) (port : ℕ) : Type 0 where
-  pub is_port : port < 32
-  pub differ : HaveDifference (rules_at port one.rules) (rules_at port other.rules)
+  -- two tables do so at a port
+  abbrev pub HaveDifferenceAt : (one other : PolicyValue) → (port : ℕ) → Type 0
+  HaveDifferenceAt one other port = HaveDifference (rules_at port one.rules) (rules_at port other.rules)
 
--- at some port
-abbrev pub DifferSomewhere : (one other : PolicyValue) → Type 0
-DifferSomewhere one other = (port : ℕ) × DifferAt one other port
+  -- and it is one that a node may have
+  pub record DifferAt (one other : PolicyValue) (port : ℕ) : Type 0 where
+    pub is_port : port < 32
+    pub differ : HaveDifferenceAt one other port
 
--- two tables decide all commands alike at a port
-abbrev pub AreSameAt : (one other : PolicyValue) → (port : ℕ) → Type 0
-AreSameAt one other port = AreSame (rules_at port one.rules) (rules_at port other.rules)
+  -- at some port
+  abbrev pub DifferSomewhere : (one other : PolicyValue) → Type 0
+  DifferSomewhere one other = (port : ℕ) × DifferAt one other port
 
--- at a port, if a chart of it is made
-abbrev pub AreSameIfCharted : (one other : PolicyValue) → (port : ℕ) → Type 0
-AreSameIfCharted one other port = is_charted (λ own. is_named_by one other own) port ≡ true → AreSameAt one other port
+  -- two tables decide all of these commands alike at a port
+  abbrev pub AreSameAt : (one other : PolicyValue) → (port : ℕ) → Type 0
+  AreSameAt one other port = AreSame asked (rules_at port one.rules) (rules_at port other.rules)
 
--- at each port
-abbrev pub AreSameAtAll : (one other : PolicyValue) → Type 0
-AreSameAtAll one other = (port : ℕ) → port < 32 → AreSameAt one other port
+  -- at a port, if a chart of it is made
+  abbrev pub AreSameIfCharted : (one other : PolicyValue) → (port : ℕ) → Type 0
+  AreSameIfCharted one other port = is_charted (λ own. is_named_by one other own) port ≡ true → AreSameAt one other port
+
+  -- at each port
+  abbrev pub AreSameAtAll : (one other : PolicyValue) → Type 0
+  AreSameAtAll one other = (port : ℕ) → port < 32 → AreSameAt one other port
+
+  -- at one port, or at some
+  abbrev pub DifferFor : (port : Option ℕ) → (one other : PolicyValue) → Type 0
+  DifferFor None one other = DifferSomewhere one other
+  DifferFor (Some port) one other = HaveDifferenceAt one other port
+
+  -- at one port, or at each
+  abbrev pub AreSameFor : (port : Option ℕ) → (one other : PolicyValue) → Type 0
+  AreSameFor None one other = AreSameAtAll one other
+  AreSameFor (Some port) one other = AreSameAt one other port
 
 -- ---- what is printed
 
--- two tables differ at some port, and where they do was printed
-pub record TellsDifferent (markdown : Bool) (one other : PolicyValue) (old new : Option (List ℕ)) : Type 0 where
-  pub differ : DifferSomewhere one other
+-- these rows of a comparison of two tables were printed
+pub record TellsRows (asked : Region) (port : Option ℕ) (one other : PolicyValue) (old new : Option (List ℕ)) : Type 0 where
+  pub rows : List RowValue
+  pub are_rows : AreDifferenceRows asked port one other rows
   pub text : List ℕ
-  pub told : TellsComparison markdown one other text
   pub printed : Appends old new text
 
--- two tables decide all commands alike at each port, which was printed
-pub record TellsSame (one other : PolicyValue) (old new : Option (List ℕ)) : Type 0 where
-  pub same : AreSameAtAll one other
+-- two tables differ in a command that is asked of, and where they do was printed
+pub record TellsDifferent (asking : Asking) (one other : PolicyValue) (old new : Option (List ℕ)) : Type 0 where
+  pub region : Region
+  pub is_asked : IsAskedRegion asking region
+  pub differ : DifferFor region asking.port one other
+  pub told : TellsRows region asking.port one other old new
+
+-- two tables decide all commands alike that are asked of, which was printed
+pub record TellsSame (asking : Asking) (one other : PolicyValue) (old new : Option (List ℕ)) : Type 0 where
+  pub region : Region
+  pub is_asked : IsAskedRegion asking region
+  pub same : AreSameFor region asking.port one other
   pub line : Appends old new (codes "same" ++ 10 ∷ [])
 
 -- what is printed of two tables, by the exit status
-abbrev pub TellsTables : (markdown : Bool) → (one other : PolicyValue) → (old new : Option (List ℕ)) → Status → Type 0
-TellsTables markdown one other old new Done = TellsSame one other old new
-TellsTables markdown one other old new Failed = TellsDifferent markdown one other old new
-TellsTables markdown one other old new Misused = ⊥
+abbrev pub TellsTables : Asking → (one other : PolicyValue) → (old new : Option (List ℕ)) → Status → Type 0
+TellsTables asking one other old new Done = TellsSame asking one other old new
+TellsTables asking one other old new Failed = TellsDifferent asking one other old new
+TellsTables asking one other old new Misused = ⊥
 
 -- why there is no table in the file of this name: it cannot be read, or the table has a fault, and the file's name is told with it
 abbrev pub IsNoNamed : {S : Type 0} → (reads : Reads S) → (name : List ℕ) → Maps → (before after : S) → NoPair → Type 0
 IsNoNamed reads name sizes before after (Ended fault) = TextUnread reads before name after fault
 IsNoNamed reads name sizes before after (BadTable own fault) =
-    (own.now ≡ name) × HoldsBadTable reads before name sizes fault after
+    (own.now ≡ name) × HoldsBadDrawn reads before name sizes fault after
 
 module _ {S : Type 0} (reads : Reads S) (words : CompareWords) where
-  -- the file of the old table has a table without a fault for these maps
+  -- the file of the old table has a table whose lines have no fault for these maps
   abbrev pub HoldsOld : (before : S) → PolicyValue → (after : S) → Type 0
-  HoldsOld before policy after = HoldsTable reads before (string_bytes words.old) words.sizes policy after
+  HoldsOld before policy after = HoldsDrawn reads before (string_bytes words.old) words.sizes policy after
 
   -- the files were read in this order, and have such tables
   pub record AreTables (before : S) (one other : PolicyValue) (after : S) : Type 0 where
     pub between : S
     pub first : HoldsOld before one between
-    pub second : HoldsTable reads between (string_bytes words.new) words.sizes other after
+    pub second : HoldsDrawn reads between (string_bytes words.new) words.sizes other after
 
   -- the new table cannot be read, behind the old one
   pub record NewUnread (before after : S) (fault : Fault) : Type 0 where
@@ -99,7 +126,7 @@ module _ {S : Type 0} (reads : Reads S) (words : CompareWords) where
     pub between : S
     pub policy : PolicyValue
     pub first : HoldsOld before policy between
-    pub held : HoldsBadTable reads between (string_bytes words.new) words.sizes fault after
+    pub held : HoldsBadDrawn reads between (string_bytes words.new) words.sizes fault after
 
   -- a file cannot be read
   abbrev pub IsUnread : (before after : S) → Fault → Type 0
@@ -109,7 +136,7 @@ module _ {S : Type 0} (reads : Reads S) (words : CompareWords) where
   -- the table in the file of this name has this first fault
   abbrev pub IsBad : (before after : S) → (name : List ℕ) → TextFault → Type 0
   IsBad before after name fault =
-      ((name ≡ string_bytes words.old) × HoldsBadTable reads before (string_bytes words.old) words.sizes fault after)
+      ((name ≡ string_bytes words.old) × HoldsBadDrawn reads before (string_bytes words.old) words.sizes fault after)
       ⊎ ((name ≡ string_bytes words.new) × NewIsBad before after fault)
 
   -- why there are no two tables
@@ -122,7 +149,7 @@ module _ {S : Type 0} (reads : Reads S) (words : CompareWords) where
     pub one : PolicyValue
     pub other : PolicyValue
     pub tables : AreTables before one other after
-    pub told : TellsTables words.markdown one other old new status
+    pub told : TellsTables words.asking one other old new status
 
   -- a table has a fault, which was told with the name of its file and its place
   pub record TellsBad (before after : S) (old new : Option (List ℕ)) (status : Status) : Type 0 where

@@ -1,23 +1,43 @@
 -- What the job `map` reads and prints.
-use Rattle.std.specs.Prelude.{◌≡◌, ◌⊎◌, ℕ, List, Option, string_bytes}
+use Rattle.std.specs.Prelude.{◌≡◌, ◌⊎◌, ℕ, Bool, false, true, List, [], Option, string_bytes}
 use Rattle.std.specs.Io.KnownBytes.{Appends}
 use Rattle.policy_table.specs.Policies.{PolicyValue}
 use Rattle.policy_table.specs.declared.text_faults.TextFault.{TextFault}
-use Rattle.job_decide.specs.Tables.{HoldsBadTable, HoldsText, TellsTableFault}
+use Rattle.job_decide.specs.Tables.{HoldsBadDrawn, HoldsText, TellsTableFault}
 use Rattle.job_parts.specs.Files.{Reads}
 use Rattle.job_parts.specs.Reading.{TextUnread}
 use Rattle.job_parts.specs.declared.faults.Fault.{Fault}
 use Rattle.job_parts.specs.declared.faults.Fault.TheVariants.{NoMemory}
 use Rattle.job_parts.specs.declared.status.Status.{Status}
 use Rattle.job_parts.specs.declared.status.Status.TheVariants.{Done, Failed, Misused}
-use Rattle.job_charts.specs.Mapped.{TellsMap}
-use Rattle.job_charts.specs.Markdown.{comments_of}
-use Rattle.job_charts.specs.Styles.{style}
+use Rattle.chart_lines.specs.Mapped.{AreMapRows}
+use Rattle.chart_lines.specs.Never.{AreNotes}
+use Rattle.chart_lines.specs.Rows.{RowValue}
+use Rattle.chart_lines.specs.declared.never.Note.{Note}
+use Rattle.regions.specs.declared.regions.Region.{Region}
+use Rattle.job_charts.specs.Asking.{IsAskedRegion, is_all}
+use Rattle.job_charts.specs.declared.asking.Asking.{Asking}
 use Rattle.job_charts.specs.declared.map.MapWords.{MapWords}
-use Rattle.spw.specs.Line.{lines_of}
+
+-- the rules of a table that never match, if they are wanted, and else none
+abbrev pub NotesFor : (wanted : Bool) → PolicyValue → List Note → Type 0
+NotesFor true policy notes = AreNotes policy notes
+NotesFor false policy notes = notes ≡ []
+
+-- what a table decides of the commands that are asked of was printed: these rows of a map of it, and if all are asked of these rules
+-- that never match
+pub record TellsMap (asking : Asking) (policy : PolicyValue) (old new : Option (List ℕ)) : Type 0 where
+  pub region : Region
+  pub is_asked : IsAskedRegion asking region
+  pub rows : List RowValue
+  pub are_rows : AreMapRows region asking.port policy rows
+  pub notes : List Note
+  pub are_notes : NotesFor (is_all asking) policy notes
+  pub text : List ℕ
+  pub printed : Appends old new text
 
 module _ {S : Type 0} (reads : Reads S) (words : MapWords) where
-  -- the file has this text, which is a table without a fault for these maps
+  -- the file has this text, which is a table whose lines have no fault for these maps
   abbrev pub IsGiven : (before : S) → (written : List ℕ) → PolicyValue → (after : S) → Type 0
   IsGiven before written policy after = HoldsText reads before (string_bytes words.table) words.sizes written policy after
 
@@ -26,14 +46,12 @@ module _ {S : Type 0} (reads : Reads S) (words : MapWords) where
     pub written : List ℕ
     pub policy : PolicyValue
     pub given : IsGiven before written policy after
-    pub text : List ℕ
-    pub told : TellsMap (style words.markdown (comments_of (lines_of written))) policy text
-    pub printed : Appends old new text
+    pub told : TellsMap words.asking policy old new
 
   -- the table has a fault, which was told with its place
   pub record TellsTable (before after : S) (old new : Option (List ℕ)) : Type 0 where
     pub fault : TextFault
-    pub held : HoldsBadTable reads before (string_bytes words.table) words.sizes fault after
+    pub held : HoldsBadDrawn reads before (string_bytes words.table) words.sizes fault after
     pub told : TellsTableFault fault old new
 
   -- what `map` reads and prints where no fault ends it, by its exit status: 0 where the map was printed, 1 where the table has

@@ -1,10 +1,10 @@
 -- The packet of a point.
-use Rattle.std.specs.Prelude.{◌≡◌, ◌+◌, ◌-◌, ℕ, Bool, false, List, [], ◌++◌, codes, is_none, replicate, Option, Some, None}
-use Rattle.hex.specs.Hex.{encode_upper}
+use Rattle.std.specs.Prelude.{◌≡◌, ◌<◌, ◌+◌, ◌-◌, ℕ, Bool, false, List, [], is_none, replicate, Option, Some, None}
 use Rattle.machine.specs.Memory.{header}
 use Rattle.rmap.specs.Checks.{header_check}
 use Rattle.rmap.specs.Command.{CommandValue, IsHeader, bytes_of, command_of, discard_of}
 use Rattle.rmap.specs.Reply.{with_crc}
+use Rattle.rmap.specs.Windows.{WindowsValue}
 use Rattle.rmap.specs.declared.discard.Discard.{Discard}
 use Rattle.rmap.specs.declared.kind.Kind.{Kind}
 use Rattle.rmap.specs.declared.kind.Kind.TheVariants.{Read, Rmw, Unused, Write}
@@ -16,17 +16,15 @@ use Rattle.regions.specs.Points.{HasCommand}
 use Rattle.regions.specs.declared.points.Point.{Point}
 use Rattle.charts.specs.Points.{point_of}
 use Rattle.charts.specs.Witness.{instruction_for, length_for}
-use Rattle.job_decide.specs.DecideJob.{own_windows}
-use Rattle.job_config.specs.declared.own_node.TheConstants.{NODE_ADDRESS}
 
 -- how many bytes of data the command of a point has: as many as lie from its first address to its last
 abbrev pub count_at : Point → ℕ
 count_at p = length_for p.kind (p.last - p.first + 1)
 
--- the fields of the command of a point, for the node of the jobs
-abbrev pub fields_at : Point → CommandFields
-fields_at p = record {
-  target = NODE_ADDRESS;
+-- the fields of the command of a point, for a target of this address
+abbrev pub fields_at : (target : ℕ) → Point → CommandFields
+fields_at target p = record {
+  target = target;
   instruction = record { 0 = instruction_for p.kind };
   key = p.key;
   reply_address = record { ref_ptr = (0, 0); now = [] };
@@ -45,28 +43,24 @@ body_for Rmw count = with_crc (replicate count 0)
 body_for Unused count = []
 
 -- the command of a point
-abbrev pub command_at : Point → CommandValue
-command_at p = command_with (fields_at p) (body_for p.kind (count_at p))
+abbrev pub command_at : (target : ℕ) → Point → CommandValue
+command_at target p = command_with (fields_at target p) (body_for p.kind (count_at p))
 
 -- its packet
-unfoldable pub packet_at : Point → Cargo
-packet_at p = record { bytes = bytes_of (command_at p); end = Eop }
+unfoldable pub packet_at : (target : ℕ) → Point → Cargo
+packet_at target p = record { bytes = bytes_of (command_at target p); end = Eop }
 
--- the line of a whole packet behind its port, without its end
-abbrev pub packet_text : Cargo → List ℕ
-packet_text p = codes " " ++ encode_upper p.bytes ++ codes " EOP"
+-- whether a packet that is no command for that reason, or a command, is brought to the table of a node with these windows
+abbrev pub is_brought_by : WindowsValue → Option Discard → Cargo → Bool
+is_brought_by windows (Some discard) p = false
+is_brought_by windows None p = is_none (header_check (command_of p) windows)
 
--- whether a packet that is no command for that reason, or a command, is brought to the table of the node of the jobs
-abbrev pub is_brought_by : Option Discard → Cargo → Bool
-is_brought_by (Some discard) p = false
-is_brought_by None p = is_none (header_check (command_of p) own_windows)
+-- whether such a node brings a packet to its table: it is a command that no check of its header answers
+abbrev pub is_brought : WindowsValue → Cargo → Bool
+is_brought windows p = is_brought_by windows (discard_of p.bytes) p
 
--- whether the node of the jobs brings a packet to its table: it is a command that no check of its header answers
-abbrev pub is_brought : Cargo → Bool
-is_brought p = is_brought_by (discard_of p.bytes) p
-
--- the packet of a point that a command has is a command, which has this point
+-- the packet of a point that a command has is a command, which has this point, for whatever target
 abbrev pub PacketsHavePoints : Type 0
 PacketsHavePoints =
-    (p : Point) → HasCommand p
-    → IsHeader (command_at p) × (point_of (header (command_at p).front (command_at p).tail) ≡ p)
+    (target : ℕ) (p : Point) → target < 256 → HasCommand p
+    → IsHeader (command_at target p) × (point_of (header (command_at target p).front (command_at target p).tail) ≡ p)

@@ -1,6 +1,6 @@
 //! The job `compare`.
 
-ghost use Rattle.std.specs.Prelude.{◌≡◌, ◌<◌, IfErr, IfOk, MatchBool, false, None, Some, string_bytes};
+ghost use Rattle.std.specs.Prelude.{◌≡◌, ◌<◌, IfErr, IfOk, MatchBool, OnOk, false, None, Some, string_bytes};
 ghost use Rattle.clap.specs.Simple.{app_of};
 ghost use Rattle.clap.specs.declared.builder.command.Command.TheViews.{out-Command as fields_of};
 ghost use Rattle.clap.specs.Walk.{rows_of};
@@ -8,18 +8,20 @@ ghost use Rattle.clap.specs.Matches.{found_of};
 ghost use Rattle.job_parts.specs.Stops.{StopsBy};
 ghost use Rattle.charts.specs.Same.{AreSame};
 ghost use Rattle.job_charts.specs.CompareJob.{NamesCompare, RefusesCompare, compare_app};
-ghost use Rattle.job_charts.specs.ComparedFile.{AreTables, AreSameAtAll, AreSameIfCharted, ComparesFile, DifferAt, DifferSomewhere, HaveDifference, IsNoNamed, IsNoPair, IsNotCompared, TellsTables};
+ghost use Rattle.job_charts.specs.ComparedFile.{AreTables, AreSameAt, AreSameAtAll, AreSameFor, AreSameIfCharted, ComparesFile, DifferAt, DifferFor, DifferSomewhere, HaveDifference, HaveDifferenceAt, IsNoNamed, IsNoPair, IsNotCompared, TellsRows, TellsTables};
 ghost use Rattle.job_parts.specs.Inputs.{AreInputs, input};
 ghost use Rattle.job_parts.specs.declared.inputs.Content.TheVariants.{Table};
-ghost use Rattle.job_decide.specs.Tables.{HoldsTable};
+ghost use Rattle.job_decide.specs.Tables.{HoldsDrawn};
 ghost use Rattle.job_parts.specs.declared.faults.Fault.TheVariants.{NoMemory};
 
-use crate::asked::Asked;
-use crate::compared::comparison_text;
-use crate::ports::{PORTS, Tables};
+use crate::asking::{Asking, asking_arguments, asking_of};
+use crate::places::places;
+use crate::{markdown, plain};
+use chart_lines::{Asked, PORTS, Row, Tables, difference_rows};
 use charts::first_difference;
 use clap::{ArgMatches, Command};
-use job_decide::tables::{NoTable, table_in};
+use job_decide::node_windows::own_windows;
+use job_decide::tables::{NoTable, drawn_in};
 use job_parts::arguments::{file, flag, is_set, name_of};
 use job_parts::faults::Fault;
 use job_parts::inputs::{Content, InputFile, Inputs};
@@ -33,6 +35,8 @@ use job_parts::usage::UsageFault;
 use machine::MapSizes;
 use policy::{Policy, TextFault};
 use policy_table::unnamed_ports_are_alike;
+use regions::Region;
+use rmap::Windows;
 use std::alloc::{AllocError, Global};
 use std::io::{self, Write};
 
@@ -47,6 +51,10 @@ pub struct CompareWords {
     pub sizes: MapSizes,
     /// Whether the differences are printed in markdown.
     pub markdown: bool,
+    /// The address of the node of the packets, and where its banks lie.
+    pub windows: Windows,
+    /// The commands that are asked of.
+    pub asking: Asking,
 }
 
 impl CompareWords {
@@ -63,7 +71,7 @@ impl CompareWords {
     }
 }
 
-/// `compare OLD NEW [--maps LIST] [--markdown]`.
+/// `compare OLD NEW [--maps LIST] [--markdown]`, and the options of the commands that are asked of.
 pub fn compare_command<'a>(alloc: Global) -> Result<Command<'a>, AllocError>
     ensures shape { IfOk result (λ c. app_of c ≡ compare_app) }
     ensures local { IfOk result (λ c. (fields_of c).has_globals ≡ false) }
@@ -75,12 +83,13 @@ pub fn compare_command<'a>(alloc: Global) -> Result<Command<'a>, AllocError>
     let maps = maps_option(alloc);
     let help = "Print a table in markdown";
     let markdown = flag(alloc, "markdown", help);
-    Command::new(alloc, "compare")
+    let command = Command::new(alloc, "compare")
         .about("Prints how two policy tables decide differently, with a packet for each difference")
         .arg(old)?
         .arg(new)?
         .arg(maps)?
-        .arg(markdown)
+        .arg(markdown)?;
+    asking_arguments(alloc, command)
 }
 
 /// The words of `compare` with these matches.
@@ -95,11 +104,14 @@ pub fn compare_job(alloc: Global, found: &ArgMatches) -> Result<CompareWords, Us
     }
     let sizes = sizes_of(alloc, found)?;
     let markdown = is_set(found, "markdown");
+    let asking = asking_of(alloc, found)?;
     Ok(CompareWords {
         old,
         new,
         sizes,
         markdown,
+        windows: own_windows(),
+        asking,
     })
 }
 
@@ -120,11 +132,11 @@ fn named_table<'a, F: Files>(
     sizes: &MapSizes,
 ) -> Result<Policy, NoPair<'a>>
     ensures table { IfOk result (λ table.
-        HoldsTable F.reads files.old name.now sizes.now table files.new) }
+        HoldsDrawn F.reads files.old name.now sizes.now table files.new) }
     ensures none { IfErr result
         (IsNoNamed F.reads name.now sizes.now files.old files.new) }
 {
-    match table_in(alloc, files, name, sizes) {
+    match drawn_in(alloc, files, name, sizes) {
         Ok(table) => Ok(table),
         Err(NoTable::Ended(fault)) => Err(NoPair::Ended(fault)),
         Err(NoTable::BadTable(fault)) => Err(NoPair::BadTable(name, fault)),
@@ -147,68 +159,153 @@ fn tables<'a, F: Files>(
 }
 
 /// Whether two tables decide a command differently, by what they ask at a port.
-fn are_apart(old: &Asked, new: &Asked) -> bool
-    ensures { MatchBool result (HaveDifference old.now.rules new.now.rules)
-        (AreSame old.now.rules new.now.rules) }
+fn are_apart(asked: &Region, old: &Asked, new: &Asked) -> bool
+    ensures { MatchBool result (HaveDifference asked.now old.now.rules new.now.rules)
+        (AreSame asked.now old.now.rules new.now.rules) }
 {
-    match first_difference(old.rules(), new.rules()) {
+    match first_difference(asked, old.rules(), new.rules()) {
         Some(_point) => true,
         None => false,
     }
 }
 
+/// Whether two tables decide a command differently at a port.
+fn differ_there(
+    alloc: Global,
+    asked: &Region,
+    old: &Policy,
+    new: &Policy,
+    port: u8,
+) -> Result<bool, AllocError>
+    ensures { IfOk result (λ differ. MatchBool differ
+        (HaveDifferenceAt asked.now old.now new.now port) (AreSameAt asked.now old.now new.now port)) }
+{
+    let old = Asked::at(alloc, old, port)?;
+    let new = Asked::at(alloc, new, port)?;
+    Ok(are_apart(asked, &old, &new))
+}
+
 /// Whether two tables decide a command differently at a port of which a chart is made.
-fn differ_at(alloc: Global, old: &Policy, new: &Policy, port: u8) -> Result<bool, AllocError>
+fn differ_at(
+    alloc: Global,
+    asked: &Region,
+    old: &Policy,
+    new: &Policy,
+    port: u8,
+) -> Result<bool, AllocError>
     requires { port < 32 }
     ensures { IfOk result (λ differ. MatchBool differ
-        (DifferAt old.now new.now port) (AreSameIfCharted old.now new.now port)) }
+        (DifferAt asked.now old.now new.now port) (AreSameIfCharted asked.now old.now new.now port)) }
 {
     if !Tables::Two(old, new).chart_port(port) {
         return Ok(false);
     }
-    let old = Asked::at(alloc, old, port)?;
-    let new = Asked::at(alloc, new, port)?;
-    Ok(are_apart(&old, &new))
+    differ_there(alloc, asked, old, new, port)
 }
 
 /// Whether two tables decide a command differently at some port.
-fn differ(alloc: Global, old: &Policy, new: &Policy) -> Result<bool, AllocError>
+fn differ_somewhere(
+    alloc: Global,
+    asked: &Region,
+    old: &Policy,
+    new: &Policy,
+) -> Result<bool, AllocError>
     ensures { IfOk result (λ differ. MatchBool differ
-        (DifferSomewhere old.now new.now) (AreSameAtAll old.now new.now)) }
+        (DifferSomewhere asked.now old.now new.now) (AreSameAtAll asked.now old.now new.now)) }
 {
     unnamed_ports_are_alike();
     for port in 0..PORTS {
-        if differ_at(alloc, old, new, port)? {
+        if differ_at(alloc, asked, old, new, port)? {
             return Ok(true);
         }
     }
     Ok(false)
 }
 
+/// Whether two tables decide a command differently that is asked of.
+fn differ(
+    alloc: Global,
+    asked: &Region,
+    port: Option<u8>,
+    old: &Policy,
+    new: &Policy,
+) -> Result<bool, AllocError>
+    ensures { IfOk result (λ differ. MatchBool differ
+        (DifferFor asked.now port old.now new.now) (AreSameFor asked.now port old.now new.now)) }
+{
+    match port {
+        Some(port) => differ_there(alloc, asked, old, new, port),
+        None => differ_somewhere(alloc, asked, old, new),
+    }
+}
+
+/// The lines of the rows of a comparison, with packets for a node with these windows.
+fn plain_text(alloc: Global, windows: &Windows, rows: &[Row]) -> Result<String, AllocError> {
+    let mut text = String::new(alloc);
+    for row in rows {
+        plain::add_difference(&mut text, alloc, windows, row)?;
+    }
+    Ok(text)
+}
+
+/// A table of these rows in markdown.
+fn markdown_text(alloc: Global, windows: &Windows, rows: &[Row]) -> Result<String, AllocError> {
+    let mut text = String::from_str(alloc, markdown::COMPARISON_HEAD)?;
+    for row in rows {
+        markdown::add_difference(&mut text, alloc, windows, row)?;
+    }
+    Ok(text)
+}
+
+/// Prints the rows of a comparison of two tables.
+fn print_rows<'a, W: Write>(
+    alloc: Global,
+    words: &CompareWords,
+    asked: &Region,
+    old: &Policy,
+    new: &Policy,
+    out: &mut W,
+) -> Result<(), Halt<'a>>
+    ensures done { OnOk result
+        (TellsRows asked.now words.now.asking.port old.now new.now (W.contents out.old) (W.contents out.new)) }
+    ensures stops { IfErr result (StopsBy (λ fault. fault ≡ NoMemory)) }
+    ensures quiet { IfErr result (StopsBy (λ _. W.contents out.new ≡ W.contents out.old)) }
+{
+    let places = places(alloc, &words.windows)?;
+    let rows = difference_rows(alloc, asked, words.asking.port, old, new, places.as_slice())?;
+    let text = if words.markdown {
+        markdown_text(alloc, &words.windows, rows.as_slice())?
+    } else {
+        plain_text(alloc, &words.windows, rows.as_slice())?
+    };
+    print_text(out, text.as_str())?;
+    Ok(())
+}
+
 /// Prints that two tables are the same, or where they differ.
 fn print_comparison<'a, W: Write>(
     alloc: Global,
-    markdown: bool,
+    words: &CompareWords,
     old: &Policy,
     new: &Policy,
     out: &mut W,
 ) -> Result<Status, Halt<'a>>
     ensures done { IfOk result
-        (TellsTables markdown old.now new.now (W.contents out.old) (W.contents out.new)) }
+        (TellsTables words.now.asking old.now new.now (W.contents out.old) (W.contents out.new)) }
     ensures stops { IfErr result (StopsBy (λ fault. fault ≡ NoMemory)) }
     ensures quiet { IfErr result (StopsBy (λ _. W.contents out.new ≡ W.contents out.old)) }
 {
-    if !differ(alloc, old, new)? {
+    let asked = words.asking.region();
+    if !differ(alloc, &asked, words.asking.port, old, new)? {
         writeln!(out, "same")?;
         return Ok(Status::Done);
     }
-    let text = comparison_text(alloc, markdown, old, new)?;
-    print_text(out, text.as_str())?;
+    print_rows(alloc, words, &asked, old, new, out)?;
     Ok(Status::Failed)
 }
 
 /// Prints `same` where the tables of two files decide all commands alike at each port, and else where they differ: with `--markdown`
-/// as a table in markdown. Where a table has a fault that is printed, with the name of its file and the place, and the job failed.
+/// as a table in markdown. Where a line of a table has a fault that is printed, with the name of its file and the place, and the job failed.
 ///
 /// Faults are found in this order: the file of the old table (`CannotRead`, also where it is not UTF-8), that table, the file
 /// of the new one, and that table.
@@ -224,7 +321,7 @@ pub fn compare_file<'a, F: Files, W: Write>(
     ensures quiet { IfErr result (StopsBy (λ _. W.contents out.new ≡ W.contents out.old)) }
 {
     match tables(alloc, words, files) {
-        Ok((old, new)) => print_comparison(alloc, words.markdown, &old, &new, out),
+        Ok((old, new)) => print_comparison(alloc, words, &old, &new, out),
         Err(NoPair::Ended(fault)) => Err(Halt::Ended(fault)),
         Err(NoPair::BadTable(name, fault)) => {
             print_named_fault(out, name, &fault)?;

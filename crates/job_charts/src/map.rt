@@ -1,6 +1,6 @@
 //! The job `map`.
 
-ghost use Rattle.std.specs.Prelude.{◌≡◌, IfErr, IfOk, false, None, Some, string_bytes};
+ghost use Rattle.std.specs.Prelude.{◌≡◌, IfErr, IfOk, OnOk, false, None, Some, string_bytes};
 ghost use Rattle.clap.specs.Simple.{app_of};
 ghost use Rattle.clap.specs.declared.builder.command.Command.TheViews.{out-Command as fields_of};
 ghost use Rattle.clap.specs.Walk.{rows_of};
@@ -8,11 +8,14 @@ ghost use Rattle.clap.specs.Matches.{found_of};
 ghost use Rattle.job_parts.specs.Inputs.{AreInputs, input};
 ghost use Rattle.job_parts.specs.declared.inputs.Content.TheVariants.{Table};
 ghost use Rattle.job_parts.specs.Stops.{StopsBy};
+ghost use Rattle.job_charts.specs.Asking.{is_all};
 ghost use Rattle.job_charts.specs.MapJob.{NamesMap, RefusesMap, map_app};
-ghost use Rattle.job_charts.specs.MappedFile.{IsNotMapped, MapsFile};
+ghost use Rattle.job_charts.specs.MappedFile.{IsNotMapped, MapsFile, NotesFor, TellsMap};
+ghost use Rattle.job_parts.specs.declared.faults.Fault.TheVariants.{NoMemory};
 
-use crate::mapped::map_text;
-use crate::styles::Style;
+use crate::asking::{Asking, asking_arguments, asking_of};
+use crate::{markdown, notes, plain};
+use chart_lines::{Note, Row, map_rows, never_matching};
 use clap::{ArgMatches, Command};
 use job_decide::tables::{NoTable, print_table_fault, text_and_table};
 use job_parts::arguments::{file, flag, is_set, name_of};
@@ -24,6 +27,7 @@ use job_parts::stops::Halt;
 use job_parts::storage::Files;
 use job_parts::usage::UsageFault;
 use machine::MapSizes;
+use policy::Policy;
 use std::alloc::{AllocError, Global};
 use std::io::Write;
 
@@ -36,6 +40,10 @@ pub struct MapWords {
     pub sizes: MapSizes,
     /// Whether the map is printed in markdown.
     pub markdown: bool,
+    /// Whether nothing is said of the table beside the map.
+    pub is_quiet: bool,
+    /// The commands that are asked of.
+    pub asking: Asking,
 }
 
 impl MapWords {
@@ -47,7 +55,7 @@ impl MapWords {
     }
 }
 
-/// `map TABLE [--maps LIST] [--markdown]`.
+/// `map TABLE [--maps LIST] [--markdown] [--quiet]`, and the options of the commands that are asked of.
 pub fn map_command<'a>(alloc: Global) -> Result<Command<'a>, AllocError>
     ensures shape { IfOk result (λ c. app_of c ≡ map_app) }
     ensures local { IfOk result (λ c. (fields_of c).has_globals ≡ false) }
@@ -57,11 +65,15 @@ pub fn map_command<'a>(alloc: Global) -> Result<Command<'a>, AllocError>
     let maps = maps_option(alloc);
     let help = "Print a table in markdown, with the comments of the rules";
     let markdown = flag(alloc, "markdown", help);
-    Command::new(alloc, "map")
+    let help = "Say nothing of the table on standard error";
+    let quiet = flag(alloc, "quiet", help);
+    let command = Command::new(alloc, "map")
         .about("Prints what a policy table decides, for each command one line")
         .arg(table)?
         .arg(maps)?
-        .arg(markdown)
+        .arg(markdown)?
+        .arg(quiet)?;
+    asking_arguments(alloc, command)
 }
 
 /// The words of `map` with these matches.
@@ -72,16 +84,87 @@ pub fn map_job(alloc: Global, found: &ArgMatches) -> Result<MapWords, UsageFault
     let table = name_of(alloc, found, "table")?;
     let sizes = sizes_of(alloc, found)?;
     let markdown = is_set(found, "markdown");
+    let is_quiet = is_set(found, "quiet");
+    let asking = asking_of(alloc, found)?;
     Ok(MapWords {
         table,
         sizes,
         markdown,
+        is_quiet,
+        asking,
     })
 }
 
+/// The lines of a map: those of its rows, and behind them one for each rule that never matches.
+fn plain_text(alloc: Global, rows: &[Row], never: &[Note]) -> Result<String, AllocError> {
+    let mut text = String::new(alloc);
+    for row in rows {
+        plain::add_map_row(&mut text, alloc, row)?;
+    }
+    for note in never {
+        notes::add_note(&mut text, note)?;
+    }
+    Ok(text)
+}
+
+/// A map in markdown: a table of its rows, with the comments of the lines of the text that writes the table, and behind it a paragraph
+/// for each rule that never matches.
+fn markdown_text(
+    alloc: Global,
+    written: &str,
+    rows: &[Row],
+    never: &[Note],
+) -> Result<String, AllocError> {
+    let comments = markdown::comments_of(alloc, written)?;
+    let mut text = String::from_str(alloc, markdown::MAP_HEAD)?;
+    for row in rows {
+        markdown::add_map_row(&mut text, alloc, comments.as_slice(), row)?;
+    }
+    for note in never {
+        text.push_str("\n")?;
+        notes::add_note(&mut text, note)?;
+    }
+    Ok(text)
+}
+
+/// The rules that never match, where all commands are asked of.
+fn notes_of(alloc: Global, asking: &Asking, policy: &Policy) -> Result<Vec<Note>, AllocError>
+    ensures { IfOk result (λ notes. NotesFor (is_all asking.now) policy.now notes.items) }
+{
+    if asking.is_all() {
+        never_matching(alloc, policy)
+    } else {
+        Ok(Vec::new(alloc))
+    }
+}
+
+/// Prints what a table decides that this text writes.
+fn print_map<'a, W: Write>(
+    alloc: Global,
+    words: &MapWords,
+    written: &str,
+    policy: &Policy,
+    out: &mut W,
+) -> Result<(), Halt<'a>>
+    ensures done { OnOk result (TellsMap words.now.asking policy.now (W.contents out.old) (W.contents out.new)) }
+    ensures stops { IfErr result (StopsBy (λ fault. fault ≡ NoMemory)) }
+    ensures quiet { IfErr result (StopsBy (λ _. W.contents out.new ≡ W.contents out.old)) }
+{
+    let rows = map_rows(alloc, &words.asking.region(), words.asking.port, policy)?;
+    let never = notes_of(alloc, &words.asking, policy)?;
+    let text = if words.markdown {
+        markdown_text(alloc, written, rows.as_slice(), never.as_slice())?
+    } else {
+        plain_text(alloc, rows.as_slice(), never.as_slice())?
+    };
+    print_text(out, text.as_str())?;
+    Ok(())
+}
+
 /// Prints what the table of a file decides: at each port each command lies in one line alone, with the rules that the table asks
-/// there; and behind these the rules that never match. With `--markdown` the lines are a table in markdown, with the comments of the
-/// rules. Where the table has a fault that is printed, with its place, and the job failed.
+/// there; and behind these the rules that match at no port. With `--markdown` the lines are a table in markdown, with the comments of
+/// the rules. Where a line of the table has a fault that is printed, with its place, and the job failed. A table that is too long for
+/// a program is drawn.
 ///
 /// Faults are found in this order: the file (`CannotRead`, also where it is not UTF-8), and the table.
 pub fn map_file<'a, F: Files, W: Write>(
@@ -97,9 +180,7 @@ pub fn map_file<'a, F: Files, W: Write>(
 {
     match text_and_table(alloc, files, words.table.as_str(), &words.sizes) {
         Ok((written, policy)) => {
-            let how = Style::of(alloc, words.markdown, written.as_str())?;
-            let text = map_text(alloc, &how, &policy)?;
-            print_text(out, text.as_str())?;
+            print_map(alloc, words, written.as_str(), &policy, out)?;
             Ok(Status::Done)
         }
         Err(NoTable::Ended(fault)) => Err(Halt::Ended(fault)),
@@ -108,4 +189,14 @@ pub fn map_file<'a, F: Files, W: Write>(
             Ok(Status::Failed)
         }
     }
+}
+
+/// The lines of `map` for the rules of a table that match at no port.
+pub fn notes_text(alloc: Global, policy: &Policy) -> Result<String, AllocError> {
+    let never = never_matching(alloc, policy)?;
+    let mut text = String::new(alloc);
+    for note in never.as_slice() {
+        notes::add_note(&mut text, note)?;
+    }
+    Ok(text)
 }

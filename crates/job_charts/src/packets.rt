@@ -1,19 +1,18 @@
 //! The packet of a point.
 
-ghost use Rattle.std.specs.Prelude.{◌≡◌, ◌++◌, ◌+◌, ◌-◌, IfOk, OnOk, replicate, string_bytes};
+ghost use Rattle.std.specs.Prelude.{◌≡◌, ◌+◌, ◌-◌, IfOk, replicate};
 ghost use Rattle.charts.specs.Witness.{instruction_for, length_for};
 ghost use Rattle.initiator.specs.Writing.{AreFields, command_with};
 ghost use Rattle.regions.specs.Points.{HasCommand};
 ghost use Rattle.rmap.specs.Command.{bytes_of, command_of, discard_of};
 ghost use Rattle.rmap.specs.Checks.{header_check};
-ghost use Rattle.job_charts.specs.Packets.{PacketsHavePoints, body_for, command_at, count_at, fields_at, is_brought, packet_at, packet_text};
-ghost use Rattle.job_decide.specs.DecideJob.{own_windows};
+ghost use Rattle.job_charts.specs.Packets.{PacketsHavePoints, body_for, command_at, count_at, fields_at, is_brought, packet_at};
 
+use chart_lines::Change;
+use differences::Repeats;
 use initiator::{CommandFields, body_with_crc, write_command};
-use job_config::own_node::NODE_ADDRESS;
-use job_decide::node_windows::own_windows;
 use regions::Point;
-use rmap::{Command, Instruction, Kind, header_check};
+use rmap::{Command, Instruction, Kind, Windows, header_check};
 use spw::{End, Packet};
 use std::alloc::{AllocError, Global};
 
@@ -47,14 +46,14 @@ fn count_at(point: &Point) -> u32
     length_for(point.kind, point.last - point.first + 1)
 }
 
-/// The fields of the command of a point.
-fn fields_at<'a>(point: &Point) -> CommandFields<'a>
+/// The fields of the command of a point, for a target of this address.
+fn fields_at<'a>(target: u8, point: &Point) -> CommandFields<'a>
     requires { HasCommand point.now }
     ensures fields { AreFields result }
-    ensures same { (body : _) → command_with result body ≡ command_with (fields_at point.now) body }
+    ensures same { (body : _) → command_with result body ≡ command_with (fields_at target point.now) body }
 {
     CommandFields {
-        target: NODE_ADDRESS,
+        target,
         instruction: instruction_for(point.kind),
         key: point.key,
         reply_address: &[],
@@ -87,22 +86,22 @@ fn body_for(alloc: Global, kind: Kind, count: u32) -> Result<Vec<u8>, AllocError
 }
 
 /// The bytes of the command of a point.
-fn bytes_at(alloc: Global, point: &Point) -> Result<Vec<u8>, AllocError>
+fn bytes_at(alloc: Global, target: u8, point: &Point) -> Result<Vec<u8>, AllocError>
     requires { HasCommand point.now }
-    ensures { IfOk result (λ bytes. bytes.items ≡ bytes_of (command_at point.now)) }
+    ensures { IfOk result (λ bytes. bytes.items ≡ bytes_of (command_at target point.now)) }
 {
-    let fields = fields_at(point);
+    let fields = fields_at(target, point);
     let body = body_for(alloc, point.kind, count_at(point))?;
     write_command(alloc, &fields, body.as_slice())
 }
 
-/// The packet of a point: its command, for the node of the jobs, with zeros as data.
+/// The packet of a point: its command, for a target of this address, with zeros as data.
 #[tactic(auto, unfolding(crate::specs::Packets::packet_at))]
-pub fn packet_at(alloc: Global, point: &Point) -> Result<Packet, AllocError>
+fn packet_at(alloc: Global, target: u8, point: &Point) -> Result<Packet, AllocError>
     requires { HasCommand point.now }
-    ensures { IfOk result (λ packet. packet ≡ packet_at point.now) }
+    ensures { IfOk result (λ packet. packet ≡ packet_at target point.now) }
 {
-    let bytes = bytes_at(alloc, point)?;
+    let bytes = bytes_at(alloc, target, point)?;
     match Packet::new(bytes, End::Eop) {
         Ok(packet) => Ok(packet),
         // Memory alone can be refused to it: a command has at most 4,096 bytes of data.
@@ -110,23 +109,46 @@ pub fn packet_at(alloc: Global, point: &Point) -> Result<Packet, AllocError>
     }
 }
 
-/// Whether the node of the jobs brings a packet to its table: whether it is a command that no check of its header answers.
-pub fn is_brought(packet: &Packet) -> bool
-    ensures { result ≡ is_brought packet.now }
+/// Whether a node with these windows brings a packet to its table: whether it is a command that no check of its header answers.
+fn is_brought(windows: &Windows, packet: &Packet) -> bool
+    ensures { result ≡ is_brought windows.now packet.now }
 {
     match Command::view(packet) {
-        Ok(command) => header_check(&command, &own_windows()).is_ok(),
+        Ok(command) => header_check(&command, windows).is_ok(),
         Err(_) => false,
     }
 }
 
-/// Adds the line of a whole packet behind its port, without its end.
-pub fn add_packet(text: &mut String, alloc: Global, packet: &Packet) -> Result<(), AllocError>
-    ensures { OnOk result
-        (string_bytes text.new ≡ string_bytes text.old ++ packet_text packet.now) }
+/// Adds how often the packet has to come: nothing for once.
+fn add_repeats(text: &mut String, repeats: Repeats) -> Result<(), AllocError> {
+    match repeats {
+        Repeats::Times(1) => Ok(()),
+        Repeats::Times(times) => write!(text, " times {times}"),
+        Repeats::Draws => text.push_str(" draws"),
+    }
+}
+
+/// Adds the line of the packet of a row of these ports, for a node with these windows: at the first of them, whether that node brings
+/// it to its table, and how often it has to come.
+pub fn add_packet(
+    text: &mut String,
+    alloc: Global,
+    windows: &Windows,
+    ports: &[u8],
+    change: &Change,
+) -> Result<(), AllocError>
+    requires { HasCommand change.now.point }
 {
+    let packet = packet_at(alloc, windows.node_address(), &change.point)?;
     let digits = hex::encode_upper(alloc, packet.bytes())?;
-    write!(text, " {digits} EOP")
+    if let Some(port) = ports.first() {
+        write!(text, "{port}")?;
+    }
+    write!(text, " {digits} EOP")?;
+    if !is_brought(windows, &packet) {
+        text.push_str(" unasked")?;
+    }
+    add_repeats(text, change.repeats)
 }
 
 /// A law and no work: the packet of a point is a command that has this point.

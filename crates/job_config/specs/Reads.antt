@@ -12,7 +12,7 @@ use Rattle.bpf.specs.Program.{IsProgram, image_bytes}
 use Rattle.job_parts.specs.Factory.{factory}
 use Rattle.job_parts.specs.Reading.{TextUnread}
 use Rattle.job_parts.specs.declared.faults.Fault.{Fault}
-use Rattle.job_parts.specs.declared.faults.Fault.TheVariants.{CannotRead, CannotWrite, NoMemory, BadText, BadTable}
+use Rattle.job_parts.specs.declared.faults.Fault.TheVariants.{CannotRead, CannotWrite, NoMemory, Damaged, BadText, BadTable}
 use Rattle.job_parts.specs.declared.faults.Fault.TheVariants.{BadImage, Refused, BadNode, BadLine}
 use Rattle.job_parts.specs.declared.node_codes.NodeCode.{NodeCode}
 use Rattle.job_parts.specs.declared.node_codes.NodeCode.TheVariants.{Text}
@@ -51,6 +51,7 @@ Ends (Some code) NoMemory = Unit {0}
 Ends (Some code) (BadNode told place) = told ≡ code
 Ends (Some code) (CannotRead name) = ⊥
 Ends (Some code) (CannotWrite name) = ⊥
+Ends (Some code) Damaged = ⊥
 Ends (Some code) (BadText fault) = ⊥
 Ends (Some code) (BadTable fault) = ⊥
 Ends (Some code) (BadImage fault) = ⊥

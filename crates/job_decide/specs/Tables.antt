@@ -3,7 +3,7 @@ use Rattle.std.specs.Prelude.{◌≡◌, ◌-◌, ℕ, List, [], ◌∷◌, ◌+
 use Rattle.std.specs.Io.KnownBytes.{Appends}
 use Rattle.std.specs.Str.{IsUtf8}
 use Rattle.machine.specs.Sizes.{Maps}
-use Rattle.policy_table.specs.Policies.{IsPolicyFault, PolicyValue, WritesPolicy, policy_fault}
+use Rattle.policy_table.specs.Policies.{IsDrawnFault, IsPolicyFault, PolicyValue, WritesPolicy, drawn_fault, policy_fault}
 use Rattle.policy_table.specs.TextFaults.{text_fault_of, text_fault_text}
 use Rattle.policy_table.specs.declared.text_faults.TextFault.{TextFault}
 use Rattle.spw.specs.Line.{lines_of}
@@ -37,12 +37,20 @@ module _ {S : Type 0} (reads : Reads S) where
     pub is_table : WritesPolicy (lines_of text) policy
     pub faultless : policy_fault sizes policy ≡ None
 
-  -- the file was read, and gave the UTF-8 of this text, which is such a table
+  -- the file was read, and gave the UTF-8 of this text, which is a table whose lines have no fault for these maps
   pub record HoldsText (before : S) (name : List ℕ) (sizes : Maps) (text : List ℕ) (policy : PolicyValue) (after : S) : Type 0 where
     pub read : reads before name (Some text) after
     pub utf8 : IsUtf8 text
     pub is_table : WritesPolicy (lines_of text) policy
-    pub faultless : policy_fault sizes policy ≡ None
+    pub faultless : drawn_fault sizes policy ≡ None
+
+  -- it gave some text that is such a table
+  pub record HoldsDrawn (before : S) (name : List ℕ) (sizes : Maps) (policy : PolicyValue) (after : S) : Type 0 where
+    pub text : List ℕ
+    pub read : reads before name (Some text) after
+    pub utf8 : IsUtf8 text
+    pub is_table : WritesPolicy (lines_of text) policy
+    pub faultless : drawn_fault sizes policy ≡ None
 
   -- the file was read, and gave the UTF-8 of a table whose first fault for these maps is this one, with its place
   pub record HoldsBadTable (before : S) (name : List ℕ) (sizes : Maps) (fault : TextFault) (after : S) : Type 0 where
@@ -55,3 +63,15 @@ module _ {S : Type 0} (reads : Reads S) where
   abbrev pub IsNoTable : (before : S) (name : List ℕ) (sizes : Maps) (after : S) → NoTable → Type 0
   IsNoTable before name sizes after (Ended fault) = TextUnread reads before name after fault
   IsNoTable before name sizes after (BadTable fault) = HoldsBadTable before name sizes fault after
+
+  -- the file was read, and gave the UTF-8 of a table whose lines have this first fault for these maps, with its place
+  pub record HoldsBadDrawn (before : S) (name : List ℕ) (sizes : Maps) (fault : TextFault) (after : S) : Type 0 where
+    pub text : List ℕ
+    pub read : reads before name (Some text) after
+    pub utf8 : IsUtf8 text
+    pub is_fault : IsDrawnFault sizes (lines_of text) fault
+
+  -- why there is no table to be drawn: the file cannot be read or is not UTF-8, or a line of its table has a fault
+  abbrev pub IsNotDrawn : (before : S) (name : List ℕ) (sizes : Maps) (after : S) → NoTable → Type 0
+  IsNotDrawn before name sizes after (Ended fault) = TextUnread reads before name after fault
+  IsNotDrawn before name sizes after (BadTable fault) = HoldsBadDrawn before name sizes fault after

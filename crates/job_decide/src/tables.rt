@@ -1,7 +1,7 @@
 //! The tables of files.
 
 ghost use Rattle.std.specs.Prelude.{◌≡◌, IfErr, IfOk, OnOk, string_bytes};
-ghost use Rattle.job_decide.specs.Tables.{HoldsTable, HoldsText, IsNoTable, TellsTableFault, line_of};
+ghost use Rattle.job_decide.specs.Tables.{HoldsDrawn, HoldsTable, HoldsText, IsNoTable, IsNotDrawn, TellsTableFault, line_of};
 ghost use Rattle.job_decide.specs.declared.tables.NoTable.TheVariants.{BadTable, Ended};
 ghost use Rattle.job_parts.specs.declared.faults.Fault.TheVariants.{NoMemory};
 
@@ -61,7 +61,8 @@ pub fn table_in<'a, F: Files>(
     Ok(Policy::read_for(alloc, text.as_str(), sizes)?)
 }
 
-/// The text of the file of this name, and the table that it writes, as [`table_in`] gives it.
+/// The text of the file of this name, and the table of either version that it writes, whose lines have no fault for maps of these sizes.
+/// It may be too long for a program.
 pub fn text_and_table<'a, F: Files>(
     alloc: Global,
     files: &mut F,
@@ -70,11 +71,26 @@ pub fn text_and_table<'a, F: Files>(
 ) -> Result<(String, Policy), NoTable<'a>>
     ensures table { IfOk result (λ made. HoldsText F.reads files.old name.now sizes.now
         (string_bytes made.0) made.1 files.new) }
-    ensures none { IfErr result (IsNoTable F.reads files.old name.now sizes.now files.new) }
+    ensures none { IfErr result (IsNotDrawn F.reads files.old name.now sizes.now files.new) }
 {
     let text = text_in(alloc, files, name)?;
-    let table = Policy::read_for(alloc, text.as_str(), sizes)?;
+    let table = Policy::read_drawn(alloc, text.as_str(), sizes)?;
     Ok((text, table))
+}
+
+/// The table in the file of this name, as [`text_and_table`] gives it.
+pub fn drawn_in<'a, F: Files>(
+    alloc: Global,
+    files: &mut F,
+    name: &'a str,
+    sizes: &MapSizes,
+) -> Result<Policy, NoTable<'a>>
+    ensures table { IfOk result (λ table.
+        HoldsDrawn F.reads files.old name.now sizes.now table files.new) }
+    ensures none { IfErr result (IsNotDrawn F.reads files.old name.now sizes.now files.new) }
+{
+    let text = text_in(alloc, files, name)?;
+    Ok(Policy::read_drawn(alloc, text.as_str(), sizes)?)
 }
 
 /// Prints the fault of a table: its line, and a line with its place.

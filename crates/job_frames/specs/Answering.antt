@@ -1,10 +1,12 @@
 -- A node behind a link: what it makes of what comes with a frame.
 use Rattle.std.specs.Prelude.{◌≡◌, ℕ, ◌+◌, ◌-◌, ◌^◌, min, Bool, true, false, List, [], ◌∷◌, ◌++◌, length, Option, Some}
 use Rattle.spw.specs.Cargo.{Cargo}
+use Rattle.scrub.specs.Guarded.{is_damaged}
 use Rattle.scrub.specs.declared.answer.Answer.{Answer}
 use Rattle.frames.specs.Streams.{reply_frame_of}
 use Rattle.frames.specs.declared.came.Came.{Came}
 use Rattle.frames.specs.declared.came.Came.TheVariants.{Whole, Piece, Time, Other}
+use Rattle.job_nodes.specs.JobNode.{alone}
 use Rattle.job_nodes.specs.LiveNodes.{LiveNodeValue, ServesLive}
 use Rattle.job_live.specs.Answering.{MakesRoom}
 use Rattle.job_live.specs.Journals.{Turns, journals_text}
@@ -61,18 +63,20 @@ AreNone reply text = (reply ≡ []) × (text ≡ [])
 abbrev pub IsFaultDue : (frame : ℕ) → (reply text : List ℕ) → Type 0
 IsFaultDue frame reply text = (reply ≡ []) × (text ≡ fault_line frame ForBridge)
 
--- what is due for what came with a frame: for a packet what it comes to, for a frame that is for a bridge its fault, and for a
--- time code or bytes of a packet that goes on nothing
+-- what is due for what came with a frame: for a packet, if the node is not damaged, what it comes to, for a frame that is for a
+-- bridge its fault, and for a time code or bytes of a packet that goes on nothing
 abbrev pub Answers : AnsweringValue → Came → (reply text : List ℕ) → AnsweringValue → Type 0
 Answers before (Whole packet) reply text after =
     AnswersPacket before.at_once packet (next_number before) before.node after.node reply text
     × (after.at_once ≡ before.at_once) × (after.count ≡ next_number before) × (after.is_open ≡ false)
+    × (is_damaged before.node.guard (alone before.node.node) ≡ false)
 Answers before Piece reply text after = AreNone reply text × (after ≡ one_more before true)
 Answers before Time reply text after = AreNone reply text × (after ≡ one_more before before.is_open)
 Answers before (Other code) reply text after =
     IsFaultDue (next_number before) reply text × (after ≡ one_more before before.is_open)
 
--- memory was refused: only a packet and a frame for a bridge ask for some, and then all is as before the frame
+-- memory was refused, which only a packet and a frame for a bridge ask for, or a packet came to a node that is damaged: all is as
+-- before the frame
 abbrev pub Refuses : AnsweringValue → Came → AnsweringValue → Type 0
 Refuses before (Whole packet) after = after ≡ before
 Refuses before Piece after = ⊥

@@ -3,13 +3,14 @@ use Rattle.std.specs.Prelude.{◌≡◌, ◌⊎◌, ◌&&◌, ℕ, Bool, true, f
 use Rattle.std.specs.Borrow.{Bor}
 use Rattle.job_parts.specs.Files.{Reads}
 use Rattle.job_parts.specs.declared.faults.Fault.{Fault}
-use Rattle.job_parts.specs.declared.faults.Fault.TheVariants.{CannotRead, NoMemory}
+use Rattle.job_parts.specs.declared.faults.Fault.TheVariants.{CannotRead, Damaged, NoMemory}
 use Rattle.job_parts.specs.declared.status.Status.{Status}
 use Rattle.job_parts.specs.declared.status.Status.TheVariants.{Done, Failed, Misused}
 use Rattle.job_parts.specs.declared.stops.Halt.{Halt}
 use Rattle.job_parts.specs.declared.stops.Halt.TheVariants.{Ended, Unwritten}
 use Rattle.job_parts.specs.declared.stops.WriteFault.{WriteFault}
-use Rattle.job_nodes.specs.JobNode.{JobNodeValue}
+use Rattle.scrub.specs.Guarded.{is_damaged}
+use Rattle.job_nodes.specs.JobNode.{JobNodeValue, alone}
 use Rattle.job_nodes.specs.Sources.{HoldsNoNode, HoldsNode}
 use Rattle.job_live.specs.LiveJob.{HoldsLive, TellsLast}
 use Rattle.job_nodes.specs.LiveNodes.{LiveNodeValue}
@@ -30,12 +31,17 @@ status_of false has_lost = Failed
 abbrev pub ends_whole : Reading → AnsweringValue → Bool
 ends_whole read behind = is_between read && not behind.is_open
 
--- why the job stops where a link was cut off so
-abbrev pub IsHalt : Broken → Halt → Type 0
-IsHalt Unread halt = (file : Bor (List ℕ)) × (halt ≡ Ended (CannotRead file)) × (file.now ≡ codes "-")
-IsHalt NoRoom halt = halt ≡ Ended NoMemory
-IsHalt Unsent halt = halt ≡ Unwritten (record {})
-IsHalt Untold halt = halt ≡ Unwritten (record {})
+-- why a packet was not served, by whether the node is damaged
+abbrev pub refusal_of : (damaged : Bool) → Fault
+refusal_of true = Damaged
+refusal_of false = NoMemory
+
+-- why the job stops where a link was cut off so, by whether the node is damaged
+abbrev pub IsHalt : (damaged : Bool) → Broken → Halt → Type 0
+IsHalt damaged Unread halt = (file : Bor (List ℕ)) × (halt ≡ Ended (CannotRead file)) × (file.now ≡ codes "-")
+IsHalt damaged NoRoom halt = halt ≡ Ended (refusal_of damaged)
+IsHalt damaged Unsent halt = halt ≡ Unwritten (record {})
+IsHalt damaged Untold halt = halt ≡ Unwritten (record {})
 
 -- what is due where no more bytes come was told, or could not be told, and the node is then this
 pub record TellsEnd {L : Type 0} (told : Moves L) (is_whole : Bool) (behind : AnsweringValue) (after : LiveNodeValue) (last to : L) : Type 0
@@ -76,7 +82,7 @@ module _ {L : Type 0} (came sent told : Moves L) (unread : Fails L) (unsent unto
     pub behind : AnsweringValue
     pub cut : IsCutOff Answers Refuses came sent told unread unsent untold why start read before behind from to
     pub left : after ≡ behind.node
-    pub is_halt : IsHalt why halt
+    pub is_halt : IsHalt (is_damaged after.guard (alone after.node)) why halt
 
   -- a link was cut off, or only what is due at its end was not told
   abbrev pub StopsLink : (start read : Reading) (before : AnsweringValue) (after : LiveNodeValue) (from to : L) → Halt → Type 0

@@ -4,7 +4,9 @@ ghost use Rattle.std.specs.Prelude.{◌≡◌, ◌≤◌, ◌+◌, ◌++◌, [],
 ghost use Rattle.std.specs.Vec.{vec_capacity, vec_len};
 ghost use Rattle.job_frames.specs.Answering.{Answers, AnswersPacket, AreNone, EndsWith, IsFaultDue, Refuses, cut_text, due_of, first_answering};
 ghost use Rattle.job_frames.specs.Told.{discard_words, served_text};
+ghost use Rattle.job_nodes.specs.JobNode.{alone};
 ghost use Rattle.job_parts.specs.Printed.{Prints};
+ghost use Rattle.scrub.specs.Guarded.{is_damaged};
 
 use crate::faults::print_fault;
 use frames::{Came, FrameFault, HEAD_LENGTH, reply_head};
@@ -172,6 +174,13 @@ impl Answering {
         self.is_open
     }
 
+    /// Whether packets have scrubs before them, and the sizes of the node are others than they were: then no packet may be served.
+    pub fn is_damaged(&self) -> bool
+        ensures { result ≡ is_damaged self.now.node.guard (alone self.now.node.node) }
+    {
+        self.node.is_damaged()
+    }
+
     /// What is told where no more bytes come: that the input ended within a frame or a packet, if it did, and the entries
     /// of the journal, which is handed out. Only memory can be refused to it, and then the node is as before.
     pub fn end(&mut self, is_whole: bool) -> io::Result<Vec<u8>>
@@ -194,6 +203,9 @@ impl Target for Answering {
         let frame = self.count.saturating_add(1);
         match came {
             Came::Whole(packet) => {
+                if self.node.is_damaged() {
+                    return Err(Cannot);
+                }
                 let at_once = self.at_once;
                 let Ok(due) = answer_packet(self.alloc, &mut self.node, at_once, packet, frame)
                 else {

@@ -2,7 +2,7 @@
 
 ghost use Rattle.std.specs.Prelude.{◌≡◌, IfErr, IfOk, OnOk};
 ghost use Rattle.job_live.specs.LiveJob.{TellsLast};
-ghost use Rattle.job_frames.specs.FramesJob.{AreReady, HoldsFrames, HoldsLink, IsEndUntold, IsFramesUnsent, IsHalt, IsNoLink, IsUnheld, LivesFrames, StopsLink, TellsEnd, status_of};
+ghost use Rattle.job_frames.specs.FramesJob.{AreReady, HoldsFrames, HoldsLink, IsEndUntold, IsFramesUnsent, IsHalt, IsNoLink, IsUnheld, LivesFrames, StopsLink, TellsEnd, refusal_of, status_of};
 
 use crate::answering::Answering;
 use frames::FrameReader;
@@ -37,13 +37,23 @@ fn ends_of_link<'a, F: Files>(
     Ok((reader, Answering::new(alloc, live, words.entries)))
 }
 
-/// Why the job stops, where a link was cut off so.
-fn halt_of<'a>(why: Broken) -> Halt<'a>
-    ensures { IsHalt why result }
+/// Why a packet was not served, by whether the node is damaged.
+fn refusal_of<'a>(is_damaged: bool) -> Fault<'a>
+    ensures { result ≡ refusal_of is_damaged }
+{
+    if is_damaged {
+        return Fault::Damaged;
+    }
+    Fault::NoMemory
+}
+
+/// Why the job stops, where a link was cut off so, by whether the node is damaged.
+fn halt_of<'a>(why: Broken, is_damaged: bool) -> Halt<'a>
+    ensures { IsHalt is_damaged why result }
 {
     match why {
         Broken::Unread => Halt::Ended(Fault::CannotRead(STANDARD_INPUT)),
-        Broken::NoMemory => Halt::Ended(Fault::NoMemory),
+        Broken::NoMemory => Halt::Ended(refusal_of(is_damaged)),
         Broken::Unsent | Broken::Untold => Halt::Unwritten(WriteFault),
     }
 }
@@ -80,7 +90,7 @@ fn hold_to_end<'a, L: Link>(
         reader.old reader.new answering.old answering.new.node link.old link.new) }
 {
     if let Err(why) = hold(reader, answering, link) {
-        return Err(halt_of(why));
+        return Err(halt_of(why, answering.is_damaged()));
     }
     let is_whole = reader.is_between() && !answering.is_open();
     tell_end(answering, is_whole, link)?;
@@ -135,7 +145,8 @@ fn status_of(is_whole: bool, has_lost: bool) -> Status
 /// `Failed` where the input ended within a frame or a packet, a text was lost, or a fault cut the link off, else `Done`. The
 /// reply to a packet is sent before other bytes are asked for, and what is told of it after that.
 ///
-/// What cuts it off is told last: what [`node_from`] refuses, `CannotRead` where bytes cannot be read, `NoMemory`.
+/// What cuts it off is told last: what [`node_from`] refuses, `CannotRead` where bytes cannot be read, `NoMemory`, and
+/// `Damaged` if packets have scrubs before them and the sizes of the node are others than they were.
 ///
 /// `WriteFault` where a reply could not be sent, or a text be told; nothing is sent or told after that. Where a node's file is
 /// bad, `place` is then where, for the user.

@@ -1,5 +1,5 @@
 -- If entries are handed out at once, no journal has one between two lines.
-use Rattle.std.proofs.Common.{◌≡◌, ◌≤◌, ℕ, zero, suc, Bool, true, false, List, [], ◌∷◌, length, Option, None, Some, set, refl, sym, ap, subst, ◌∙◌, arith}
+use Rattle.std.proofs.Common.{◌≡◌, ◌≤◌, ℕ, zero, suc, Bool, true, false, List, [], ◌∷◌, length, Option, None, Some, set, refl, sym, ap, subst, ◌∙◌, arith, inl, inr}
 use Rattle.std.specs.Prelude.{◌==◌, nat_lt, slice_get, if◌then◌else◌}
 use Rattle.std.proofs.lemmas.List.{length-append, length-set}
 use Rattle.bank.specs.Records.{BankValue, JournalValue, JudgedValue, ShareValue, after_record, after_rotation, after_setting, answer_of, entry_of, has_room}
@@ -13,13 +13,16 @@ use Rattle.single_node.specs.Nodes.{SingleNodeValue, slot_in}
 use Rattle.single_node.specs.Serving.{ServesInto}
 use Rattle.single_node.specs.declared.served.Told.{Told}
 use Rattle.scrub.specs.Counting.{is_due, renewed}
-use Rattle.scrub.specs.Guarded.{AnswersBy, AnswersOn, ScrubsFirst, ScrubsSlot, Watched, beside, counting_on}
+use Rattle.scrub.specs.Guarded.{AnswersBy, AnswersOn, IsRemade, Looks, LooksAt, Repairs, RepairsUnless, Scrubs, ScrubsFirst, ScrubsSlot, Watched, beside, counting_on}
 use Rattle.scrub.specs.Kept.{is_withheld}
 use Rattle.scrub.specs.declared.answer.Answer.{Answer}
 use Rattle.scrub.specs.declared.guard.Found.{Found}
 use Rattle.scrub.specs.declared.guard.Guard.{Guard}
 use Rattle.scrub.specs.declared.guard.Health.{Health}
 use Rattle.scrub.specs.declared.guard.Health.TheVariants.{Whole, Mended, Unmended, Withdrawn}
+use Rattle.scrub.specs.declared.guard.Scrubbed.{Scrubbed}
+use Rattle.scrub.specs.declared.guard.Seen.{Seen}
+use Rattle.scrub.specs.declared.kept.SlotSums.{SlotSums}
 use Rattle.job_nodes.specs.JobNode.{HandsOut, JobNodeValue, SetsBytes, alone, emptied, journal_of, with_held}
 use Rattle.job_nodes.specs.LiveNodes.{LiveNodeValue, ServesLive, TakesLine, with_node}
 use Rattle.job_nodes.specs.declared.live_node.Taken.{Taken}
@@ -102,11 +105,44 @@ into_short told size port packet before after room left s none =
     answered_short told.served packet (parts before.banks before.programs) (parts after.banks after.programs) own.holder own.left s.reply own.answered none
 
 -- a scrub leaves the banks
+looked_banks : (whole : Bool) (slot : ℕ) (before after : Watched) → LooksAt whole slot before after → after.node.banks ≡ before.node.banks
+looked_banks true slot before after s = ap (λ (g : Watched). g.node.banks) s.after_is
+looked_banks false slot before after s = ap (λ (g : Watched). g.node.banks) s.same
+
+looks_banks : (seen : Seen) (before after : Watched) → Looks seen before after → after.node.banks ≡ before.node.banks
+looks_banks seen before after s =
+    looked_banks seen.window 3 s.three after s.window ∙ looked_banks seen.rmws 2 s.two s.three s.rmws
+    ∙ looked_banks seen.writes 1 s.one s.two s.writes ∙ looked_banks seen.reads 0 before s.one s.reads
+
+remade_banks : (slot : ℕ) (image : List ℕ) (kept : SlotSums) (before after : Watched) → IsRemade slot image kept before after → after.node.banks ≡ before.node.banks
+remade_banks slot image kept before after is = elim is [
+  | inl own ↦ ap (λ (g : Watched). g.node.banks) own.again.after_is
+  | inr lent ↦ ap (λ (g : Watched). g.node.banks) lent.after_is
+]
+
+repaired_banks : (health : Health) (slot : ℕ) (image : List ℕ) (before after : Watched) → Repairs health slot image before after
+    → after.node.banks ≡ before.node.banks
+repaired_banks Whole slot image before after s = absurd s
+repaired_banks Mended slot image before after s = remade_banks slot image s.kept before after s.remade
+repaired_banks Withdrawn slot image before after s = ap (λ (g : Watched). g.node.banks) s.after_is
+repaired_banks Unmended slot image before after s = ap (λ (g : Watched). g.node.banks) s.after_is
+
+unless_banks : (whole : Bool) (health : Health) (slot : ℕ) (image : List ℕ) (before after : Watched) → RepairsUnless whole health slot image before after
+    → after.node.banks ≡ before.node.banks
+unless_banks true health slot image before after s = ap (λ (g : Watched). g.node.banks) s.1
+unless_banks false health slot image before after s = repaired_banks health slot image before after s
+
+scrubs_banks : (told : Scrubbed) (image : List ℕ) (before after : Watched) → Scrubs told image before after → after.node.banks ≡ before.node.banks
+scrubs_banks told image before after s =
+    unless_banks s.seen.window told.window 3 image s.three after s.window ∙ unless_banks s.seen.rmws told.rmws 2 image s.two s.three s.rmws
+    ∙ unless_banks s.seen.writes told.writes 1 image s.one s.two s.writes ∙ unless_banks s.seen.reads told.reads 0 image s.between s.one s.reads
+    ∙ looks_banks s.seen before s.between s.looks
+
 slot_banks : (health : Health) (slot : ℕ) (before after : Watched) → ScrubsSlot health slot before after → after.node.banks ≡ before.node.banks
-slot_banks Whole slot before after s = ap (λ (g : Watched). g.node.banks) s.after_is
-slot_banks Mended slot before after s = ap (λ (g : Watched). g.node.banks) s.remade.after_is
-slot_banks Withdrawn slot before after s = ap (λ (g : Watched). g.node.banks) s.after_is
-slot_banks Unmended slot before after s = ap (λ (g : Watched). g.node.banks) s.after_is
+slot_banks health slot before after s = elim s [
+  | inl whole ↦ ap (λ (g : Watched). g.node.banks) whole.1.after_is
+  | inr all ↦ scrubs_banks all.told [] all.between after all.scrubs ∙ ap (λ (g : Watched). g.node.banks) all.found.same
+]
 
 first_banks : (due : Bool) (slot : Option ℕ) (found : Option Found) (before after : Watched) → ScrubsFirst due slot found before after
     → after.node.banks ≡ before.node.banks

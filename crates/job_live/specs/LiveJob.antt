@@ -4,14 +4,15 @@ use Rattle.std.specs.Borrow.{Bor}
 use Rattle.job_parts.specs.Files.{Reads}
 use Rattle.job_parts.specs.Printed.{fault_line}
 use Rattle.job_parts.specs.declared.faults.Fault.{Fault}
-use Rattle.job_parts.specs.declared.faults.Fault.TheVariants.{CannotRead, NoMemory}
+use Rattle.job_parts.specs.declared.faults.Fault.TheVariants.{CannotRead, Damaged, NoMemory}
 use Rattle.job_parts.specs.declared.status.Status.{Status}
 use Rattle.job_parts.specs.declared.status.Status.TheVariants.{Done, Failed, Misused}
 use Rattle.job_parts.specs.declared.stops.Halt.{Halt}
 use Rattle.job_parts.specs.declared.stops.Halt.TheVariants.{Ended, Unwritten}
 use Rattle.job_parts.specs.declared.stops.WriteFault.{WriteFault}
-use Rattle.job_nodes.specs.JobNode.{JobNodeValue}
+use Rattle.job_nodes.specs.JobNode.{JobNodeValue, alone}
 use Rattle.job_nodes.specs.Sources.{HoldsNoNode, HoldsNode}
+use Rattle.scrub.specs.Guarded.{is_damaged}
 use Rattle.job_live.specs.Answering.{Answers, TellsJournal}
 use Rattle.job_nodes.specs.LiveNodes.{IsLive, LiveNodeValue}
 use Rattle.job_live.specs.Talking.{Comes, Misses, Sends}
@@ -28,6 +29,7 @@ module _ {T : Type 0} (came : Comes T) (sent : Sends T) (at_once : Bool) where
       pub heard : T
       pub text : List ℕ
       pub line_came : came start (Some line) heard
+      pub whole : is_damaged before.guard (alone before.node) ≡ false
       pub answered : Answers at_once line number before after (Some []) (Some text) is_bad
       pub left : sent heard text stop
 
@@ -92,15 +94,17 @@ module _ {T : Type 0} (came : Comes T) (sent unsent : Sends T) (missed : Misses 
     pub text : List ℕ
     pub is_bad : Bool
     pub line_came : came start (Some line) heard
+    pub whole : is_damaged before.guard (alone before.node) ≡ false
     pub answered : Answers at_once line number before after (Some []) (Some text) is_bad
     pub lost : unsent heard text stop
 
-  -- why no line of this number was answered: it could not be read; it came, but memory was refused to its answer, of which
-  -- nothing was sent, and the node is as before; or its answer could not be sent
+  -- why no line of this number was answered: it could not be read; it came, but the node is damaged, or memory was refused to its
+  -- answer, of which nothing was sent, and the node is as before; or its answer could not be sent
   abbrev pub IsUnanswered : (number : ℕ) (before after : LiveNodeValue) (start stop : T) → Halt → Type 0
   IsUnanswered number before after start stop (Ended fault) =
       (after ≡ before)
       × (((file : Bor (List ℕ)) × (fault ≡ CannotRead file) × (file.now ≡ codes "-") × missed start stop)
+      ⊎ ((fault ≡ Damaged) × (is_damaged before.guard (alone before.node) ≡ true) × (line : List ℕ) × came start (Some line) stop)
       ⊎ ((fault ≡ NoMemory) × (line : List ℕ) × came start (Some line) stop))
   IsUnanswered number before after start stop (Unwritten refused) = LosesAnswer number before after start stop
 

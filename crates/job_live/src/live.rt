@@ -42,6 +42,9 @@ fn exchange<'a, T: Talk>(
     if !is_given {
         return Ok(None);
     }
+    if node.is_damaged() {
+        return Err(Halt::Ended(Fault::Damaged));
+    }
     let mut text = Vec::new(alloc);
     let Ok(is_bad) = answer(alloc, node, at_once, line.as_str(), number, &mut text) else {
         return Err(Halt::Ended(Fault::NoMemory));
@@ -151,7 +154,8 @@ fn status_of(some_bad: bool) -> Status
 /// was bad, or a fault cut the talk off, else `Done`. What is due for a line is sent before the next is asked for. Where no
 /// more lines come the journal is handed out, and its entries are sent last.
 ///
-/// What cuts it off is told last: what [`node_from`] refuses, `CannotRead` where a line cannot be read, `NoMemory`.
+/// What cuts it off is told last: what [`node_from`] refuses, `CannotRead` where a line cannot be read, `NoMemory`, and `Damaged` if
+/// packets have scrubs before them and the sizes of the node are others than they were.
 ///
 /// `WriteFault` where a text could not be sent; nothing is sent after that. Where a node's file is bad, `place` is then where,
 /// for the user.

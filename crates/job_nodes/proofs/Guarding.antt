@@ -1,14 +1,17 @@
 -- What a packet leaves of a node whose programs may be scrubbed as it was.
-use Rattle.std.proofs.Common.{◌≡◌, ◌∙◌, ℕ, Bool, false, true, List, Option, None, Some, length, refl, sym, ap, subst}
+use Rattle.std.proofs.Common.{◌≡◌, ◌∙◌, inl, inr, ℕ, Bool, false, true, List, [], Option, None, Some, length, refl, sym, ap, subst}
 use Rattle.std.proofs.lemmas.List.{length-set}
 use Rattle.node_parts.specs.Passes.{PassValue}
-use Rattle.scrub.specs.Guarded.{AnswersBy, AnswersOn, GuardedValue, ScrubsFirst, ScrubsSlot, ServesGuarded, Watched, beside, counting_on}
+use Rattle.scrub.specs.Guarded.{AnswersBy, AnswersOn, GuardedValue, IsRemade, Looks, LooksAt, Repairs, RepairsUnless, Scrubs, ScrubsFirst, ScrubsSlot, ServesGuarded, Watched, beside, counting_on}
 use Rattle.scrub.specs.Counting.{counted, renewed}
 use Rattle.scrub.specs.declared.answer.Answer.{Answer}
 use Rattle.scrub.specs.declared.guard.Found.{Found}
 use Rattle.scrub.specs.declared.guard.Guard.{Guard}
 use Rattle.scrub.specs.declared.guard.Health.{Health}
 use Rattle.scrub.specs.declared.guard.Health.TheVariants.{Whole, Mended, Unmended, Withdrawn}
+use Rattle.scrub.specs.declared.guard.Scrubbed.{Scrubbed}
+use Rattle.scrub.specs.declared.guard.Seen.{Seen}
+use Rattle.scrub.specs.declared.kept.SlotSums.{SlotSums}
 use Rattle.single_node.specs.Nodes.{SingleNodeValue}
 use Rattle.single_node.specs.Serving.{ServesInto}
 use Rattle.single_node.specs.declared.served.Told.{Told}
@@ -24,11 +27,50 @@ AreSame before after = (after.node.banks ≡ before.node.banks) × (after.node.p
 same_all : (before after : Watched) → after ≡ before → AreSame before after
 same_all before after is = (ap (λ (g : Watched). g.node.banks) is, ap (λ (g : Watched). g.node.passes) is)
 
+same_then : (one two three : Watched) → AreSame one two → AreSame two three → AreSame one three
+same_then one two three first second = (second.0 ∙ first.0, second.1 ∙ first.1)
+
+-- a look at a slot
+looked_same : (whole : Bool) (slot : ℕ) (before after : Watched) → LooksAt whole slot before after → AreSame before after
+looked_same true slot before after s = (ap (λ (g : Watched). g.node.banks) s.after_is, ap (λ (g : Watched). g.node.passes) s.after_is)
+looked_same false slot before after s = same_all before after s.same
+
+looks_same : (seen : Seen) (before after : Watched) → Looks seen before after → AreSame before after
+looks_same seen before after s =
+    let two : AreSame before s.two = same_then before s.one s.two (looked_same seen.reads 0 before s.one s.reads) (looked_same seen.writes 1 s.one s.two s.writes) in
+    let three : AreSame before s.three = same_then before s.two s.three two (looked_same seen.rmws 2 s.two s.three s.rmws) in
+    same_then before s.three after three (looked_same seen.window 3 s.three after s.window)
+
+-- what becomes of a slot that was found damaged
+remade_same : (slot : ℕ) (image : List ℕ) (kept : SlotSums) (before after : Watched) → IsRemade slot image kept before after → AreSame before after
+remade_same slot image kept before after is = elim is [
+  | inl own ↦ (ap (λ (g : Watched). g.node.banks) own.again.after_is, ap (λ (g : Watched). g.node.passes) own.again.after_is)
+  | inr lent ↦ (ap (λ (g : Watched). g.node.banks) lent.after_is, ap (λ (g : Watched). g.node.passes) lent.after_is)
+]
+
+repaired_same : (health : Health) (slot : ℕ) (image : List ℕ) (before after : Watched) → Repairs health slot image before after → AreSame before after
+repaired_same Whole slot image before after s = absurd s
+repaired_same Mended slot image before after s = remade_same slot image s.kept before after s.remade
+repaired_same Withdrawn slot image before after s = (ap (λ (g : Watched). g.node.banks) s.after_is, ap (λ (g : Watched). g.node.passes) s.after_is)
+repaired_same Unmended slot image before after s = (ap (λ (g : Watched). g.node.banks) s.after_is, ap (λ (g : Watched). g.node.passes) s.after_is)
+
+unless_same : (whole : Bool) (health : Health) (slot : ℕ) (image : List ℕ) (before after : Watched) → RepairsUnless whole health slot image before after → AreSame before after
+unless_same true health slot image before after s = same_all before after s.1
+unless_same false health slot image before after s = repaired_same health slot image before after s
+
+-- a scrub
+scrubs_same : (told : Scrubbed) (image : List ℕ) (before after : Watched) → Scrubs told image before after → AreSame before after
+scrubs_same told image before after s =
+    let one : AreSame before s.one = same_then before s.between s.one (looks_same s.seen before s.between s.looks) (unless_same s.seen.reads told.reads 0 image s.between s.one s.reads) in
+    let two : AreSame before s.two = same_then before s.one s.two one (unless_same s.seen.writes told.writes 1 image s.one s.two s.writes) in
+    let three : AreSame before s.three = same_then before s.two s.three two (unless_same s.seen.rmws told.rmws 2 image s.two s.three s.rmws) in
+    same_then before s.three after three (unless_same s.seen.window told.window 3 image s.three after s.window)
+
 scrubbed_same : (health : Health) (slot : ℕ) (before after : Watched) → ScrubsSlot health slot before after → AreSame before after
-scrubbed_same Whole slot before after s = (ap (λ (g : Watched). g.node.banks) s.after_is, ap (λ (g : Watched). g.node.passes) s.after_is)
-scrubbed_same Mended slot before after s = (ap (λ (g : Watched). g.node.banks) s.remade.after_is, ap (λ (g : Watched). g.node.passes) s.remade.after_is)
-scrubbed_same Withdrawn slot before after s = (ap (λ (g : Watched). g.node.banks) s.after_is, ap (λ (g : Watched). g.node.passes) s.after_is)
-scrubbed_same Unmended slot before after s = (ap (λ (g : Watched). g.node.banks) s.after_is, ap (λ (g : Watched). g.node.passes) s.after_is)
+scrubbed_same health slot before after s = elim s [
+  | inl whole ↦ looked_same true slot before after whole.1
+  | inr all ↦ same_then before all.between after (same_all before all.between all.found.same) (scrubs_same all.told [] all.between after all.scrubs)
+]
 
 first_same : (due : Bool) (slot : Option ℕ) (found : Option Found) (before after : Watched) → ScrubsFirst due slot found before after → AreSame before after
 first_same false slot found before after s = same_all (counting_on before (counted before.guard.counting)) after s.same

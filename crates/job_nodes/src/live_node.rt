@@ -3,6 +3,7 @@
 ghost use Rattle.std.specs.Prelude.{◌≡◌, ◌<◌, ◌≤◌, IfErr, IfOk, IfSome, length, slice_get, true};
 ghost use Rattle.job_nodes.specs.JobNode.{FeedsLine, HandsOut, RefusesLine, SetsBytes, alone, journal_of};
 ghost use Rattle.job_nodes.specs.LiveNodes.{IsLive, KeepsGuard, ServesLive, TakesLine};
+ghost use Rattle.scrub.specs.Guarded.{is_damaged};
 ghost use Rattle.single_node.specs.Nodes.{covers_in};
 
 use crate::feeds::Feeds;
@@ -75,6 +76,13 @@ impl LiveNode {
         ensures some { 1 ≤ result }
     {
         self.guarded.node.ports()
+    }
+
+    /// Whether packets have scrubs before them, and the sizes of the node are others than they were: then no packet may be served.
+    pub fn is_damaged(&self) -> bool
+        ensures { result ≡ is_damaged self.now.guard (alone self.now.node) }
+    {
+        self.guarded.is_damaged()
     }
 
     /// What becomes of a packet that comes in at a port, and what a scrub before it found, if one was due; the reply that is due

@@ -61,11 +61,7 @@ fn filled(alloc: Global, own: &OwnNode, program: Accepted) -> Result<JobNode, Al
 
 /// Publishes these programs in order, each for its slot. Conditions: programs that were accepted for the maps of the node, slots of 0
 /// to 3, and a generation for each.
-fn publish_all(
-    alloc: Global,
-    node: &mut JobNode,
-    publishes: &[(u8, Accepted)],
-) -> Result<(), AllocError>
+fn publish_all(node: &mut JobNode, publishes: &[(u8, Accepted)]) -> Result<(), AllocError>
     requires some { 0 < length node.old.programs }
     requires each { All (IsPublish (sizes_of node.old.programs)) publishes.now }
     requires few { length node.old.programs + length publishes.now ≤ 4294967296 }
@@ -74,7 +70,7 @@ fn publish_all(
     for index in 0..publishes.len() {
         let publish = &publishes[index];
         let program = publish.1.copy()?;
-        node.publish(alloc, publish.0, program)?;
+        node.publish(publish.0, program)?;
     }
     Ok(())
 }
@@ -95,7 +91,7 @@ impl JobNode {
             → IfOk result (IsFresh ports program) }
     {
         let mut node = filled(alloc, own, program)?;
-        publish_all(alloc, &mut node, own.publishes())?;
+        publish_all(&mut node, own.publishes())?;
         Ok(node)
     }
 

@@ -175,18 +175,13 @@ impl JobNode {
 
     /// Publishes a program for a slot, without a command that asks for it ([`SingleNode::publish`]). The conditions are a slot
     /// below 4, a program that was accepted for the maps of the node, and a generation that is left.
-    pub(crate) fn publish(
-        &mut self,
-        alloc: Global,
-        slot: u8,
-        program: Accepted,
-    ) -> Result<(), AllocError>
+    pub(crate) fn publish(&mut self, slot: u8, program: Accepted) -> Result<(), AllocError>
         requires publish { IsPublish (sizes_of self.old.programs) (slot, program) }
         requires few { length self.old.programs < 4294967296 }
         ensures { OnOk result (self.new ≡ with_publish self.old slot program) }
     {
         // Memory alone can be refused to it: a generation is left.
-        match self.node.publish(alloc, slot, program) {
+        match self.node.publish(slot, program) {
             Ok(_generation) => Ok(()),
             Err(_) => Err(AllocError),
         }

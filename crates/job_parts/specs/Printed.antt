@@ -10,7 +10,7 @@ use Rattle.policy_table.specs.Codes.{policy_fault_code}
 use Rattle.job_parts.specs.BadLines.{bad_line_number}
 use Rattle.job_parts.specs.NodeCodes.{node_code}
 use Rattle.job_parts.specs.declared.faults.Fault.{Fault}
-use Rattle.job_parts.specs.declared.faults.Fault.TheVariants.{CannotRead, CannotWrite, NoMemory, BadText, BadTable}
+use Rattle.job_parts.specs.declared.faults.Fault.TheVariants.{CannotRead, CannotWrite, NoMemory, Damaged, BadText, BadTable}
 use Rattle.job_parts.specs.declared.faults.Fault.TheVariants.{BadImage, Refused, BadNode, BadLine}
 
 -- the line was printed, behind what the writer holds where that is known
@@ -38,6 +38,7 @@ abbrev pub fault_text : Fault → List ℕ
 fault_text (CannotRead name) = codes "cannot read " ++ name.now
 fault_text (CannotWrite name) = codes "cannot write " ++ name.now
 fault_text NoMemory = codes "no memory"
+fault_text Damaged = codes "damaged"
 fault_text (BadText fault) =
     codes "asm fault " ++ decimal (asm_code fault.code) ++ codes " line " ++ decimal fault.line
 fault_text (BadTable fault) = codes "policy fault " ++ decimal (policy_fault_code fault)

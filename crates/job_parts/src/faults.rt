@@ -22,6 +22,8 @@ pub enum Fault<'a> {
     CannotWrite(&'a str),
     /// Memory was refused where that has no number of its own.
     NoMemory,
+    /// What a node is made of is no more as it was when it was opened: memory changed.
+    Damaged,
     /// A text is no image.
     BadText(AsmFault),
     /// A policy table is bad, or memory was refused to it or to its image.
@@ -94,6 +96,7 @@ impl fmt::Display for Fault<'_> {
             Fault::CannotRead(name) => write!(f, "cannot read {name}"),
             Fault::CannotWrite(name) => write!(f, "cannot write {name}"),
             Fault::NoMemory => write!(f, "no memory"),
+            Fault::Damaged => write!(f, "damaged"),
             Fault::BadText(fault) => {
                 let code = fault.number();
                 let line = fault.line;

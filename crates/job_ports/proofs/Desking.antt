@@ -22,7 +22,6 @@ use Rattle.target.specs.Nodes.{informed_pass, informed_passes}
 use Rattle.target.specs.Passes.{PortPass, port_pass, unasked}
 use Rattle.job_config.specs.OwnNodes.{IsConfigOf, OwnNodeValue}
 use Rattle.job_ports.specs.Queues.{AreFilled, IsDesk, IsDeskWorker, IsOwnDesk, new_worker}
-use Rattle.job_ports.specs.Quotas.{IsSeated}
 use Rattle.job_ports.specs.Starts.{SetsAll, first_standing}
 
 worker_at : {J : Type 0} (known : List Link) (passes : List PortPass) (serves : List ServePass) (k : ℕ) (pass : PortPass) (serve : ServePass) (worker : Worker J SinkValue) → k < length passes → k < length serves

@@ -16,7 +16,7 @@ use Rattle.job_parts.specs.declared.stops.Halt.{Halt}
 use Rattle.job_parts.specs.declared.stops.Halt.TheVariants.{Ended, Unwritten}
 use Rattle.job_parts.specs.declared.stops.LineEnd.{LineEnd}
 use Rattle.job_parts.specs.declared.stops.LineEnd.TheVariants.{Bad, NoMemory as OutOfMemory}
-use Rattle.job_ports.specs.Arrivals.{AreByPort, AreNotTaken, AreTaken, Arrive, ArriveAll, Bring, HasRoom, IsAdded, IsBadHere, IsNotTakenIn, IsOneTooMany, TakesIn, count_at, listed, packets_at}
+use Rattle.job_ports.specs.Arrivals.{AreByPort, AreNotTaken, Arrive, ArriveAll, Bring, HasRoom, IsAdded, IsBadHere, IsNotTakenIn, IsOneTooMany, TakesIn, count_at, listed, packets_at}
 use Rattle.job_ports.specs.Arriving.{Arrives, IsRefused}
 use Rattle.job_ports.specs.declared.arriving.Arriving.{Arriving}
 

@@ -1,5 +1,5 @@
 -- The lines that bring packets, one after the other.
-use Rattle.std.specs.Prelude.{◌≡◌, ℕ, List, Option}
+use Rattle.std.specs.Prelude.{◌≡◌, ℕ, List}
 use Rattle.job_parts.specs.Turns.{Sees, SeesEnd}
 use Rattle.job_ports.specs.Arrivals.{IsNotTakenIn, TakesIn}
 use Rattle.job_ports.specs.declared.arriving.Arriving.{Arriving}

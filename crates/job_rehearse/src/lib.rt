@@ -2,12 +2,12 @@
 #![tactic(auto)]
 
 pub mod again;
-mod askers;
+pub mod askers;
 mod judging;
 pub mod loaders;
 mod loads;
 pub mod open_ports;
-mod passing;
+pub mod passing;
 pub mod places;
 mod policies;
 pub mod rehearse;

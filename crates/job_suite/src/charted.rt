@@ -23,9 +23,10 @@ impl Chart {
     /// The chart of a table, for these slots.
     pub fn of(alloc: Global, policy: &Policy, slots: &[u8]) -> Result<Chart, AllocError> {
         let table = policy.table_at(alloc, 0)?;
+        let all = Region::whole();
         Ok(Chart {
             slots: Vec::from_slice(alloc, slots)?,
-            lines: map_cells(alloc, table.rules())?,
+            lines: map_cells(alloc, &all, table.rules())?,
         })
     }
 

@@ -9,11 +9,11 @@ use Rattle.job_texts.specs.declared.policies.PolicyWords.{PolicyWords}
 use Rattle.job_parts.specs.declared.usage.UsageFault.{UsageFault}
 use Rattle.job_parts.specs.declared.usage.UsageFault.TheVariants.{Parse, BadOption, Memory}
 
--- `policy FILE OUT [--maps LIST] [--final]`
+-- `policy FILE OUT [--maps LIST] [--final] [--quiet]`
 abbrev pub policy_app : App
 policy_app =
-    with_rule (with_rule (with_rule (with_rule (new_app (codes "policy")) (file_rule (codes "table"))) (file_rule (codes "image")))
-    (option_rule (codes "maps"))) (flag_rule (codes "final"))
+    with_rule (with_rule (with_rule (with_rule (with_rule (new_app (codes "policy")) (file_rule (codes "table")))
+    (file_rule (codes "image"))) (option_rule (codes "maps"))) (flag_rule (codes "final"))) (flag_rule (codes "quiet"))
 
 -- the words are those of policy with these matches
 abbrev pub NamesPolicy : List Row → PolicyWords → Type 0
@@ -21,6 +21,7 @@ NamesPolicy rows words = (first_of (codes "table") rows ≡ Some (string_bytes w
     × (first_of (codes "image") rows ≡ Some (string_bytes words.image))
     × GivesSizes (first_of (codes "maps") rows) words.sizes
     × (words.is_final ≡ is_set (codes "final") rows)
+    × (words.is_quiet ≡ is_set (codes "quiet") rows)
 
 -- matches without one of the files, or with a list of maps that is none
 abbrev pub SpoilsPolicy : List Row → Type 0

@@ -38,6 +38,8 @@ pub struct PolicyWords {
     pub sizes: MapSizes,
     /// Whether the table is meant to be the last, so that nothing is said if it lets nobody load another.
     pub is_final: bool,
+    /// Whether nothing is said of a table that was compiled.
+    pub is_quiet: bool,
 }
 
 impl PolicyWords {
@@ -51,7 +53,7 @@ impl PolicyWords {
     }
 }
 
-/// `policy FILE OUT [--maps LIST] [--final]`.
+/// `policy FILE OUT [--maps LIST] [--final] [--quiet]`.
 pub fn policy_command<'a>(alloc: Global) -> Result<Command<'a>, AllocError>
     ensures shape { IfOk result (λ c. app_of c ≡ policy_app) }
     ensures local { IfOk result (λ c. (fields_of c).has_globals ≡ false) }
@@ -63,12 +65,15 @@ pub fn policy_command<'a>(alloc: Global) -> Result<Command<'a>, AllocError>
     let maps = maps_option(alloc);
     let help = "The table may let nobody load another: nothing is said of it";
     let last = flag(alloc, "final", help);
+    let help = "Say nothing of the table on standard error";
+    let quiet = flag(alloc, "quiet", help);
     Command::new(alloc, "policy")
         .about("Compiles a policy table to a BPF image")
         .arg(table)?
         .arg(image)?
         .arg(maps)?
-        .arg(last)
+        .arg(last)?
+        .arg(quiet)
 }
 
 /// The words of `policy` with these matches.
@@ -80,11 +85,13 @@ pub fn policy_job(alloc: Global, found: &ArgMatches) -> Result<PolicyWords, Usag
     let image = name_of(alloc, found, "image")?;
     let sizes = sizes_of(alloc, found)?;
     let is_final = is_set(found, "final");
+    let is_quiet = is_set(found, "quiet");
     Ok(PolicyWords {
         table,
         image,
         sizes,
         is_final,
+        is_quiet,
     })
 }
 

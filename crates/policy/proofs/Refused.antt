@@ -1,5 +1,5 @@
 -- What the faults of tables tell.
-use Rattle.std.specs.Prelude.{All, ◌&&◌, ◌-◌, ◌*◌, ◌^◌, min, nat_lt, if◌then◌else◌, option_map, slice_index}
+use Rattle.std.specs.Prelude.{All, ◌&&◌, ◌||◌, ◌+◌, ◌-◌, ◌*◌, is_some, nat_lt, if◌then◌else◌, option_map, slice_index}
 use Rattle.std.specs.Option.{option_or}
 use Rattle.std.proofs.Common.{◌≡◌, ◌≤◌, ℕ, suc, Bool, true, false, List, [], ◌∷◌, length, Option, Some, None, refl, ap, subst, arith}
 use Rattle.std.proofs.lemmas.Bool.{ltb-false, ltb-true, and_parts}
@@ -15,23 +15,21 @@ use Rattle.policy.specs.Compiled.{HasCells, HasPortCells, IsCompileFault, IsOfCo
 use Rattle.policy.specs.Meant.{HaveCells}
 use Rattle.policy_table.specs.FirstFault.{compile_fault, has_cell, quota_fault, rule_fault, rules_fault}
 use Rattle.policy_table.specs.Meaning.{agrees, decision, draw, holds, ruled}
-use Rattle.policy_table.specs.Policies.{PolicyValue, is_before, length_told, policy_fault, reversed_told, rule_told, rules_told}
+use Rattle.policy_table.specs.Policies.{PolicyValue, is_before, is_reversed, policy_fault, reversed_told, rule_told, rules_told}
 use Rattle.policy_table.specs.Ports.{at_every_port, on_lines, rules_at}
-use Rattle.policy_table.specs.Slots.{asks_ports, field_slots, kind_slots, quota_slots, rules_slots, table_slots}
-use Rattle.policy_table.specs.TableFaults.{rule_fault_at}
+use Rattle.policy_table.specs.Room.{first_port_slots, is_too_much, length_from, length_told, room_after, room_left, room_taken, too_many, whole_room}
+use Rattle.policy_table.specs.Slots.{asks_ports, field_slots, kind_slots, port_rule_slots, port_slots, quota_slots, rules_slots, table_slots}
 use Rattle.policy_table.specs.declared.faults.PolicyFault.{PolicyFault}
 use Rattle.policy_table.specs.declared.faults.PolicyFault.TheVariants.{TooLong, BadRange, Memory, NoCell, BadLine}
 use Rattle.policy_table.specs.declared.port_rules.PortRule.{PortRule}
+use Rattle.policy_table.specs.declared.room.Room.{Room}
 use Rattle.policy_table.specs.declared.rules.Quota.{Quota}
 use Rattle.policy_table.specs.declared.rules.Rule.{Rule}
 use Rattle.policy_table.specs.declared.rules.RuleKind.{RuleKind}
 use Rattle.policy_table.specs.declared.rules.RuleKind.TheVariants.{Read, Write, Rmw, Any}
 use Rattle.policy_table.specs.declared.statement_faults.StatementFault.TheVariants as lines
-use Rattle.policy_table.specs.declared.table_faults.TableFault.{TableFault}
-use Rattle.policy_table.specs.declared.table_faults.TableFault.TheVariants as plain
 use Rattle.policy_table.specs.declared.text_faults.TextFault.{TextFault}
-use Rattle.policy_table.specs.declared.text_faults.TextFault.TheVariants.{Plain, Line}
-use Rattle.policy_table.specs.declared.text_faults.TextFault.TheVariants as texts
+use Rattle.policy_table.specs.declared.text_faults.TextFault.TheVariants.{Line}
 use Rattle.policy_table.specs.declared.versions.TableVersion.{TableVersion}
 use Rattle.policy_table.specs.declared.versions.TableVersion.TheVariants.{One, Two}
 
@@ -194,45 +192,30 @@ second_none : (f g : Option TextFault) → option_or f g ≡ None → g ≡ None
 second_none None g is = is
 second_none (Some fault) g is = cc
 
-plain_none : (o : Option TableFault) → option_map Plain o ≡ None → o ≡ None
-plain_none None is = refl
-plain_none (Some fault) is = cc
-
-cell_none : (line : ℕ) (o : Option PolicyFault) → option_map (λ _. plain.NoCell line) o ≡ None → o ≡ None
-cell_none line None is = refl
-cell_none line (Some fault) is = cc
-
 line_none : (line : ℕ) (named : Bool) (o : Option PolicyFault) → option_map (λ _. Line line (lines.NoCell named)) o ≡ None → o ≡ None
 line_none line named None is = refl
 line_none line named (Some fault) is = cc
 
-place_behind : (t : Bool) (fault : TableFault) (rest : Option TableFault) → (if t then Some fault else rest) ≡ None → rest ≡ None
-place_behind true fault rest is = cc
-place_behind false fault rest is = is
-
-rule_there : (version : TableVersion) (sizes : Maps) (own : PortRule) → rule_told version sizes own ≡ None → quota_fault sizes own.rule.quota ≡ None
-rule_there One sizes own none =
-    cell_none own.line (quota_fault sizes own.rule.quota)
-    (place_behind (nat_lt own.rule.high own.rule.low) (plain.BadRange own.line) (option_map (λ _. plain.NoCell own.line) (quota_fault sizes own.rule.quota)) (plain_none (rule_fault_at sizes own.line own.rule) none))
-rule_there Two sizes own none =
+rule_there : (sizes : Maps) (own : PortRule) → rule_told sizes own ≡ None → quota_fault sizes own.rule.quota ≡ None
+rule_there sizes own none =
     line_none own.line own.named (quota_fault sizes own.rule.quota)
-    (fault_behind (nat_lt own.rule.high own.rule.low) (Line own.line lines.RuleOrder) (option_map (λ _. Line own.line (lines.NoCell own.named)) (quota_fault sizes own.rule.quota)) none)
+    (fault_behind (is_reversed own) (Line own.line lines.RuleOrder) (option_map (λ _. Line own.line (lines.NoCell own.named)) (quota_fault sizes own.rule.quota)) none)
 
 range_behind : (reversed : Option ℕ) (line : ℕ) (rest : Option TextFault) → (if is_before reversed line then reversed_told reversed else rest) ≡ None → rest ≡ None
 range_behind None line rest is = is
 range_behind (Some at) line rest is = fault_behind (nat_lt at line) (Line at lines.RangeOrder) rest is
 
-told_have : (version : TableVersion) (sizes : Maps) (reversed : Option ℕ) (rules : List PortRule) → rules_told version sizes reversed rules ≡ None → HaveCells sizes rules
-told_have version sizes reversed [] none = All-nil (IsThere sizes)
-told_have version sizes reversed (own ∷ rules) none =
-    let both : option_or (rule_told version sizes own) (rules_told version sizes reversed rules) ≡ None = range_behind reversed own.line (option_or (rule_told version sizes own) (rules_told version sizes reversed rules)) none in
-    All-cons (IsThere sizes) own rules (rule_there version sizes own (first_none (rule_told version sizes own) (rules_told version sizes reversed rules) both))
-    (told_have version sizes reversed rules (second_none (rule_told version sizes own) (rules_told version sizes reversed rules) both))
+told_have : (sizes : Maps) (reversed : Option ℕ) (rules : List PortRule) → rules_told sizes reversed rules ≡ None → HaveCells sizes rules
+told_have sizes reversed [] none = All-nil (IsThere sizes)
+told_have sizes reversed (own ∷ rules) none =
+    let both : option_or (rule_told sizes own) (rules_told sizes reversed rules) ≡ None = range_behind reversed own.line (option_or (rule_told sizes own) (rules_told sizes reversed rules)) none in
+    All-cons (IsThere sizes) own rules (rule_there sizes own (first_none (rule_told sizes own) (rules_told sizes reversed rules) both))
+    (told_have sizes reversed rules (second_none (rule_told sizes own) (rules_told sizes reversed rules) both))
 
 -- the cells of a table without a fault are there
 pub policy_cells : (sizes : Maps) (policy : PolicyValue) → policy_fault sizes policy ≡ None → HaveCells sizes policy.rules
 policy_cells sizes policy none =
-    told_have policy.version sizes policy.reversed policy.rules (second_none (length_told policy.version policy.rules) (rules_told policy.version sizes policy.reversed policy.rules) none)
+    told_have sizes policy.reversed policy.rules (second_none (length_told policy.version policy.rules) (rules_told sizes policy.reversed policy.rules) none)
 
 -- ---- room
 
@@ -263,22 +246,60 @@ port_most false = omega arith
 pub few_fit : (rules : List PortRule) → length rules ≤ 12 → table_slots rules ≤ 512
 few_fit rules short = omega (arith, rules_most rules, port_most (asks_ports rules), short)
 
-long_told : (t : Bool) (fault : TextFault) → (if t then Some fault else None) ≡ None → t ≡ false
-long_told true fault is = cc
-long_told false fault is = refl
+-- a rule has room
+rule_room : (t : Bool) (fault : TextFault) (rest : Option TextFault) → option_or (if t then Some fault else None) rest ≡ None → t ≡ false
+rule_room true fault rest is = cc
+rule_room false fault rest is = refl
+
+-- and those behind it have
+rest_room : (t : Bool) (fault : TextFault) (r : Room) (rest : Option Room → Option TextFault) → option_or (if t then Some fault else None) (rest (if t then None else Some r)) ≡ None → rest (Some r) ≡ None
+rest_room true fault r rest is = cc
+rest_room false fault r rest is = is
+
+-- rules of version 1 that have room
+ones_fit : (rules : List PortRule) (r : Room) → length_from One (Some r) rules ≡ None → length rules ≤ r.left
+ones_fit [] r none = omega arith
+ones_fit (own ∷ rules) r none =
+    let some : is_too_much One r own ≡ false = rule_room (is_too_much One r own) (Line own.line (too_many One r own)) (length_from One (room_after One (Some r) own) rules) none in
+    let rest : length_from One (Some (room_left One r own)) rules ≡ None = rest_room (is_too_much One r own) (Line own.line (too_many One r own)) (room_left One r own) (λ left. length_from One left rules) none in
+    let fit : length rules ≤ r.left - 1 = ones_fit rules (room_left One r own) rest in
+    omega (arith, ltb-false r.left 1 some, fit)
+
+-- the slot that is still wanted to put the port on the stack
+abbrev port_wanted : (asks some : Bool) → ℕ
+port_wanted true some = 0
+port_wanted false some = if some then 1 else 0
+
+port_first : (asks : Bool) (port : Option ℕ) (some : Bool) → port_wanted asks (is_some port || some) ≤ first_port_slots asks port + port_wanted (asks || is_some port) some
+port_first true port some = omega arith
+port_first false None some = omega arith
+port_first false (Some wanted) some = omega arith
+
+nothing_wanted : (asks : Bool) (left : ℕ) → port_wanted asks false + 0 ≤ left
+nothing_wanted true left = omega arith
+nothing_wanted false left = omega arith
+
+-- rules of version 2 that have room
+twos_fit : (rules : List PortRule) (r : Room) → length_from Two (Some r) rules ≡ None → port_wanted r.asks (asks_ports rules) + rules_slots rules ≤ r.left
+twos_fit [] r none = nothing_wanted r.asks r.left
+twos_fit (own ∷ rules) r none =
+    let some : is_too_much Two r own ≡ false = rule_room (is_too_much Two r own) (Line own.line (too_many Two r own)) (length_from Two (room_after Two (Some r) own) rules) none in
+    let rest : length_from Two (Some (room_left Two r own)) rules ≡ None = rest_room (is_too_much Two r own) (Line own.line (too_many Two r own)) (room_left Two r own) (λ left. length_from Two left rules) none in
+    let taken : first_port_slots r.asks own.port + port_rule_slots own ≤ r.left = ltb-false r.left (room_taken Two r.asks own) some in
+    let first : port_wanted r.asks (asks_ports (own ∷ rules)) ≤ first_port_slots r.asks own.port + port_wanted (r.asks || is_some own.port) (asks_ports rules) = port_first r.asks own.port (asks_ports rules) in
+    let fit : port_wanted (r.asks || is_some own.port) (asks_ports rules) + rules_slots rules ≤ r.left - (first_port_slots r.asks own.port + port_rule_slots own) = twos_fit rules (room_left Two r own) rest in
+    omega (arith, taken, first, fit)
 
 version_fits : (version : TableVersion) (rules : List PortRule) → length_told version rules ≡ None → table_slots rules ≤ 512
-version_fits One rules none =
-    few_fit rules (ltb-false 12 (length rules) (long_told (nat_lt 12 (length rules)) (Plain (plain.TooLong (length rules))) none))
+version_fits One rules none = few_fit rules (ones_fit rules (whole_room One) none)
 version_fits Two rules none =
-    let cut : ℕ = min (table_slots rules) (2 ^ 64 - 1) in
-    let short : cut ≤ 512 = ltb-false 512 cut (long_told (nat_lt 512 cut) (texts.TooLong (cut - 512)) none) in
-    omega (arith, short)
+    let fit : port_slots rules + rules_slots rules ≤ 496 = twos_fit rules (whole_room Two) none in
+    omega (arith, fit)
 
 -- and so does a table without a fault
 pub policy_fits : (sizes : Maps) (policy : PolicyValue) → policy_fault sizes policy ≡ None → table_slots policy.rules ≤ 512
 policy_fits sizes policy none =
-    version_fits policy.version policy.rules (first_none (length_told policy.version policy.rules) (rules_told policy.version sizes policy.reversed policy.rules) none)
+    version_fits policy.version policy.rules (first_none (length_told policy.version policy.rules) (rules_told sizes policy.reversed policy.rules) none)
 
 lines_long : (line : ℕ) (rules : List Rule) → length (on_lines line rules) ≡ length rules
 lines_long line [] = refl

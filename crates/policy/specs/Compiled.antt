@@ -16,9 +16,8 @@ use Rattle.policy_table.specs.declared.faults.PolicyFault.{PolicyFault}
 use Rattle.policy_table.specs.declared.faults.PolicyFault.TheVariants.{TooLong, BadRange, Memory, NoCell, BadLine}
 use Rattle.policy_table.specs.declared.port_rules.PortRule.{PortRule}
 use Rattle.policy_table.specs.declared.rules.Rule.{Rule}
-use Rattle.policy_table.specs.declared.table_faults.TableFault.TheVariants as plain
 use Rattle.policy_table.specs.declared.text_faults.TextFault.{TextFault}
-use Rattle.policy_table.specs.declared.text_faults.TextFault.TheVariants.{Plain}
+use Rattle.policy_table.specs.declared.text_faults.TextFault.TheVariants as texts
 
 -- ---- faults
 
@@ -32,7 +31,7 @@ IsCompileFault first BadLine = ⊥
 
 -- the same of a table of either version, with the place of the fault
 abbrev pub IsPortFault : (first : Option TextFault) → TextFault → Type 0
-IsPortFault None fault = fault ≡ Plain plain.Memory
+IsPortFault None fault = fault ≡ texts.Memory
 IsPortFault (Some first) fault = fault ≡ first
 
 -- ---- meaning

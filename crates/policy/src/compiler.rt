@@ -83,7 +83,7 @@ pub fn compile(alloc: Global, table: &Table, sizes: &MapSizes) -> Result<Image, 
     code_has_meaning();
     code_is_justified();
     if let Some(fault) = table.fault_for(sizes) {
-        return Err(fault.fault());
+        return Err(fault);
     }
     let rules = on_lines(alloc, table.rules())?;
     let image = image_of_rules(alloc, rules.as_slice())?;
@@ -96,8 +96,7 @@ pub fn compile(alloc: Global, table: &Table, sizes: &MapSizes) -> Result<Image, 
 ///
 /// # Errors
 ///
-/// The first fault of the table, with its place ([`Policy::fault_for`]). `Plain` of `Memory` where there is none and memory
-/// was refused.
+/// The first fault of the table, with its place ([`Policy::fault_for`]). `Memory` where there is none and memory was refused.
 pub fn compile_policy(alloc: Global, policy: &Policy, sizes: &MapSizes) -> Result<Image, TextFault>
     ensures compiled { IfOk result (IsPortCompiled sizes.now policy.now) }
     ensures justified { IfOk result (λ image. IsJustified image sizes.now) }

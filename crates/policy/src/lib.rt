@@ -13,6 +13,5 @@ mod insns;
 pub use compiler::{compile, compile_policy};
 pub use policy_table::{
     Counts, Match, Mismatch, OtherByte, Passed, Policy, PolicyFault, PortRule, Rule, RuleKind,
-    RuleWord, StatementFault, Table, TableFault, TableVersion, TextFault, decisions,
-    headers_have_fields, table_is_unambiguous,
+    Table, TableVersion, TextFault, decisions, headers_have_fields, table_is_unambiguous,
 };

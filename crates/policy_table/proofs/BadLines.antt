@@ -1,13 +1,14 @@
 -- Lines that are no rules.
-use Rattle.std.proofs.Common.{◌≡◌, ◌+◌, ◌++◌, ℕ, suc, List, [], ◌∷◌, length, get_or, refl, sym, ap, subst, ◌∙◌, arith}
+use Rattle.std.proofs.Common.{◌≡◌, ◌++◌, ℕ, List, [], ◌∷◌, length, get_or, inl, inr, sym, ap, subst, ◌∙◌}
 use Rattle.spw.specs.Line.{words_of}
 use Rattle.policy_table.specs.Fields.{IsAddress, IsField, IsKind, IsQuota, IsVerdict}
-use Rattle.policy_table.specs.Lines.{AreNoRules, AreRules, IsReadFault, IsRule}
-use Rattle.policy_table.specs.TableFaults.{HasBadWord, HasFirstBad, HasWords, IsNoRule, IsUnread, policy_fault_of}
+use Rattle.policy_table.specs.Lines.{AreNoRules, IsReadFault, IsRule}
+use Rattle.policy_table.specs.NoRules.{HasBadWord, HasWords, IsNoRule}
 use Rattle.policy_table.specs.Words.{AreWordsOf, IsFirstBad, LineWords, in_order}
+use Rattle.policy_table.specs.declared.faults.PolicyFault.{PolicyFault}
+use Rattle.policy_table.specs.declared.faults.PolicyFault.TheVariants.{BadLine}
 use Rattle.policy_table.specs.declared.rules.Rule.{Rule}
-use Rattle.policy_table.specs.declared.table_faults.TableFault.{TableFault}
-use Rattle.policy_table.specs.declared.table_faults.TableFault.TheVariants.{TooLong, BadRange, Memory, NoCell, BadCount, BadWord}
+use Rattle.policy_table.specs.declared.statement_faults.StatementFault.{StatementFault}
 use Rattle.policy_table.specs.declared.words.RuleWord.{RuleWord}
 use Rattle.policy_table.specs.declared.words.RuleWord.TheVariants.{Kind, Key, Initiator, Extended, Low, High, Quota, Verdict}
 use Rattle.policy_table.proofs.Readings.{no_rules}
@@ -67,53 +68,13 @@ count_bad : (line : List ℕ) (words : ℕ) → HasWords line words → (rule : 
 count_bad line words bad rule is = bad.1 (ap (λ (ws : List (List ℕ)). length ws) is.words)
 
 -- a line that is no rule is none
-no_rule : (line : List ℕ) (number : ℕ) (fault : TableFault) → IsNoRule line number fault → (rule : Rule) → ¬ IsRule line rule
-no_rule line number (TooLong rules) bad = absurd bad
-no_rule line number (BadRange own) bad = absurd bad
-no_rule line number Memory bad = absurd bad
-no_rule line number (NoCell own) bad = absurd bad
-no_rule line number (BadCount own words) bad = count_bad line words bad.1
-no_rule line number (BadWord own word) bad = word_bad line word bad.1
+pub no_rule : (line : List ℕ) (fault : StatementFault) → IsNoRule line fault → (rule : Rule) → ¬ IsRule line rule
+no_rule line fault (inl bad) = count_bad line bad.0 bad.2
+no_rule line fault (inr bad) = word_bad line bad.0 bad.2
 
-none : (lines : List (List ℕ)) (fault : TableFault) → HasFirstBad lines fault → AreNoRules lines
-none lines fault bad =
-    subst (λ (all : List (List ℕ)). AreNoRules all) (sym bad.lines_are) (no_rules bad.before bad.rest bad.line (no_rule bad.line (suc (length bad.before)) fault bad.bad))
-
--- why lines are not read, without the place
-pub read_fault : (lines : List (List ℕ)) (fault : TableFault) → IsUnread lines fault → IsReadFault lines (policy_fault_of fault)
-read_fault lines (TooLong rules) bad = absurd bad
-read_fault lines (BadRange line) bad = absurd bad
-read_fault lines Memory bad = tt
-read_fault lines (NoCell line) bad = absurd bad
-read_fault lines (BadCount line words) bad = none lines (BadCount line words) bad
-read_fault lines (BadWord line word) bad = none lines (BadWord line word) bad
-
--- the first line that is no rule, of lines of which those before are rules
-pub unread : (lines before rest : List (List ℕ)) (rules : List Rule) (line : List ℕ) (fault : TableFault) (number : ℕ)
-    → before ++ line ∷ rest ≡ lines → AreRules before rules → number ≡ length rules → IsNoRule line (number + 1) fault → IsUnread lines fault
-unread lines before rest rules line fault number are read count bad = told lines fault (place fault bad)
-  where
-    read_length : (ls : List (List ℕ)) (rs : List Rule) → AreRules ls rs → length rs ≡ length ls
-    read_length [] [] is = refl
-    read_length [] (r ∷ rs) is = absurd is
-    read_length (l ∷ ls) [] is = absurd is
-    read_length (l ∷ ls) (r ∷ rs) is = ap suc (read_length ls rs is.1)
-
-    place : (f : TableFault) → IsNoRule line (number + 1) f → HasFirstBad lines f
-    place f h = record {
-      before = before;
-      line = line;
-      rest = rest;
-      rules = rules;
-      lines_are = sym are;
-      read = read;
-      bad = subst (λ (n : ℕ). IsNoRule line n f) (omega (arith, count, read_length before rules read)) h;
-    }
-
-    told : (ls : List (List ℕ)) (f : TableFault) → HasFirstBad ls f → IsUnread ls f
-    told ls (TooLong n) h = absurd h.bad
-    told ls (BadRange n) h = absurd h.bad
-    told ls Memory h = tt
-    told ls (NoCell n) h = absurd h.bad
-    told ls (BadCount n words) h = h
-    told ls (BadWord n word) h = h
+-- why lines are not read of which one is no rule
+pub unread : (lines before rest : List (List ℕ)) (line : List ℕ) (fault : PolicyFault) → before ++ line ∷ rest ≡ lines
+    → (fault ≡ BadLine) × ((rule : Rule) → ¬ IsRule line rule) → IsReadFault lines fault
+unread lines before rest line fault are bad =
+    subst (λ (f : PolicyFault). IsReadFault lines f) (sym bad.0)
+    (subst (λ (all : List (List ℕ)). AreNoRules all) are (no_rules before rest line bad.1))

@@ -28,7 +28,7 @@ quota_fits word (Some quota) is =
     let cell = is.cell_kept in
     (omega (arith, map), omega (arith, cell), is.limit_small)
 
-rule_fits : (line : List ℕ) (rule : Rule) → IsRule line rule → FitsFields rule
+pub rule_fits : (line : List ℕ) (rule : Rule) → IsRule line rule → FitsFields rule
 rule_fits line rule is = record {
   key = field_fits is.key rule.key is.is_key;
   initiator = field_fits is.initiator rule.initiator is.is_initiator;

@@ -7,9 +7,12 @@ mod VerdictWords
 mod Mismatching
 mod PassingBy
 mod Walks
-mod Placing
 mod FirstMatches
 mod BadLines
 mod PortRules
 mod PortsFit
 mod PortTables
+mod ReadingSo
+mod FaultCodes
+mod ReportOf
+mod UnusedLines

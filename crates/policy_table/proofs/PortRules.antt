@@ -1,18 +1,13 @@
 -- Rules with ports and ranges with names, one by one.
 use Rattle.std.specs.Prelude.{◌-◌, ◌^◌, min, bytes_eq, if◌then◌else◌}
-use Rattle.std.specs.Option.{option_or}
-use Rattle.std.proofs.Common.{◌≡◌, ◌<◌, ◌+◌, ℕ, suc, Bool, true, false, List, [], ◌∷◌, ◌++◌, length, get_or, drop, Option, Some, None, refl, sym, ap, ◌∙◌, subst, arith, add-one, append_assoc}
+use Rattle.std.proofs.Common.{◌≡◌, ◌<◌, ◌+◌, ℕ, suc, Bool, true, false, List, [], ◌∷◌, ◌++◌, length, get_or, drop, Option, Some, sym, ap, ◌∙◌, arith, add-one, append_assoc}
 use Rattle.std.proofs.Math.Seq.{drop-cons}
-use Rattle.machine.specs.Sizes.{Maps}
-use Rattle.policy_table.specs.Policies.{is_before, reversed_told, rule_told, rules_told}
 use Rattle.policy_table.specs.Ports.{at_every_port, on_lines}
 use Rattle.policy_table.specs.Ranges.{RangeText, range_named, range_text, range_texts}
 use Rattle.policy_table.specs.Slots.{port_rule_slots, rules_slots}
 use Rattle.policy_table.specs.declared.port_rules.PortRule.{PortRule}
 use Rattle.policy_table.specs.declared.ranges.NamedRange.{NamedRange}
 use Rattle.policy_table.specs.declared.rules.Rule.{Rule}
-use Rattle.policy_table.specs.declared.text_faults.TextFault.{TextFault}
-use Rattle.policy_table.specs.declared.versions.TableVersion.{TableVersion}
 
 -- ---- names
 
@@ -54,32 +49,6 @@ line_behind rules i d before after total within pushed whole =
     ∙ append_assoc before (own ∷ []) rest
     ∙ sym (ap (λ (own_rules : List PortRule). before ++ own_rules) next)
     ∙ whole
-
--- ---- faults
-
-module _ (version : TableVersion) (sizes : Maps) (reversed : Option ℕ) (rules : List PortRule) (i : ℕ) (d : PortRule) (total : Option TextFault) (within : i < length rules) (whole : rules_told version sizes reversed (drop i rules) ≡ total) where
-  next : rules_told version sizes reversed (drop i rules) ≡ (if is_before reversed (get_or rules i d).line then reversed_told reversed else option_or (rule_told version sizes (get_or rules i d)) (rules_told version sizes reversed (drop (suc i) rules)))
-  next = ap (λ (rs : List PortRule). rules_told version sizes reversed rs) (drop-cons rules i d within)
-
-  -- the range stands before this rule
-  pub told_before : is_before reversed (get_or rules i d).line ≡ true → reversed_told reversed ≡ total
-  told_before before =
-      sym (next ∙ ap (λ (t : Bool). if t then reversed_told reversed else option_or (rule_told version sizes (get_or rules i d)) (rules_told version sizes reversed (drop (suc i) rules))) before) ∙ whole
-
-  later : is_before reversed (get_or rules i d).line ≡ false → rules_told version sizes reversed (drop i rules) ≡ option_or (rule_told version sizes (get_or rules i d)) (rules_told version sizes reversed (drop (suc i) rules))
-  later behind =
-      next ∙ ap (λ (t : Bool). if t then reversed_told reversed else option_or (rule_told version sizes (get_or rules i d)) (rules_told version sizes reversed (drop (suc i) rules))) behind
-
-  -- this rule has the first fault
-  pub told_here : (fault : TextFault) → is_before reversed (get_or rules i d).line ≡ false → rule_told version sizes (get_or rules i d) ≡ Some fault → Some fault ≡ total
-  told_here fault behind some =
-      sym (later behind ∙ ap (λ (f : Option TextFault). option_or f (rules_told version sizes reversed (drop (suc i) rules))) some) ∙ whole
-
-  -- this rule has none
-  pub told_behind : is_before reversed (get_or rules i d).line ≡ false → rule_told version sizes (get_or rules i d) ≡ None → rules_told version sizes reversed (drop (i + 1) rules) ≡ total
-  told_behind behind none =
-      ap (λ (k : ℕ). rules_told version sizes reversed (drop k rules)) (add-one i)
-      ∙ sym (later behind ∙ ap (λ (f : Option TextFault). option_or f (rules_told version sizes reversed (drop (suc i) rules))) none) ∙ whole
 
 -- ---- slots
 

@@ -1,15 +1,20 @@
 -- The numbers of rules with ports fit their fields.
-use Rattle.std.specs.Prelude.{All, ◌⊎◌}
-use Rattle.std.proofs.Common.{◌≡◌, ◌<◌, ℕ, suc, Bool, List, [], ◌∷◌, ◌++◌, Option, Some, None, refl, sym, subst, arith, inl, inr}
+use Rattle.std.specs.Prelude.{All}
+use Rattle.std.proofs.Common.{◌<◌, ℕ, suc, List, [], ◌∷◌, Option, Some, None, sym, subst}
 use Rattle.std.proofs.lemmas.List.Elements.{All-cons, All-head, All-nil, All-push, All-tail}
 use Rattle.spw.specs.Line.{WritesPort}
-use Rattle.policy_table.specs.Drafts.{DraftValue, IsOtherWord, IsRangeWord, LinesWrite, TakesLine, TakesRange, TakesRule, TakesWords}
+use Rattle.policy_table.specs.Drafts.{DraftValue, IsStatement, IsStatementOne, IsStatementTwo, LinesWrite, TakesLine, after}
 use Rattle.policy_table.specs.Limits.{FitsFields}
 use Rattle.policy_table.specs.Ports.{FitsPort, IsPortField, at_every_port, on_lines}
-use Rattle.policy_table.specs.Statements.{IsPort, statement_words}
+use Rattle.policy_table.specs.Ranges.{RangeText}
+use Rattle.policy_table.specs.Statements.{IsPort, IsRuleLine, statement_words}
+use Rattle.policy_table.specs.declared.drafts.Statement.{Statement}
+use Rattle.policy_table.specs.declared.drafts.Statement.TheVariants as says
 use Rattle.policy_table.specs.declared.port_rules.PortRule.{PortRule}
 use Rattle.policy_table.specs.declared.rules.Rule.{Rule}
-use Rattle.policy_table.proofs.Fitting.{words_fit}
+use Rattle.policy_table.specs.declared.versions.TableVersion.{TableVersion}
+use Rattle.policy_table.specs.declared.versions.TableVersion.TheVariants.{One, Two}
+use Rattle.policy_table.proofs.Fitting.{rule_fits, words_fit}
 
 -- rules that are asked at every port
 pub lines_fit : (line : ℕ) (rules : List Rule) → All FitsFields rules → All FitsPort (on_lines line rules)
@@ -23,19 +28,38 @@ port_fits words (Some port) is =
     let writes : WritesPort is.0 port = is.2 in
     subst (λ (n : ℕ). n < 32) (sym writes.1) writes.0.1
 
-rule_fits : (line : ℕ) (words : List (List ℕ)) (old new : DraftValue) → TakesRule line words old new → All FitsPort old.rules → All FitsPort new.rules
-rule_fits line words old new takes fits =
-    let own : PortRule = record { rule = takes.rule; port = takes.port; line = line; named = takes.named } in
-    let own_fits : FitsPort own = record { rule = words_fit takes.is_rule.parts.words takes.rule takes.is_rule.is_rule; port = port_fits takes.is_rule.parts.rest takes.port takes.is_rule.is_port } in
-    subst (λ (d : DraftValue). All FitsPort d.rules) (sym takes.taken) (All-push FitsPort old.rules own fits own_fits)
+line_fits : (ranges : List RangeText) (words : List (List ℕ)) (own : PortRule) → IsRuleLine ranges words own.rule own.port own.named → FitsPort own
+line_fits ranges words own is = record {
+  rule = words_fit is.parts.words own.rule is.is_rule;
+  port = port_fits is.parts.rest own.port is.is_port;
+}
 
-words_keep : (line : ℕ) (words : List (List ℕ)) (old new : DraftValue) → TakesWords line words old new → All FitsPort old.rules → All FitsPort new.rules
-words_keep line [] old new takes fits = subst (λ (d : DraftValue). All FitsPort d.rules) (sym takes) fits
-words_keep line (first ∷ rest) old new (inl range) fits = subst (λ (d : DraftValue). All FitsPort d.rules) (sym range.1.taken) fits
-words_keep line (first ∷ rest) old new (inr rule) fits = rule_fits line (first ∷ rest) old new rule.1 fits
+one_fits : (line : ℕ) (text : List ℕ) (own : PortRule) → IsStatementOne line text (says.Rule own) → FitsPort own
+one_fits line text own is = record {
+  rule = rule_fits text own.rule is.0;
+  port = subst (λ (port : Option ℕ). IsPortField port) (sym is.1) tt;
+}
+
+two_fits : (ranges : List RangeText) (line : ℕ) (words : List (List ℕ)) (own : PortRule) → IsStatementTwo ranges line words (says.Rule own) → FitsPort own
+two_fits ranges line [] own is = absurd is
+two_fits ranges line (first ∷ rest) own is = line_fits ranges (first ∷ rest) own is.1.0
+
+own_fits : (version : TableVersion) (ranges : List RangeText) (line : ℕ) (text : List ℕ) (own : PortRule) → IsStatement version ranges line text (says.Rule own) → FitsPort own
+own_fits One ranges line text own is = one_fits line text own is
+own_fits Two ranges line text own is = two_fits ranges line (statement_words text) own is
+
+-- those of what a line says
+pub statement_fits : (version : TableVersion) (ranges : List RangeText) (line : ℕ) (text : List ℕ) (statement : Statement) (d : DraftValue) → IsStatement version ranges line text statement → All FitsPort d.rules → All FitsPort (after line statement d).rules
+statement_fits version ranges line text says.Nothing d is fits = fits
+statement_fits version ranges line text (says.Range range reversed) d is fits = fits
+statement_fits version ranges line text (says.Rule own) d is fits = All-push FitsPort d.rules own fits (own_fits version ranges line text own is)
+
+line_keeps : (version : TableVersion) (line : ℕ) (text : List ℕ) (old new : DraftValue) → TakesLine version line text old new → All FitsPort old.rules → All FitsPort new.rules
+line_keeps version line text old new takes fits =
+    subst (λ (d : DraftValue). All FitsPort d.rules) (sym takes.taken) (statement_fits version old.ranges line text takes.statement old takes.is fits)
 
 -- those of lines
-pub draft_fits : (line : ℕ) (lines : List (List ℕ)) (old new : DraftValue) → LinesWrite line lines old new → All FitsPort old.rules → All FitsPort new.rules
-draft_fits line [] old new writes fits = subst (λ (d : DraftValue). All FitsPort d.rules) (sym writes) fits
-draft_fits line (text ∷ lines) old new writes fits =
-    draft_fits (suc line) lines writes.0 new writes.2 (words_keep line (statement_words text) old writes.0 writes.1 fits)
+pub draft_fits : (version : TableVersion) (line : ℕ) (lines : List (List ℕ)) (old new : DraftValue) → LinesWrite version line lines old new → All FitsPort old.rules → All FitsPort new.rules
+draft_fits version line [] old new writes fits = subst (λ (d : DraftValue). All FitsPort d.rules) (sym writes) fits
+draft_fits version line (text ∷ lines) old new writes fits =
+    draft_fits version (suc line) lines writes.0 new writes.2 (line_keeps version line text old writes.0 writes.1 fits)

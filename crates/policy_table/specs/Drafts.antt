@@ -1,17 +1,22 @@
--- A table of version 2, line by line.
-use Rattle.std.specs.Prelude.{◌≡◌, ◌⊎◌, ℕ, suc, Bool, true, false, ◌==◌, bytes_eq, if◌then◌else◌, List, [], ◌∷◌}
-use Rattle.std.specs.Prelude.{◌++◌, codes, Option, Some, None}
+-- A table of either version, line by line.
+use Rattle.std.specs.Prelude.{◌≡◌, ◌⊎◌, ℕ, suc, Bool, false, if◌then◌else◌, List, [], ◌∷◌, ◌++◌, Option, Some, None}
 use Rattle.std.specs.Option.{option_or}
-use Rattle.std.specs.List.{starts_with}
-use Rattle.policy_table.specs.Ranges.{RangeText}
-use Rattle.policy_table.specs.Statements.{IsNoRange, IsNoRuleLine, IsRange, IsRuleLine, statement_words}
+use Rattle.spw.specs.Line.{words_of}
+use Rattle.policy_table.specs.Lines.{IsRule}
+use Rattle.policy_table.specs.NoRules.{IsNoRule}
+use Rattle.policy_table.specs.Ranges.{RangeText, range_text}
+use Rattle.policy_table.specs.Refined.{refined}
+use Rattle.policy_table.specs.Statements.{IsNoRange, IsNoRuleLine, IsRange, IsRuleLine, statement_words, word_kind}
+use Rattle.policy_table.specs.declared.drafts.Statement.{Statement}
+use Rattle.policy_table.specs.declared.drafts.Statement.TheVariants.{Nothing, Range, Rule}
 use Rattle.policy_table.specs.declared.port_rules.PortRule.{PortRule}
-use Rattle.policy_table.specs.declared.rules.Rule.{Rule}
 use Rattle.policy_table.specs.declared.statement_faults.StatementFault.{StatementFault}
-use Rattle.policy_table.specs.declared.statement_faults.StatementFault.TheVariants.{Directive}
-use Rattle.policy_table.specs.declared.table_faults.TableFault.TheVariants.{Memory}
+use Rattle.policy_table.specs.declared.statement_faults.StatementFault.TheVariants as wrong
+use Rattle.policy_table.specs.declared.statements.WordKind.TheVariants as kinds
 use Rattle.policy_table.specs.declared.text_faults.TextFault.{TextFault}
-use Rattle.policy_table.specs.declared.text_faults.TextFault.TheVariants.{Plain, TooLong, Line}
+use Rattle.policy_table.specs.declared.text_faults.TextFault.TheVariants.{Memory, Line}
+use Rattle.policy_table.specs.declared.versions.TableVersion.{TableVersion}
+use Rattle.policy_table.specs.declared.versions.TableVersion.TheVariants.{One, Two}
 
 -- what lines said so far: the ranges that have names, the line of the first of them that ends before it begins, and the
 -- rules, in order
@@ -28,6 +33,65 @@ draft ranges reversed rules = record { ranges = ranges; reversed = reversed; rul
 abbrev pub empty_draft : DraftValue
 empty_draft = draft [] None []
 
+-- ---- what a line says
+
+-- the words are this rule, in the line of this number
+abbrev pub IsRuleStatement : List RangeText → (line : ℕ) → (words : List (List ℕ)) → Statement → Type 0
+IsRuleStatement ranges line words Nothing = ⊥
+IsRuleStatement ranges line words (Range range reversed) = ⊥
+IsRuleStatement ranges line words (Rule own) =
+    IsRuleLine ranges words own.rule own.port own.named × (own.line ≡ line)
+
+-- the words of a line of version 2 say this: no words say nothing, `.range` gives a name to a range, and else they are a rule
+abbrev pub IsStatementTwo : List RangeText → (line : ℕ) → (words : List (List ℕ)) → Statement → Type 0
+IsStatementTwo ranges line [] Nothing = Unit {0}
+IsStatementTwo ranges line [] (Range range reversed) = ⊥
+IsStatementTwo ranges line [] (Rule own) = ⊥
+IsStatementTwo ranges line (first ∷ rest) Nothing = ⊥
+IsStatementTwo ranges line (first ∷ rest) (Range range reversed) =
+    (word_kind first ≡ kinds.Range) × IsRange ranges rest (range_text range) reversed
+IsStatementTwo ranges line (first ∷ rest) (Rule own) =
+    (word_kind first ≡ kinds.Rule) × IsRuleStatement ranges line (first ∷ rest) (Rule own)
+
+-- a line of version 1 says this: it is a rule that is asked at every port
+abbrev pub IsStatementOne : (line : ℕ) → (text : List ℕ) → Statement → Type 0
+IsStatementOne line text Nothing = ⊥
+IsStatementOne line text (Range range reversed) = ⊥
+IsStatementOne line text (Rule own) =
+    IsRule text own.rule × (own.port ≡ None) × (own.named ≡ false) × (own.line ≡ line)
+
+-- the line of this number says this in this version, if these ranges have names
+abbrev pub IsStatement : TableVersion → List RangeText → (line : ℕ) → (text : List ℕ) → Statement → Type 0
+IsStatement One ranges line text statement = IsStatementOne line text statement
+IsStatement Two ranges line text statement = IsStatementTwo ranges line (statement_words text) statement
+
+-- why the words of a line of version 2 say nothing that there is: a version, a directive that there is not, or why they
+-- give no name to a range or are no rule
+abbrev pub IsBadTwo : List RangeText → (words : List (List ℕ)) → StatementFault → Type 0
+IsBadTwo ranges [] fault = ⊥
+IsBadTwo ranges (first ∷ rest) fault =
+    ((word_kind first ≡ kinds.Version) × (fault ≡ wrong.Version))
+    ⊎ (((word_kind first ≡ kinds.Range) × IsNoRange ranges rest fault)
+    ⊎ (((word_kind first ≡ kinds.Other) × (fault ≡ wrong.Directive))
+    ⊎ ((word_kind first ≡ kinds.Rule) × IsNoRuleLine ranges (first ∷ rest) fault)))
+
+-- why a line is none of this version
+abbrev pub IsBad : TableVersion → List RangeText → (text : List ℕ) → StatementFault → Type 0
+IsBad One ranges text fault = IsNoRule text fault
+IsBad Two ranges text fault = IsBadTwo ranges (statement_words text) fault
+
+-- the words of a line, in version 2 those before its comment
+abbrev pub line_words : TableVersion → (text : List ℕ) → List (List ℕ)
+line_words One text = words_of text
+line_words Two text = statement_words text
+
+-- what is told of a line that is none of this version
+pub record IsNoStatement (version : TableVersion) (ranges : List RangeText) (text : List ℕ) (fault : StatementFault)
+    : Type 0 where
+  pub bad : StatementFault
+  pub is_bad : IsBad version ranges text bad
+  pub told : fault ≡ refined (line_words version text) bad
+
 -- ---- one line
 
 -- the line where the first range ends before it begins
@@ -39,91 +103,34 @@ abbrev pub with_range : (line : ℕ) → RangeText → (reversed : Bool) → Dra
 with_range line range reversed d =
     draft (d.ranges ++ range ∷ []) (first_reversed d.reversed reversed line) d.rules
 
--- one rule more
-abbrev pub with_rule : (line : ℕ) → Rule → (port : Option ℕ) → (named : Bool) → DraftValue → DraftValue
-with_rule line rule port named d =
-    draft d.ranges d.reversed (d.rules ++ record { rule = rule; port = port; line = line; named = named } ∷ [])
-
--- the words after `.range` in the line of this number define a range, which is taken
-pub record TakesRange (line : ℕ) (words : List (List ℕ)) (old new : DraftValue) : Type 0 where
-  pub range : RangeText
-  pub reversed : Bool
-  pub is_range : IsRange old.ranges words range reversed
-  pub taken : new ≡ with_range line range reversed old
-
--- the words of the line of this number are a rule, which is taken
-pub record TakesRule (line : ℕ) (words : List (List ℕ)) (old new : DraftValue) : Type 0 where
-  pub rule : Rule
-  pub port : Option ℕ
-  pub named : Bool
-  pub is_rule : IsRuleLine old.ranges words rule port named
-  pub taken : new ≡ with_rule line rule port named old
-
--- whether a word begins with a point (46)
-abbrev pub begins_with_point : List ℕ → Bool
-begins_with_point [] = false
-begins_with_point (c ∷ cs) = c == 46
-
--- the word is `.range`
-abbrev pub IsRangeWord : List ℕ → Type 0
-IsRangeWord word = bytes_eq word (codes ".range") ≡ true
-
--- the word begins with a point and is not `.range`
-abbrev pub IsDirective : List ℕ → Type 0
-IsDirective word = (bytes_eq word (codes ".range") ≡ false) × (begins_with_point word ≡ true)
-
--- the word begins with no point
-abbrev pub IsOtherWord : List ℕ → Type 0
-IsOtherWord word = (bytes_eq word (codes ".range") ≡ false) × (begins_with_point word ≡ false)
-
--- what the words of a line say is taken: no words say nothing, `.range` defines a range, and else they are a rule
-abbrev pub TakesWords : (line : ℕ) → (words : List (List ℕ)) → (old new : DraftValue) → Type 0
-TakesWords line [] old new = new ≡ old
-TakesWords line (first ∷ rest) old new =
-    (IsRangeWord first × TakesRange line rest old new) ⊎ (IsOtherWord first × TakesRule line (first ∷ rest) old new)
+-- what was said so far, and what this line says
+abbrev pub after : (line : ℕ) → Statement → DraftValue → DraftValue
+after line Nothing d = d
+after line (Range range reversed) d = with_range line (range_text range) reversed d
+after line (Rule own) d = draft d.ranges d.reversed (d.rules ++ own ∷ [])
 
 -- the line of this number is taken
-abbrev pub TakesLine : (line : ℕ) → (text : List ℕ) → (old new : DraftValue) → Type 0
-TakesLine line text old new = TakesWords line (statement_words text) old new
+pub record TakesLine (version : TableVersion) (line : ℕ) (text : List ℕ) (old new : DraftValue) : Type 0 where
+  pub statement : Statement
+  pub is : IsStatement version old.ranges line text statement
+  pub taken : new ≡ after line statement old
 
--- ---- lines that are not read
-
--- the fault of the words of a line: a directive that is not known, or why they define no range or are no rule
-abbrev pub IsNoStatement : DraftValue → (words : List (List ℕ)) → StatementFault → Type 0
-IsNoStatement d [] fault = ⊥
-IsNoStatement d (first ∷ rest) fault =
-    (IsRangeWord first × IsNoRange d.ranges rest fault)
-    ⊎ ((IsDirective first × (fault ≡ Directive)) ⊎ (IsOtherWord first × IsNoRuleLine d.ranges (first ∷ rest) fault))
-
--- why the words after `.range` in the line of this number are not taken
-abbrev pub IsUnreadRange : (line : ℕ) → (words : List (List ℕ)) → DraftValue → TextFault → Type 0
-IsUnreadRange line words d (Plain fault) = fault ≡ Memory
-IsUnreadRange line words d (TooLong slots) = ⊥
-IsUnreadRange line words d (Line own fault) = (own ≡ line) × IsNoRange d.ranges words fault
-
--- why the words of a rule in the line of this number are not taken
-abbrev pub IsUnreadRule : (line : ℕ) → (words : List (List ℕ)) → DraftValue → TextFault → Type 0
-IsUnreadRule line words d (Plain fault) = fault ≡ Memory
-IsUnreadRule line words d (TooLong slots) = ⊥
-IsUnreadRule line words d (Line own fault) = (own ≡ line) × IsNoRuleLine d.ranges words fault
-
--- why the line of this number is not taken: it is neither empty nor a range nor a rule, or memory was refused
-abbrev pub IsUnreadLine : (line : ℕ) → (text : List ℕ) → DraftValue → TextFault → Type 0
-IsUnreadLine line text d (Plain fault) = fault ≡ Memory
-IsUnreadLine line text d (TooLong slots) = ⊥
-IsUnreadLine line text d (Line own fault) = (own ≡ line) × IsNoStatement d (statement_words text) fault
+-- why the line of this number is not taken: it is none of this version, or memory was refused
+abbrev pub IsUnreadLine : TableVersion → (line : ℕ) → (text : List ℕ) → DraftValue → TextFault → Type 0
+IsUnreadLine version line text d Memory = Unit {0}
+IsUnreadLine version line text d (Line own fault) = (own ≡ line) × IsNoStatement version d.ranges text fault
 
 -- ---- all lines
 
 -- these lines, of which the first has this number, bring what was said so far to this
-abbrev pub LinesWrite : (line : ℕ) → List (List ℕ) → (old new : DraftValue) → Type 0
-LinesWrite line [] old new = new ≡ old
-LinesWrite line (text ∷ lines) old new =
-    (next : DraftValue) × TakesLine line text old next × LinesWrite (suc line) lines next new
+abbrev pub LinesWrite : TableVersion → (line : ℕ) → List (List ℕ) → (old new : DraftValue) → Type 0
+LinesWrite version line [] old new = new ≡ old
+LinesWrite version line (text ∷ lines) old new =
+    (next : DraftValue) × TakesLine version line text old next × LinesWrite version (suc line) lines next new
 
 -- the first of these lines that is not taken has this fault
-abbrev pub HasBadLine : (line : ℕ) → List (List ℕ) → DraftValue → TextFault → Type 0
-HasBadLine line [] old fault = ⊥
-HasBadLine line (text ∷ lines) old fault =
-    IsUnreadLine line text old fault
-    ⊎ ((next : DraftValue) × TakesLine line text old next × HasBadLine (suc line) lines next fault)
+abbrev pub HasBadLine : TableVersion → (line : ℕ) → List (List ℕ) → DraftValue → TextFault → Type 0
+HasBadLine version line [] old fault = ⊥
+HasBadLine version line (text ∷ lines) old fault =
+    IsUnreadLine version line text old fault
+    ⊎ ((next : DraftValue) × TakesLine version line text old next × HasBadLine version (suc line) lines next fault)

@@ -9,7 +9,7 @@ pub mod Mismatches
 pub mod Passing
 pub mod Matching
 pub mod Words
-pub mod TableFaults
+pub mod NoRules
 pub mod Tickets
 pub mod Counts
 pub mod Walked
@@ -19,6 +19,10 @@ pub mod Ranges
 pub mod StatementFaults
 pub mod TextFaults
 pub mod Statements
+pub mod Refined
 pub mod Drafts
+pub mod Room
 pub mod Slots
 pub mod Policies
+pub mod Surveys
+pub mod Unused

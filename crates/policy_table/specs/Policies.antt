@@ -1,23 +1,17 @@
 -- Tables of either version: what a text writes, and the first fault for which a table is not compiled.
-use Rattle.std.specs.Prelude.{◌≡◌, ◌⊎◌, ℕ, ◌-◌, ◌^◌, min, Bool, true, false, nat_lt, if◌then◌else◌, List, [], ◌∷◌}
-use Rattle.std.specs.Prelude.{length, Option, Some, None, option_map}
+use Rattle.std.specs.Prelude.{◌≡◌, ◌⊎◌, ℕ, suc, Bool, false, not, ◌&&◌, nat_lt, if◌then◌else◌, List, [], ◌∷◌, Option, Some, None}
+use Rattle.std.specs.Prelude.{option_map}
+use Rattle.std.specs.List.{list_any}
 use Rattle.std.specs.Option.{option_or}
-use Rattle.bpf.specs.declared.header.TheConstants.{MAX_SLOTS}
 use Rattle.machine.specs.Sizes.{Maps}
 use Rattle.policy_table.specs.Drafts.{DraftValue, HasBadLine, LinesWrite, empty_draft}
 use Rattle.policy_table.specs.FirstFault.{quota_fault}
-use Rattle.policy_table.specs.Lines.{AreRules}
-use Rattle.policy_table.specs.Ports.{on_lines}
-use Rattle.policy_table.specs.Slots.{table_slots}
-use Rattle.policy_table.specs.Statements.{begins_two}
-use Rattle.policy_table.specs.TableFaults.{IsUnread, rule_fault_at}
+use Rattle.policy_table.specs.Room.{length_told}
+use Rattle.policy_table.specs.Statements.{begins_two, has_version}
 use Rattle.policy_table.specs.declared.port_rules.PortRule.{PortRule}
-use Rattle.policy_table.specs.declared.rules.Rule.{Rule}
 use Rattle.policy_table.specs.declared.statement_faults.StatementFault.TheVariants.{RangeOrder, RuleOrder, NoCell}
-use Rattle.policy_table.specs.declared.table_faults.TableFault.{TableFault}
-use Rattle.policy_table.specs.declared.table_faults.TableFault.TheVariants as plain
 use Rattle.policy_table.specs.declared.text_faults.TextFault.{TextFault}
-use Rattle.policy_table.specs.declared.text_faults.TextFault.TheVariants.{Plain, TooLong, Line}
+use Rattle.policy_table.specs.declared.text_faults.TextFault.TheVariants.{Line}
 use Rattle.policy_table.specs.declared.versions.TableVersion.{TableVersion}
 use Rattle.policy_table.specs.declared.versions.TableVersion.TheVariants.{One, Two}
 
@@ -33,50 +27,53 @@ policy_value version reversed rules = record { version = version; reversed = rev
 
 -- ---- what a text writes
 
--- the lines are a table of version 1: rules that are asked at every port, one a line
-pub record WritesOne (lines : List (List ℕ)) (policy : PolicyValue) : Type 0 where
-  pub rules : List Rule
-  pub are : AreRules lines rules
-  pub is : policy ≡ policy_value One None (on_lines 1 rules)
+-- how lines are read: their version, how many are before those that say something, and these
+pub record ReadingValue : Type 0 where
+  pub version : TableVersion
+  pub before : ℕ
+  pub lines : List (List ℕ)
 
--- the lines after the first are a table of version 2
-pub record WritesTwo (rest : List (List ℕ)) (policy : PolicyValue) : Type 0 where
+-- of these parts
+abbrev pub reading : TableVersion → ℕ → List (List ℕ) → ReadingValue
+reading version before lines = record { version = version; before = before; lines = lines }
+
+-- the version of lines of which the first is not `.version 2`: a line that says a version is none of version 1, so they are
+-- read as version 2, in which it is a fault
+abbrev pub version_of : (lines : List (List ℕ)) → TableVersion
+version_of lines = if list_any has_version lines then Two else One
+
+-- lines are of version 2 if the first is `.version 2`, which says nothing more
+abbrev pub reading_of : (lines : List (List ℕ)) → ReadingValue
+reading_of [] = reading One 0 []
+reading_of (first ∷ rest) =
+    if begins_two first then reading Two 1 rest else reading (version_of (first ∷ rest)) 0 (first ∷ rest)
+
+-- the lines that are read so are this table
+pub record WritesReading (how : ReadingValue) (policy : PolicyValue) : Type 0 where
   pub end : DraftValue
-  pub are : LinesWrite 2 rest empty_draft end
-  pub is : policy ≡ policy_value Two end.reversed end.rules
+  pub are : LinesWrite how.version (suc how.before) how.lines empty_draft end
+  pub is : policy ≡ policy_value how.version end.reversed end.rules
 
--- the lines are a table of the version that the first of them says
+-- the lines are a table of the version in which they are read
 abbrev pub WritesPolicy : (lines : List (List ℕ)) → PolicyValue → Type 0
-WritesPolicy [] policy = WritesOne [] policy
-WritesPolicy (first ∷ rest) policy =
-    ((begins_two first ≡ true) × WritesTwo rest policy) ⊎ ((begins_two first ≡ false) × WritesOne (first ∷ rest) policy)
+WritesPolicy lines policy = WritesReading (reading_of lines) policy
 
--- why the lines are no table of version 1
-abbrev pub IsUnreadOne : (lines : List (List ℕ)) → TextFault → Type 0
-IsUnreadOne lines (Plain fault) = IsUnread lines fault
-IsUnreadOne lines (TooLong slots) = ⊥
-IsUnreadOne lines (Line line fault) = ⊥
-
--- why the lines are no table of the version that the first of them says: the first line that is none of its version, or
--- memory was refused
+-- why the lines are no table of that version: the first line that is none of it, or memory was refused
 abbrev pub IsUnreadPolicy : (lines : List (List ℕ)) → TextFault → Type 0
-IsUnreadPolicy [] fault = IsUnreadOne [] fault
-IsUnreadPolicy (first ∷ rest) fault =
-    ((begins_two first ≡ true) × HasBadLine 2 rest empty_draft fault)
-    ⊎ ((begins_two first ≡ false) × IsUnreadOne (first ∷ rest) fault)
+IsUnreadPolicy lines fault =
+    HasBadLine (reading_of lines).version (suc (reading_of lines).before) (reading_of lines).lines empty_draft fault
 
 -- ---- tables that are not compiled
 
--- the fault of a rule of version 2: its range ends before it begins, or its quota has no cell
-abbrev pub rule_told_two : Maps → PortRule → Option TextFault
-rule_told_two sizes own =
-    if nat_lt own.rule.high own.rule.low then Some (Line own.line RuleOrder)
-    else option_map (λ _. Line own.line (NoCell own.named)) (quota_fault sizes own.rule.quota)
+-- the range of a rule ends before it begins; one that has a name is at fault in the line that gives it
+abbrev pub is_reversed : PortRule → Bool
+is_reversed own = not own.named && nat_lt own.rule.high own.rule.low
 
--- the fault of a rule of a table of this version
-abbrev pub rule_told : TableVersion → Maps → PortRule → Option TextFault
-rule_told One sizes own = option_map Plain (rule_fault_at sizes own.line own.rule)
-rule_told Two sizes own = rule_told_two sizes own
+-- the fault of a rule, with its place: its range ends before it begins, or its quota has no cell
+abbrev pub rule_told : Maps → PortRule → Option TextFault
+rule_told sizes own =
+    if is_reversed own then Some (Line own.line RuleOrder)
+    else option_map (λ _. Line own.line (NoCell own.named)) (quota_fault sizes own.rule.quota)
 
 -- the fault of the range that ends before it begins, where there is one
 abbrev pub reversed_told : (reversed : Option ℕ) → Option TextFault
@@ -88,25 +85,16 @@ is_before None line = false
 is_before (Some at) line = nat_lt at line
 
 -- the first fault of rules and of that range, line by line
-abbrev pub rules_told : TableVersion → Maps → (reversed : Option ℕ) → List PortRule → Option TextFault
-rules_told version sizes reversed [] = reversed_told reversed
-rules_told version sizes reversed (own ∷ rules) =
+abbrev pub rules_told : Maps → (reversed : Option ℕ) → List PortRule → Option TextFault
+rules_told sizes reversed [] = reversed_told reversed
+rules_told sizes reversed (own ∷ rules) =
     if is_before reversed own.line then reversed_told reversed
-    else option_or (rule_told version sizes own) (rules_told version sizes reversed rules)
-
--- the fault of a table that is too long: more than 12 rules in version 1, and in version 2 a program of more slots than
--- an image may have, with how many more
-abbrev pub length_told : TableVersion → List PortRule → Option TextFault
-length_told One rules = if nat_lt 12 (length rules) then Some (Plain (plain.TooLong (length rules))) else None
-length_told Two rules =
-    if nat_lt MAX_SLOTS (min (table_slots rules) (2 ^ 64 - 1))
-    then Some (TooLong (min (table_slots rules) (2 ^ 64 - 1) - MAX_SLOTS))
-    else None
+    else option_or (rule_told sizes own) (rules_told sizes reversed rules)
 
 -- the first fault of a table for maps of these sizes: it is too long, or the first of its lines'
 abbrev pub policy_fault : Maps → PolicyValue → Option TextFault
 policy_fault sizes policy =
-    option_or (length_told policy.version policy.rules) (rules_told policy.version sizes policy.reversed policy.rules)
+    option_or (length_told policy.version policy.rules) (rules_told sizes policy.reversed policy.rules)
 
 -- the lines are a table that has this first fault with maps of these sizes
 abbrev pub HasPolicyFault : Maps → (lines : List (List ℕ)) → TextFault → Type 0
@@ -116,3 +104,14 @@ HasPolicyFault sizes lines fault =
 -- why a text is no table without a fault, for maps of these sizes
 abbrev pub IsPolicyFault : Maps → (lines : List (List ℕ)) → TextFault → Type 0
 IsPolicyFault sizes lines fault = IsUnreadPolicy lines fault ⊎ HasPolicyFault sizes lines fault
+
+-- ---- tables that are drawn
+
+-- the first fault of a table of which no program is made, for maps of these sizes: the first of its lines', however many they are
+abbrev pub drawn_fault : Maps → PolicyValue → Option TextFault
+drawn_fault sizes policy = rules_told sizes policy.reversed policy.rules
+
+-- why a text is no table without such a fault
+abbrev pub IsDrawnFault : Maps → (lines : List (List ℕ)) → TextFault → Type 0
+IsDrawnFault sizes lines fault =
+    IsUnreadPolicy lines fault ⊎ ((policy : PolicyValue) × WritesPolicy lines policy × (drawn_fault sizes policy ≡ Some fault))

@@ -1,6 +1,5 @@
--- The lines of a table of version 2: what stands before a comment is nothing, a range that has a name, or a rule with or
--- without a port.
-use Rattle.std.specs.Prelude.{◌≡◌, ℕ, Bool, true, false, ◌&&◌, nat_lt, bytes_eq, is_none, IsSome}
+-- The words of the lines of a table of version 2: a range that has a name, or a rule with or without a port.
+use Rattle.std.specs.Prelude.{◌≡◌, ◌⊎◌, ◌==◌, ℕ, Bool, true, false, ◌&&◌, ◌||◌, nat_lt, bytes_eq, is_none, IsSome}
 use Rattle.std.specs.Prelude.{if◌then◌else◌, List, [], ◌∷◌, length, codes, Option, Some, None}
 use Rattle.std.specs.List.{before_first}
 use Rattle.basm_lex.specs.Lines.{is_semicolon}
@@ -10,13 +9,12 @@ use Rattle.policy_table.specs.Ranges.{RangeText, is_name, range_named}
 use Rattle.policy_table.specs.Words.{AreWordsOf, IsFirstBad, LineWords, WritesNone, WritesSome, texts_of}
 use Rattle.policy_table.specs.declared.rules.Rule.{Rule}
 use Rattle.policy_table.specs.declared.statement_faults.StatementFault.{StatementFault}
-use Rattle.policy_table.specs.declared.statement_faults.StatementFault.TheVariants.{Directive, RangeCount}
-use Rattle.policy_table.specs.declared.statement_faults.StatementFault.TheVariants.{RangeName, RangeTwice, RangeLow}
-use Rattle.policy_table.specs.declared.statement_faults.StatementFault.TheVariants.{RangeHigh, RuleCount, Word}
-use Rattle.policy_table.specs.declared.statement_faults.StatementFault.TheVariants.{Port, RangeOrder, RuleOrder}
-use Rattle.policy_table.specs.declared.statement_faults.StatementFault.TheVariants.{NoCell}
+use Rattle.policy_table.specs.declared.statement_faults.StatementFault.TheVariants.{Port, RangeCount, RangeHigh, RangeLow}
+use Rattle.policy_table.specs.declared.statement_faults.StatementFault.TheVariants.{RangeName, RangeTwice, RuleCount, Word}
 use Rattle.policy_table.specs.declared.statements.RuleParts.{RuleParts}
 use Rattle.policy_table.specs.declared.statements.Span.{Span}
+use Rattle.policy_table.specs.declared.statements.WordKind.{WordKind}
+use Rattle.policy_table.specs.declared.statements.WordKind.TheVariants as kinds
 use Rattle.policy_table.specs.declared.words.RuleWord.{RuleWord}
 
 -- ---- words
@@ -46,6 +44,33 @@ are_version_two (first ∷ second ∷ rest) =
 -- whether a line is `.version 2`, before its comment
 unfoldable pub begins_two : (line : List ℕ) → Bool
 begins_two line = are_version_two (statement_words line)
+
+-- whether a word begins with this character
+abbrev pub begins_with : ℕ → List ℕ → Bool
+begins_with char [] = false
+begins_with char (c ∷ cs) = c == char
+
+-- the word is `.version`, also after the three bytes with which some editors begin a file
+abbrev pub is_version : List ℕ → Bool
+is_version word = bytes_eq word (codes ".version") || bytes_eq word (239 ∷ 187 ∷ 191 ∷ codes ".version")
+
+-- what the first word of a line makes it: it says a version, it gives a name to a range, it is a directive that there is
+-- not (its first word begins with a point, 46), or it is a rule
+abbrev pub word_kind : List ℕ → WordKind
+word_kind word =
+    if is_version word then kinds.Version
+    else (if bytes_eq word (codes ".range") then kinds.Range
+    else (if begins_with 46 word then kinds.Other
+    else kinds.Rule))
+
+-- the first of the words says a version
+abbrev pub version_first : List (List ℕ) → Bool
+version_first [] = false
+version_first (first ∷ rest) = is_version first
+
+-- the line says a version
+abbrev pub has_version : (line : List ℕ) → Bool
+has_version line = version_first (statement_words line)
 
 -- ---- rules
 
@@ -144,18 +169,10 @@ pub record HasBadPort (ranges : List RangeText) (words : List (List ℕ)) (named
 
 -- why the words are no rule: too few, a word that is none of its field, or what stands after the verdict
 abbrev pub IsNoRuleLine : List RangeText → List (List ℕ) → StatementFault → Type 0
-IsNoRuleLine ranges words Directive = ⊥
-IsNoRuleLine ranges words (RangeCount count) = ⊥
-IsNoRuleLine ranges words RangeName = ⊥
-IsNoRuleLine ranges words RangeTwice = ⊥
-IsNoRuleLine ranges words RangeLow = ⊥
-IsNoRuleLine ranges words RangeHigh = ⊥
-IsNoRuleLine ranges words (RuleCount count) = (rule_parts ranges words ≡ None) × (count ≡ length words)
-IsNoRuleLine ranges words (Word word named) = HasBadRuleWord ranges words word named
-IsNoRuleLine ranges words (Port named) = HasBadPort ranges words named
-IsNoRuleLine ranges words RangeOrder = ⊥
-IsNoRuleLine ranges words RuleOrder = ⊥
-IsNoRuleLine ranges words (NoCell named) = ⊥
+IsNoRuleLine ranges words fault =
+    ((fault ≡ RuleCount (length words)) × (rule_parts ranges words ≡ None))
+    ⊎ (((word : RuleWord) × (named : Bool) × (fault ≡ Word word named) × HasBadRuleWord ranges words word named)
+    ⊎ ((named : Bool) × (fault ≡ Port named) × HasBadPort ranges words named))
 
 -- ---- ranges
 
@@ -187,17 +204,13 @@ pub record IsNew (ranges : List RangeText) (words : List (List ℕ)) (range : Ra
 -- why the words after `.range` define no range: not three; the first is no name, or that of a range above; the second or
 -- the third is no address
 abbrev pub IsNoRange : List RangeText → List (List ℕ) → StatementFault → Type 0
-IsNoRange ranges words Directive = ⊥
-IsNoRange ranges words (RangeCount count) = (three_words words ≡ None) × (count ≡ length words)
-IsNoRange ranges words RangeName = (range : RangeText) × (three_words words ≡ Some range) × (is_name range.name ≡ false)
-IsNoRange ranges words RangeTwice = (range : RangeText) × (three_words words ≡ Some range) × (is_name range.name ≡ true)
-    × IsSome (range_named ranges range.name)
-IsNoRange ranges words RangeLow = (range : RangeText) × IsNew ranges words range × WritesNone IsAddress range.low
-IsNoRange ranges words RangeHigh = (range : RangeText) × IsNew ranges words range × WritesSome IsAddress range.low
-    × WritesNone IsAddress range.high
-IsNoRange ranges words (RuleCount count) = ⊥
-IsNoRange ranges words (Word word named) = ⊥
-IsNoRange ranges words (Port named) = ⊥
-IsNoRange ranges words RangeOrder = ⊥
-IsNoRange ranges words RuleOrder = ⊥
-IsNoRange ranges words (NoCell named) = ⊥
+IsNoRange ranges words fault =
+    ((fault ≡ RangeCount (length words)) × (three_words words ≡ None))
+    ⊎ (((fault ≡ RangeName)
+    × ((range : RangeText) × (three_words words ≡ Some range) × (is_name range.name ≡ false)))
+    ⊎ (((fault ≡ RangeTwice)
+    × ((range : RangeText) × (three_words words ≡ Some range) × (is_name range.name ≡ true) × IsSome (range_named ranges range.name)))
+    ⊎ (((fault ≡ RangeLow)
+    × ((range : RangeText) × IsNew ranges words range × WritesNone IsAddress range.low))
+    ⊎ ((fault ≡ RangeHigh)
+    × ((range : RangeText) × IsNew ranges words range × WritesSome IsAddress range.low × WritesNone IsAddress range.high)))))

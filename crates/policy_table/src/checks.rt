@@ -1,14 +1,16 @@
-//! The first fault of a table, with its place.
+//! The first fault of a table.
 
 ghost use Rattle.std.specs.Prelude.{◌≡◌};
 ghost use Rattle.machine.specs.Helpers.{takes_kind};
 ghost use Rattle.machine.specs.Sizes.{kind_of_map};
-ghost use Rattle.policy_table.specs.FirstFault.{quota_fault};
-ghost use Rattle.policy_table.specs.TableFaults.{PlacesFaults, rule_fault_at, rules_fault_from, table_fault};
+ghost use Rattle.policy_table.specs.FirstFault.{compile_fault, quota_fault, rule_fault, rules_fault};
+ghost use Rattle.policy_table.specs.Policies.{rule_told};
 
 use crate::faults::PolicyFault;
+use crate::port_rules::PortRule;
 use crate::rules::{Quota, Rule};
-use crate::table_faults::TableFault;
+use crate::statement_faults::StatementFault;
+use crate::text_faults::TextFault;
 use machine::{Helper, MapSizes};
 
 /// The most rules of a table that is compiled, a choice: twelve with every field and a quota have 256 of the 512 slots
@@ -37,45 +39,55 @@ fn quota_fault(quota: Option<Quota>, sizes: &MapSizes) -> Option<PolicyFault>
     }
 }
 
-/// The first fault of the rule of this line.
-pub fn rule_fault_at(rule: &Rule, line: usize, sizes: &MapSizes) -> Option<TableFault>
-    ensures { result ≡ rule_fault_at sizes.now line rule.now }
+/// The first fault of a rule.
+fn rule_fault(rule: &Rule, sizes: &MapSizes) -> Option<PolicyFault>
+    ensures { result ≡ rule_fault sizes.now rule.now }
 {
     if rule.high < rule.low {
-        return Some(TableFault::BadRange(line));
-    }
-    match quota_fault(rule.quota, sizes) {
-        Some(_) => Some(TableFault::NoCell(line)),
-        None => None,
+        Some(PolicyFault::BadRange)
+    } else {
+        quota_fault(rule.quota, sizes)
     }
 }
 
 /// The first fault of rules, in their order.
-fn rules_fault(rules: &[Rule], sizes: &MapSizes) -> Option<TableFault>
-    ensures { result ≡ rules_fault_from sizes.now 1 rules.now }
+fn rules_fault(rules: &[Rule], sizes: &MapSizes) -> Option<PolicyFault>
+    ensures { result ≡ rules_fault sizes.now rules.now }
 {
-    let mut line = 0;
     for rule in rules {
-        line += 1;
-        if let Some(fault) = rule_fault_at(rule, line, sizes) {
+        if let Some(fault) = rule_fault(rule, sizes) {
             return Some(fault);
         }
     }
     None
 }
 
-/// The first fault of a table with these rules, with its place: the fault for which it is not compiled.
-pub fn table_fault(rules: &[Rule], sizes: &MapSizes) -> Option<TableFault>
-    ensures { result ≡ table_fault sizes.now rules.now }
+/// The first fault of a table with these rules: that for which it is not compiled.
+pub fn compile_fault(rules: &[Rule], sizes: &MapSizes) -> Option<PolicyFault>
+    ensures { result ≡ compile_fault sizes.now rules.now }
 {
     if rules.len() > MAX_RULES {
-        Some(TableFault::TooLong(rules.len()))
+        Some(PolicyFault::TooLong)
     } else {
         rules_fault(rules, sizes)
     }
 }
 
-/// A law and no work: the fault that has a place is the one for which a table is not compiled.
-pub fn faults_have_places()
-    ensures { PlacesFaults }
-{}
+/// The fault of a rule in a table, with its place: its range ends before it begins and has no name, or its quota has no cell.
+pub fn rule_told(own: &PortRule, sizes: &MapSizes) -> Option<TextFault>
+    ensures { result ≡ rule_told sizes.now own.now }
+{
+    let line = own.line;
+    if !own.named && own.rule.high < own.rule.low {
+        return Some(TextFault::Line {
+            line,
+            fault: StatementFault::RuleOrder,
+        });
+    }
+    let _none = quota_fault(own.rule.quota, sizes)?;
+    let named = own.named;
+    Some(TextFault::Line {
+        line,
+        fault: StatementFault::NoCell { named },
+    })
+}

@@ -1,19 +1,137 @@
-//! A table of version 2, line by line.
+//! A table of either version, line by line.
 
-ghost use Rattle.std.specs.Prelude.{◌≡◌, ◌<◌, ◌^◌, OnOk, IfErr, IfOk, length};
+ghost use Rattle.std.specs.Prelude.{◌≡◌, ◌<◌, ◌^◌, OnOk, IfErr, IfOk, MatchResult, length, suc, ◌+◌};
 ghost use Rattle.spw.specs.Line.{words_of};
-ghost use Rattle.policy_table.specs.Drafts.{HasBadLine, IsUnreadLine, IsUnreadRange, IsUnreadRule, LinesWrite, TakesLine, TakesRange, TakesRule, empty_draft};
+ghost use Rattle.policy_table.specs.Drafts.{HasBadLine, IsBad, IsBadTwo, IsNoStatement, IsRuleStatement, IsStatement, IsStatementOne, IsStatementTwo, IsUnreadLine, LinesWrite, TakesLine, after, empty_draft, line_words, with_range};
+ghost use Rattle.policy_table.specs.NoRules.{IsNoRule};
+ghost use Rattle.policy_table.specs.Ranges.{range_text, range_texts};
+ghost use Rattle.policy_table.specs.Statements.{IsNoRuleLine};
 
+use crate::lines::read_rule;
 use crate::port_rules::PortRule;
 use crate::ranges::NamedRange;
+use crate::refining::refined;
 use crate::statement_faults::StatementFault;
-use crate::statements::{read_range, read_rule_line};
-use crate::table_faults::TableFault;
+use crate::statements::{WordKind, read_range, read_rule_line, word_kind};
 use crate::text_faults::TextFault;
+use crate::versions::TableVersion;
 use basm_lex::before_comment;
 use spw::{TextLines, first_word};
 use std::alloc::{AllocError, Global};
 use std::marker::Model;
+
+/// What a line of a table says.
+#[derive(Drop)]
+pub enum Statement<'a> {
+    /// Nothing.
+    Nothing,
+    /// The name of a range, and whether the range ends before it begins.
+    Range(NamedRange<'a>, bool),
+    /// A rule.
+    Rule(PortRule),
+}
+
+/// What a line of version 1 says.
+fn statement_one<'a>(line: usize, text: &str) -> Result<Statement<'a>, StatementFault>
+    ensures { MatchResult result (IsStatementOne line text.now) (IsNoRule text.now) }
+{
+    match read_rule(text) {
+        Ok(rule) => Ok(Statement::Rule(PortRule {
+            rule,
+            port: None,
+            line,
+            named: false,
+        })),
+        Err(fault) => Err(fault),
+    }
+}
+
+/// The rule that the words of a line of version 2 are.
+fn rule_statement<'a>(
+    ranges: &[NamedRange<'_>],
+    line: usize,
+    code: &str,
+) -> Result<Statement<'a>, StatementFault>
+    ensures { MatchResult result
+        (IsRuleStatement (range_texts ranges.now) line (words_of code.now))
+        (IsNoRuleLine (range_texts ranges.now) (words_of code.now)) }
+{
+    match read_rule_line(ranges, code) {
+        Ok(read) => Ok(Statement::Rule(PortRule {
+            rule: read.rule,
+            port: read.port,
+            line,
+            named: read.named,
+        })),
+        Err(fault) => Err(fault),
+    }
+}
+
+/// What a line of version 2 says, of which this is before the comment.
+fn statement_two<'a>(
+    ranges: &[NamedRange<'a>],
+    line: usize,
+    code: &'a str,
+) -> Result<Statement<'a>, StatementFault>
+    ensures { MatchResult result
+        (IsStatementTwo (range_texts ranges.now) line (words_of code.now))
+        (IsBadTwo (range_texts ranges.now) (words_of code.now)) }
+{
+    let Some((first, rest)) = first_word(code) else {
+        return Ok(Statement::Nothing);
+    };
+    match word_kind(first) {
+        WordKind::Version => Err(StatementFault::Version),
+        WordKind::Other => Err(StatementFault::Directive),
+        WordKind::Range => match read_range(ranges, rest) {
+            Ok((range, reversed)) => Ok(Statement::Range(range, reversed)),
+            Err(fault) => Err(fault),
+        },
+        WordKind::Rule => rule_statement(ranges, line, code),
+    }
+}
+
+/// The text of a line that is read: in version 2 that before its comment.
+pub fn code_of(version: TableVersion, text: &str) -> &str
+    ensures { words_of result.now ≡ line_words version text.now }
+{
+    match version {
+        TableVersion::One => text,
+        TableVersion::Two => before_comment(text),
+    }
+}
+
+/// What a line says in this version.
+fn plain_statement<'a>(
+    version: TableVersion,
+    ranges: &[NamedRange<'a>],
+    line: usize,
+    text: &'a str,
+) -> Result<Statement<'a>, StatementFault>
+    ensures { MatchResult result (IsStatement version (range_texts ranges.now) line text.now)
+        (IsBad version (range_texts ranges.now) text.now) }
+{
+    match version {
+        TableVersion::One => statement_one(line, text),
+        TableVersion::Two => statement_two(ranges, line, before_comment(text)),
+    }
+}
+
+/// What the line of this number says in this version, if these ranges have names, or what is told of it.
+pub fn statement_in<'a>(
+    version: TableVersion,
+    ranges: &[NamedRange<'a>],
+    line: usize,
+    text: &'a str,
+) -> Result<Statement<'a>, StatementFault>
+    ensures { MatchResult result (IsStatement version (range_texts ranges.now) line text.now)
+        (IsNoStatement version (range_texts ranges.now) text.now) }
+{
+    match plain_statement(version, ranges, line, text) {
+        Ok(statement) => Ok(statement),
+        Err(fault) => Err(refined(code_of(version, text), fault)),
+    }
+}
 
 /// What the lines of a table said so far.
 #[derive(Debug, Drop)]
@@ -34,7 +152,7 @@ impl<'a> Model for Draft<'a> {
 
 impl<'a> Draft<'a> {
     /// No lines.
-    fn new(alloc: Global) -> Draft<'a>
+    pub fn new(alloc: Global) -> Draft<'a>
         ensures { result ≡ empty_draft }
     {
         Draft {
@@ -44,15 +162,23 @@ impl<'a> Draft<'a> {
         }
     }
 
-    /// Takes the range that the text after `.range` defines in the line of this number.
-    fn take_range(&mut self, line: usize, text: &'a str) -> Result<(), TextFault>
-        ensures taken { OnOk result (TakesRange line (words_of text.now) self.old self.new) }
-        ensures fault { IfErr result (IsUnreadRange line (words_of text.now) self.old) }
+    /// The ranges that have names.
+    pub fn ranges(&self) -> &[NamedRange<'a>]
+        ensures { range_texts result.now ≡ self.now.ranges }
     {
-        let (range, reversed) = match read_range(self.ranges.as_slice(), text) {
-            Ok(read) => read,
-            Err(fault) => return Err(TextFault::Line { line, fault }),
-        };
+        self.ranges.as_slice()
+    }
+
+    /// Takes one range more.
+    pub fn add_range(
+        &mut self,
+        line: usize,
+        range: NamedRange<'a>,
+        reversed: bool,
+    ) -> Result<(), AllocError>
+        ensures { OnOk result
+            (self.new ≡ with_range line (range_text range.entry) reversed self.old) }
+    {
         self.ranges.push(range).map_err(AllocError::from)?;
         if reversed && self.reversed.is_none() {
             self.reversed = Some(line);
@@ -60,44 +186,31 @@ impl<'a> Draft<'a> {
         Ok(())
     }
 
-    /// Takes the rule that a text writes in the line of this number.
-    fn take_rule(&mut self, line: usize, text: &str) -> Result<(), TextFault>
-        ensures taken { OnOk result (TakesRule line (words_of text.now) self.old self.new) }
-        ensures fault { IfErr result (IsUnreadRule line (words_of text.now) self.old) }
+    /// Takes what the line of this number says.
+    pub fn add(&mut self, line: usize, statement: Statement<'a>) -> Result<(), AllocError>
+        ensures { OnOk result (self.new ≡ after line statement.entry self.old) }
     {
-        let read = match read_rule_line(self.ranges.as_slice(), text) {
-            Ok(read) => read,
-            Err(fault) => return Err(TextFault::Line { line, fault }),
-        };
-        let own = PortRule {
-            rule: read.rule,
-            port: read.port,
-            line,
-            named: read.named,
-        };
-        self.rules.push(own).map_err(AllocError::from)?;
-        Ok(())
+        match statement {
+            Statement::Nothing => Ok(()),
+            Statement::Range(range, reversed) => self.add_range(line, range, reversed),
+            Statement::Rule(own) => {
+                self.rules.push(own).map_err(AllocError::from)?;
+                Ok(())
+            }
+        }
     }
 
     /// Takes the line of this number.
-    fn take(&mut self, line: usize, text: &'a str) -> Result<(), TextFault>
-        ensures taken { OnOk result (TakesLine line text.now self.old self.new) }
-        ensures fault { IfErr result (IsUnreadLine line text.now self.old) }
+    fn take(&mut self, version: TableVersion, line: usize, text: &'a str) -> Result<(), TextFault>
+        ensures taken { OnOk result (TakesLine version line text.now self.old self.new) }
+        ensures fault { IfErr result (IsUnreadLine version line text.now self.old) }
     {
-        let code = before_comment(text);
-        let Some((first, rest)) = first_word(code) else {
-            return Ok(());
+        let statement = match statement_in(version, self.ranges.as_slice(), line, text) {
+            Ok(statement) => statement,
+            Err(fault) => return Err(TextFault::Line { line, fault }),
         };
-        if first == ".range" {
-            return self.take_range(line, rest);
-        }
-        if first.starts_with('.') {
-            return Err(TextFault::Line {
-                line,
-                fault: StatementFault::Directive,
-            });
-        }
-        self.take_rule(line, code)
+        self.add(line, statement)?;
+        Ok(())
     }
 
     /// The line of the first range that ends before it begins, and the rules.
@@ -109,17 +222,22 @@ impl<'a> Draft<'a> {
     }
 }
 
-/// What the lines after the first say.
-pub fn read_lines<'a>(alloc: Global, lines: TextLines<'a>) -> Result<Draft<'a>, TextFault>
-    requires { length lines < 2 ^ 63 }
-    ensures read { IfOk result (LinesWrite 2 lines.entry empty_draft) }
-    ensures fault { IfErr result (HasBadLine 2 lines.entry empty_draft) }
+/// What lines say, of which the first comes after the line of this number.
+pub fn read_lines<'a>(
+    alloc: Global,
+    version: TableVersion,
+    before: usize,
+    lines: TextLines<'a>,
+) -> Result<Draft<'a>, TextFault>
+    requires { before + length lines < 2 ^ 64 }
+    ensures read { IfOk result (LinesWrite version (suc before) lines.entry empty_draft) }
+    ensures fault { IfErr result (HasBadLine version (suc before) lines.entry empty_draft) }
 {
     let mut draft = Draft::new(alloc);
-    let mut line = 1;
+    let mut line = before;
     for text in lines {
         line += 1;
-        draft.take(line, text)?;
+        draft.take(version, line, text)?;
     }
     Ok(draft)
 }

@@ -21,18 +21,20 @@ mod policies;
 mod port_rules;
 mod port_tables;
 mod ranges;
+mod refining;
+mod room;
 mod rules;
 mod slots;
 mod statement_faults;
 mod statements;
-mod table_faults;
+mod surveys;
 mod tables;
 mod text_faults;
 mod tickets;
+mod unused;
 mod versions;
 mod words;
 
-pub use checks::faults_have_places;
 pub use counts::Counts;
 pub use deciding::{has_kind, last_address};
 pub use faults::PolicyFault;
@@ -47,8 +49,9 @@ pub use slots::{
     asks_ports, field_slots, kind_slots, port_rule_slots, quota_slots, rule_slots, table_slots,
 };
 pub use statement_faults::StatementFault;
-pub use table_faults::TableFault;
+pub use surveys::reported;
 pub use tables::Table;
 pub use text_faults::TextFault;
+pub use unused::unused_ranges;
 pub use versions::TableVersion;
 pub use words::RuleWord;

@@ -2,13 +2,16 @@
 
 ghost use Rattle.std.specs.Prelude.{◌≡◌, [], ◌∷◌, length, MatchOption, MatchResult, IfErr, IfOk};
 ghost use Rattle.spw.specs.Line.{lines_of, words_of};
-ghost use Rattle.policy_table.specs.Lines.{IsRule, IsTable};
-ghost use Rattle.policy_table.specs.TableFaults.{IsNoRule, IsUnread};
+ghost use Rattle.policy_table.specs.Lines.{IsReadFault, IsRule, IsTable};
+ghost use Rattle.policy_table.specs.NoRules.{IsNoRule};
 ghost use Rattle.policy_table.specs.Words.{AreWordsOf, IsFirstBad, texts_of};
+ghost use Rattle.policy_table.specs.declared.faults.PolicyFault.TheVariants.{BadLine};
+ghost use Rattle.policy_table.specs.declared.rules.Rule.{Rule};
 
+use crate::faults::PolicyFault;
 use crate::fields::{address_of, field_of, kind_of, quota_of, verdict_of};
 use crate::rules::Rule;
-use crate::table_faults::TableFault;
+use crate::statement_faults::StatementFault;
 use crate::words::RuleWord;
 use spw::lines_of;
 use std::alloc::{AllocError, Global};
@@ -113,32 +116,39 @@ pub fn rule_of(words: &Words) -> Result<Rule, RuleWord>
     })
 }
 
-/// The rule that the line of this number writes, or why it writes none.
-fn read_rule(line: &str, number: usize) -> Result<Rule, TableFault>
-    ensures read { IfOk result (IsRule line.now) }
-    ensures fault { IfErr result (IsNoRule line.now number) }
+/// The rule that a line writes, or why it writes none.
+pub fn read_rule(line: &str) -> Result<Rule, StatementFault>
+    ensures { MatchResult result (IsRule line.now) (IsNoRule line.now) }
 {
     let Some(words) = eight_words(line) else {
-        let words = words_in(line);
-        return Err(TableFault::BadCount {
-            line: number,
-            words,
-        });
+        return Err(StatementFault::LineCount(words_in(line)));
     };
     match rule_of(&words) {
         Ok(rule) => Ok(rule),
-        Err(word) => Err(TableFault::BadWord { line: number, word }),
+        Err(word) => Err(StatementFault::Word { word, named: false }),
+    }
+}
+
+/// The rule that a line of a table writes.
+fn rule_in(line: &str) -> Result<Rule, PolicyFault>
+    ensures read { IfOk result (IsRule line.now) }
+    ensures fault { IfErr result (λ fault. (fault ≡ BadLine)
+        × ((rule : Rule) → ¬ IsRule line.now rule)) }
+{
+    match read_rule(line) {
+        Ok(rule) => Ok(rule),
+        Err(_) => Err(PolicyFault::BadLine),
     }
 }
 
 /// The rules of the lines of a text. A line is ended by a line feed, which the last may lack.
-pub fn read_rules(alloc: Global, text: &str) -> Result<Vec<Rule>, TableFault>
+pub fn read_rules(alloc: Global, text: &str) -> Result<Vec<Rule>, PolicyFault>
     ensures read { IfOk result (λ rules. IsTable text.now rules.items) }
-    ensures fault { IfErr result (IsUnread (lines_of text.now)) }
+    ensures fault { IfErr result (IsReadFault (lines_of text.now)) }
 {
     let mut rules = Vec::new(alloc);
     for line in lines_of(text) {
-        let rule = read_rule(line, rules.len() + 1)?;
+        let rule = rule_in(line)?;
         rules.push(rule).map_err(AllocError::from)?;
     }
     Ok(rules)

@@ -1,32 +1,28 @@
 //! Tables of either version.
 
-ghost use Rattle.std.specs.Prelude.{◌≡◌, ◌<◌, ◌^◌, All, IfErr, IfOk, None, Some, length};
+ghost use Rattle.std.specs.Prelude.{◌≡◌, ◌<◌, ◌^◌, ◌+◌, All, IfErr, IfOk, None, Some, length};
+ghost use Rattle.std.specs.List.{list_any};
 ghost use Rattle.spw.specs.Line.{lines_of};
 ghost use Rattle.policy_table.specs.Limits.{FitsFields};
-ghost use Rattle.policy_table.specs.Policies.{IsPolicyFault, IsUnreadOne, IsUnreadPolicy, WritesOne, WritesPolicy, WritesTwo, is_before, length_told, policy_fault, reversed_told, rule_told, rules_told};
-ghost use Rattle.policy_table.specs.Drafts.{HasBadLine, empty_draft};
+ghost use Rattle.policy_table.specs.Policies.{IsDrawnFault, IsPolicyFault, IsUnreadPolicy, WritesPolicy, drawn_fault, is_before, policy_fault, reading, reading_of, reversed_told, rules_told, version_of};
 ghost use Rattle.policy_table.specs.Ports.{FitsPort, on_lines};
-ghost use Rattle.policy_table.specs.declared.versions.TableVersion.TheVariants.{One, Two};
+ghost use Rattle.policy_table.specs.Statements.{has_version};
+ghost use Rattle.policy_table.specs.Surveys.{AreFaults, IsReported, reported};
 
-use crate::checks::rule_fault_at;
+use crate::checks::rule_told;
 use crate::drafts::read_lines;
-use crate::lines::read_rules;
 use crate::port_rules::PortRule;
+use crate::room::length_told;
 use crate::rules::Rule;
-use crate::slots::table_slots;
 use crate::statement_faults::StatementFault;
-use crate::statements::begins_two;
-use crate::table_faults::TableFault;
+use crate::statements::{begins_two, has_version};
+use crate::surveys::survey_lines;
 use crate::text_faults::TextFault;
 use crate::versions::TableVersion;
-use bpf::MAX_SLOTS;
 use machine::MapSizes;
 use spw::{TextLines, lines_of};
 use std::alloc::{AllocError, Global};
 use std::marker::Model;
-
-/// The most rules of a table of version 1 that is compiled.
-const MAX_RULES: usize = 12;
 
 /// A policy table of either version: rules in order, of which the first that is asked at a command's port and matches
 /// gives the verdict.
@@ -68,86 +64,54 @@ pub fn on_lines(alloc: Global, rules: &[Rule]) -> Result<Vec<PortRule>, AllocErr
     Ok(all)
 }
 
-/// A table of version 1.
-fn read_one(alloc: Global, text: &str) -> Result<Policy, TextFault>
-    ensures read { IfOk result (WritesOne (lines_of text.now)) }
-    ensures fault { IfErr result (IsUnreadOne (lines_of text.now)) }
+/// Whether a line of a text says a version.
+fn says_version(text: &str) -> bool
+    ensures { result ≡ list_any has_version (lines_of text.now) }
 {
-    let rules = read_rules(alloc, text)?;
-    let rules = on_lines(alloc, rules.as_slice())?;
-    Ok(Policy {
-        version: TableVersion::One,
-        reversed: None,
-        rules,
-    })
+    for line in lines_of(text) {
+        if has_version(line) {
+            return true;
+        }
+    }
+    false
 }
 
-/// A table of version 2, of which these lines stand after the first.
-fn read_two(alloc: Global, lines: TextLines<'_>) -> Result<Policy, TextFault>
-    requires { length lines < 2 ^ 63 }
-    ensures read { IfOk result (WritesTwo lines.entry) }
-    ensures fault { IfErr result (HasBadLine 2 lines.entry empty_draft) }
+/// The version of a text whose first line is not `.version 2`.
+fn version_of(text: &str) -> TableVersion
+    ensures { result ≡ version_of (lines_of text.now) }
 {
-    let draft = read_lines(alloc, lines)?;
-    let (reversed, rules) = draft.into_rules();
-    Ok(Policy {
-        version: TableVersion::Two,
-        reversed,
-        rules,
-    })
-}
-
-/// The fault of a table of so many rules of version 1.
-fn length_one(rules: &[PortRule]) -> Option<TextFault>
-    ensures { result ≡ length_told One rules.now }
-{
-    if rules.len() > MAX_RULES {
-        Some(TextFault::Plain(TableFault::TooLong(rules.len())))
+    if says_version(text) {
+        TableVersion::Two
     } else {
-        None
+        TableVersion::One
     }
 }
 
-/// The fault of a table of these rules of version 2 whose program has more slots than an image may have.
-fn length_two(rules: &[PortRule]) -> Option<TextFault>
-    ensures { result ≡ length_told Two rules.now }
+/// How the lines of a text are read whose first line is not `.version 2`.
+fn plain_reading(text: &str) -> (TableVersion, usize, TextLines<'_>)
+    ensures how { reading result.0 result.1 result.2
+        ≡ reading (version_of (lines_of text.now)) 0 (lines_of text.now) }
+    ensures few { result.1 + length result.2 < 2 ^ 64 }
 {
-    let slots = table_slots(rules);
-    if slots > usize::from(MAX_SLOTS) {
-        Some(TextFault::TooLong(slots - usize::from(MAX_SLOTS)))
-    } else {
-        None
-    }
+    (version_of(text), 0, lines_of(text))
 }
 
-/// The fault of a table that is too long for its version.
-fn length_told(version: TableVersion, rules: &[PortRule]) -> Option<TextFault>
-    ensures { result ≡ length_told version rules.now }
+/// How the lines of a text are read: their version, how many are before those that say something, and these.
+fn reading_of(text: &str) -> (TableVersion, usize, TextLines<'_>)
+    ensures how { reading result.0 result.1 result.2 ≡ reading_of (lines_of text.now) }
+    ensures few { result.1 + length result.2 < 2 ^ 64 }
 {
-    match version {
-        TableVersion::One => length_one(rules),
-        TableVersion::Two => length_two(rules),
+    let mut lines = lines_of(text);
+    match lines.next() {
+        Some(first) => {
+            if begins_two(first) {
+                (TableVersion::Two, 1, lines)
+            } else {
+                plain_reading(text)
+            }
+        }
+        None => plain_reading(text),
     }
-}
-
-/// The first fault of a rule of a table of this version.
-fn rule_told(version: TableVersion, own: &PortRule, sizes: &MapSizes) -> Option<TextFault>
-    ensures { result ≡ rule_told version sizes.now own.now }
-{
-    let fault = rule_fault_at(&own.rule, own.line, sizes)?;
-    let line = own.line;
-    let fault = match (version, fault) {
-        (TableVersion::One, fault) => TextFault::Plain(fault),
-        (TableVersion::Two, TableFault::BadRange(_)) => TextFault::Line {
-            line,
-            fault: StatementFault::RuleOrder,
-        },
-        (TableVersion::Two, _) => TextFault::Line {
-            line,
-            fault: StatementFault::NoCell { named: own.named },
-        },
-    };
-    Some(fault)
 }
 
 /// The fault of the range that ends before it begins, where there is one.
@@ -182,22 +146,21 @@ impl Policy {
     ///
     /// # Errors
     ///
-    /// The first line that is none of these, with its place. `Plain` of `Memory` where memory was refused.
+    /// The first line that is none of these, with its place; `Memory` where memory was refused. A line that says a version is a fault
+    /// of a table of version 2, except for line 1 that is `.version 2`; the lines of a text that has such a fault are read as
+    /// version 2.
     pub fn read(alloc: Global, text: &str) -> Result<Policy, TextFault>
         ensures read { IfOk result (WritesPolicy (lines_of text.now)) }
         ensures fault { IfErr result (IsUnreadPolicy (lines_of text.now)) }
     {
-        let mut lines = lines_of(text);
-        match lines.next() {
-            Some(first) => {
-                if begins_two(first) {
-                    read_two(alloc, lines)
-                } else {
-                    read_one(alloc, text)
-                }
-            }
-            None => read_one(alloc, text),
-        }
+        let (version, before, lines) = reading_of(text);
+        let draft = read_lines(alloc, version, before, lines)?;
+        let (reversed, rules) = draft.into_rules();
+        Ok(Policy {
+            version,
+            reversed,
+            rules,
+        })
     }
 
     /// The table that a text writes, as [`Policy::read`] reads it, which compiles for a node with maps of these sizes but
@@ -219,9 +182,35 @@ impl Policy {
         }
     }
 
+    /// The table that a text writes, as [`Policy::read`] reads it, whose lines have no fault for maps of these sizes. It may be too long
+    /// for a program.
+    ///
+    /// # Errors
+    ///
+    /// The first fault of the text with its place: of the first line that is not read, or of the first of its lines.
+    pub fn read_drawn(alloc: Global, text: &str, sizes: &MapSizes) -> Result<Policy, TextFault>
+        ensures read { IfOk result (WritesPolicy (lines_of text.now)) }
+        ensures faultless { IfOk result (λ policy. drawn_fault sizes.now policy ≡ None) }
+        ensures fault { IfErr result (IsDrawnFault sizes.now (lines_of text.now)) }
+    {
+        let policy = Policy::read(alloc, text)?;
+        match policy.drawn_fault_for(sizes) {
+            Some(fault) => Err(fault),
+            None => Ok(policy),
+        }
+    }
+
+    /// The first fault of the lines of the table for maps of these sizes, with its place.
+    fn drawn_fault_for(&self, sizes: &MapSizes) -> Option<TextFault>
+        ensures { result ≡ drawn_fault sizes.now self.now }
+    {
+        rules_told(self.reversed, self.rules.as_slice(), sizes)
+    }
+
     /// The first fault of the table for a node with maps of these sizes, with its place: that for which it is not compiled.
     ///
-    /// In this order: more than 12 rules in version 1, or a program of more than 512 slots in version 2; then, line by line,
+    /// In this order: the first rule for which there is no room, as the thirteenth in version 1, or in version 2 the first that the 512
+    /// slots of an image do not have; then, line by line,
     /// a range that ends before it begins, and a quota whose cell the maps do not have, or that is in a peak map.
     pub fn fault_for(&self, sizes: &MapSizes) -> Option<TextFault>
         ensures { result ≡ policy_fault sizes.now self.now }
@@ -229,7 +218,25 @@ impl Policy {
         if let Some(fault) = length_told(self.version, self.rules.as_slice()) {
             return Some(fault);
         }
-        rules_told(self.version, self.reversed, self.rules.as_slice(), sizes)
+        rules_told(self.reversed, self.rules.as_slice(), sizes)
+    }
+
+    /// All faults of a text for a node with maps of these sizes, in the order of its lines; of one rule, that there is no room for it is
+    /// first. The fault that [`Policy::read_for`] gives is the first of them with the number 5, else the first with 1, else the first.
+    ///
+    /// A line that is at fault says nothing, and lines below are read without it; but a name that it gives to a range is known.
+    ///
+    /// # Errors
+    ///
+    /// Where memory was refused.
+    pub fn faults(alloc: Global, text: &str, sizes: &MapSizes) -> Result<Vec<TextFault>, AllocError>
+        ensures all { IfOk result (λ all. AreFaults sizes.now (lines_of text.now) all.items) }
+        ensures reported { IfOk result
+            (λ all. IsReported sizes.now (lines_of text.now) (reported all.items)) }
+    {
+        let (version, before, lines) = reading_of(text);
+        let all = survey_lines(alloc, version, before, lines, sizes)?;
+        Ok(all)
     }
 
     /// The form of its text.
@@ -249,19 +256,14 @@ impl Policy {
 }
 
 /// The first fault of rules and of the range that ends before it begins, line by line.
-fn rules_told(
-    version: TableVersion,
-    reversed: Option<usize>,
-    rules: &[PortRule],
-    sizes: &MapSizes,
-) -> Option<TextFault>
-    ensures { result ≡ rules_told version sizes.now reversed rules.now }
+fn rules_told(reversed: Option<usize>, rules: &[PortRule], sizes: &MapSizes) -> Option<TextFault>
+    ensures { result ≡ rules_told sizes.now reversed rules.now }
 {
     for own in rules {
         if is_before(reversed, own.line) {
             return reversed_told(reversed);
         }
-        if let Some(fault) = rule_told(version, own, sizes) {
+        if let Some(fault) = rule_told(own, sizes) {
             return Some(fault);
         }
     }

@@ -1,4 +1,4 @@
-//! What is wrong with a line of a table of version 2.
+//! What is wrong with a line of a table.
 
 ghost use Rattle.std.specs.Prelude.{◌≡◌, Some};
 ghost use Rattle.policy_table.specs.StatementFaults.{policy_fault_in, port_place, rule_form, statement_fault_text, word_place};
@@ -7,13 +7,19 @@ use crate::faults::PolicyFault;
 use crate::words::RuleWord;
 use std::fmt;
 
-/// Why a line of a table of version 2 is neither empty nor a range nor a rule, or why its rule is not compiled.
+/// What is wrong with a line of a table: it is none of its version, its rule is not compiled, or there is no room for it.
 #[derive(Clone, Copy, Debug, PartialEq, Eq)]
 pub enum StatementFault {
-    /// The first word begins with a point, and is not `.range`.
+    /// The first word is `.version`, and the line is not the first, or not `.version 2`.
+    Version,
+    /// The line begins as a comment does elsewhere, or as one of version 2 in a table of version 1.
+    Comment,
+    /// The first word begins with a point, and is neither `.range` nor `.version`.
     Directive,
     /// `.range` has so many words after it, and not three.
     RangeCount(usize),
+    /// Both addresses of a range are one word.
+    RangeJoined,
     /// The name of a range is no name, or reads as an address.
     RangeName,
     /// A range above has the name.
@@ -22,8 +28,12 @@ pub enum StatementFault {
     RangeLow,
     /// The last address of a range is no address.
     RangeHigh,
-    /// A rule ends before its verdict: it has so many words.
+    /// A line of a table of version 1 has so many words, and not eight.
+    LineCount(usize),
+    /// A rule of version 2 ends before its verdict: it has so many words.
     RuleCount(usize),
+    /// Both addresses of a rule are one word.
+    RuleJoined,
     /// A word of a rule is none of its field. A name that no range above has is no first address.
     Word {
         /// The first such word.
@@ -45,6 +55,15 @@ pub enum StatementFault {
         /// Whether the range stands there by its name.
         named: bool,
     },
+    /// The rule is the thirteenth of a table of version 1.
+    TooManyRules,
+    /// The rule is the first of a table of version 2 for which an image has no room.
+    TooManySlots {
+        /// How many slots the rule takes.
+        slots: u16,
+        /// How many are left for it.
+        left: u16,
+    },
 }
 
 impl StatementFault {
@@ -53,17 +72,24 @@ impl StatementFault {
         ensures { result ≡ policy_fault_in self }
     {
         match self {
-            StatementFault::Directive
+            StatementFault::Version
+            | StatementFault::Comment
+            | StatementFault::Directive
             | StatementFault::RangeCount(_)
+            | StatementFault::RangeJoined
             | StatementFault::RangeName
             | StatementFault::RangeTwice
             | StatementFault::RangeLow
             | StatementFault::RangeHigh
+            | StatementFault::LineCount(_)
             | StatementFault::RuleCount(_)
+            | StatementFault::RuleJoined
             | StatementFault::Word { .. }
             | StatementFault::Port { .. } => PolicyFault::BadLine,
             StatementFault::RangeOrder | StatementFault::RuleOrder => PolicyFault::BadRange,
             StatementFault::NoCell { .. } => PolicyFault::NoCell,
+            StatementFault::TooManyRules | StatementFault::TooManySlots { .. } =>
+                PolicyFault::TooLong,
         }
     }
 }
@@ -97,7 +123,7 @@ fn rule_form(word: RuleWord, named: bool) -> &'static str
     if named {
         "NAME is of no range above"
     } else {
-        "LOW is eight hexadecimal digits, or the NAME of a range above"
+        "LOW is eight hexadecimal digits, or in version 2 the NAME of a range above"
     }
 }
 
@@ -106,14 +132,28 @@ impl fmt::Display for StatementFault {
 
     fn fmt<W: fmt::Write>(&self, f: &mut fmt::Formatter<W>) -> fmt::Result {
         match self {
+            StatementFault::Version => write!(
+                f,
+                "word 1: .version 2 must be line 1, before all else, and 2 is the only number"
+            ),
+            StatementFault::Comment => write!(
+                f,
+                "word 1: a comment begins with ; and is of version 2, whose line 1 is .version 2"
+            ),
             StatementFault::Directive => write!(
                 f,
-                "word 1: .range NAME LOW HIGH gives a name to a range, and .version 2 stands in line 1 only"
+                "word 1: the directives are .range NAME LOW HIGH and, in line 1, .version 2"
             ),
             StatementFault::RangeCount(words) => {
                 write!(
                     f,
                     "has {words} words after .range, and a range has 3: NAME LOW HIGH"
+                )
+            }
+            StatementFault::RangeJoined => {
+                write!(
+                    f,
+                    "word 3: LOW and HIGH are two words, with a space between them"
                 )
             }
             StatementFault::RangeName => write!(
@@ -123,8 +163,23 @@ impl fmt::Display for StatementFault {
             StatementFault::RangeTwice => write!(f, "word 2: NAME is of a range above"),
             StatementFault::RangeLow => write!(f, "word 3: LOW is eight hexadecimal digits"),
             StatementFault::RangeHigh => write!(f, "word 4: HIGH is eight hexadecimal digits"),
-            StatementFault::RuleCount(words) => {
-                write!(f, "ends after word {words}, and a rule after VERDICT")
+            StatementFault::LineCount(0) => write!(
+                f,
+                "has no words, and empty lines are of version 2, whose line 1 is .version 2"
+            ),
+            StatementFault::LineCount(words) => write!(
+                f,
+                "ends after word {words}, and a rule has 8: KIND KEY INIT EXT LOW HIGH QUOTA VERDICT"
+            ),
+            StatementFault::RuleCount(words) => write!(
+                f,
+                "ends after word {words}, and a rule has 8: KIND KEY INIT EXT LOW HIGH QUOTA VERDICT, or NAME for LOW HIGH"
+            ),
+            StatementFault::RuleJoined => {
+                write!(
+                    f,
+                    "word 5: LOW and HIGH are two words, with a space between them"
+                )
             }
             StatementFault::Word { word, named } => {
                 let number = word_place(*word, *named);
@@ -135,7 +190,7 @@ impl fmt::Display for StatementFault {
                 let number = port_place(*named);
                 write!(
                     f,
-                    "word {number}: after VERDICT stands nothing, or port P with P from 0 to 31"
+                    "word {number}: after VERDICT only port P may come, with P from 0 to 31"
                 )
             }
             StatementFault::RangeOrder => write!(f, "word 3: LOW is above HIGH"),
@@ -144,6 +199,13 @@ impl fmt::Display for StatementFault {
                 let number = word_place(RuleWord::Quota, *named);
                 write!(f, "word {number}: QUOTA is of no cell of a counter map")
             }
+            StatementFault::TooManyRules => {
+                write!(f, "is rule 13, and a table of version 1 has at most 12")
+            }
+            StatementFault::TooManySlots { slots, .. } => write!(
+                f,
+                "does not fit: its rule takes {slots} slots, more than are left of the 512 of an image"
+            ),
         }
     }
 }

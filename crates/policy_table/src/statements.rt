@@ -1,9 +1,9 @@
-//! The lines of a table of version 2: comments, ranges that have names, and rules with ports.
+//! The words of the lines of a table of version 2: ranges that have names, and rules with ports.
 
 ghost use Rattle.std.specs.Prelude.{◌≡◌, Some, None, option_map, MatchOption, MatchResult, IfOk, IfErr, codes, bytes_eq, length, [], ◌∷◌};
 ghost use Rattle.spw.specs.Line.{words_of};
 ghost use Rattle.policy_table.specs.Ranges.{range_named, range_text, range_texts};
-ghost use Rattle.policy_table.specs.Statements.{IsNoPort, IsNoRange, IsNoRuleLine, IsPort, IsRange, IsRuleLine, begins_two, next_word, parts_text, range_words, rule_parts, span_text, three_words};
+ghost use Rattle.policy_table.specs.Statements.{IsNoPort, IsNoRange, IsNoRuleLine, IsPort, IsRange, IsRuleLine, begins_two, has_version, is_version, next_word, parts_text, range_words, rule_parts, span_text, three_words, word_kind};
 
 use crate::fields::address_of;
 use crate::lines::{Words, rule_of, words_in};
@@ -14,10 +14,55 @@ use basm_lex::before_comment;
 use spw::{first_word, read_port};
 
 /// The first word of a text, and what stands after it.
-fn next_word(text: &str) -> Option<(&str, &str)>
+pub fn next_word(text: &str) -> Option<(&str, &str)>
     ensures { option_map (λ r. (r.0.now, words_of r.1.now)) result ≡ next_word (words_of text.now) }
 {
     first_word(text)
+}
+
+/// What the first word of a line makes it.
+#[derive(Clone, Copy, Debug, PartialEq, Eq)]
+pub enum WordKind {
+    /// A line that says a version.
+    Version,
+    /// A line that gives a name to a range.
+    Range,
+    /// A line of a directive that there is not.
+    Other,
+    /// A rule.
+    Rule,
+}
+
+/// Whether a word is `.version`, also after the mark with which some editors begin a file.
+fn is_version(word: &str) -> bool
+    ensures { result ≡ is_version word.now }
+{
+    word == ".version" || word == "\u{feff}.version"
+}
+
+/// What the first word of a line makes it.
+pub fn word_kind(word: &str) -> WordKind
+    ensures { result ≡ word_kind word.now }
+{
+    if is_version(word) {
+        WordKind::Version
+    } else if word == ".range" {
+        WordKind::Range
+    } else if word.starts_with('.') {
+        WordKind::Other
+    } else {
+        WordKind::Rule
+    }
+}
+
+/// Whether the first word of a line says a version.
+pub fn has_version(line: &str) -> bool
+    ensures { result ≡ has_version line.now }
+{
+    match first_word(before_comment(line)) {
+        Some((word, _rest)) => is_version(word),
+        None => false,
+    }
 }
 
 /// Whether a line is `.version 2`.

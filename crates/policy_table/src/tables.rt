@@ -1,6 +1,6 @@
 //! Policy tables.
 
-ghost use Rattle.std.specs.Prelude.{◌≡◌, ◌+◌, ◌≤◌, ◌++◌, All, length, vec_len, IfErr, IfOk, None, OnErr, OnOk, option_map};
+ghost use Rattle.std.specs.Prelude.{◌≡◌, ◌+◌, ◌≤◌, ◌++◌, All, length, vec_len, IfErr, IfOk, OnErr, OnOk};
 ghost use Rattle.std.specs.Vec.{vec_capacity};
 ghost use Rattle.machine.specs.Memory.{header};
 ghost use Rattle.spw.specs.Line.{lines_of};
@@ -11,9 +11,8 @@ ghost use Rattle.policy_table.specs.Lines.{IsReadFault, IsTable};
 ghost use Rattle.policy_table.specs.Matching.{matched};
 ghost use Rattle.policy_table.specs.Meaning.{decision, told_by};
 ghost use Rattle.policy_table.specs.Passing.{passed_rules};
-ghost use Rattle.policy_table.specs.TableFaults.{IsTableFault, policy_fault_of, table_fault};
 
-use crate::checks::{faults_have_places, table_fault};
+use crate::checks::compile_fault;
 use crate::counts::Counts;
 use crate::faults::PolicyFault;
 use crate::laws::first_rule_matches;
@@ -22,7 +21,6 @@ use crate::matching::{Match, match_of};
 use crate::mismatches::Passed;
 use crate::passing::passed_rules;
 use crate::rules::Rule;
-use crate::table_faults::TableFault;
 use crate::tickets::Answers;
 use machine::{Call, MapSizes};
 use std::alloc::{AllocError, Global};
@@ -92,40 +90,15 @@ impl Table {
         ensures read { IfOk result (IsTable text.now) }
         ensures fault { IfErr result (IsReadFault (lines_of text.now)) }
     {
-        match read_rules(alloc, text) {
-            Ok(rules) => Ok(Table { rules }),
-            Err(fault) => Err(fault.fault()),
-        }
-    }
-
-    /// The table that a text writes, as [`Table::read`] reads it, which compiles for a node with maps of these sizes but for
-    /// want of memory.
-    ///
-    /// # Errors
-    ///
-    /// The first fault of the text with its place: of the first line that is no rule, or that for which the table is not
-    /// compiled (`compile` of the crate `policy`). `Memory` where memory was refused.
-    pub fn read_for(alloc: Global, text: &str, sizes: &MapSizes) -> Result<Table, TableFault>
-        ensures read { IfOk result (IsTable text.now) }
-        ensures faultless { IfOk result (λ table. compile_fault sizes.now table ≡ None) }
-        ensures fault { IfErr result (IsTableFault sizes.now (lines_of text.now)) }
-    {
-        faults_have_places();
         let rules = read_rules(alloc, text)?;
-        if let Some(fault) = table_fault(rules.as_slice(), sizes) {
-            return Err(fault);
-        }
         Ok(Table { rules })
     }
 
-    /// The first fault of the table for a node with maps of these sizes, with its place: that for which it is not
-    /// compiled.
-    pub fn fault_for(&self, sizes: &MapSizes) -> Option<TableFault>
-        ensures place { result ≡ table_fault sizes.now self.now }
-        ensures fault { option_map policy_fault_of result ≡ compile_fault sizes.now self.now }
+    /// The first fault of the table for a node with maps of these sizes: that for which it is not compiled.
+    pub fn fault_for(&self, sizes: &MapSizes) -> Option<PolicyFault>
+        ensures { result ≡ compile_fault sizes.now self.now }
     {
-        faults_have_places();
-        table_fault(self.rules.as_slice(), sizes)
+        compile_fault(self.rules.as_slice(), sizes)
     }
 
     /// The rules, in order.

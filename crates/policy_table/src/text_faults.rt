@@ -1,24 +1,21 @@
 //! Why a table of either version is refused, and where.
 
 ghost use Rattle.std.specs.Prelude.{◌≡◌, Some};
-ghost use Rattle.policy_table.specs.TextFaults.{text_fault_of, text_fault_text};
-ghost use Rattle.policy_table.specs.declared.text_faults.TextFault.TheVariants.{Plain};
-ghost use Rattle.policy_table.specs.declared.table_faults.TableFault.TheVariants.{Memory};
+ghost use Rattle.policy_table.specs.Codes.{policy_fault_code};
+ghost use Rattle.policy_table.specs.TextFaults.{fault_line, text_fault_of, text_fault_text};
+ghost use Rattle.policy_table.specs.declared.text_faults.TextFault.TheVariants.{Memory};
 
 use crate::faults::PolicyFault;
 use crate::statement_faults::StatementFault;
-use crate::table_faults::TableFault;
 use std::alloc::AllocError;
 use std::fmt;
 
 /// Why a table of either version is refused, and where. Lines count from 1.
 #[derive(Clone, Copy, Debug, PartialEq, Eq)]
 pub enum TextFault {
-    /// The fault of a table of version 1; of either version, that memory was refused.
-    Plain(TableFault),
-    /// The program of a table of version 2 has so many slots more than an image may have.
-    TooLong(usize),
-    /// The fault of a line of a table of version 2.
+    /// Memory was refused.
+    Memory,
+    /// A line is at fault.
     Line {
         /// The number of the line.
         line: usize,
@@ -33,26 +30,34 @@ impl TextFault {
         ensures { result ≡ text_fault_of self }
     {
         match self {
-            TextFault::Plain(fault) => fault.fault(),
-            TextFault::TooLong(_) => PolicyFault::TooLong,
+            TextFault::Memory => PolicyFault::Memory,
             TextFault::Line { fault, .. } => fault.fault(),
+        }
+    }
+
+    /// The number of the fault, as [`PolicyFault::code`] gives it.
+    pub fn code(self) -> u8
+        ensures { result ≡ policy_fault_code (text_fault_of self) }
+    {
+        self.fault().code()
+    }
+
+    /// The number of the line, from 1; 0 of a memory that was refused.
+    pub fn line(self) -> usize
+        ensures { result ≡ fault_line self }
+    {
+        match self {
+            TextFault::Memory => 0,
+            TextFault::Line { line, .. } => line,
         }
     }
 }
 
-impl From<TableFault> for TextFault {
-    ghost from_gives = { λ fault own. own ≡ Plain fault };
-
-    fn from(fault: TableFault) -> TextFault {
-        TextFault::Plain(fault)
-    }
-}
-
 impl From<AllocError> for TextFault {
-    ghost from_gives = { λ _ fault. fault ≡ Plain Memory };
+    ghost from_gives = { λ _ fault. fault ≡ Memory };
 
     fn from(_refused: AllocError) -> TextFault {
-        TextFault::Plain(TableFault::Memory)
+        TextFault::Memory
     }
 }
 
@@ -61,13 +66,7 @@ impl fmt::Display for TextFault {
 
     fn fmt<W: fmt::Write>(&self, f: &mut fmt::Formatter<W>) -> fmt::Result {
         match self {
-            TextFault::Plain(fault) => write!(f, "{fault}"),
-            TextFault::TooLong(slots) => {
-                write!(
-                    f,
-                    "the program has {slots} slots more than the 512 of an image"
-                )
-            }
+            TextFault::Memory => write!(f, "no memory"),
             TextFault::Line { line, fault } => write!(f, "line {line} {fault}"),
         }
     }

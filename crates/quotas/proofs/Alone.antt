@@ -1,7 +1,7 @@
 -- A quota of N matches at most N commands of a node of one thread: the matching draw of each is told how many tickets of
 -- the cell were drawn before it, which is below N.
 use Rattle.std.specs.Prelude.{◌==◌, ◌&&◌, IsTrue, if◌then◌else◌}
-use Rattle.std.proofs.Common.{◌≡◌, ◌<◌, ◌≤◌, ◌+◌, ◌^◌, ℕ, Bool, true, false, List, [], ◌∷◌, ◌++◌, length, refl, ap, ap₂, subst, ◌∙◌, arith, inl, inr, length-append}
+use Rattle.std.proofs.Common.{◌≡◌, ◌<◌, ◌≤◌, ◌+◌, ◌^◌, ℕ, Bool, true, false, List, [], ◌∷◌, ◌++◌, length, refl, ap, subst, ◌∙◌, arith, inl, inr, length-append}
 use Rattle.std.proofs.lemmas.Bool.{and_from, eq-eqb}
 use Rattle.bank.specs.Records.{JudgedValue}
 use Rattle.bver.specs.Justified.{AcceptedValue}

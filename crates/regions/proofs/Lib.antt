@@ -4,3 +4,4 @@ pub mod Lying
 pub mod Apart
 pub mod Searching
 pub mod Filling
+pub mod Within

@@ -4,7 +4,7 @@ use Rattle.std.specs.Prelude.{MatchOption, Option, Some, None, is_some}
 use Rattle.std.proofs.lemmas.Bool.{cases_lt}
 use Rattle.regions.specs.Points.{HasCommand}
 use Rattle.regions.specs.Questions.{HoldsOn, IsCutBy, IsCutTo, IsSettledBy, IsShapeAt, IsUnderWay, IsUnmixed}
-use Rattle.regions.specs.Regions.{AreApart, AreCut, IsBare, IsIn, lies_in, meets, meets_last, side_of}
+use Rattle.regions.specs.Regions.{AreApart, AreCut, IsBare, IsIn, LiesWithin, lies_in, meets, meets_last, side_of}
 use Rattle.regions.specs.declared.points.Point.{Point}
 use Rattle.regions.specs.declared.regions.Region.{Region}
 use Rattle.regions.specs.declared.sides.Side.{Side}
@@ -153,6 +153,14 @@ apart_cut tests number region shape at apart cut =
   where
     failed : (d : Point → Bool) (r : Point) → IsIn region r → get_or tests number d r ≡ false
     failed d r in_r = sym (at.same d r in_r.0) ∙ false_of (lies_in shape r) (apart r in_r.0 in_r.1)
+
+-- where a region lies within a shape, the test of the shape has one outcome in the region
+pub within_cut : (tests : List (Point → Bool)) (number : ℕ) (region shape : Region) → IsShapeAt tests number shape → LiesWithin region shape → IsCutBy tests number region → IsCutBy tests (number + 1) region
+within_cut tests number region shape at within cut =
+    one_more tests number region cut (λ d p q in_p in_q. constant (get_or tests number d p) (get_or tests number d q) true (passed d p in_p) (passed d q in_q))
+  where
+    passed : (d : Point → Bool) (r : Point) → IsIn region r → get_or tests number d r ≡ true
+    passed d r in_r = sym (at.same d r in_r.0) ∙ within r in_r.0 in_r.1
 
 -- what is known of a part at which a search of a region has come, by itself
 pub record IsOnWay (tests : List (Point → Bool)) (holds : Point → Type 0) (region : Region) (number : ℕ) (part : Region) (at : ℕ) (shape : Region) (sides : ℕ) : Type 0 where

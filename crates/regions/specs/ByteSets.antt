@@ -33,3 +33,7 @@ are_same_bytes one other = one.low == other.low && one.high == other.high
 -- no byte is in both sets
 abbrev pub HaveNoByte : (one other : ByteSet) → Type 0
 HaveNoByte one other = (byte : ℕ) → byte < 256 → has_byte one byte ≡ true → has_byte other byte ≡ true → ⊥
+
+-- each byte that is in a set is in another
+abbrev pub HasEachByte : (one other : ByteSet) → Type 0
+HasEachByte one other = (byte : ℕ) → byte < 256 → has_byte one byte ≡ true → has_byte other byte ≡ true

@@ -37,3 +37,7 @@ lies_on stretch address = nat_le stretch.start address && nat_lt address stretch
 -- no address lies on both stretches
 abbrev pub HaveNoAddress : (one other : Stretch) → Type 0
 HaveNoAddress one other = (address : ℕ) → lies_on one address ≡ true → lies_on other address ≡ true → ⊥
+
+-- each address that lies on a stretch lies on another
+abbrev pub HasEachAddress : (one other : Stretch) → Type 0
+HasEachAddress one other = (address : ℕ) → lies_on one address ≡ true → lies_on other address ≡ true

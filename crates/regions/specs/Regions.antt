@@ -69,6 +69,14 @@ IsBare region = (p : Point) → HasCommand p → lies_in region p ≡ false
 abbrev pub AreApart : (one other : Region) → Type 0
 AreApart one other = (p : Point) → HasCommand p → lies_in one p ≡ true → lies_in other p ≡ true → ⊥
 
+-- each kind that is in a set is in another
+abbrev pub HasEachKind : (one other : Kinds) → Type 0
+HasEachKind one other = (own : Kind) → is_one_of one own ≡ true → is_one_of other own ≡ true
+
+-- each point of a region that some command has lies in another
+abbrev pub LiesWithin : (one other : Region) → Type 0
+LiesWithin one other = (p : Point) → HasCommand p → lies_in one p ≡ true → lies_in other p ≡ true
+
 -- a region is cut by a side of another into the points that meet its condition and those that do not
 pub record AreCut (region shape : Region) (side : Side) (inside outside : Region) : Type 0 where
   pub met : (p : Point) → HasCommand p → lies_in inside p ≡ (lies_in region p && meets side shape p)

@@ -1,7 +1,7 @@
 //! Sets of bytes.
 
 ghost use Rattle.std.specs.Prelude.{◌≡◌, ◌<◌, ◌==◌, ◌^◌, ◌&&◌, ◌||◌, ℕ, MatchBool, MatchOption, false, not, true};
-ghost use Rattle.regions.specs.ByteSets.{HaveNoByte, IsLeast, IsLowest, are_same_bytes, has_bit, has_byte};
+ghost use Rattle.regions.specs.ByteSets.{HasEachByte, HaveNoByte, IsLeast, IsLowest, are_same_bytes, has_bit, has_byte};
 
 /// How many bits a half has.
 const HALF: u8 = 128;
@@ -112,6 +112,14 @@ impl ByteSet {
         ensures { MatchBool result (Unit {0}) (HaveNoByte self.now other.now) }
     {
         self.both(other).first().is_some()
+    }
+
+    /// Whether each of them is in the other set.
+    #[tactic(auto, using(crate::proofs::Within::each_byte))]
+    pub(crate) fn is_within(&self, other: &ByteSet) -> bool
+        ensures { MatchBool result (HasEachByte self.now other.now) (Unit {0}) }
+    {
+        self.without(other).first().is_none()
     }
 
     /// The least of them.

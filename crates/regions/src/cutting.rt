@@ -56,6 +56,10 @@ fn fill_from<Q: Question>(
                 }
                 return Ok(());
             };
+            if part.is_within(&next) {
+                at += 1;
+                continue 'cuts;
+            }
             if !part.may_meet(&next) {
                 at += 1;
                 continue 'cuts;

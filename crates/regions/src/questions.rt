@@ -70,6 +70,10 @@ fn search_from<Q: Question>(
                     Some(point)
                 };
             };
+            if part.is_within(&next) {
+                at += 1;
+                continue 'cuts;
+            }
             if !part.may_meet(&next) {
                 at += 1;
                 continue 'cuts;

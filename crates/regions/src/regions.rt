@@ -3,7 +3,7 @@
 ghost use Rattle.std.specs.Prelude.{◌≡◌, ◌≤◌, ◌&&◌, MatchBool, MatchOption, not, true};
 ghost use Rattle.rmap.specs.declared.kind.Kind.{Kind};
 ghost use Rattle.regions.specs.Points.{HasCommand};
-ghost use Rattle.regions.specs.Regions.{AreApart, AreCut, IsBare, IsIn, are_same_kinds, is_one_of, is_same, lies_in, meets, meets_last};
+ghost use Rattle.regions.specs.Regions.{AreApart, AreCut, HasEachKind, IsBare, IsIn, LiesWithin, are_same_kinds, is_one_of, is_same, lies_in, meets, meets_last};
 ghost use Rattle.regions.specs.declared.points.Point.{Point};
 
 use crate::byte_sets::ByteSet;
@@ -62,6 +62,14 @@ impl Kinds {
             write: self.write && other.write,
             rmw: self.rmw && other.rmw,
         }
+    }
+
+    /// Whether each of them is in the other set.
+    #[tactic(auto, using(crate::proofs::Within::each_kind))]
+    fn is_within(self, other: Kinds) -> bool
+        ensures { MatchBool result (HasEachKind self other) (Unit {0}) }
+    {
+        (!self.read || other.read) && ((!self.write || other.write) && (!self.rmw || other.rmw))
     }
 
     /// Those that are not in the other set.
@@ -214,6 +222,29 @@ impl Region {
             return true;
         }
         !self.last.may_meet(other.last)
+    }
+
+    /// Whether the values of each field that lie in the region lie in the other too. Then so do its points.
+    #[tactic(auto, using(crate::proofs::Within::within))]
+    pub(crate) fn is_within(&self, other: &Region) -> bool
+        ensures { MatchBool result (LiesWithin self.now other.now) (Unit {0}) }
+    {
+        if !self.first.is_within(other.first) {
+            return false;
+        }
+        if !self.last.is_within(other.last) {
+            return false;
+        }
+        if !self.keys.is_within(&other.keys) {
+            return false;
+        }
+        if !self.initiators.is_within(&other.initiators) {
+            return false;
+        }
+        if !self.extended.is_within(&other.extended) {
+            return false;
+        }
+        self.kinds.is_within(other.kinds)
     }
 
     /// Whether a command may have a point that lies in both regions.

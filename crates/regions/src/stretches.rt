@@ -1,7 +1,7 @@
 //! Stretches of addresses.
 
 ghost use Rattle.std.specs.Prelude.{◌≡◌, ℕ, ◌&&◌, MatchBool, max, min, nat_lt, not};
-ghost use Rattle.regions.specs.Points.{HaveNoAddress, lies_on};
+ghost use Rattle.regions.specs.Points.{HasEachAddress, HaveNoAddress, lies_on};
 
 /// The addresses from one to before another; none, where that is not greater.
 #[derive(Clone, Copy, Debug, PartialEq, Eq)]
@@ -40,5 +40,13 @@ impl Stretch {
         ensures { MatchBool result (Unit {0}) (HaveNoAddress self other) }
     {
         self.start < other.end && other.start < self.end
+    }
+
+    /// Whether each address of it lies on the other.
+    #[tactic(auto, using(crate::proofs::Within::each_address))]
+    pub(crate) fn is_within(self, other: Stretch) -> bool
+        ensures { MatchBool result (HasEachAddress self other) (Unit {0}) }
+    {
+        other.start <= self.start && self.end <= other.end
     }
 }

@@ -11,11 +11,12 @@ ghost use Rattle.job_parts.specs.declared.usage.UsageFault.TheVariants.{Memory};
 ghost use Rattle.node_parts.specs.Nodes.{are_within};
 
 use commands::{
-    Asked, Configuration, Course, DumpTalk, Fault, HostLink, HostTalk, Job, JobEnd, LiveWords,
-    NodeJob, OWN_CONTENTS, OWN_SOURCE, Refusal, ShowWords, Status, Stream, ToldFiles, ToldTalk,
-    Untold, UsageFault, Waits, Work, WriteFault, argument_fault, asked_of, configuration_in, live,
-    live_frames, node_inputs, own_contents, own_source, perform_told, show_talk, stream_of,
-    told_end, told_fault, told_loss, told_node, told_wait, usage_end, words_or_judge,
+    Asked, Configuration, Course, DumpTalk, Fault, FileNode, HostLink, HostTalk, Job, JobEnd,
+    LiveWords, NodeJob, OWN_CONTENTS, OWN_SOURCE, Refusal, ShowWords, Status, Stream, ToldFiles,
+    ToldTalk, Untold, UsageFault, Waits, Work, WriteFault, argument_fault, asked_of,
+    configuration_in, live, live_frames, node_inputs, own_contents, own_source, perform_told,
+    show_talk, stream_of, told_end, told_fault, told_loss, told_node, told_wait, usage_end,
+    words_or_judge,
 };
 use std::alloc::{AllocError, Global};
 use std::io::{BufReader, BufWriter, IsTerminal, Stderr, Write};
@@ -78,13 +79,13 @@ fn refuse_output<R: Print + Eprint>(rt: &R, name: &str, text: &str) -> Status
     status
 }
 
-/// Does a job over this machine's files and standard output, and gives how it ends. If a node's file says its maps, that node has so
-/// many ports.
+/// Does a job over this machine's files and standard output, and gives how it ends. The node is that whose file says its maps, if one
+/// says them.
 fn do_job<R: rt::Files + Input + Print + Eprint + Threads + Wait + Sync>(
     rt: &R,
     alloc: Global,
     job: &Job,
-    ports: Option<u8>,
+    node: Option<FileNode>,
 ) -> Status {
     if let Some(name) = own_source(rt, &job.inputs()) {
         return refuse_output(rt, name, OWN_SOURCE);
@@ -93,7 +94,7 @@ fn do_job<R: rt::Files + Input + Print + Eprint + Threads + Wait + Sync>(
         Ok(out) => out,
         Err(refused) => return lose(rt, Err(refused)),
     };
-    let mut files = ToldFiles::of_job(rt, alloc, job, ports);
+    let mut files = ToldFiles::of_job(rt, alloc, job, node);
     let done = perform_told(rt, alloc, job, &mut files, &mut out);
     // What was held back fails again where it failed before, with the reason.
     match (done, out.flush()) {
@@ -162,8 +163,8 @@ fn do_on_node<R: rt::Files + Input + Print + Eprint + Threads + Wait + Sync>(
         Err(status) => return status,
     };
     let NodeJob { job, .. } = own;
-    let ports = Some(configuration.ports);
-    do_job(rt, alloc, &job.placed(&configuration), ports)
+    let own = FileNode::of(&configuration);
+    do_job(rt, alloc, &job.placed(&configuration), Some(own))
 }
 
 /// Holds a talk in lines over standard input and standard output, and gives how it ends. It does not begin if memory is refused.

@@ -2,4 +2,5 @@ mod Seeing
 mod Four
 mod FirstBroken
 mod Serving
+mod Windows
 mod Mending

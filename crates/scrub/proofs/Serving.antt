@@ -1,5 +1,5 @@
 -- Which packets come to a slot that is withdrawn, and what is kept after a packet.
-use Rattle.std.proofs.Common.{◌≡◌, ◌≢◌, ℕ, List, Bool, true, false, Option, None, Some, refl, sym, ap, subst, ◌∙◌}
+use Rattle.std.proofs.Common.{◌≡◌, ◌≢◌, inl, inr, ℕ, List, Bool, true, false, Option, None, Some, refl, sym, ap, subst, ◌∙◌}
 use Rattle.std.specs.Prelude.{slice_get}
 use Rattle.node_programs.specs.declared.publishes.Publish.{Publish}
 use Rattle.node_programs.specs.Published.{generation_at}
@@ -48,12 +48,18 @@ pub by_read : (withheld : Bool) (told : Told) (size port : ℕ) (packet : Cargo)
 by_read true told size port packet before after room left is serves = absurd (cc is)
 by_read false told size port packet before after room left is serves = serves
 
--- a program that is made again changes no bank and no port
-pub remade_banks : (slot : ℕ) (kept : SlotSums) (before after : Watched) → IsRemade slot kept before after → after.node.banks ≡ before.node.banks
-remade_banks slot kept before after is = ap (λ (g : Watched). g.node.banks) is.after_is
+-- a program that is published changes no bank and no port
+remade_same : (slot : ℕ) (image : List ℕ) (kept : SlotSums) (before after : Watched) → IsRemade slot image kept before after → (after.node.banks ≡ before.node.banks) × (after.node.passes ≡ before.node.passes)
+remade_same slot image kept before after is = elim is [
+  | inl own ↦ (ap (λ (g : Watched). g.node.banks) own.again.after_is, ap (λ (g : Watched). g.node.passes) own.again.after_is)
+  | inr lent ↦ (ap (λ (g : Watched). g.node.banks) lent.after_is, ap (λ (g : Watched). g.node.passes) lent.after_is)
+]
 
-pub remade_ports : (slot : ℕ) (kept : SlotSums) (before after : Watched) → IsRemade slot kept before after → after.node.passes ≡ before.node.passes
-remade_ports slot kept before after is = ap (λ (g : Watched). g.node.passes) is.after_is
+pub remade_banks : (slot : ℕ) (image : List ℕ) (kept : SlotSums) (before after : Watched) → IsRemade slot image kept before after → after.node.banks ≡ before.node.banks
+remade_banks slot image kept before after is = (remade_same slot image kept before after is).0
+
+pub remade_ports : (slot : ℕ) (image : List ℕ) (kept : SlotSums) (before after : Watched) → IsRemade slot image kept before after → after.node.passes ≡ before.node.passes
+remade_ports slot image kept before after is = (remade_same slot image kept before after is).1
 
 -- which slot is scrubbed first
 pub first_not : (due : Bool) (slot : Option ℕ) (found : Option Found) (before after : Watched) → due ≡ false → FindsNothing found (counting_on before (counted before.guard.counting)) after

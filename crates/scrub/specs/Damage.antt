@@ -3,6 +3,7 @@ use Rattle.std.specs.Prelude.{◌+◌, ℕ, Bool, false, true, List, [], ◌∷�
 use Rattle.std.specs.Option.{option_map}
 use Rattle.bank.specs.Records.{BankValue, EntryValue, is_whole}
 use Rattle.machine.specs.Sizes.{Maps}
+use Rattle.node_parts.specs.Passes.{PassValue}
 use Rattle.node_programs.specs.Published.{sizes_of}
 use Rattle.scrub.specs.declared.damage.Broken.{Broken}
 use Rattle.single_node.specs.Nodes.{SingleNodeValue}
@@ -74,6 +75,24 @@ after_ranges sum banks =
     (slice_get banks 0)) (slice_get banks 1)) (slice_get banks 2)) (slice_get banks 3))
     (slice_get banks 4)) (slice_get banks 5)) (slice_get banks 6)) (slice_get banks 7)
 
+-- the sum after the range of a bank by the windows of a node, if they have that bank
+abbrev pub after_place : (sum : ℕ) → Option (ℕ × ℕ) → ℕ
+after_place sum None = sum
+after_place sum (Some place) = after_word (after_word sum place.0) place.1
+
+-- the sum after the ranges of all banks by them
+abbrev pub after_places : (sum : ℕ) → List (ℕ × ℕ) → ℕ
+after_places sum places =
+    after_place (after_place (after_place (after_place
+    (after_place (after_place (after_place (after_place sum
+    (slice_get places 0)) (slice_get places 1)) (slice_get places 2)) (slice_get places 3))
+    (slice_get places 4)) (slice_get places 5)) (slice_get places 6)) (slice_get places 7)
+
+-- the sum after the windows under which the ports serve, if there is a port: the node's address, and the ranges of the banks
+abbrev pub after_windows : (sum : ℕ) → Option PassValue → ℕ
+after_windows sum None = sum
+after_windows sum (Some h) = after_places (after_word sum h.windows.node_address) h.windows.banks
+
 -- the sum after the cells of a map, if there is that map
 abbrev pub after_cells : (sum : ℕ) → Option ℕ → ℕ
 after_cells sum None = sum
@@ -87,9 +106,11 @@ after_maps sum sizes =
     (slice_get sizes.cells 0)) (slice_get sizes.cells 1)) (slice_get sizes.cells 2)) (slice_get sizes.cells 3))
     (slice_get sizes.cells 4)) (slice_get sizes.cells 5)) (slice_get sizes.cells 6)) (slice_get sizes.cells 7)
 
--- the sum of what a node's sizes are from its opening on: how many ports and banks it has, where the banks lie, and how
--- many cells its maps have
+-- the sum of a node's sizes at its opening: its ports and banks, its address, the ranges of its windows and banks, and its cells
 abbrev pub sizes_sum : SingleNodeValue → ℕ
 sizes_sum node =
-    after_maps (after_ranges (after_word (after_word 0 (length node.passes)) (length node.banks)) node.banks)
+    after_maps
+    (after_ranges
+    (after_windows (after_word (after_word 0 (length node.passes)) (length node.banks)) (slice_get node.passes 0))
+    node.banks)
     (sizes_of node.programs)

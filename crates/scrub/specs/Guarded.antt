@@ -1,11 +1,8 @@
 -- A node whose programs are scrubbed.
-use Rattle.std.specs.Prelude.{◌≡◌, ◌≢◌, ◌<◌, ◌≤◌, ◌^◌, ◌⊎◌, ◌==◌, ◌&&◌, not, ℕ, Bool, false, true, List, [], length, Option, None, Some, slice_get, slice_set}
+use Rattle.std.specs.Prelude.{◌≡◌, ◌≢◌, ◌<◌, ◌≤◌, ◌^◌, ◌⊎◌, ◌==◌, ◌&&◌, not, if◌then◌else◌, ℕ, Bool, false, true, List, [], length, Option, None, Some, slice_get, slice_set}
 use Rattle.bver.specs.Justified.{AcceptedValue}
-use Rattle.bver.specs.Unjustified.{TellsUnjustified}
-use Rattle.bver_form.specs.declared.refusal.Refusal.TheVariants.{Memory as RefusedMemory}
-use Rattle.bver_form.specs.declared.refusal.Refused.{Refused}
 use Rattle.node_parts.specs.declared.served.Served.TheVariants.{Unread}
-use Rattle.node_programs.specs.Published.{program_at}
+use Rattle.node_programs.specs.Published.{program_at, sizes_of}
 use Rattle.rmap.specs.Command.{command_of}
 use Rattle.rmap.specs.Reply.{reply_of}
 use Rattle.rmap.specs.declared.status.Status.TheVariants.{GeneralError}
@@ -21,6 +18,7 @@ use Rattle.scrub.specs.declared.guard.Guard.{Guard}
 use Rattle.scrub.specs.declared.guard.Health.{Health}
 use Rattle.scrub.specs.declared.guard.Health.TheVariants.{Whole, Mended, Unmended, Withdrawn}
 use Rattle.scrub.specs.declared.guard.Scrubbed.{Scrubbed}
+use Rattle.scrub.specs.declared.guard.Seen.{Seen}
 use Rattle.scrub.specs.declared.kept.SlotSums.{SlotSums}
 use Rattle.scrub.specs.Counting.{agrees, counted, counting_of, is_due, is_on, renewed}
 use Rattle.scrub.specs.Damage.{sizes_sum}
@@ -28,6 +26,7 @@ use Rattle.scrub.specs.declared.counting.Counting.{Counting}
 use Rattle.scrub.specs.declared.made.MendFault.{MendFault}
 use Rattle.scrub.specs.declared.made.MendFault.TheVariants.{Memory, Image, Full}
 use Rattle.scrub.specs.Kept.{AreFresh, Follow, fresh_sums, has_sum, is_withheld, withdrawn_sums}
+use Rattle.scrub.specs.Mending.{IsLentFor, IsUnlent}
 use Rattle.scrub.specs.Sums.{IsSummed}
 
 -- a node, with what is kept of its programs, if they are scrubbed
@@ -70,50 +69,47 @@ pub record IsDamaged (g : Watched) (slot : ℕ) (kept : SlotSums) : Type 0 where
   pub has : HasSumAt g slot sum
   pub differs : has_sum kept sum ≡ false
 
--- the program of the same image, for the same maps
-pub record IsVerifiedAgain (program made : AcceptedValue) : Type 0 where
-  pub same : made.program ≡ program.program
-  pub sizes : made.sizes ≡ program.sizes
+-- the slot's last program was published for it once more, and that sum is kept of it
+pub record IsPublishedAs (slot sum : ℕ) (before after : Watched) : Type 0 where
+  pub program : AcceptedValue
+  pub shown : program_at before.node.programs slot ≡ Some program
+  pub after_is : after ≡ with_made before slot program sum
 
--- the same, and its sum is one of those that are kept
-pub record IsMadeAgain (program : AcceptedValue) (kept : SlotSums) (made : AcceptedValue) (sum : ℕ) : Type 0 where
-  pub verified : IsVerifiedAgain program made
-  pub summed : IsSummed made sum
+-- the same, if it could be published; else nothing changed, since no more programs can be
+abbrev pub PublishesAs : (is_published : Bool) → (slot sum : ℕ) → (before after : Watched) → Type 0
+PublishesAs true slot sum before after = IsPublishedAs slot sum before after
+PublishesAs false slot sum before after = (after ≡ before) × (2 ^ 32 ≤ length before.node.programs)
+
+-- the slot's last program, whose operations were made again of its own image, has a sum that is kept, and was published once more
+pub record IsRenewed (slot : ℕ) (kept : SlotSums) (before after : Watched) : Type 0 where
+  pub sum : ℕ
+  pub has : HasSumAt before slot sum
   pub agrees : has_sum kept sum ≡ true
+  pub again : IsPublishedAs slot sum before after
 
--- the same, and its sum is none of those that are kept
-pub record IsMadeOtherwise (program : AcceptedValue) (kept : SlotSums) : Type 0 where
+-- the program of the image that is lent has a sum that is kept, and was published for the slot
+pub record IsLentTo (slot : ℕ) (image : List ℕ) (kept : SlotSums) (before after : Watched) : Type 0 where
   pub made : AcceptedValue
   pub sum : ℕ
-  pub verified : IsVerifiedAgain program made
-  pub summed : IsSummed made sum
-  pub differs : has_sum kept sum ≡ false
+  pub lent : IsLentFor (sizes_of before.node.programs) image kept made sum
+  pub after_is : after ≡ with_made before slot made sum
 
--- the verifier refuses the program's image, and not for want of memory
-pub record IsRefusedAgain (program : AcceptedValue) : Type 0 where
-  pub refused : Refused
-  pub tells : TellsUnjustified program.program program.sizes refused
-  pub other : refused.code ≢ RefusedMemory
+-- the one or the other
+abbrev pub IsRemade : (slot : ℕ) → (image : List ℕ) → SlotSums → (before after : Watched) → Type 0
+IsRemade slot image kept before after = IsRenewed slot kept before after ⊎ IsLentTo slot image kept before after
 
--- why the verifier made no program of the image
-abbrev pub IsUnverified : AcceptedValue → MendFault → Type 0
-IsUnverified program Memory = Unit {0}
-IsUnverified program Image = IsRefusedAgain program
-IsUnverified program Full = ⊥
+-- why the slot's program was not mended: memory was refused to what reads the image that is lent; no program with a sum that is
+-- kept can be read of it; or no more programs can be published
+abbrev pub IsUnmended : (image : List ℕ) → SlotSums → Watched → MendFault → Type 0
+IsUnmended image kept g Memory = image ≢ []
+IsUnmended image kept g Image = IsUnlent (sizes_of g.node.programs) image kept Image
+IsUnmended image kept g Full = 2 ^ 32 ≤ length g.node.programs
 
--- why no program was made that has a sum that is kept
-abbrev pub IsUnmade : AcceptedValue → SlotSums → MendFault → Type 0
-IsUnmade program kept Memory = Unit {0}
-IsUnmade program kept Image = IsRefusedAgain program ⊎ IsMadeOtherwise program kept
-IsUnmade program kept Full = ⊥
-
--- why the slot's program was not mended: memory was refused; no program with a sum that is kept can be made of its image; or
--- no more programs can be published
-abbrev pub IsUnmended : (slot : ℕ) → SlotSums → Watched → MendFault → Type 0
-IsUnmended slot kept g Memory = Unit {0}
-IsUnmended slot kept g Image =
-    (program : AcceptedValue) × (program_at g.node.programs slot ≡ Some program) × IsUnmade program kept Image
-IsUnmended slot kept g Full = 2 ^ 32 ≤ length g.node.programs
+-- how a slot is found whose program was not mended
+abbrev pub health_by : MendFault → Health
+health_by Memory = Unmended
+health_by Image = Withdrawn
+health_by Full = Withdrawn
 
 -- the program is as it was published: nothing changed, but that both sums are now its own, and that it may judge
 pub record StaysWhole (slot : ℕ) (before after : Watched) : Type 0 where
@@ -124,54 +120,85 @@ pub record StaysWhole (slot : ℕ) (before after : Watched) : Type 0 where
   pub agrees : has_sum kept sum ≡ true
   pub after_is : after ≡ keeping before slot (fresh_sums sum)
 
--- a program that was made again of the image of the slot's program is published for the slot
-pub record IsRemade (slot : ℕ) (kept : SlotSums) (before after : Watched) : Type 0 where
-  pub program : AcceptedValue
-  pub shown : program_at before.node.programs slot ≡ Some program
-  pub made : AcceptedValue
-  pub sum : ℕ
-  pub again : IsMadeAgain program kept made sum
-  pub after_is : after ≡ with_made before slot made sum
-
--- the program was damaged, and was made again
-pub record IsMended (slot : ℕ) (before after : Watched) : Type 0 where
+-- the program was found damaged, and nothing changed
+pub record IsFoundDamaged (slot : ℕ) (before after : Watched) : Type 0 where
   pub kept : SlotSums
   pub at : slice_get before.guard.sums slot ≡ Some kept
   pub damaged : IsDamaged before slot kept
-  pub remade : IsRemade slot kept before after
+  pub same : after ≡ before
 
--- how a slot is found whose program was not mended
-abbrev pub health_by : MendFault → Health
-health_by Memory = Unmended
-health_by Image = Withdrawn
-health_by Full = Withdrawn
+-- what a look at a slot finds, whether it was withdrawn before or not
+abbrev pub LooksAt : (whole : Bool) → (slot : ℕ) → (before after : Watched) → Type 0
+LooksAt true slot before after = StaysWhole slot before after
+LooksAt false slot before after = IsFoundDamaged slot before after
 
--- the program was damaged, and was not mended; its slot is withdrawn, and nothing else changed
-pub record IsWithdrawn (health : Health) (slot : ℕ) (before after : Watched) : Type 0 where
+-- the program was made again
+pub record IsMended (slot : ℕ) (image : List ℕ) (before after : Watched) : Type 0 where
   pub kept : SlotSums
   pub at : slice_get before.guard.sums slot ≡ Some kept
-  pub damaged : IsDamaged before slot kept
+  pub remade : IsRemade slot image kept before after
+
+-- the program was not mended; its slot is withdrawn, and nothing else changed
+pub record IsWithdrawn (health : Health) (slot : ℕ) (image : List ℕ) (before after : Watched) : Type 0 where
+  pub kept : SlotSums
+  pub at : slice_get before.guard.sums slot ≡ Some kept
   pub fault : MendFault
-  pub reason : IsUnmended slot kept before fault
+  pub reason : IsUnmended image kept before fault
   pub health_is : health ≡ health_by fault
   pub after_is : after ≡ keeping before slot (withdrawn_sums kept)
 
--- what a scrub of a slot does, whether it was withdrawn before or not
-abbrev pub ScrubsSlot : Health → (slot : ℕ) → (before after : Watched) → Type 0
-ScrubsSlot Whole slot before after = StaysWhole slot before after
-ScrubsSlot Mended slot before after = IsMended slot before after
-ScrubsSlot Withdrawn slot before after = IsWithdrawn Withdrawn slot before after
-ScrubsSlot Unmended slot before after = IsWithdrawn Unmended slot before after
+-- what becomes of a slot that was found damaged
+abbrev pub Repairs : Health → (slot : ℕ) → (image : List ℕ) → (before after : Watched) → Type 0
+Repairs Whole slot image before after = ⊥
+Repairs Mended slot image before after = IsMended slot image before after
+Repairs Withdrawn slot image before after = IsWithdrawn Withdrawn slot image before after
+Repairs Unmended slot image before after = IsWithdrawn Unmended slot image before after
 
--- a scrub of the four slots, one after the other
-pub record Scrubs (told : Scrubbed) (before after : Watched) : Type 0 where
+-- the same if it was found damaged; of a slot that was found whole nothing changed
+abbrev pub RepairsUnless : (whole : Bool) → Health → (slot : ℕ) → (image : List ℕ) → (before after : Watched) → Type 0
+RepairsUnless true health slot image before after = (health ≡ Whole) × (after ≡ before)
+RepairsUnless false health slot image before after = Repairs health slot image before after
+
+-- a look at the four slots, one after the other
+pub record Looks (seen : Seen) (before after : Watched) : Type 0 where
   pub one : Watched
   pub two : Watched
   pub three : Watched
-  pub reads : ScrubsSlot told.reads 0 before one
-  pub writes : ScrubsSlot told.writes 1 one two
-  pub rmws : ScrubsSlot told.rmws 2 two three
-  pub window : ScrubsSlot told.window 3 three after
+  pub reads : LooksAt seen.reads 0 before one
+  pub writes : LooksAt seen.writes 1 one two
+  pub rmws : LooksAt seen.rmws 2 two three
+  pub window : LooksAt seen.window 3 three after
+
+-- a scrub of the four slots: a look at all of them, and then each that was found damaged is repaired, one after the other
+pub record Scrubs (told : Scrubbed) (image : List ℕ) (before after : Watched) : Type 0 where
+  pub seen : Seen
+  pub between : Watched
+  pub one : Watched
+  pub two : Watched
+  pub three : Watched
+  pub looks : Looks seen before between
+  pub reads : RepairsUnless seen.reads told.reads 0 image between one
+  pub writes : RepairsUnless seen.writes told.writes 1 image one two
+  pub rmws : RepairsUnless seen.rmws told.rmws 2 image two three
+  pub window : RepairsUnless seen.window told.window 3 image three after
+
+-- how the program of a slot was found; of a slot that there is not nothing is said
+abbrev pub health_at : Scrubbed → (slot : ℕ) → Health
+health_at told slot =
+    if slot == 0 then told.reads else (if slot == 1 then told.writes else (if slot == 2 then told.rmws else told.window))
+
+-- the slot was found damaged, and so all slots were scrubbed
+pub record ScrubsAll (health : Health) (slot : ℕ) (before after : Watched) : Type 0 where
+  pub between : Watched
+  pub told : Scrubbed
+  pub found : IsFoundDamaged slot before between
+  pub scrubs : Scrubs told [] between after
+  pub health_is : health ≡ health_at told slot
+
+-- what a scrub of a slot does, whether it was withdrawn before or not: its program is whole, or all slots are scrubbed
+abbrev pub ScrubsSlot : Health → (slot : ℕ) → (before after : Watched) → Type 0
+ScrubsSlot health slot before after =
+    ((health ≡ Whole) × StaysWhole slot before after) ⊎ ScrubsAll health slot before after
 
 -- ---- publishes
 
@@ -214,11 +241,11 @@ HasGuard None node own = IsGuardOf node 0 own
 HasGuard (Some guard) node own = own ≡ guard
 
 -- the four slots were scrubbed, by what is kept of them
-pub record ScrubsGuarded (told : Scrubbed) (before after : GuardedValue) : Type 0 where
+pub record ScrubsGuarded (told : Scrubbed) (image : List ℕ) (before after : GuardedValue) : Type 0 where
   pub old : Guard
   pub new : Guard
   pub has : HasGuard before.guard before.node old
-  pub scrubs : Scrubs told (beside old before.node) (beside new after.node)
+  pub scrubs : Scrubs told image (beside old before.node) (beside new after.node)
   pub left : after.guard ≡ Some new
 
 -- the sizes have the sum that was kept of them, if one was

@@ -1,10 +1,11 @@
 //! Damage that is found and not mended: entries of journals that are not whole, and sizes that are others than they were.
 
 ghost use Rattle.std.specs.Prelude.{◌≡◌, ◌<◌, ◌≤◌, ◌*◌, slice_get};
-ghost use Rattle.scrub.specs.Damage.{after_cells, after_maps, after_range, after_ranges, broken_bit, broken_in, broken_low, broken_of, broken_place, first_of, no_broken, sizes_sum, with_bank};
+ghost use Rattle.scrub.specs.Damage.{after_cells, after_maps, after_place, after_places, after_range, after_ranges, after_windows, broken_bit, broken_in, broken_low, broken_of, broken_place, first_of, no_broken, sizes_sum, with_bank};
 
 use bank::Entry;
 use machine::MapSizes;
+use rmap::Windows;
 use single_node::SingleNode;
 use sums::after_word;
 
@@ -131,6 +132,42 @@ fn after_ranges(sum: u64, node: &SingleNode) -> u64
     after_range(seven, node, 7)
 }
 
+/// The sum after where the windows of a node have a bank, if they have it.
+fn after_place(sum: u64, windows: &Windows, bank: u8) -> u64
+    ensures { result ≡ after_place sum (slice_get windows.now.banks bank) }
+{
+    match windows.bank(bank) {
+        Some((first, size)) => after_word(after_word(sum, u64::from(first)), u64::from(size)),
+        None => sum,
+    }
+}
+
+/// The sum after where they have the banks.
+fn after_places(sum: u64, windows: &Windows) -> u64
+    ensures { result ≡ after_places sum windows.now.banks }
+{
+    let one = after_place(sum, windows, 0);
+    let two = after_place(one, windows, 1);
+    let three = after_place(two, windows, 2);
+    let four = after_place(three, windows, 3);
+    let five = after_place(four, windows, 4);
+    let six = after_place(five, windows, 5);
+    let seven = after_place(six, windows, 6);
+    after_place(seven, windows, 7)
+}
+
+/// The sum after the windows of a node, if it has a port.
+#[tactic(auto, using(crate::proofs::Windows::without_ports, crate::proofs::Windows::of_first))]
+fn after_windows(sum: u64, node: &SingleNode) -> u64
+    ensures { result ≡ after_windows sum (slice_get node.now.passes 0) }
+{
+    if node.ports() == 0 {
+        return sum;
+    }
+    let windows = node.windows();
+    after_places(after_word(sum, u64::from(windows.node_address())), windows)
+}
+
 /// The sum after the cells of a map, if there is that map.
 fn after_cells(sum: u64, sizes: &MapSizes, map: u8) -> u64
     ensures { result ≡ after_cells sum (slice_get sizes.now.cells map) }
@@ -155,12 +192,12 @@ fn after_maps(sum: u64, sizes: &MapSizes) -> u64
     after_cells(seven, sizes, 7)
 }
 
-/// The sum of what a node's sizes are from its opening on: how many ports and banks it has, where the banks lie, and how many
-/// cells its maps have.
+/// The sum of a node's sizes at its opening: its ports and banks, its address, the ranges of its windows and banks, and its cells.
 pub(crate) fn sizes_sum(node: &SingleNode) -> u64
     ensures { result ≡ sizes_sum node.now }
 {
     let ports = after_word(0, u64::from(node.ports()));
     let banks = after_word(ports, u64::from(node.banks()));
-    after_maps(after_ranges(banks, node), &node.sizes())
+    let windows = after_windows(banks, node);
+    after_maps(after_ranges(windows, node), &node.sizes())
 }

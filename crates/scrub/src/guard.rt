@@ -1,6 +1,6 @@
 //! What is kept of a node's programs, and scrubs of them.
 
-ghost use Rattle.std.specs.Prelude.{◌≡◌, ◌<◌, ◌≤◌, ◌==◌, ℕ, List, ◌&&◌, IfErr, IfOk, None, OnErr, OnOk, Some, false, length, not, slice_get, true};
+ghost use Rattle.std.specs.Prelude.{◌≡◌, ◌<◌, ◌≤◌, ◌==◌, ℕ, List, ◌&&◌, ◌^◌, IfErr, IfOk, None, OnErr, OnOk, Some, false, length, not, slice_get, true};
 ghost use Rattle.node_programs.specs.Codes.{IsUnpublished};
 ghost use Rattle.node_programs.specs.Published.{generation_at, sizes_of};
 ghost use Rattle.node_programs.specs.declared.publishes.Publish.{Publish};
@@ -8,13 +8,13 @@ ghost use Rattle.rmap.specs.Command.{discard_of};
 ghost use Rattle.single_node.specs.Nodes.{slot_in};
 ghost use Rattle.scrub.specs.Counting.{agrees, counted, is_due, is_on, renewed};
 ghost use Rattle.scrub.specs.Damage.{sizes_sum};
-ghost use Rattle.scrub.specs.Guarded.{IsGuardOf, IsInstalled, IsRemade, IsUnmended, ScrubsFirst, ScrubsSlot, Scrubs, beside, health_by, scrubbing_each, with_all, with_counting, with_sums};
+ghost use Rattle.scrub.specs.Guarded.{IsGuardOf, IsInstalled, IsLentTo, IsRemade, IsUnmended, Looks, LooksAt, PublishesAs, Repairs, RepairsUnless, ScrubsFirst, ScrubsSlot, Scrubs, beside, health_at, health_by, scrubbing_each, with_all, with_counting, with_sums};
 ghost use Rattle.scrub.specs.Kept.{AreFresh, AreGenerations, Follow, FollowAt, closed_in, is_withheld};
 
 use crate::counting::Counting;
 use crate::damage::sizes_sum;
 use crate::kept::{SlotSums, is_closed_at, set_sums, sums_at};
-use crate::made::{MendFault, made_again};
+use crate::made::{MendFault, lent_program};
 use crate::op_sums::program_sum;
 use bver::Accepted;
 use node_programs::PublishFault;
@@ -27,11 +27,12 @@ use std::alloc::Global;
 pub enum Health {
     /// Its operations have the sum that was kept.
     Whole,
-    /// They had not, and a program that was made again of its image is published for the slot.
+    /// They had not. They were made again of the program's own image, or of the one that is lent, and are published for the slot.
     Mended,
-    /// They had not, and no program that has it can be made of its image, or no more programs can be published: the slot is withdrawn.
+    /// They had not, and neither image has it, or no more programs can be published: the slot is withdrawn.
     Withdrawn,
-    /// They had not, and memory to make the program again was refused: the slot is withdrawn until the next scrub.
+    /// They had not, nor has the program's own image, and memory to read the one that is lent was refused: the slot is withdrawn until
+    /// a later scrub.
     Unmended,
 }
 
@@ -46,6 +47,19 @@ pub struct Scrubbed {
     pub rmws: Health,
     /// That for the boot window, of slot 3.
     pub window: Health,
+}
+
+/// Whether the program of each slot was found whole.
+#[derive(Clone, Copy, Debug, PartialEq, Eq)]
+pub struct Seen {
+    /// That of slot 0.
+    pub reads: bool,
+    /// That of slot 1.
+    pub writes: bool,
+    /// That of slot 2.
+    pub rmws: bool,
+    /// That of slot 3.
+    pub window: bool,
 }
 
 /// What a scrub before a packet found.
@@ -69,6 +83,18 @@ pub struct Guard {
     pub counting: Counting,
     /// The sum of the node's sizes, as it was opened.
     pub sizes: u64,
+}
+
+/// How the program of a slot was found. Of a slot that there is not nothing is said.
+fn health_at(told: Scrubbed, slot: u8) -> Health
+    ensures { result ≡ health_at told slot }
+{
+    match slot {
+        0 => told.reads,
+        1 => told.writes,
+        2 => told.rmws,
+        _ => told.window,
+    }
 }
 
 /// How a slot is found whose program was not mended.
@@ -186,7 +212,6 @@ impl Guard {
     pub fn install(
         &mut self,
         node: &mut SingleNode,
-        alloc: Global,
         slot: u8,
         program: Accepted,
     ) -> Result<u32, PublishFault>
@@ -199,31 +224,48 @@ impl Guard {
         ensures refused { IfErr result (IsUnpublished (length node.old.programs)) }
     {
         let sum = program_sum(&program);
-        let generation = node.publish(alloc, slot, program)?;
+        let generation = node.publish(slot, program)?;
         self.keep(slot, SlotSums::of(sum));
         Ok(generation)
     }
 
-    /// Publishes the program of a slot that was made again of its image, if its sum is one of those that are kept.
+    /// Publishes the program of a slot for it once more, with that sum: whether it could be published.
+    fn publish_renewed(&mut self, node: &mut SingleNode, slot: u8, sum: u64) -> bool
+        requires { slot < 4 }
+        ensures { PublishesAs result slot sum (beside self.old node.old) (beside self.new node.new) }
+    {
+        let _program = node.program(slot);
+        match node.publish_again(slot) {
+            Ok(_generation) => {
+                self.keep(slot, SlotSums::of(sum));
+                true
+            }
+            Err(_full) => false,
+        }
+    }
+
+    /// Publishes the program of the image that is lent for a slot, if it has a sum that is kept.
     #[tactic(auto, using(crate::proofs::Mending::no_more))]
-    fn mend(
+    fn publish_lent(
         &mut self,
         node: &mut SingleNode,
         alloc: Global,
         slot: u8,
+        image: &[u8],
         kept: &SlotSums,
     ) -> Result<(), MendFault>
         requires { slot < 4 }
-        ensures mended { OnOk result
-            (IsRemade slot kept.now (beside self.old node.old) (beside self.new node.new)) }
+        ensures lent { OnOk result
+            (IsLentTo slot image.now kept.now (beside self.old node.old) (beside self.new node.new)) }
         ensures same { OnErr result (beside self.new node.new ≡ beside self.old node.old) }
-        ensures fault { IfErr result (IsUnmended slot kept.now (beside self.old node.old)) }
+        ensures fault { IfErr result (IsUnmended image.now kept.now (beside self.old node.old)) }
     {
-        let (program, sum) = match made_again(alloc, node.program(slot), kept) {
+        let sizes = node.sizes();
+        let (program, sum) = match lent_program(alloc, image, &sizes, kept) {
             Ok(made) => made,
             Err(fault) => return Err(fault),
         };
-        match node.publish(alloc, slot, program) {
+        match node.publish(slot, program) {
             Ok(_generation) => {
                 self.keep(slot, SlotSums::of(sum));
                 Ok(())
@@ -233,6 +275,35 @@ impl Guard {
         }
     }
 
+    /// Makes the program of a slot again of its own image, in its own memory. If it has then a sum that is kept, it is published for
+    /// the slot once more, else that of the image that is lent, if it has one.
+    #[tactic(auto, using(crate::proofs::Mending::published, crate::proofs::Mending::unpublished))]
+    fn mend(
+        &mut self,
+        node: &mut SingleNode,
+        alloc: Global,
+        slot: u8,
+        image: &[u8],
+        kept: &SlotSums,
+    ) -> Result<(), MendFault>
+        requires { slot < 4 }
+        ensures mended { OnOk result
+            (IsRemade slot image.now kept.now (beside self.old node.old) (beside self.new node.new)) }
+        ensures same { OnErr result (beside self.new node.new ≡ beside self.old node.old) }
+        ensures fault { IfErr result (IsUnmended image.now kept.now (beside self.old node.old)) }
+    {
+        node.renew(slot);
+        let again = program_sum(node.program(slot));
+        if !kept.has(again) {
+            self.publish_lent(node, alloc, slot, image, kept)?;
+            return Ok(());
+        }
+        if self.publish_renewed(node, slot, again) {
+            return Ok(());
+        }
+        Err(MendFault::Full)
+    }
+
     /// From now on scrubs the program that judges a packet before each packet of so many; before none where it is 0.
     pub fn scrub_each(&mut self, each: u32)
         ensures { self.new ≡ scrubbing_each self.old each }
@@ -240,24 +311,47 @@ impl Guard {
         self.counting = Counting::of(each, each);
     }
 
-    /// Scrubs the program of a slot, whether it was withdrawn before or not. If its operations have a sum that is kept, it may judge,
-    /// and nothing else changes, but that both sums are then that one. Else the program that the verifier accepts of its image is
-    /// published for the slot, if it has a sum that is kept; it takes memory for that. Else the slot is withdrawn. The condition is a
-    /// slot below 4.
-    #[tactic(auto, using(crate::proofs::Serving::remade_banks, crate::proofs::Serving::remade_ports, crate::proofs::Mending::scrubs_by))]
-    fn scrub_slot(&mut self, node: &mut SingleNode, alloc: Global, slot: u8) -> Health
+    /// Whether the program of a slot has a sum that is kept, whether it was withdrawn before or not. If it has, it may judge, and both
+    /// sums are then that one. The condition is a slot below 4.
+    fn look(&mut self, node: &SingleNode, slot: u8) -> bool
         requires { slot < 4 }
-        ensures scrubs { ScrubsSlot result slot (beside self.old node.old) (beside self.new node.new) }
-        ensures banks { node.new.banks ≡ node.old.banks }
-        ensures ports { node.new.passes ≡ node.old.passes }
+        ensures { LooksAt result slot (beside self.old node.now) (beside self.new node.now) }
     {
         let kept = sums_at(&self.sums, slot);
         let sum = program_sum(node.program(slot));
         if kept.has(sum) {
             self.keep(slot, SlotSums::of(sum));
-            return Health::Whole;
+            return true;
         }
-        match self.mend(node, alloc, slot, &kept) {
+        false
+    }
+
+    /// Looks at the programs of the four slots, one after the other.
+    fn look_at_all(&mut self, node: &SingleNode) -> Seen
+        ensures { Looks result (beside self.old node.now) (beside self.new node.now) }
+    {
+        let reads = self.look(node, 0);
+        let writes = self.look(node, 1);
+        let rmws = self.look(node, 2);
+        let window = self.look(node, 3);
+        Seen {
+            reads,
+            writes,
+            rmws,
+            window,
+        }
+    }
+
+    /// Mends the program of a slot that was found damaged, or withdraws the slot. The condition is a slot below 4.
+    #[tactic(auto, using(crate::proofs::Serving::remade_banks, crate::proofs::Serving::remade_ports, crate::proofs::Mending::repairs_by))]
+    fn repair(&mut self, node: &mut SingleNode, alloc: Global, slot: u8, image: &[u8]) -> Health
+        requires { slot < 4 }
+        ensures repairs { Repairs result slot image.now (beside self.old node.old) (beside self.new node.new) }
+        ensures banks { node.new.banks ≡ node.old.banks }
+        ensures ports { node.new.passes ≡ node.old.passes }
+    {
+        let kept = sums_at(&self.sums, slot);
+        match self.mend(node, alloc, slot, image, &kept) {
             Ok(()) => Health::Mended,
             Err(fault) => {
                 self.keep(slot, kept.withdrawn());
@@ -266,20 +360,63 @@ impl Guard {
         }
     }
 
-    /// Scrubs the programs of the four slots.
-    pub fn scrub(&mut self, node: &mut SingleNode, alloc: Global) -> Scrubbed
-        ensures { Scrubs result (beside self.old node.old) (beside self.new node.new) }
+    /// The same if it was found damaged. The condition is a slot below 4.
+    #[tactic(auto, using(crate::proofs::Mending::repairs_none, crate::proofs::Mending::repairs_one))]
+    fn repair_unless(
+        &mut self,
+        node: &mut SingleNode,
+        alloc: Global,
+        slot: u8,
+        image: &[u8],
+        is_whole: bool,
+    ) -> Health
+        requires { slot < 4 }
+        ensures repairs { RepairsUnless is_whole result slot image.now
+            (beside self.old node.old) (beside self.new node.new) }
+        ensures banks { node.new.banks ≡ node.old.banks }
+        ensures ports { node.new.passes ≡ node.old.passes }
     {
-        let reads = self.scrub_slot(node, alloc, 0);
-        let writes = self.scrub_slot(node, alloc, 1);
-        let rmws = self.scrub_slot(node, alloc, 2);
-        let window = self.scrub_slot(node, alloc, 3);
+        if is_whole {
+            return Health::Whole;
+        }
+        self.repair(node, alloc, slot, image)
+    }
+
+    /// Scrubs the programs of the four slots, whether they were withdrawn before or not: first it looks at all of them, and then mends
+    /// each that is damaged, or withdraws its slot. A program that several slots have is so mended for each of them. It asks for memory
+    /// only to read the image that is lent, and does that only if a program's own image is damaged, too.
+    pub fn scrub(&mut self, node: &mut SingleNode, alloc: Global, image: &[u8]) -> Scrubbed
+        ensures scrubs { Scrubs result image.now (beside self.old node.old) (beside self.new node.new) }
+        ensures banks { node.new.banks ≡ node.old.banks }
+        ensures ports { node.new.passes ≡ node.old.passes }
+    {
+        let seen = self.look_at_all(node);
+        let reads = self.repair_unless(node, alloc, 0, image, seen.reads);
+        let writes = self.repair_unless(node, alloc, 1, image, seen.writes);
+        let rmws = self.repair_unless(node, alloc, 2, image, seen.rmws);
+        let window = self.repair_unless(node, alloc, 3, image, seen.window);
         Scrubbed {
             reads,
             writes,
             rmws,
             window,
         }
+    }
+
+    /// Scrubs the program of a slot. If it is damaged, the programs of all slots are scrubbed, since others may have it, too. The
+    /// condition is a slot below 4.
+    #[tactic(auto, using(crate::proofs::Mending::scrubs_whole, crate::proofs::Mending::scrubs_all))]
+    fn scrub_slot(&mut self, node: &mut SingleNode, alloc: Global, slot: u8) -> Health
+        requires { slot < 4 }
+        ensures scrubs { ScrubsSlot result slot (beside self.old node.old) (beside self.new node.new) }
+        ensures banks { node.new.banks ≡ node.old.banks }
+        ensures ports { node.new.passes ≡ node.old.passes }
+    {
+        if self.look(node, slot) {
+            return Health::Whole;
+        }
+        let told = self.scrub(node, alloc, &[]);
+        health_at(told, slot)
     }
 
     /// Whether the numbers of scrubs before packets agree with their complements.

@@ -182,12 +182,13 @@ impl GuardedNode {
         }
     }
 
-    /// Scrubs the programs of the four slots. Of a node without a guard the sums are taken now, so each program is whole.
-    pub fn scrub(&mut self, alloc: Global) -> Scrubbed
-        ensures { ScrubsGuarded result self.old self.new }
+    /// Scrubs the programs of the four slots ([`Guard::scrub`]). A program whose own image is damaged, too, is that of the image that
+    /// is lent, if it has its sum; no bytes are no image. Of a node without a guard the sums are taken now, so each program is whole.
+    pub fn scrub(&mut self, alloc: Global, image: &[u8]) -> Scrubbed
+        ensures { ScrubsGuarded result image.now self.old self.new }
     {
         let mut guard = guard_or_new(self.guard, &self.node);
-        let told = guard.scrub(&mut self.node, alloc);
+        let told = guard.scrub(&mut self.node, alloc, image);
         self.guard = Some(guard);
         told
     }
@@ -208,12 +209,7 @@ impl GuardedNode {
     /// # Errors
     ///
     /// Those of [`SingleNode::publish`]. The node is then as before.
-    pub fn install(
-        &mut self,
-        alloc: Global,
-        slot: u8,
-        program: Accepted,
-    ) -> Result<u32, PublishFault>
+    pub fn install(&mut self, slot: u8, program: Accepted) -> Result<u32, PublishFault>
         requires slot { slot ≤ 3 }
         requires sizes { program.sizes ≡ sizes_of self.old.node.programs }
         ensures installed { OnOk result (Installs slot program self.old self.new) }
@@ -223,8 +219,8 @@ impl GuardedNode {
     {
         let node = &mut self.node;
         match &mut self.guard {
-            Some(guard) => guard.install(node, alloc, slot, program),
-            None => node.publish(alloc, slot, program),
+            Some(guard) => guard.install(node, slot, program),
+            None => node.publish(slot, program),
         }
     }
 

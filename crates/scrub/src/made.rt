@@ -1,56 +1,79 @@
-//! A program that is made again.
+//! The program of an image that is lent.
 
-ghost use Rattle.std.specs.Prelude.{IfErr, IfOk};
-ghost use Rattle.scrub.specs.Guarded.{IsMadeAgain, IsUnmade, IsUnverified, IsVerifiedAgain};
+ghost use Rattle.std.specs.Prelude.{◌≡◌, IfErr, IfOk};
+ghost use Rattle.scrub.specs.Mending.{IsLentFor, IsReadFrom, IsUnlent, IsUnread, read_fault};
 
 use crate::kept::SlotSums;
 use crate::op_sums::program_sum;
-use bver::{Accepted, Refusal, verify};
+use bpf::{Image, ImageFault};
+use bver::{Accepted, MapSizes, Refusal, verify};
 use std::alloc::Global;
 
-/// Why a program was not made again and published.
+/// Why no program was published for a slot that is damaged.
 #[derive(Clone, Copy, Debug, PartialEq, Eq)]
 pub enum MendFault {
-    /// Memory was refused.
+    /// Memory was refused to what reads the image that is lent.
     Memory,
-    /// The verifier refuses its image, or what it makes of the image has none of the sums that are kept.
+    /// Neither the program's own image nor the one that is lent has one of the sums that are kept.
     Image,
     /// 4,294,967,295 programs were published.
     Full,
 }
 
-/// The program of an image that the verifier accepts again, or why there is none.
-#[tactic(auto, using(crate::proofs::Mending::refused_again))]
-fn verified(alloc: Global, program: &Accepted) -> Result<Accepted, MendFault>
-    ensures made { IfOk result (IsVerifiedAgain program.now) }
-    ensures fault { IfErr result (IsUnverified program.now) }
+/// What a fault of the image that is lent comes to.
+fn read_fault(fault: ImageFault) -> MendFault
+    ensures { result ≡ read_fault fault }
 {
-    let Ok(image) = program.image().copy() else {
-        return Err(MendFault::Memory);
+    match fault {
+        ImageFault::Memory => MendFault::Memory,
+        ImageFault::Magic
+        | ImageFault::Version
+        | ImageFault::Length
+        | ImageFault::Count
+        | ImageFault::Budget
+        | ImageFault::Loop
+        | ImageFault::Insn { .. } => MendFault::Image,
+    }
+}
+
+/// The program of an image that is lent, which the verifier accepts for those maps, or why there is none. Of no bytes no memory is
+/// asked for.
+#[tactic(auto, using(crate::proofs::Mending::empty_image, crate::proofs::Mending::unread, crate::proofs::Mending::refused))]
+fn program_of(alloc: Global, image: &[u8], sizes: &MapSizes) -> Result<Accepted, MendFault>
+    ensures read { IfOk result (IsReadFrom sizes.now image.now) }
+    ensures fault { IfErr result (IsUnread sizes.now image.now) }
+{
+    if image.is_empty() {
+        return Err(MendFault::Image);
+    }
+    let image = match Image::read(alloc, image) {
+        Ok(image) => image,
+        Err(fault) => return Err(read_fault(fault)),
     };
-    match verify(alloc, image, &program.sizes()) {
-        Ok(made) => Ok(made),
+    match verify(alloc, image, sizes) {
+        Ok(program) => Ok(program),
         Err(refused) if refused.code == Refusal::Memory => Err(MendFault::Memory),
         Err(_refused) => Err(MendFault::Image),
     }
 }
 
-/// The program of the same image, which the verifier accepts again, with its sum, if that is one of those that are kept.
-pub(crate) fn made_again(
+/// The same with its sum, if that is one of those that are kept.
+pub(crate) fn lent_program(
     alloc: Global,
-    program: &Accepted,
+    image: &[u8],
+    sizes: &MapSizes,
     kept: &SlotSums,
 ) -> Result<(Accepted, u64), MendFault>
-    ensures made { IfOk result (λ made. IsMadeAgain program.now kept.now made.0 made.1) }
-    ensures fault { IfErr result (IsUnmade program.now kept.now) }
+    ensures lent { IfOk result (λ made. IsLentFor sizes.now image.now kept.now made.0 made.1) }
+    ensures fault { IfErr result (IsUnlent sizes.now image.now kept.now) }
 {
-    let made = match verified(alloc, program) {
-        Ok(made) => made,
+    let program = match program_of(alloc, image, sizes) {
+        Ok(program) => program,
         Err(fault) => return Err(fault),
     };
-    let sum = program_sum(&made);
+    let sum = program_sum(&program);
     if kept.has(sum) {
-        return Ok((made, sum));
+        return Ok((program, sum));
     }
     Err(MendFault::Image)
 }

@@ -1,5 +1,6 @@
 -- A judged command at its bank.
-use Rattle.std.proofs.Common.{◌≡◌, ◌<◌, ◌∙◌, ℕ, List, ap, length, subst, sym}
+use Rattle.std.proofs.Common.{◌≡◌, ◌<◌, ◌∙◌, ◌&&◌, ℕ, List, ap, length, nat_lt, refl, subst, sym, true}
+use Rattle.std.proofs.lemmas.Bool.{lt-ltb}
 use Rattle.std.proofs.lemmas.List.{length-map}
 use Rattle.spw.specs.Cargo.{Cargo}
 use Rattle.rmap.specs.declared.places.Place.{Place}
@@ -16,3 +17,7 @@ bank_there banks h p place k paired placed at =
     let same : length h.windows.banks ≡ length banks = ap length paired.windows ∙ length-map banks extent_of in
     let there : k < length banks = subst (λ (n : ℕ). k < n) same below in
     (there, subst (λ (n : ℕ). k < n) (sym paired.count) there)
+
+-- so it is found where it is asked for
+pub found_there : (k banks shares : ℕ) → (k < banks) × (k < shares) → (nat_lt k banks && nat_lt k shares) ≡ true
+found_there k banks shares there = rw (lt-ltb k banks there.0, lt-ltb k shares there.1) refl

@@ -1,4 +1,6 @@
 mod Slots
+mod Holding
+mod Placing
 mod Judging
 mod Serving
 mod Making
@@ -8,3 +10,4 @@ mod Ending
 mod Running
 mod Growing
 mod Asked
+mod Under

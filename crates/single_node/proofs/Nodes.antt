@@ -14,13 +14,13 @@ use Rattle.node_programs.specs.declared.publishes.Publish.{Publish}
 use Rattle.node_parts.specs.declared.config.NodeConfig.{NodeConfig}
 use Rattle.node_parts.specs.declared.served.Served.{Served}
 use Rattle.node_parts.specs.declared.served.Served.TheVariants.{Stopped, Unread, Done, Window}
-use Rattle.node_parts.specs.Nodes.{bank_of, first_pass, first_passes, first_programs, fresh_banks}
+use Rattle.node_parts.specs.Nodes.{bank_of, first_pass, first_passes, first_programs, fresh_banks, windows_of}
 use Rattle.node_parts.specs.Keeping.{AnsweredAreServed, LeavesAllPaired}
 use Rattle.node_parts.specs.Pairs.{MadeArePaired}
 use Rattle.node_parts.specs.Passes.{PassValue}
 use Rattle.node_parts.specs.Served.{PartsValue, parts}
 use Rattle.single_node.specs.Judging.{ServesAt}
-use Rattle.single_node.specs.Nodes.{IsInformed, IsSingleNode, SingleNodeValue, single_node}
+use Rattle.single_node.specs.Nodes.{AreUnder, IsInformed, IsSingleNode, SingleNodeValue, single_node}
 use Rattle.single_node.specs.Serving.{ServesTold}
 use Rattle.single_node.specs.declared.served.Told.{Told}
 use Rattle.node_parts.proofs.Loadings.{prefix_same}
@@ -99,3 +99,8 @@ fresh_node law config words factory ports banks =
       few_ports = rw (length-map-range_with_len first 0 config.ports) ports;
       few_banks = rw (length-map config.banks.now (bank_of config.ports)) banks;
     }
+
+-- its ports serve under its windows
+pub fresh_under : (config : NodeConfig) (factory : AcceptedValue) → AreUnder (windows_of config.address config.banks.now) (first_passes config factory gnil)
+fresh_under config factory = λ k h at.
+    ap (λ (x : PassValue). x.windows) (numbered_at (first_pass config.address config.banks.now factory gnil) config.ports k h at)

@@ -8,7 +8,7 @@ use Rattle.bank.specs.Records.{empty_journal, memory_of, replay}
 use Rattle.bver.specs.Justified.{AcceptedValue}
 use Rattle.node_programs.specs.declared.publishes.Publish.{Publish}
 use Rattle.node_programs.specs.Histories.{longer_history}
-use Rattle.node_programs.specs.Published.{sizes_of}
+use Rattle.node_programs.specs.Published.{program_at, sizes_of}
 use Rattle.node_programs.specs.Staged.{Staged}
 use Rattle.node_parts.specs.declared.config.NodeConfig.{NodeConfig}
 use Rattle.node_parts.specs.Nodes.{first_passes, first_programs, fresh_banks}
@@ -99,6 +99,15 @@ with_bank node number bank = record node { banks = slice_set node.banks number b
 -- the node with one publish more
 abbrev pub with_program : SingleNodeValue → (slot : ℕ) → AcceptedValue → SingleNodeValue
 with_program node slot program = record node { programs = longer_history node.programs slot program }
+
+-- the node's last program for the slot was published for it once more
+abbrev pub IsPublishedAgain : (slot : ℕ) → (before after : SingleNodeValue) → Type 0
+IsPublishedAgain slot before after =
+    (program : AcceptedValue) → program_at before.programs slot ≡ Some program → after ≡ with_program before slot program
+
+-- each port serves under those windows
+abbrev pub AreUnder : WindowsValue → List PassValue → Type 0
+AreUnder windows passes = (k : ℕ) (h : PassValue) → slice_get passes k ≡ Some h → h.windows ≡ windows
 
 -- the bank of that number has the new journal, which begins with the memory of now; the old one came out, whose replay
 -- on the base before is that memory; nothing else changed

@@ -5,6 +5,7 @@ ghost use base.Stored.{gnil};
 ghost use Rattle.node_parts.specs.Passes.{run_context, seat_at};
 ghost use Rattle.single_node.specs.Running.{HasRunOn, IsJudgedOn};
 
+use crate::windows::LentWindows;
 use bank::{Admitted, Judged};
 use brun::{CallLog, run};
 use bver::Accepted;
@@ -14,12 +15,12 @@ use rmap::{Command, Windows};
 use spw::PORTS;
 use std::marker::Model;
 
-/// What a run needs of a port: its number, the windows and the maps of its node, and the stack of the programs that run
-/// for it. What they asked of the node's cells stands in proofs alone.
+/// What a run needs of a port: its number, the maps of its node, and the stack of the programs that run for it. The windows of its
+/// node, and what programs asked of the node's cells, stand in proofs alone.
 #[derive(Drop)]
 pub(crate) struct PortContext {
     port: u8,
-    windows: Windows,
+    windows: LentWindows,
     sizes: MapSizes,
     asked: CallLog,
     stack: [u8; STACK_SIZE],
@@ -32,31 +33,24 @@ impl Model for PortContext {
 
     ghost Value = { RunContextValue };
 
-    ghost view = { λ b. run_context b.port b.windows (seat_at b.sizes gnil b.asked.calls) };
+    ghost view = { λ b. run_context b.port b.windows.windows (seat_at b.sizes gnil b.asked.calls) };
 
     ghost invariant = { λ b. b.port < 32 };
 }
 
 impl PortContext {
     /// The context of the port of that number in a node with those windows and maps. The condition is a port below 32.
-    pub fn new(port: u8, windows: Windows, sizes: MapSizes) -> PortContext
+    pub fn new(port: u8, windows: &Windows, sizes: MapSizes) -> PortContext
         requires { port < PORTS }
-        ensures { result ≡ run_context port windows (seat_at sizes gnil []) }
+        ensures { result ≡ run_context port windows.now (seat_at sizes gnil []) }
     {
         PortContext {
             port,
-            windows,
+            windows: LentWindows::of(windows),
             sizes,
             asked: CallLog::none(),
             stack: [0; STACK_SIZE],
         }
-    }
-
-    /// The windows of the node.
-    pub fn windows(&self) -> &Windows
-        ensures { result.now ≡ self.now.windows }
-    {
-        &self.windows
     }
 
     /// The verdict of the program on the header of the command: one run, which asks the cells.

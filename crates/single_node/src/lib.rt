@@ -8,10 +8,13 @@
 mod context;
 mod lists;
 mod node;
+mod owned;
+mod places;
 mod port;
 mod programs;
 mod publishing;
 mod served;
+mod windows;
 
 pub use node::SingleNode;
 pub use served::Told;

@@ -1,7 +1,6 @@
 //! The list of what was published, as other values hold it.
 
 ghost use Rattle.std.specs.Prelude.{◌≡◌};
-ghost use Rattle.std.specs.Arc.{arc_value};
 ghost use Rattle.node_programs.specs.Histories.{longer_history};
 ghost use Rattle.node_parts.specs.Nodes.{first_programs};
 
@@ -27,7 +26,7 @@ impl ProgramList {
     /// The list that has the factory program alone, which is published for slot 0.
     pub fn first(factory: &Publishing) -> ProgramList
         requires { factory.now.slot ≡ 0 }
-        ensures { result ≡ first_programs (arc_value factory.now.program) }
+        ensures { result ≡ first_programs factory.now.program }
     {
         let none = Published::new();
         ProgramList {
@@ -44,10 +43,12 @@ impl ProgramList {
         }
     }
 
-    /// Adds a publish.
-    pub fn add(&mut self, next: &Publishing)
-        ensures { self.new ≡ longer_history self.old next.now.slot (arc_value next.now.program) }
+    /// The list with one publish more.
+    pub fn with(&self, next: &Publishing) -> ProgramList
+        ensures { result ≡ longer_history self.now next.now.slot next.now.program }
     {
-        self.published = self.published.longer(next);
+        ProgramList {
+            published: self.published.longer(next),
+        }
     }
 }

@@ -1,14 +1,15 @@
 //! The node.
 
-ghost use Rattle.std.specs.Prelude.{◌≡◌, ◌<◌, ◌≤◌, ◌+◌, ◌↔◌, [], IfErr, IfOk, IfSome, IsSome, None, OnErr, OnOk, OnSome, Some, length, slice_get, true};
+ghost use Rattle.std.specs.Prelude.{◌≡◌, ◌<◌, ◌≤◌, ◌+◌, ◌^◌, ◌↔◌, [], ℕ, IfErr, IfOk, IfSome, IsSome, None, OnErr, OnOk, OnSome, Some, length, slice_get, true};
 ghost use Rattle.bver.specs.Justified.{AcceptedValue};
 ghost use base.Stored.{gnil};
 ghost use Rattle.machine.specs.Sizes.{IsInside};
 ghost use Rattle.node_programs.specs.Published.{generation_at, program_at, sizes_of};
 ghost use Rattle.node_programs.specs.Codes.{IsUnpublished};
-ghost use Rattle.node_parts.specs.Nodes.{AreSharesOf, IsNodeFault, first_passes, first_programs, limit_fault};
+ghost use Rattle.node_parts.specs.Nodes.{AreSharesOf, IsNodeFault, first_passes, first_programs, limit_fault, windows_of};
+ghost use Rattle.node_parts.specs.Passes.{PassValue};
 ghost use Rattle.plain_cells.specs.Words.{word_in};
-ghost use Rattle.single_node.specs.Nodes.{IsFresh, IsSingleNode, Rotates, RotatesTo, SetsBytes, SetsMemory, covers_in, room_in, slot_in, staging_in, with_program};
+ghost use Rattle.single_node.specs.Nodes.{IsFresh, IsPublishedAgain, IsSingleNode, Rotates, RotatesTo, SetsBytes, SetsMemory, covers_in, room_in, slot_in, staging_in, with_program};
 ghost use Rattle.rmap.specs.Command.{command_of, discard_of};
 ghost use Rattle.rmap.specs.Reply.{reply_of};
 ghost use Rattle.rmap.specs.declared.status.Status.TheVariants.{GeneralError};
@@ -28,15 +29,17 @@ use node_parts::{
 };
 use node_programs::{PublishFault, Staging};
 use plain_cells::PlainCells;
-use rmap::{Command, MAX_BANKS, ReplyBuf, Status, put_reply};
+use rmap::{Command, MAX_BANKS, ReplyBuf, Status, Windows, put_reply};
 use spw::{PORTS, Packet, put_front};
 use std::alloc::{AllocError, Global};
 use std::marker::Model;
 
-/// A node of one thread: banks, the cells of its maps, the program of each slot, what each of its ports has, and room for a
-/// reply. Contracts see the banks, the word of each cell, the list of what was published, and each port's pass.
+/// A node of one thread: its windows, banks and cells, the program of each slot, what each port has, and room
+/// for a reply. Contracts see the banks, the word of each cell, the list of what was published, and the pass of each port.
 #[derive(Drop)]
 pub struct SingleNode {
+    /// Its address, and the ranges of its banks: the ports are lent them.
+    windows: Windows,
     banks: Banks,
     cells: PlainCells,
     programs: SlotPrograms,
@@ -48,32 +51,34 @@ pub struct SingleNode {
 impl Model for SingleNode {
     ghost use Rattle.std.specs.Prelude.{◌≡◌};
     ghost use Rattle.node_programs.specs.Published.{sizes_of};
-    ghost use Rattle.single_node.specs.Nodes.{SingleNodeValue, IsSingleNode, single_node};
+    ghost use Rattle.single_node.specs.Nodes.{AreUnder, SingleNodeValue, IsSingleNode, single_node};
 
     ghost Value = { SingleNodeValue };
 
     ghost view = { λ n. single_node n.banks n.cells.words n.programs n.ports.items };
 
-    ghost invariant = { λ n. IsSingleNode (single_node n.banks n.cells.words n.programs n.ports.items) × (n.cells.sizes ≡ sizes_of n.programs) };
+    ghost invariant = { λ n. IsSingleNode (single_node n.banks n.cells.words n.programs n.ports.items) × (n.cells.sizes ≡ sizes_of n.programs) × AreUnder n.windows n.ports.items };
 }
 
 /// The ports of a fresh node, in order, each with its shares of the banks.
 fn first_ports(
     alloc: Global,
     config: &NodeConfig,
+    windows: &Windows,
     programs: &SlotPrograms,
     mut by_port: Vec<PortShares>,
 ) -> Result<Vec<SinglePort>, AllocError>
     requires banks { length config.now.banks.now ≤ MAX_BANKS }
     requires ports { config.now.ports ≤ PORTS }
     requires by_port { AreSharesOf config.now by_port.items }
+    requires windows { windows.now ≡ windows_of config.now.address config.now.banks.now }
     ensures { (factory : AcceptedValue) → programs.now ≡ first_programs factory
         → factory.sizes ≡ config.now.sizes
         → IfOk result (λ ports. ports.items ≡ first_passes config.now factory gnil) }
 {
     let mut ports = Vec::with_capacity(alloc, by_port.len())?;
     for port in 0..config.ports {
-        let context = PortContext::new(port, config.windows(), config.sizes);
+        let context = PortContext::new(port, windows, config.sizes);
         let shares = by_port[usize::from(port)].take(alloc);
         let staging = Staging::new(alloc)?;
         ports.push(SinglePort::new(context, programs.list(), shares, staging))?;
@@ -104,8 +109,10 @@ impl SingleNode {
         let (banks, by_port) = Banks::new(alloc, config)?;
         let cells = PlainCells::new(alloc, &config.sizes)?;
         let programs = SlotPrograms::first(alloc, factory)?;
-        let ports = first_ports(alloc, config, &programs, by_port)?;
+        let windows = config.windows();
+        let ports = first_ports(alloc, config, &windows, &programs, by_port)?;
         Ok(SingleNode {
+            windows,
             banks,
             cells,
             programs,
@@ -142,11 +149,12 @@ impl SingleNode {
     {
         packets_keep_pairs();
         let place = usize::from(port);
+        let windows = &self.windows;
         let banks = &mut self.banks;
         let cells = &mut self.cells;
         let programs = &mut self.programs;
         let port = &mut self.ports[place];
-        serve_at(alloc, banks, cells, programs, port, packet, reply)
+        serve_at(alloc, windows, banks, cells, programs, port, packet, reply)
     }
 
     /// Serves one packet as [`SingleNode::serve_told`] does, and puts its reply at the front of the room, where the rest stays.
@@ -169,12 +177,13 @@ impl SingleNode {
     {
         packets_keep_pairs();
         let place = usize::from(port);
+        let windows = &self.windows;
         let banks = &mut self.banks;
         let cells = &mut self.cells;
         let programs = &mut self.programs;
         let port = &mut self.ports[place];
         let reply = &mut self.reply;
-        let told = serve_at(alloc, banks, cells, programs, port, packet, reply);
+        let told = serve_at(alloc, windows, banks, cells, programs, port, packet, reply);
         let bytes = reply.bytes();
         put_front(room, bytes);
         (told, bytes.len())
@@ -187,6 +196,14 @@ impl SingleNode {
         ensures node { IsSingleNode self.now }
     {
         self.ports.len() as u8
+    }
+
+    /// The windows under which all ports serve: the node's address, and where its banks lie.
+    pub fn windows(&self) -> &Windows
+        ensures { (k : ℕ) (h : PassValue) → slice_get self.now.passes k ≡ Some h
+            → result.now ≡ h.windows }
+    {
+        &self.windows
     }
 
     /// How many banks there are: 1 to 8.
@@ -282,7 +299,7 @@ impl SingleNode {
         requires { slot < 4 }
         ensures { generation_at self.now.programs slot ≡ Some result }
     {
-        self.programs.shown(slot).generation()
+        self.programs.shown(slot).1
     }
 
     /// The program of a slot: the last that was published for it. The condition is a slot below 4.
@@ -291,7 +308,7 @@ impl SingleNode {
         ensures value { program_at self.now.programs slot ≡ Some result.now }
         ensures sizes { result.now.sizes ≡ sizes_of self.now.programs }
     {
-        self.programs.shown(slot).program()
+        self.programs.shown(slot).0
     }
 
     /// Publishes a program for a slot, without a command that asks for it: its generation. The conditions are a slot below 4,
@@ -300,12 +317,7 @@ impl SingleNode {
     /// # Errors
     ///
     /// `GenerationsFull` after 4,294,967,295 publishes, else `Memory` where memory was refused. The node stays.
-    pub fn publish(
-        &mut self,
-        alloc: Global,
-        slot: u8,
-        program: Accepted,
-    ) -> Result<u32, PublishFault>
+    pub fn publish(&mut self, slot: u8, program: Accepted) -> Result<u32, PublishFault>
         requires slot { slot ≤ 3 }
         requires sizes { program.sizes ≡ sizes_of self.old.programs }
         ensures published { OnOk result (self.new ≡ with_program self.old slot program) }
@@ -314,7 +326,33 @@ impl SingleNode {
         ensures refused { IfErr result (IsUnpublished (length self.old.programs)) }
     {
         let _list = self.programs.list();
-        self.programs.install(alloc, slot, program)
+        self.programs.install(slot, program)
+    }
+
+    /// Makes the operations of the program of a slot again, in their own memory, of its image: it asks for no memory. While memory
+    /// keeps what was written, nothing changes. The condition is a slot below 4.
+    pub fn renew(&mut self, slot: u8)
+        requires { slot < 4 }
+        ensures { self.new ≡ self.old }
+    {
+        self.programs.renew(slot);
+    }
+
+    /// Publishes the program of a slot for it once more, so that it has the next generation: which. It asks for no memory. The
+    /// condition is a slot below 4.
+    ///
+    /// # Errors
+    ///
+    /// `GenerationsFull` after 4,294,967,295 publishes. The node stays.
+    pub fn publish_again(&mut self, slot: u8) -> Result<u32, PublishFault>
+        requires { slot < 4 }
+        ensures published { OnOk result (IsPublishedAgain slot self.old self.new) }
+        ensures generation { IfOk result (λ n. n ≡ length self.old.programs) }
+        ensures same { OnErr result (self.new ≡ self.old) }
+        ensures refused { OnErr result (2 ^ 32 ≤ length self.old.programs) }
+    {
+        let _list = self.programs.list();
+        self.programs.publish_again(slot)
     }
 
     /// The slot whose program judges the command of a packet that came in at a port. `None` if it is no command, or a check of
@@ -325,7 +363,7 @@ impl SingleNode {
         ensures few { IfSome result (λ slot. slot < 4) }
         ensures command { OnSome result (discard_of packet.now.bytes ≡ None) }
     {
-        self.ports[usize::from(port)].slot_for(packet)
+        self.ports[usize::from(port)].slot_for(&self.windows, packet)
     }
 
     /// Answers the command of a packet that no program judges: its reply, a general error, at the front of the room, where the

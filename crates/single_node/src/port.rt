@@ -1,6 +1,6 @@
 //! What a port of a node of one thread has.
 
-ghost use Rattle.std.specs.Prelude.{◌≡◌, ◌<◌, IfSome, None, OnSome, length, true};
+ghost use Rattle.std.specs.Prelude.{◌≡◌, ◌<◌, ◌&&◌, IfSome, None, OnSome, length, nat_lt, true};
 ghost use mathlib.Core.List.{IsPrefix};
 ghost use Rattle.bank.specs.Records.{fits};
 ghost use Rattle.node_programs.specs.Published.{sizes_of};
@@ -17,7 +17,7 @@ use crate::context::PortContext;
 use crate::lists::ProgramList;
 use crate::programs::SlotPrograms;
 use bank::{Admitted, Applied, Bank, Judged, Share};
-use node_parts::{answer_staged, load, slot};
+use node_parts::{Banks, answer_staged, load, slot};
 use node_programs::{Staging, published_programs};
 use plain_cells::PlainCells;
 use rmap::{Command, Place, ReplyBuf, Status, Windows, checked_place};
@@ -61,13 +61,6 @@ impl SinglePort {
         }
     }
 
-    /// The windows of the node.
-    pub fn windows(&self) -> &Windows
-        ensures { result.now ≡ self.now.windows }
-    {
-        self.context.windows()
-    }
-
     /// The staging, with the result of the last load.
     pub fn staging(&self) -> &Staging
         ensures { result.now ≡ self.now.staging }
@@ -75,9 +68,11 @@ impl SinglePort {
         &self.staging
     }
 
-    /// The slot whose program judges the command of a packet. `None` if it is no command, or a check of its header stops it.
+    /// The slot whose program judges the command of a packet, under the windows of the node, which are lent. `None` if it is no
+    /// command, or a check of its header stops it.
     #[tactic(auto, using(crate::proofs::Asked::asked_discarded, crate::proofs::Asked::asked_stopped, crate::proofs::Asked::asked_passed))]
-    pub fn slot_for(&self, packet: &Packet) -> Option<u8>
+    pub fn slot_for(&self, windows: &Windows, packet: &Packet) -> Option<u8>
+        requires { windows.now ≡ self.now.windows }
         ensures slot { result ≡ slot_asked self.now.windows packet.now }
         ensures few { IfSome result (λ slot. slot < 4) }
         ensures command { OnSome result (discard_of packet.now.bytes ≡ None) }
@@ -85,7 +80,7 @@ impl SinglePort {
         let Ok(command) = Command::view(packet) else {
             return None;
         };
-        let Ok(place) = checked_place(&command, self.windows()) else {
+        let Ok(place) = checked_place(&command, windows) else {
             return None;
         };
         Some(slot(command.kind(), place))
@@ -107,10 +102,17 @@ impl SinglePort {
     {
         published_programs();
         let slot = slot(admitted.command().kind(), admitted.place());
-        let shown = programs.shown(slot);
+        let (program, generation) = programs.shown(slot);
         self.known = programs.list();
-        self.context
-            .judge(cells, shown.program(), shown.generation(), admitted)
+        self.context.judge(cells, program, generation, admitted)
+    }
+
+    /// Whether there are a bank of that number, among so many, and the port's share of it.
+    pub fn has_bank(&self, banks: &Banks, k: u8) -> bool
+        ensures { result ≡ (nat_lt k (length banks.now) && nat_lt k (length self.now.shares)) }
+    {
+        let k = usize::from(k);
+        k < banks.len() && k < self.shares.len()
     }
 
     /// Applies a judged command to the bank of its place, with the port's share of it, and leaves the reply.

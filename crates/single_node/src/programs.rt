@@ -1,37 +1,30 @@
 //! The programs that judge, by slot.
 
 ghost use Rattle.std.specs.Prelude.{◌≡◌, ◌<◌, ◌≤◌, ◌+◌, ◌^◌, IfErr, IfOk, OnErr, OnOk, Some, length};
-ghost use Rattle.std.specs.Arc.{arc_value};
+ghost use Rattle.bver.specs.Justified.{AcceptedValue, IsJustified};
 ghost use Rattle.node_programs.specs.Histories.{longer_history};
-ghost use Rattle.node_programs.specs.Published.{judging_program, sizes_of};
+ghost use Rattle.node_programs.specs.Published.{judging_program, program_at, sizes_of};
 ghost use Rattle.node_programs.specs.Codes.{IsUnpublished};
 ghost use Rattle.node_parts.specs.Nodes.{first_programs};
-ghost use Rattle.single_node.specs.Slots.{shown_in_all};
 
 use crate::lists::ProgramList;
+use crate::owned::{hold, name_slot, own_program, renew_own};
+use crate::places::{Placed, first_slots, free_place, own_place, placed_at, set_place};
 use crate::publishing::Publishing;
 use bver::{Accepted, MapSizes};
-use node_programs::{ProgramStore, PublishFault, Shown, published_programs};
+use node_programs::{ProgramStore, PublishFault, published_programs};
 use std::alloc::{AllocError, Global};
 use std::marker::Model;
-use std::sync::Arc;
 
-/// The program in each slot, of generation 0.
-fn in_all_slots(program: &Arc<Accepted>) -> Result<[Shown; 4], AllocError>
-    ensures { IfOk result (λ shown. shown ≡ shown_in_all (arc_value program.now)) }
-{
-    Ok([
-        Shown::first(program)?,
-        Shown::first(program)?,
-        Shown::first(program)?,
-        Shown::first(program)?,
-    ])
-}
+/// The most programs that a node owns: one for each slot.
+const MOST: usize = 4;
 
-/// The program of each slot, and how many were loaded. Contracts see the list of what was published.
+/// The programs of a node, which of them each slot has, and how many were loaded. A program that several slots have is there once.
+/// Contracts see the list of what was published.
 #[derive(Drop)]
 pub(crate) struct SlotPrograms {
-    shown: [Shown; 4],
+    programs: Vec<Publishing>,
+    slots: [Placed; 4],
     count: u32,
     sizes: MapSizes,
     list: ProgramList,
@@ -40,30 +33,35 @@ pub(crate) struct SlotPrograms {
 impl Model for SlotPrograms {
     ghost use Rattle.std.specs.Prelude.{List};
     ghost use Rattle.node_programs.specs.declared.publishes.Publish.{Publish};
-    ghost use Rattle.single_node.specs.Slots.{AreSlots};
+    ghost use Rattle.single_node.specs.Slots.{ArePlaced};
 
     ghost Value = { List Publish };
 
     ghost view = { λ p. p.list };
 
-    ghost invariant = { λ p. AreSlots p.list p.shown p.count p.sizes };
+    ghost invariant = { λ p. ArePlaced p.list p.programs.items p.slots p.count p.sizes };
 }
 
 impl SlotPrograms {
-    /// The programs of a fresh node: the factory program in each slot.
+    /// The programs of a fresh node: the factory program in each slot. There is room for one of each slot, so that publishing asks
+    /// for no memory.
     pub fn first(alloc: Global, factory: Accepted) -> Result<SlotPrograms, AllocError>
         ensures { IfOk result (λ programs. programs ≡ first_programs factory) }
     {
         let sizes = factory.sizes();
+        let mut programs = Vec::with_capacity(alloc, MOST)?;
         let factory = Publishing {
             slot: 0,
-            program: Arc::new(alloc, factory)?,
+            program: factory,
         };
+        let list = ProgramList::first(&factory);
+        programs.push(factory)?;
         Ok(SlotPrograms {
-            shown: in_all_slots(&factory.program)?,
+            programs,
+            slots: first_slots(),
             count: 0,
             sizes,
-            list: ProgramList::first(&factory),
+            list,
         })
     }
 
@@ -89,28 +87,36 @@ impl SlotPrograms {
         self.list.again()
     }
 
-    /// The program of a slot: the last that was published for it. The condition is a slot below 4.
-    pub fn shown(&self, slot: u8) -> &Shown
+    /// The program of a slot, the last that was published for it, and its generation. The condition is a slot below 4.
+    pub fn shown(&self, slot: u8) -> (&Accepted, u32)
         requires { slot < 4 }
-        ensures value { judging_program self.now slot ≡ Some result.now }
-        ensures sizes { result.now.0.sizes ≡ sizes_of self.now }
+        ensures value { judging_program self.now slot ≡ Some (result.0.now, result.1) }
+        ensures sizes { result.0.now.sizes ≡ sizes_of self.now }
+        ensures justified { IsJustified result.0.now.program result.0.now.sizes }
     {
-        published_programs();
-        &self.shown[usize::from(slot)]
+        let generation = placed_at(&self.slots, slot).generation;
+        let place = own_place(&self.programs, &self.slots, slot);
+        let own = own_program(&self.programs, place);
+        let _justified = own.program.image();
+        (&own.program, generation)
     }
 
-    /// Publishes a program for a slot: its generation. The conditions are a slot below 4, and a program that was accepted
-    /// for the maps of the node.
+    /// Makes the operations of the program of a slot again, in their own memory, of its image. The condition is a slot below 4.
+    pub fn renew(&mut self, slot: u8)
+        requires { slot < 4 }
+        ensures { self.new ≡ self.old }
+    {
+        let place = own_place(&self.programs, &self.slots, slot);
+        renew_own(&mut self.programs, place);
+    }
+
+    /// Publishes a program for a slot: its generation. It takes the place of one that no slot has then. The conditions are a slot
+    /// below 4, and a program that was accepted for the maps of the node.
     ///
     /// # Errors
     ///
     /// `GenerationsFull` after 4,294,967,295 publishes, else `Memory` where memory was refused. What is published stays.
-    pub fn install(
-        &mut self,
-        alloc: Global,
-        slot: u8,
-        program: Accepted,
-    ) -> Result<u32, PublishFault>
+    pub fn install(&mut self, slot: u8, program: Accepted) -> Result<u32, PublishFault>
         requires slot { slot ≤ 3 }
         requires sizes { program.sizes ≡ sizes_of self.old }
         ensures published { OnOk result (self.new ≡ longer_history self.old slot program) }
@@ -122,29 +128,44 @@ impl SlotPrograms {
         if self.count == u32::MAX {
             return Err(PublishFault::GenerationsFull);
         }
-        let Ok(program) = Arc::new(alloc, program) else {
-            return Err(PublishFault::Memory);
-        };
+        published_programs();
         let next = Publishing { slot, program };
-        Ok(self.put(next))
+        let list = self.list.with(&next);
+        let place = free_place(&self.programs, &self.slots, slot);
+        hold(&mut self.programs, place, next)?;
+        let generation = self.count + 1;
+        set_place(&mut self.slots, slot, place, generation);
+        self.list = list;
+        self.count = generation;
+        Ok(generation)
     }
 
-    /// Shows a program that is published.
-    fn put(&mut self, next: Publishing) -> u32
-        requires slot { next.slot ≤ 3 }
-        requires sizes { (arc_value next.program).sizes ≡ sizes_of self.old }
-        requires few { length self.old < 2 ^ 32 }
-        ensures published { self.new
-            ≡ longer_history self.old next.slot (arc_value next.program) }
-        ensures generation { result ≡ length self.old }
+    /// Publishes the program of a slot for it once more: its generation. The condition is a slot below 4.
+    ///
+    /// # Errors
+    ///
+    /// `GenerationsFull` after 4,294,967,295 publishes. What is published stays.
+    pub fn publish_again(&mut self, slot: u8) -> Result<u32, PublishFault>
+        requires { slot < 4 }
+        ensures published { OnOk result ((program : AcceptedValue)
+            → program_at self.old slot ≡ Some program
+            → self.new ≡ longer_history self.old slot program) }
+        ensures generation { IfOk result (λ n. n ≡ length self.old) }
+        ensures same { OnErr result (self.new ≡ self.old) }
+        ensures refused { OnErr result (2 ^ 32 ≤ length self.old) }
     {
+        if self.count == u32::MAX {
+            return Err(PublishFault::GenerationsFull);
+        }
         published_programs();
-        let generation = self.count + 1;
-        self.list.add(&next);
-        let Publishing { slot, program } = next;
-        self.shown[usize::from(slot)] = Shown::new(program, generation);
-        self.count = generation;
-        generation
+        let place = own_place(&self.programs, &self.slots, slot);
+        name_slot(&mut self.programs, place, slot);
+        let list = self.list.with(own_program(&self.programs, place));
+        let next = self.count + 1;
+        set_place(&mut self.slots, slot, place, next);
+        self.list = list;
+        self.count = next;
+        Ok(next)
     }
 }
 
@@ -162,12 +183,12 @@ impl ProgramStore<ProgramList> for SlotPrograms {
 
     fn publish(
         &mut self,
-        alloc: Global,
+        _alloc: Global,
         reader: &mut ProgramList,
         slot: u8,
         program: Accepted,
     ) -> Result<u32, PublishFault> {
-        let generation = self.install(alloc, slot, program)?;
+        let generation = self.install(slot, program)?;
         *reader = self.list();
         Ok(generation)
     }

@@ -6,13 +6,12 @@ ghost use Rattle.node_programs.specs.declared.publishes.Publish.{Publish};
 
 use bver::Accepted;
 use std::marker::Model;
-use std::sync::Arc;
 
-/// A program, and the slot for which it is published.
+/// A program that the node owns, and the last slot for which it was published.
 #[derive(Drop)]
 pub(crate) struct Publishing {
     pub slot: u8,
-    pub program: Arc<Accepted>,
+    pub program: Accepted,
 }
 
 /// What was published, for proofs. [`ProgramList`] holds it.
@@ -26,7 +25,6 @@ impl Model for Published {
 }
 
 impl Published {
-    ghost use Rattle.std.specs.Arc.{arc_value};
     ghost use Rattle.node_programs.specs.Histories.{longer_history};
 
     /// Nothing.
@@ -46,7 +44,7 @@ impl Published {
     /// One publish more.
     pub(crate) fn longer(&self, _next: &Publishing) -> Published
         ensures { result.programs ≡ longer_history self.now.programs _next.now.slot
-            (arc_value _next.now.program) }
+            _next.now.program }
     {
         Published {}
     }

@@ -88,7 +88,7 @@ pub record ScrubsAll (image : List ℕ) (numbers : Programs) (before after : Gua
   pub told : Scrubbed
   pub between : GuardedValue
   pub restored : Restored
-  pub scrubs : ScrubsGuarded told before between
+  pub scrubs : ScrubsGuarded told image before between
   pub restores : RestoresIf told.window image restored between after
   pub mended_is : numbers.mended ≡ mended_bits told
   pub withdrawn_is : numbers.withdrawn ≡ withdrawn_bits told

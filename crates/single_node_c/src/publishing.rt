@@ -60,7 +60,7 @@ fn try_publish(
         Ok(program) => program,
         Err(unfit) => return Err(Unpublished::Unfit(unfit)),
     };
-    guarded.install(alloc, slot, program)?;
+    guarded.install(slot, program)?;
     Ok(())
 }
 

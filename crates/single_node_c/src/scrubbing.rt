@@ -102,7 +102,7 @@ fn restore(alloc: Global, guarded: &mut GuardedNode, image: &[u8]) -> Restored
         Err(Unfit::Memory) => return Restored::Short,
         Err(_unfit) => return Restored::Nothing,
     };
-    match guarded.install(alloc, WINDOW, program) {
+    match guarded.install(WINDOW, program) {
         Ok(_generation) => Restored::Done,
         Err(PublishFault::Memory) => Restored::Short,
         Err(PublishFault::Slot | PublishFault::GenerationsFull) => Restored::Nothing,
@@ -164,7 +164,7 @@ pub struct Programs {
 fn scrub_programs(alloc: Global, guarded: &mut GuardedNode, image: &[u8]) -> Programs
     ensures { ScrubsAll image.now result guarded.old guarded.new }
 {
-    let told = guarded.scrub(alloc);
+    let told = guarded.scrub(alloc, image);
     let restored = restore_if(alloc, guarded, told.window, image);
     Programs {
         mended: mended_bits(told),

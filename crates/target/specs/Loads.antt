@@ -1,5 +1,5 @@
 -- What a port asks for by a load.
-use Rattle.std.specs.Prelude.{◌≡◌, ◌⊎◌, ℕ, List, [], ◌∷◌, ◌++◌, Option, Some, None}
+use Rattle.std.specs.Prelude.{◌≡◌, ℕ, List, [], ◌∷◌, ◌++◌, Option, Some, None}
 use Rattle.annals.specs.declared.deed.Act.TheVariants.{Publishes}
 use Rattle.annals.specs.Chains.{Due}
 use Rattle.annals.specs.Publishes.{publishes_chain}

@@ -1,5 +1,4 @@
 use Rattle.std.proofs.Common.{rules, refl}
-use Rattle.doing.specs.Doings.{ShowsInput}
 use Rattle.doing.proofs.doing.show_input.Goals as goal
 
 pub returns : goal.returns

@@ -1,5 +1,4 @@
 use Rattle.std.proofs.Common.{rules}
-use Rattle.doing.specs.Doings.{HoldsLines}
 use Rattle.doing.proofs.doing.talk_lines.Goals as goal
 
 pub returns : goal.returns

@@ -1,6 +1,7 @@
 use Rattle.std.proofs.Common.{ap, ap₂, codes, ◌≡◌, ◌∙◌}
 use Rattle.std.proofs.lemmas.Result.{IfOk-weaker}
 use Rattle.clap.specs.Simple.{app_of, app_of_fields, new_app, with_rule}
+use Rattle.job_charts.specs.Asking.{with_asking}
 use Rattle.job_charts.proofs.compare.compare_command.Goals as goal
 
 pub returns-clause-shape : goal.returns-clause-shape
@@ -9,4 +10,5 @@ returns-clause-shape c =
     let first = c.in_ok-arg.ensures.shape c.file-old.ensures.local ∙ ap₂ with_rule named c.file-old.ensures.rule in
     let second = c.in_ok-arg-2.ensures.shape c.file-new.ensures.local ∙ ap₂ with_rule first c.file-new.ensures.rule in
     let third = c.in_ok-arg-3.ensures.shape c.maps_option-maps.ensures.local ∙ ap₂ with_rule second c.maps_option-maps.ensures.rule in
-    IfOk-weaker c.arg-4.result _ _ (λ m h. h.shape c.flag-markdown.ensures.local ∙ ap₂ with_rule third c.flag-markdown.ensures.rule) c.arg-4.ensures
+    let fourth = c.in_ok-command.ensures.shape c.flag-markdown.ensures.local ∙ ap₂ with_rule third c.flag-markdown.ensures.rule in
+    IfOk-weaker c.asking_arguments.result _ _ (λ m h. h ∙ ap with_asking fourth) c.asking_arguments.ensures.shape

@@ -1,6 +1,7 @@
-use Rattle.job_charts.proofs.DifferAt.{by_asked}
+use Rattle.std.proofs.lemmas.Result.{IfOk-weaker}
+use Rattle.job_charts.proofs.DifferAt.{charted}
 use Rattle.job_charts.proofs.compare.differ_at.Goals as goal
 
 pub returns : goal.returns
 returns c =
-    by_asked c.args.old.now c.args.new.now c.args.port c.in_ok-old.old c.in_ok-new.new c.are_apart.result c.requires c.in_ok-old.ensures c.in_ok-new.ensures c.are_apart.ensures
+    IfOk-weaker c.differ_there.result _ _ (λ is known. charted c.args.asked.now c.args.old.now c.args.new.now c.args.port is c.requires known) c.differ_there.ensures

@@ -1,6 +1,7 @@
 use Rattle.std.proofs.Common.{ap, ap₂, codes, ◌≡◌, ◌∙◌}
 use Rattle.std.proofs.lemmas.Result.{IfOk-weaker}
 use Rattle.clap.specs.Simple.{app_of, app_of_fields, new_app, with_rule}
+use Rattle.job_charts.specs.Asking.{with_asking}
 use Rattle.job_charts.proofs.map.map_command.Goals as goal
 
 pub returns-clause-shape : goal.returns-clause-shape
@@ -8,4 +9,6 @@ returns-clause-shape c =
     let named : app_of c.about.result ≡ new_app (codes "map") = ap app_of_fields c.about.ensures ∙ c.new.ensures.app in
     let first = c.in_ok-arg.ensures.shape c.file-table.ensures.local ∙ ap₂ with_rule named c.file-table.ensures.rule in
     let second = c.in_ok-arg-2.ensures.shape c.maps_option-maps.ensures.local ∙ ap₂ with_rule first c.maps_option-maps.ensures.rule in
-    IfOk-weaker c.arg-3.result _ _ (λ m h. h.shape c.flag-markdown.ensures.local ∙ ap₂ with_rule second c.flag-markdown.ensures.rule) c.arg-3.ensures
+    let third = c.in_ok-arg-3.ensures.shape c.flag-markdown.ensures.local ∙ ap₂ with_rule second c.flag-markdown.ensures.rule in
+    let fourth = c.in_ok-command.ensures.shape c.flag-quiet.ensures.local ∙ ap₂ with_rule third c.flag-quiet.ensures.rule in
+    IfOk-weaker c.asking_arguments.result _ _ (λ m h. h ∙ ap with_asking fourth) c.asking_arguments.ensures.shape

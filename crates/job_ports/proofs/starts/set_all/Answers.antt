@@ -1,4 +1,4 @@
-use Rattle.std.proofs.Common.{◌≡◌, ◌<◌, ◌∙◌, [], get_or, length, refl, arith, rules}
+use Rattle.std.proofs.Common.{◌<◌, ◌∙◌, [], get_or, length, refl, arith, rules}
 use Rattle.node_parts.specs.declared.config.BankConfig.{BankConfig}
 use Rattle.job_ports.specs.Starts.{SetsFirst}
 use Rattle.job_ports.proofs.Starting.{covered_found, fit_count, same_at, sets_more}

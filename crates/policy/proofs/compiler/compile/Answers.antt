@@ -1,5 +1,5 @@
-use Rattle.std.specs.Prelude.{option_map, All}
-use Rattle.std.proofs.Common.{◌≡◌, ◌≤◌, ℕ, List, length, Option, Some, None, refl, sym, ap, ◌∙◌, subst, le_of_eq}
+use Rattle.std.specs.Prelude.{All}
+use Rattle.std.proofs.Common.{◌≡◌, ◌≤◌, ℕ, List, length, None, refl, sym, ◌∙◌, subst, le_of_eq}
 use Rattle.bpf.specs.Program.{IsProgram, Program}
 use Rattle.bpf.specs.Weight.{weight_of}
 use Rattle.machine.specs.Sizes.{Maps}
@@ -12,11 +12,8 @@ use Rattle.policy_table.specs.Meaning.{decision}
 use Rattle.policy_table.specs.Ports.{FitsPort, on_lines}
 use Rattle.policy.specs.Meant.{IsMadeOf, table_program}
 use Rattle.policy_table.specs.Slots.{table_slots}
-use Rattle.policy_table.specs.TableFaults.{policy_fault_of}
-use Rattle.policy_table.specs.declared.faults.PolicyFault.{PolicyFault}
 use Rattle.policy_table.specs.declared.port_rules.PortRule.{PortRule}
 use Rattle.policy_table.specs.declared.rules.Rule.{Rule}
-use Rattle.policy_table.specs.declared.table_faults.TableFault.{TableFault}
 use Rattle.policy.proofs.Made.{made, made_justified, own_program, plain_cells, plain_meaning}
 use Rattle.policy.proofs.Refused.{is_told, port_cells, table_cells, table_fits}
 use Rattle.policy.proofs.Weighing.{weighs}
@@ -32,21 +29,13 @@ compiled sizes rules none meaning = record {
   cells = plain_cells sizes rules (port_cells sizes (on_lines 1 rules) (table_cells sizes rules none));
 }
 
--- the fault is the first without its place, and there is none where that is none
-told_fault : (found : Option TableFault) (placed : TableFault) (fault : PolicyFault) (first : Option PolicyFault) → option_map policy_fault_of found ≡ first → found ≡ Some placed → fault ≡ policy_fault_of placed
-    → first ≡ Some fault
-told_fault found placed fault first is some same = sym is ∙ ap (λ (f : Option TableFault). option_map policy_fault_of f) some ∙ ap Some (sym same)
-
-no_fault : (found : Option TableFault) (first : Option PolicyFault) → option_map policy_fault_of found ≡ first → found ≡ None → first ≡ None
-no_fault found first is none = sym is ∙ ap (λ (f : Option TableFault). option_map policy_fault_of f) none
-
 pub returns-in-Some-clause-fault : goal.returns-in-Some-clause-fault
 returns-in-Some-clause-fault c =
-    is_told c.args.sizes.now c.args.table.now _ (told_fault _ _ _ _ c.fault_for.ensures.fault c.in-Some.is c.fault.ensures)
+    is_told c.args.sizes.now c.args.table.now _ (sym c.fault_for.ensures ∙ c.in-Some.is)
 
 pub image_of_rules-requires-clause-room : goal.image_of_rules-requires-clause-room
 image_of_rules-requires-clause-room c =
-    let none : compile_fault c.args.sizes.now c.args.table.now ≡ None = no_fault _ _ c.fault_for.ensures.fault c.in_default.is in
+    let none : compile_fault c.args.sizes.now c.args.table.now ≡ None = sym c.fault_for.ensures ∙ c.in_default.is in
     let same : c.as_slice.result.now ≡ on_lines 1 c.args.table.now = cc (c.as_slice.ensures.value, c.in_ok-rules.ensures.lines, c.rules.ensures.rules) in
     subst (λ (rules : List PortRule). table_slots rules ≤ 512) (sym same) (table_fits c.args.sizes.now c.args.table.now none)
 
@@ -59,7 +48,7 @@ pub returns-clause-compiled : goal.returns-clause-compiled
 returns-clause-compiled c =
     let rules : List Rule = c.args.table.now in
     let all : List PortRule = on_lines 1 rules in
-    let none : compile_fault c.args.sizes.now rules ≡ None = no_fault _ _ c.fault_for.ensures.fault c.in_default.is in
+    let none : compile_fault c.args.sizes.now rules ≡ None = sym c.fault_for.ensures ∙ c.in_default.is in
     let same : c.as_slice.result.now ≡ all = cc (c.as_slice.ensures.value, c.in_ok-rules.ensures.lines, c.rules.ensures.rules) in
     let fields : All FitsFields c.rules.result.now = subst (λ (rs : List Rule). All FitsFields rs) (sym c.rules.ensures.rules) c.rules.ensures.fit in
     let items : c.in_ok-rules.rules.items ≡ all = cc (c.in_ok-rules.ensures.lines, c.rules.ensures.rules) in
@@ -71,7 +60,7 @@ pub returns-clause-justified : goal.returns-clause-justified
 returns-clause-justified c =
     let rules : List Rule = c.args.table.now in
     let all : List PortRule = on_lines 1 rules in
-    let none : compile_fault c.args.sizes.now rules ≡ None = no_fault _ _ c.fault_for.ensures.fault c.in_default.is in
+    let none : compile_fault c.args.sizes.now rules ≡ None = sym c.fault_for.ensures ∙ c.in_default.is in
     let same : c.as_slice.result.now ≡ all = cc (c.as_slice.ensures.value, c.in_ok-rules.ensures.lines, c.rules.ensures.rules) in
     let fields : All FitsFields c.rules.result.now = subst (λ (rs : List Rule). All FitsFields rs) (sym c.rules.ensures.rules) c.rules.ensures.fit in
     let items : c.in_ok-rules.rules.items ≡ all = cc (c.in_ok-rules.ensures.lines, c.rules.ensures.rules) in

@@ -1,7 +1,6 @@
-use Rattle.std.proofs.Common.{◌≡◌, ◌+◌, drop}
-use Rattle.policy_table.specs.TableFaults.{rules_fault_from}
+use Rattle.std.proofs.Common.{◌≡◌, drop}
+use Rattle.policy_table.specs.FirstFault.{rules_fault as fault_of}
 use Rattle.policy_table.proofs.checks.rules_fault.Given as goal
 
 abbrev pub invariant-loop-rule : goal.invariant-loop-rule
-invariant-loop-rule l = (l.line ≡ l.rule-index)
-    × (rules_fault_from l.sizes (l.rule-index + 1) (drop l.rule-index l.rules) ≡ rules_fault_from l.sizes 1 l.rules)
+invariant-loop-rule l = fault_of l.sizes (drop l.rule-index l.rules) ≡ fault_of l.sizes l.rules

@@ -23,4 +23,4 @@ returns-in_err-rule-clause-fault c =
     let next : c.loop-line.line-iterator ≡ line ∷ c.next.new.self = c.in-Some.ensures.steps in
     let here : done ++ line ∷ c.next.new.self ≡ lines_of c.args.text.now = ap (λ (left : List (List ℕ)). done ++ left) (sym next) ∙ all in
     let gone = err_from_is_err_and c.from_residual.result c.from_residual.ensures.1 in
-    rw (gone.1, gone.2) (unread (lines_of c.args.text.now) done c.next.new.self c.loop-line.rules.items line _ c.len.result here are (c.len.ensures ∙ c.loop-line.rules.ok.0) c.in_err-rule.ensures.fault)
+    rw (gone.1, gone.2) (unread (lines_of c.args.text.now) done c.next.new.self line _ here c.in_err-rule.ensures.fault)

@@ -1,11 +1,7 @@
 use Rattle.std.proofs.lemmas.List.{drop_all}
-use Rattle.std.proofs.Common.{◌≡◌, ◌++◌, ◌∷◌, [], List, sym, ap, ◌∙◌, subst, arith}
+use Rattle.std.proofs.Common.{sym, ◌∙◌, arith}
 use Rattle.machine.specs.Memory.{header}
-use Rattle.machine.specs.declared.calls.Call.{Call}
-use Rattle.policy_table.specs.Mismatches.{passed}
-use Rattle.policy_table.specs.Passing.{passed_rules as passed_by}
-use Rattle.policy_table.specs.declared.mismatches.Passed.{Passed}
-use Rattle.policy_table.proofs.PassingBy.{passes_one, stops_behind, stops_there}
+use Rattle.policy_table.proofs.PassingBy.{stops_behind, stops_there}
 use Rattle.policy_table.proofs.passing.passed_rules.Goals as goal
 
 pub returns-in_default : goal.returns-in_default

@@ -1,4 +1,4 @@
-use Rattle.std.proofs.Common.{◌≡◌, List, ap, arith}
+use Rattle.std.proofs.Common.{List, ap, arith}
 use Rattle.std.proofs.lemmas.List.{drop_all}
 use Rattle.policy_table.specs.Slots.{rules_slots}
 use Rattle.policy_table.specs.declared.port_rules.PortRule.{PortRule}

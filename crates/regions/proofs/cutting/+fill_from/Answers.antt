@@ -3,7 +3,7 @@ use Rattle.regions.specs.Cells.{IsFilled}
 use Rattle.regions.specs.Questions.{IsCutTo}
 use Rattle.regions.specs.declared.cutting.Cell.{Cell}
 use Rattle.regions.proofs.Filling.{both_filled, cell_filled, none_filled}
-use Rattle.regions.proofs.Searching.{apart_cut, begun, last_inside, rank, rank_some, step}
+use Rattle.regions.proofs.Searching.{apart_cut, begun, last_inside, rank, rank_some, step, within_cut}
 use Rattle.regions.proofs.cutting.+fill_from.Goals as goal
 
 pub returns-in_ok-push : goal.returns-in_ok-push
@@ -20,6 +20,15 @@ returns-else-not-ask g t c =
     let holds = g.Q.Question.holds c.args.question.now in
     let fails = g.Q.Question.fails c.args.question.now in
     c.cuts.invariant.back _ (none_filled tests c.cuts.at holds fails c.cuts.part c.in-Some.point c.cuts.cells.items c.requires.settled c.cuts.invariant.cut c.in_default-shape.ensures c.in-Some.ensures c.if-not-ask.ensures)
+
+pub cuts-preserved-then-is_within : goal.cuts-preserved-then-is_within
+cuts-preserved-then-is_within g t c = record {
+  sides_left = c.cuts.invariant.sides_left;
+  further = omega (arith, c.cuts.invariant.further);
+  cut = within_cut (g.Q.Question.tests c.args.question.now) c.cuts.at c.cuts.part c.in-Some-shape.next c.in-Some-shape.ensures c.if-is_within.ensures c.cuts.invariant.cut;
+  under_way = λ some. absurd (omega (arith, some, c.if-sides-eq0.true));
+  back = c.cuts.invariant.back;
+}
 
 pub cuts-preserved-then-not-may_meet : goal.cuts-preserved-then-not-may_meet
 cuts-preserved-then-not-may_meet g t c = record {

@@ -1,11 +1,20 @@
 use Rattle.std.proofs.Common.{◌≡◌, ◌<◌, ◌+◌, ◌-◌, ◌*◌, ℕ, length, subst, arith}
 use Rattle.regions.specs.Questions.{HoldsOn, IsCutTo, IsFound}
-use Rattle.regions.proofs.Searching.{answered, apart_cut, begun, last_inside, none_of, on_both, step}
+use Rattle.regions.proofs.Searching.{answered, apart_cut, begun, last_inside, none_of, on_both, step, within_cut}
 use Rattle.regions.proofs.questions.+search_from.Goals as goal
 
 pub returns-then-ask : goal.returns-then-ask
 returns-then-ask g t c =
     c.cuts.invariant.back (answered (g.Q.Question.tests c.args.question.now) c.cuts.at c.cuts.part (g.Q.Question.holds c.args.question.now) c.in-Some.point c.requires.settled c.cuts.invariant.cut c.in_default-shape.ensures c.in-Some.ensures c.if-ask.ensures)
+
+pub cuts-preserved-then-is_within : goal.cuts-preserved-then-is_within
+cuts-preserved-then-is_within g t c = record {
+  sides_left = c.cuts.invariant.sides_left;
+  further = omega (arith, c.cuts.invariant.further);
+  cut = within_cut (g.Q.Question.tests c.args.question.now) c.cuts.at c.cuts.part c.in-Some-shape.next c.in-Some-shape.ensures c.if-is_within.ensures c.cuts.invariant.cut;
+  under_way = λ some. absurd (omega (arith, some, c.if-sides-eq0.true));
+  back = c.cuts.invariant.back;
+}
 
 pub cuts-preserved-then-not-may_meet : goal.cuts-preserved-then-not-may_meet
 cuts-preserved-then-not-may_meet g t c = record {

@@ -18,6 +18,6 @@ loop-port-preserved c =
       count = search rules;
       ports = λ factory programs sizes.
           let more = map-range_with_len_more (first_pass c.args.config.now.address banks factory gnil) 0 port port (omega arith) in
-          c.in_ok-push.ensures.items ∙ rw (c.loop-port.invariant.ports factory programs sizes, c.new-in-loop-port.ensures, c.new-context.ensures, c.windows.ensures, c.list.ensures.list, programs, shares, c.in_ok-staging.ensures, ← sizes) (sym more);
+          c.in_ok-push.ensures.items ∙ rw (c.loop-port.invariant.ports factory programs sizes, c.new-in-loop-port.ensures, c.new-context.ensures, c.requires.windows, c.list.ensures.list, programs, shares, c.in_ok-staging.ensures, ← sizes) (sym more);
       rest = later c.loop-port.by_port.items (length banks) ports port c.from.result _ c.from.ensures c.loop-port.invariant.rest;
     }

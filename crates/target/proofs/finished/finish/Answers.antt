@@ -7,7 +7,6 @@ use Rattle.node_parts.specs.Passes.{pass_of}
 use Rattle.node_parts.specs.Steps.{IsBankBelow}
 use Rattle.node_parts.specs.Applied.{share_of}
 use Rattle.annals.specs.declared.deed.Link.{Link}
-use Rattle.annals.specs.Chains.{Due, LineValue}
 use Rattle.target.specs.Finished.{AsksForEntry, IsFinishedAt}
 use Rattle.target.specs.Passes.{PortPass}
 use Rattle.target.proofs.Finishing.{asked_at, done_behind, ends_plainly, finished_at, taken_fits}

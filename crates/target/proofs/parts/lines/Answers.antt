@@ -1,6 +1,5 @@
-use Rattle.std.proofs.Common.{◌≡◌, ◌∙◌, ◌∷◌, ◌++◌, [], ap, sym, arith, rules}
+use Rattle.std.proofs.Common.{◌∙◌, [], sym, arith, rules}
 use Rattle.std.proofs.lemmas.List.FromFn.{map-range_with_len_more}
-use Rattle.annals.specs.Chains.{LineValue}
 use Rattle.target.proofs.parts.lines.Goals as goal
 
 pub loop-port-preserved : goal.loop-port-preserved

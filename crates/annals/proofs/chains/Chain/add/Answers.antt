@@ -1,4 +1,3 @@
-use mathlib.Core.List.{IsPrefix}
 use Rattle.lemmas.proofs.Prefixes.{prefix_trans}
 use Rattle.annals.proofs.chains.Chain.add.Goals as goal
 

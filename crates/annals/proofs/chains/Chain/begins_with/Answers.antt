@@ -1,4 +1,4 @@
-use Rattle.std.proofs.Common.{◌≡◌, sym, refl, ◌∙◌, ap, subst, arith, List, length}
+use Rattle.std.proofs.Common.{◌≡◌, sym, ◌∙◌, ap, subst, arith, List, length}
 use mathlib.Core.List.{IsPrefix}
 use Rattle.annals.specs.declared.deed.Link.{Link}
 use Rattle.annals.specs.Chains.{IsWhole, chain_of}

@@ -2,7 +2,6 @@ use Rattle.std.proofs.Common.{ℕ, List, subst}
 use mathlib.Core.List.{IsPrefix}
 use Rattle.annals.specs.declared.deed.Link.{Link}
 use Rattle.annals.specs.Chains.{chain_of}
-use Rattle.annals.specs.Publishes.{publishes_chain}
 use Rattle.annals.proofs.Dues.{chain_prefix}
 use Rattle.annals.proofs.Publishings.{publishes_prefix}
 use Rattle.annals.proofs.chains.Chain.knows_published.Goals as goal

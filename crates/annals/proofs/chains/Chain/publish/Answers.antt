@@ -1,4 +1,4 @@
-use Rattle.std.proofs.Common.{◌≡◌, ℕ, List, [], ◌∷◌, ◌++◌, sym, subst, ◌∙◌}
+use Rattle.std.proofs.Common.{◌≡◌, ℕ, [], ◌∷◌, ◌++◌, subst, ◌∙◌}
 use Rattle.std.specs.Arc.{arc_value}
 use Rattle.node_programs.specs.Histories.{entry}
 use Rattle.annals.specs.Chains.{chain_of}

@@ -1,12 +1,11 @@
 use Rattle.std.specs.Prelude.{IfSome, IfNone, ◌<◌, slice_index}
 use Rattle.std.specs.List.{range_with_len}
-use Rattle.std.proofs.Common.{Option, ◌≡◌, ℕ, refl, true, Some, List, [], ◌∷◌, ◌++◌, length, sym, ◌∙◌, ap, subst}
+use Rattle.std.proofs.Common.{Option, ◌≡◌, ℕ, refl, true, [], ◌∷◌, ◌++◌, length, sym, ◌∙◌, ap, subst}
 use Rattle.bank.specs.Records.{EntryValue, BankValue, memory_of, answer_of, has_room, entry_of, fits, is_place_of, numbers_of}
 use Rattle.bank.specs.Answer.{Answer}
 use Rattle.annals.specs.declared.deed.Act.TheVariants.{Leaves}
 use Rattle.annals.specs.declared.deed.Deed.TheVariants.{Does}
-use Rattle.annals.specs.declared.deed.Link.{Link}
-use Rattle.annals.specs.Chains.{IsLast, chain_of, line_with, link}
+use Rattle.annals.specs.Chains.{chain_of, line_with, link}
 use Rattle.annals.specs.Banks.{CountsOn, KeptValue, memory_after, answer_after, entries_of, IsDone}
 use Rattle.annals.proofs.Counts.{counts_on, counts_same, share_stays, next_share_is, numbers_before, counts_after, still_counted}
 use Rattle.bank.proofs.Banks.{fitting}

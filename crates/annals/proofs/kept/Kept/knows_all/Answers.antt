@@ -1,7 +1,6 @@
 use Rattle.std.proofs.Common.{List, subst}
 use mathlib.Core.List.{IsPrefix}
 use Rattle.annals.specs.declared.deed.Link.{Link}
-use Rattle.annals.specs.Banks.{KeptValue}
 use Rattle.annals.specs.Chains.{chain_of}
 use Rattle.annals.proofs.Dues.{chain_prefix}
 use Rattle.annals.proofs.kept.Kept.knows_all.Goals as goal

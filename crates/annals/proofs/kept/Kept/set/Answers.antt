@@ -1,7 +1,6 @@
 use Rattle.std.specs.Prelude.{◌<◌, slice_index}
 use Rattle.std.specs.List.{range_with_len}
 use Rattle.std.proofs.Common.{◌≡◌, ℕ, List, length, refl, sym, ◌∙◌, ap, subst}
-use Rattle.bank.specs.Effect.{Memory, with_bytes}
 use Rattle.bank.specs.Records.{BankValue, memory_of, numbers_of}
 use Rattle.annals.specs.declared.deed.Act.TheVariants.{Sets}
 use Rattle.annals.specs.declared.deed.Deed.TheVariants.{Does}

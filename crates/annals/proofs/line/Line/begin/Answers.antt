@@ -1,4 +1,4 @@
-use Rattle.std.proofs.Common.{◌≡◌, ℕ, List, [], refl, ap, sym, ◌∙◌, subst, arith}
+use Rattle.std.proofs.Common.{◌≡◌, ℕ, List, [], refl, ap, sym, subst, arith}
 use mathlib.Core.List.{IsPrefix}
 use Rattle.annals.specs.Chains.{Due, asked_by, asked_in, chain_of, done_for, line_of}
 use Rattle.annals.proofs.line.Line.begin.Goals as goal

@@ -1,10 +1,8 @@
-use Rattle.std.proofs.Common.{◌≡◌, ℕ, List, ap, subst, ◌∙◌}
+use Rattle.std.proofs.Common.{◌≡◌, ℕ, List, ap, subst}
 use mathlib.Core.List.{IsPrefix}
-use Rattle.annals.specs.declared.deed.Link.{Link}
-use Rattle.annals.specs.Chains.{Due, asked_by, asked_in, chain_of, done_for, line_of}
+use Rattle.annals.specs.Chains.{Due, asked_by, asked_in, chain_of, done_for}
 use Rattle.lemmas.proofs.Prefixes.{prefix_trans}
-use Rattle.bank.specs.Records.{numbers_of}
-use Rattle.annals.specs.Banks.{entries_of, numbers_at}
+use Rattle.annals.specs.Banks.{numbers_at}
 use Rattle.annals.proofs.Dues.{done_prefix, done_numbers, numbers_prefix}
 use Rattle.annals.proofs.line.Line.knows_all.Goals as goal
 

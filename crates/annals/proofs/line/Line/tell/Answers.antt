@@ -1,4 +1,4 @@
-use Rattle.std.proofs.Common.{◌≡◌, ℕ, List, ap, subst}
+use Rattle.std.proofs.Common.{subst}
 use mathlib.Core.List.{IsPrefix}
 use Rattle.annals.specs.Chains.{LineValue, asked_by, done_for}
 use Rattle.lemmas.proofs.Prefixes.{prefix_trans}

@@ -1,9 +1,8 @@
-use Rattle.std.proofs.Common.{◌≡◌, ◌≤◌, ◌<◌, ◌+◌, arith, refl, sym, ◌∙◌, length}
+use Rattle.std.proofs.Common.{◌≤◌, ◌<◌, arith, sym}
 use Rattle.std.proofs.lemmas.Bool.Decides.{nat_tests}
-use mathlib.Core.List.{IsPrefix}
 use Rattle.annals.specs.Publishes.{publishes_of}
 use Rattle.annals.specs.Shown.{shown_in}
-use Rattle.lemmas.proofs.Prefixes.{prefix_length, prefix_self, prefix_trans}
+use Rattle.lemmas.proofs.Prefixes.{prefix_length}
 use Rattle.annals.proofs.Listing.{between_seen, shown_grows, taken_at}
 use Rattle.annals.proofs.Publishings.{publishes_begin}
 use Rattle.annals.proofs.shown_count.ShownCount.settle.Goals as goal

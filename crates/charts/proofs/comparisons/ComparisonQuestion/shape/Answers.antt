@@ -1,5 +1,10 @@
-use Rattle.charts.proofs.RuleShapes.{shape_at}
+use Rattle.std.proofs.Common.{◌++◌, arith}
+use Rattle.regions.specs.Regions.{lies_in}
+use Rattle.charts.specs.Points.{tests_of}
+use Rattle.charts.proofs.LineShapes.{later_shape}
 use Rattle.charts.proofs.comparisons.ComparisonQuestion.shape.Goals as goal
 
 pub returns : goal.returns
-returns c = shape_at c.args.self.now.old.now c.args.self.now.new.now c.args.number c.in-Some.rule c.region_of.result c.in-Some.ensures c.region_of.ensures
+returns c =
+    let self = c.args.self.now in
+    later_shape (lies_in self.asked.now) (tests_of (self.old.now ++ self.new.now)) c.args.number c.rule_shape.result (omega (arith, c.if-number-eq0.false)) c.rule_shape.ensures

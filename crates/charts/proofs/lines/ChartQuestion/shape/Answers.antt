@@ -1,18 +1,12 @@
-use Rattle.std.proofs.Common.{◌++◌}
+use Rattle.std.proofs.Common.{◌++◌, arith}
 use Rattle.std.specs.Prelude.{map}
 use Rattle.regions.specs.Regions.{lies_in}
 use Rattle.charts.specs.Points.{tests_of}
-use Rattle.charts.proofs.LineShapes.{line_shape_at, widened}
-use Rattle.charts.proofs.RuleShapes.{shape_at}
+use Rattle.charts.proofs.LineShapes.{later_shape}
 use Rattle.charts.proofs.lines.ChartQuestion.shape.Goals as goal
 
-pub returns-in-Some : goal.returns-in-Some
-returns-in-Some c =
-    let old = c.args.self.now.old.now in
-    let new = c.args.self.now.new.now in
-    widened (tests_of (old ++ new)) (map (λ line. lies_in line.region) c.args.self.now.lines.now) c.args.number c.region_of.result
-    (shape_at old new c.args.number c.in-Some.rule c.region_of.result c.in-Some.ensures c.region_of.ensures)
-
-pub returns-then-number-self : goal.returns-then-number-self
-returns-then-number-self c =
-    line_shape_at c.args.self.now.old.now c.args.self.now.new.now c.args.self.now.lines.now c.args.number _ c.in_default.ensures c.if-number-self.true
+pub returns : goal.returns
+returns c =
+    let self = c.args.self.now in
+    later_shape (lies_in self.asked.now) (tests_of (self.old.now ++ self.new.now) ++ map (λ line. lies_in line.region) self.lines.now) c.args.number c.rule_or_line.result
+    (omega (arith, c.if-number-eq0.false)) c.rule_or_line.ensures

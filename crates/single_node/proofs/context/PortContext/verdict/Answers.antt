@@ -9,7 +9,7 @@ returns c =
     let run = c.run-verdict.ensures.run in
     let own = c.self.inside in
     let joined = c.joined-self-inside.ensures ∙ ap₂ (λ (before after : List Call). own.asked.calls ++ drop (length before) after) c.log-before.ensures c.log.ensures in
-    let asked = more_asked own.port own.windows own.sizes own.asked.calls c.args.cells.now.asked c.run-verdict.new.counters.asked c.joined-self-inside.result.calls run.0 joined run.1 in
+    let asked = more_asked own.port own.windows.windows own.sizes own.asked.calls c.args.cells.now.asked c.run-verdict.new.counters.asked c.joined-self-inside.result.calls run.0 joined run.1 in
     let ran = run.2 in
     record {
       ran = record {

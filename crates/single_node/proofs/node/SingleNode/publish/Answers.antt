@@ -11,4 +11,4 @@ invariant_of-self c =
     let s = single_node c.self.inside.banks c.self.inside.cells.words old c.self.inside.ports.items in
     let some = c.list-list.ensures.some in
     let grows = grown c.install.result c.args.slot c.args.program old new c.install.ensures.published c.install.ensures.same in
-    (node_grows s new some grows c.self.invariant.0, c.self.invariant.1 ∙ sym (sizes_kept old new some grows))
+    (node_grows s new some grows c.self.invariant.0, c.self.invariant.1 ∙ sym (sizes_kept old new some grows), c.self.invariant.2)

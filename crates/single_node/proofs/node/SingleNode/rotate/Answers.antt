@@ -9,4 +9,4 @@ invariant_of-self c =
     let s = single_node c.self.inside.banks c.self.inside.cells.words c.self.inside.programs c.self.inside.ports.items in
     let b = c.bank_mut.result.now in
     let kept : IsSingleNode (with_bank s c.args.k (after_rotation b c.args.fresh)) = node_with_bank s c.args.k b (after_rotation b c.args.fresh) c.bank_mut.ensures.value refl refl c.self.invariant.0 in
-    (subst (λ (x : BankValue). IsSingleNode (with_bank s c.args.k x)) (sym c.rotate.ensures.bank) kept, c.self.invariant.1)
+    (subst (λ (x : BankValue). IsSingleNode (with_bank s c.args.k x)) (sym c.rotate.ensures.bank) kept, c.self.invariant.1, c.self.invariant.2)

@@ -5,6 +5,7 @@ use Rattle.single_node.specs.Nodes.{IsSingleNode, SingleNodeValue, single_node}
 use Rattle.single_node.specs.Serving.{ServesTold}
 use Rattle.single_node.proofs.Nodes.{node_after, serves_of}
 use Rattle.single_node.proofs.Serving.{kept_or_longer, sizes_kept}
+use Rattle.single_node.proofs.Under.{served_windows, under_after}
 use Rattle.single_node.proofs.node.SingleNode.serve_told.Goals as goal
 
 pub serve_at-requires-clause-paired : goal.serve_at-requires-clause-paired
@@ -23,6 +24,14 @@ serve_at-requires-clause-informed c =
     let own : slice_get passes c.from-place.result ≡ Some pass = slice_get-get_or passes c.from-place.result pass below ∙ ap Some (sym c.index_mut-port.ensures.value) in
     c.self.invariant.0.informed c.from-place.result pass own
 
+pub serve_at-requires-clause-windows : goal.serve_at-requires-clause-windows
+serve_at-requires-clause-windows c =
+    let passes = c.self.inside.ports.items in
+    let pass = c.index_mut-port.result.now in
+    let below : c.from-place.result < length passes = search rules in
+    let own : slice_get passes c.from-place.result ≡ Some pass = slice_get-get_or passes c.from-place.result pass below ∙ ap Some (sym c.index_mut-port.ensures.value) in
+    sym (c.self.invariant.2 c.from-place.result pass own)
+
 pub invariant_of-self : goal.invariant_of-self
 invariant_of-self c =
     let passes = c.self.inside.ports.items in
@@ -34,8 +43,11 @@ invariant_of-self c =
     let some = c.serve_at.ensures.some in
     let served = c.serve_at.ensures.served in
     let node : IsSingleNode (single_node c.serve_at.new.banks c.serve_at.new.cells.words c.serve_at.new.programs (slice_set passes c.from-place.result c.serve_at.new.port))
-    = node_after c.packets_keep_pairs.ensures.served c.packets_keep_pairs.ensures.all told.served told.generation told.verdict c.args.packet before c.serve_at.new.banks c.serve_at.new.cells.words c.serve_at.new.programs c.from-place.result pass c.serve_at.new.port c.serve_at.new.reply c.self.invariant.0 own some served in
-    (node, c.serve_at.ensures.sizes ∙ c.self.invariant.1 ∙ sym (sizes_kept c.self.inside.programs c.serve_at.new.programs some (kept_or_longer told.served told.generation told.verdict c.args.packet _ _ _ _ pass c.serve_at.new.port c.serve_at.new.reply served).longer))
+    = node_after c.packets_keep_pairs.ensures.served c.packets_keep_pairs.ensures.all told.served told.generation told.verdict c.args.packet before c.serve_at.new.banks c.serve_at.new.cells.words c.serve_at.new.programs c.from-place.result pass c.serve_at.new.port c.serve_at.new.reply c.self.invariant.0 own some served in (
+      node,
+      c.serve_at.ensures.sizes ∙ c.self.invariant.1 ∙ sym (sizes_kept c.self.inside.programs c.serve_at.new.programs some (kept_or_longer told.served told.generation told.verdict c.args.packet _ _ _ _ pass c.serve_at.new.port c.serve_at.new.reply served).longer),
+      under_after c.self.inside.windows passes c.from-place.result pass c.serve_at.new.port c.self.invariant.2 own (served_windows told.served told.generation told.verdict c.args.packet _ _ _ _ pass c.serve_at.new.port c.serve_at.new.reply served),
+    )
 
 pub returns-clause-serves : goal.returns-clause-serves
 returns-clause-serves c =

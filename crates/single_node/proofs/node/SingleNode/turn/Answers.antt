@@ -10,4 +10,4 @@ invariant_of-self c =
     let b = c.bank_mut.result.now in
     let next = after_rotation b (empty_journal c.args.room) in
     let kept : IsSingleNode (with_bank s c.args.k next) = node_with_bank s c.args.k b next c.bank_mut.ensures.value refl refl c.self.invariant.0 in
-    (subst (λ (x : BankValue). IsSingleNode (with_bank s c.args.k x)) (sym c.turn.ensures.bank) kept, c.self.invariant.1)
+    (subst (λ (x : BankValue). IsSingleNode (with_bank s c.args.k x)) (sym c.turn.ensures.bank) kept, c.self.invariant.1, c.self.invariant.2)

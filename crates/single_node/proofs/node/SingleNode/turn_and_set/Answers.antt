@@ -15,4 +15,4 @@ invariant_of-self c =
     let there : slice_get c.args.self.now.banks c.args.k ≡ Some b = ap (λ (x : SingleNodeValue). slice_get x.banks c.args.k) (sym c.self.view_is) ∙ c.bank_mut.ensures.value in
     let covered : covers b c.args.address (length bytes) ≡ true = subst (λ (o : Option BankValue). covers_in o c.args.address (length bytes) ≡ true) there c.requires.inside in
     let kept : IsSingleNode (with_bank s c.args.k next) = node_with_bank s c.args.k b next c.bank_mut.ensures.value (setting_stays b c.args.address bytes fresh covered) refl c.self.invariant.0 in
-    (subst (λ (x : BankValue). IsSingleNode (with_bank s c.args.k x)) (sym c.turn_and_set.ensures.bank) kept, c.self.invariant.1)
+    (subst (λ (x : BankValue). IsSingleNode (with_bank s c.args.k x)) (sym c.turn_and_set.ensures.bank) kept, c.self.invariant.1, c.self.invariant.2)

@@ -1,7 +1,7 @@
-use Rattle.std.proofs.Common.{◌≡◌, List, Some, ap₂, rules, subst, sym, ◌∙◌, ℕ}
+use Rattle.std.proofs.Common.{◌≡◌, List, Some, rules, subst, sym}
 use mathlib.Core.List.{IsPrefix}
 use Rattle.rmap.specs.Command.{command_kind, command_of}
-use Rattle.bver.specs.Justified.{AcceptedValue, IsJustified}
+use Rattle.bver.specs.Justified.{IsJustified}
 use Rattle.node_programs.specs.declared.publishes.Publish.{Publish}
 use Rattle.node_programs.specs.Published.{judging_program}
 use Rattle.node_parts.specs.Passes.{PassValue, pass_of}
@@ -20,12 +20,12 @@ returns-clause-judged c = λ p admission.
     let shares = c.self.inside.shares.items in
     let staging = c.self.inside.staging in
     let admitted = c.args.admitted in
-    let program = c.program.result.now in
-    let generation = c.generation.result in
+    let program = c.shown-generation.result.0.now in
+    let generation = c.shown-generation.result.1 in
     let at : c.slot-slot.result ≡ slot_of (command_kind (command_of admitted.packet)) admitted.place = search rules in
     let shows : judging_program programs c.slot-slot.result ≡ Some (program, generation)
-    = c.shown-shown.ensures.value ∙ ap₂ (λ (a : AcceptedValue) (n : ℕ). Some (a, n)) (sym c.program.ensures.value) (sym c.generation.ensures) in
-    let accepted : IsJustified program.program program.sizes = subst (λ (a : AcceptedValue). IsJustified a.program a.sizes) (sym c.program.ensures.value) c.program.ensures.justified in
+    = c.shown-generation.ensures.value in
+    let accepted : IsJustified program.program program.sizes = c.shown-generation.ensures.justified in
     let admitted_here : IsAdmission admitted p b.windows = subst (λ (h : PassValue). IsAdmission admitted p h.windows) (sym c.self.view_is) admission in
     let begins = subst (λ (h : PassValue). IsPrefix h.programs programs) (sym c.self.view_is) c.requires.informed.begins in
     let judged : IsLastJudgement programs c.args.cells.now.words c.judge.new.cells.words (pass_of b known shares staging) (pass_of left programs shares staging) p c.judge.result

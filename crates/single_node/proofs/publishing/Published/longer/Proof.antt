@@ -32,7 +32,6 @@ use Rattle.single_node.proofs.publishing.Published.longer.Statement as stated
 use Rattle.single_node.proofs.publishing.Published.longer.Code as code
 use Rattle.single_node.specs.contracts.publishing.Published as list
 use Rattle.single_node.specs.contracts.publishing.Publishing as next
-use Rattle.std.specs.Arc.{arc_value}
 use Rattle.node_programs.specs.Histories.{longer_history}
 
 abbrev stayed : Stays (f.ended).signature.params (f.ended).kept
@@ -60,8 +59,8 @@ module _ {M : Type 1} {𝓤 : Ura M} (𝓛 : Logic 𝓤) (mem : Memory → SProp
         qed 𝓛 (raw (alive 𝓛 f.signature κs qs) ∷ ‵ passed ∷ []) ∵ enter ! C Λ code.function (before ∷ published ∷ []) _ $
         alloc_all ! (λ l. pass_all ! refl ((tt, tt), ((tt, tt), tt)) $ sets ! (agg ! (no_more !)) refl (tt, tt) $
         returns ! (look_at ! 0 refl) $ free_all ! refl $
-        suffices ! _ (ends_at 𝓛 f.ended stayed (f.clauses 𝓛 mem run) bound (vstruct vnil) (record { programs = longer_history a.0.now.programs a.1.0.now.slot (arc_value a.1.0.now.program) }) (tt, (tt, tt)) (tt, (tt, tt))) $
-        says ! refl $ pure_i ! (list.the_row.own_val (record { programs = longer_history a.0.now.programs a.1.0.now.slot (arc_value a.1.0.now.program) }) (vstruct vnil ∷ [])) ((λ vss. (tt, tt)), tt) ((tt, (refl, tt)), tt) $
+        suffices ! _ (ends_at 𝓛 f.ended stayed (f.clauses 𝓛 mem run) bound (vstruct vnil) (record { programs = longer_history a.0.now.programs a.1.0.now.slot a.1.0.now.program }) (tt, (tt, tt)) (tt, (tt, tt))) $
+        says ! refl $ pure_i ! (list.the_row.own_val (record { programs = longer_history a.0.now.programs a.1.0.now.slot a.1.0.now.program }) (vstruct vnil ∷ [])) ((λ vss. (tt, tt)), tt) ((tt, (refl, tt)), tt) $
         move ! (1 ∷ 2 ∷ 0 ∷ []) $ done !)
 
   walks : Walks 𝓛 f.ended stayed (WpFn 𝓤 H C Λ code.function) (f.clauses 𝓛 mem run)

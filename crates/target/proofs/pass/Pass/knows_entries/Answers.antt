@@ -1,4 +1,4 @@
-use Rattle.std.proofs.Common.{◌≡◌, ℕ, List, ap, sym, ◌∙◌, subst}
+use Rattle.std.proofs.Common.{ℕ, List, subst}
 use mathlib.Core.List.{IsPrefix}
 use Rattle.bank.specs.Records.{numbers_of}
 use Rattle.annals.specs.Banks.{entries_of, numbers_at}

@@ -1,0 +1,164 @@
+-- Rows that hold at more ports, and rows more.
+use Rattle.std.proofs.Common.{◌≡◌, ◌≢◌, ◌∙◌, ◌<◌, ◌≤◌, ◌+◌, ◌++◌, inl, inr, ◌∷◌, [], ℕ, suc, List, Option, Some, None, ap, arith, length, refl, subst, sym, take}
+use Rattle.std.specs.Prelude.{All, Bool, MatchBool, MatchOption, false, get_or, slice_set, true}
+use Rattle.std.proofs.lemmas.List.{take_all, take_more}
+use Rattle.std.proofs.lemmas.List.Elements.{All-more}
+use Rattle.differences.specs.declared.courses.Step.{Step}
+use Rattle.regions.specs.declared.regions.Region.{Region}
+use Rattle.policy_table.specs.declared.rules.Quota.{Quota}
+use Rattle.policy_table.specs.declared.rules.Rule.{Rule}
+use Rattle.policy_table.specs.declared.rules.RuleKind.{RuleKind}
+use Rattle.rmap.specs.declared.verdict.Verdict.{Verdict}
+use Rattle.chart_lines.specs.Rows.{AddsRow, EndSame, RowValue, SaysAt, WantSame, ToldValue, row_of, told}
+use Rattle.chart_lines.specs.declared.rows.Change.{Change}
+
+-- rows of which this is known where a row that says it was looked for
+abbrev pub IsPlaced : ToldValue → List RowValue → Option ℕ → Type 0
+IsPlaced said rows found =
+    MatchOption found (All (λ (row : RowValue). row.told ≢ said) rows) (λ place. (place < length rows) × ((d : RowValue) → (get_or rows place d).told ≡ said))
+
+-- the row of that place got the ports
+pub joined : (ports : List ℕ) (said : ToldValue) (slice before after : List RowValue) (place : ℕ) → slice ≡ before → (place < length slice) × ((d : RowValue) → (get_or slice place d).told ≡ said)
+    → ((d : RowValue) → after ≡ slice_set before place (row_of ((get_or before place d).ports ++ ports) (get_or before place d).told)) → AddsRow ports said before after
+joined ports said slice before after place same found is =
+    let there : (place < length before) × ((d : RowValue) → (get_or before place d).told ≡ said) =
+    subst (λ (rows : List RowValue). (place < length rows) × ((d : RowValue) → (get_or rows place d).told ≡ said)) same found in
+    inl (record {
+      place = place;
+      there = there.0;
+      same = there.1;
+      is = λ d. is d ∙ ap (λ (t : ToldValue). slice_set before place (row_of ((get_or before place d).ports ++ ports) t)) (there.1 d);
+    })
+
+-- a row more was put behind all
+pub added : (ports : List ℕ) (said : ToldValue) (slice before after : List RowValue) → slice ≡ before → All (λ (row : RowValue). row.told ≢ said) slice
+    → after ≡ before ++ row_of ports said ∷ [] → AddsRow ports said before after
+added ports said slice before after same apart is =
+    inr (subst (λ (rows : List RowValue). All (λ (row : RowValue). row.told ≢ said) rows) same apart, is)
+
+-- ---- what rows say
+
+-- two courses that are the same up to a place, and there
+pub same_more : (one other : List Step) (place : ℕ) (d : Step) → place < length one → place < length other → take place one ≡ take place other → get_or one place d ≡ get_or other place d
+    → take (place + 1) one ≡ take (place + 1) other
+same_more one other place d lt other_lt before here =
+    take_more one place d lt ∙ ap (λ (xs : List Step). xs ++ get_or one place d ∷ []) before ∙ ap (λ (x : Step). take place other ++ x ∷ []) here ∙ sym (take_more other place d other_lt)
+
+-- two courses of one length that are the same up to their end
+pub same_whole : (one other : List Step) (place : ℕ) → length one ≡ length other → length one ≤ place → take place one ≡ take place other → one ≡ other
+same_whole one other place many end known =
+    sym (take_all place one end) ∙ known ∙ take_all place other (omega (arith, many, end))
+
+-- courses that are not: of two lengths, or apart at a place
+pub other_length : (one other : List Step) → (length one ≡ length other → ⊥) → one ≢ other
+other_length one other apart same = apart (ap (λ (xs : List Step). length xs) same)
+
+-- the steps of a place, by their values
+pub same_at : (one other : List Step) (place : ℕ) (x y : Step) (t : Bool) → ((d : Step) → get_or one place d ≡ x) → ((d : Step) → get_or other place d ≡ y) → MatchBool t (x ≡ y) (x ≢ y)
+    → (d : Step) → MatchBool t (get_or one place d ≡ get_or other place d) (get_or one place d ≢ get_or other place d)
+same_at one other place x y true f g h d = f d ∙ h ∙ sym (g d)
+same_at one other place x y false f g h d = λ e. h (sym (f d) ∙ e ∙ g d)
+
+-- whether the steps of a place are the same
+abbrev pub AreSameAt : (one other : List Step) (place : ℕ) (t : Bool) → Type 0
+AreSameAt one other place t =
+    (d : Step) → MatchBool t (get_or one place d ≡ get_or other place d) (get_or one place d ≢ get_or other place d)
+
+pub other_there : (one other : List Step) (place : ℕ) (t : Bool) → place < length one → t ≡ false → AreSameAt one other place t → one ≢ other
+other_there [] other place t lt e h = absurd (omega (arith, lt))
+other_there (x ∷ xs) other place true lt e h = absurd (cc)
+other_there (x ∷ xs) other place false lt e h = λ same. h x (ap (λ (ys : List Step). get_or ys place x) same)
+
+pub same_further : (one other : List Step) (place : ℕ) (t : Bool) → place < length one → length one ≡ length other → t ≡ true → AreSameAt one other place t → take place one ≡ take place other
+    → take (place + 1) one ≡ take (place + 1) other
+same_further [] other place t lt many e h before = absurd (omega (arith, lt))
+same_further (x ∷ xs) other place true lt many e h before = same_more (x ∷ xs) other place x lt (omega (arith, lt, many)) before (h x)
+same_further (x ∷ xs) other place false lt many e h before = absurd (cc)
+
+pub same_told : (one other : ToldValue) → one.region ≡ other.region → one.rest ≡ other.rest → one.course ≡ other.course → one.new ≡ other.new → one.change ≡ other.change → one ≡ other
+same_told one other region rest course new change =
+    ap (λ r. told r one.rest one.course one.new one.change) region ∙ ap (λ r. told other.region r one.course one.new one.change) rest
+    ∙ ap (λ steps. told other.region other.rest steps one.new one.change) course ∙ ap (λ steps. told other.region other.rest other.course steps one.change) new
+    ∙ ap (λ c. told other.region other.rest other.course other.new c) change
+
+-- two rows whose other parts are the same, by the last
+pub by_last : (t : Bool) (one other : ToldValue) (x y : List Step) → one.region ≡ other.region → one.rest ≡ other.rest → one.course ≡ other.course → one.change ≡ other.change → x ≡ one.new → y ≡ other.new
+    → MatchBool t (x ≡ y) (x ≢ y) → MatchBool t (one ≡ other) (one ≢ other)
+by_last true one other x y region rest course change f g h = same_told one other region rest course (sym f ∙ h ∙ g) change
+by_last false one other x y region rest course change f g h = λ e. h (f ∙ ap (λ (t : ToldValue). t.new) e ∙ sym g)
+
+-- ---- rows that say it
+
+pub said_at : (rows : List RowValue) (place : ℕ) (said : ToldValue) (row : RowValue) (own : ToldValue) (t : Bool) → ((d : RowValue) → get_or rows place d ≡ row) → own ≡ row.told
+    → MatchBool t (own ≡ said) (own ≢ said) → SaysAt rows place said t
+said_at rows place said row own true f g h d = ap (λ (r : RowValue). r.told) (f d) ∙ sym g ∙ h
+said_at rows place said row own false f g h d = λ e. h (g ∙ sym (ap (λ (r : RowValue). r.told) (f d)) ∙ e)
+
+pub says_there : (rows : List RowValue) (place : ℕ) (said : ToldValue) (t : Bool) → t ≡ true → SaysAt rows place said t → (d : RowValue) → (get_or rows place d).told ≡ said
+says_there rows place said true e h d = h d
+says_there rows place said false e h d = absurd (cc)
+
+pub none_more : (rows : List RowValue) (place : ℕ) (said : ToldValue) (t : Bool) → place < length rows → t ≡ false → SaysAt rows place said t → All (λ (row : RowValue). row.told ≢ said) (take place rows)
+    → All (λ (row : RowValue). row.told ≢ said) (take (place + 1) rows)
+none_more [] place said t lt e h known = absurd (omega (arith, lt))
+none_more (r ∷ rs) place said true lt e h known = absurd (cc)
+none_more (r ∷ rs) place said false lt e h known = All-more (λ (row : RowValue). row.told ≢ said) (r ∷ rs) place r lt known (h r)
+
+pub none_of_all : (rows : List RowValue) (place : ℕ) (said : ToldValue) → length rows ≤ place → All (λ (row : RowValue). row.told ≢ said) (take place rows) → All (λ (row : RowValue). row.told ≢ said) rows
+none_of_all rows place said end known = subst (λ (rs : List RowValue). All (λ (row : RowValue). row.told ≢ said) rs) (take_all place rows end) known
+
+-- ---- rules and steps
+
+abbrev rule_of : RuleKind → (key initiator extended : Option ℕ) → (low high : ℕ) → Option Quota → Verdict → Rule
+rule_of kind key initiator extended low high quota verdict = record {
+  kind = kind;
+  key = key;
+  initiator = initiator;
+  extended = extended;
+  low = low;
+  high = high;
+  quota = quota;
+  verdict = verdict;
+}
+
+same_rule : (one other : Rule) → WantSame one other → EndSame one other → one ≡ other
+same_rule one other want end =
+    ap (λ k. rule_of k one.key one.initiator one.extended one.low one.high one.quota one.verdict) want.kind
+    ∙ ap (λ k. rule_of other.kind k one.initiator one.extended one.low one.high one.quota one.verdict) want.key
+    ∙ ap (λ k. rule_of other.kind other.key k one.extended one.low one.high one.quota one.verdict) want.initiator
+    ∙ ap (λ k. rule_of other.kind other.key other.initiator k one.low one.high one.quota one.verdict) want.extended
+    ∙ ap (λ k. rule_of other.kind other.key other.initiator other.extended k one.high one.quota one.verdict) end.low
+    ∙ ap (λ k. rule_of other.kind other.key other.initiator other.extended other.low k one.quota one.verdict) end.high
+    ∙ ap (λ k. rule_of other.kind other.key other.initiator other.extended other.low other.high k one.verdict) end.quota
+    ∙ ap (λ k. rule_of other.kind other.key other.initiator other.extended other.low other.high other.quota k) end.verdict
+
+want_itself : (one other : Rule) → one ≡ other → WantSame one other
+want_itself one other e = record {
+  kind = ap (λ (r : Rule). r.kind) e;
+  key = ap (λ (r : Rule). r.key) e;
+  initiator = ap (λ (r : Rule). r.initiator) e;
+  extended = ap (λ (r : Rule). r.extended) e;
+}
+
+end_itself : (one other : Rule) → one ≡ other → EndSame one other
+end_itself one other e = record {
+  low = ap (λ (r : Rule). r.low) e;
+  high = ap (λ (r : Rule). r.high) e;
+  quota = ap (λ (r : Rule). r.quota) e;
+  verdict = ap (λ (r : Rule). r.verdict) e;
+}
+
+pub other_want : (t : Bool) (one other : Rule) → t ≡ false → MatchBool t (WantSame one other) (WantSame one other → ⊥) → MatchBool t (one ≡ other) (one ≢ other)
+other_want true one other e apart = absurd (cc)
+other_want false one other e apart = λ same. apart (want_itself one other same)
+
+pub by_end : (t : Bool) (one other : Rule) → WantSame one other → MatchBool t (EndSame one other) (EndSame one other → ⊥) → MatchBool t (one ≡ other) (one ≢ other)
+by_end true one other want end = same_rule one other want end
+by_end false one other want apart = λ e. apart (end_itself one other e)
+
+abbrev step_of : ℕ → Rule → Step
+step_of number rule = record { number = number; rule = rule }
+
+pub by_rule : (t : Bool) (one other : Step) → one.number ≡ other.number → MatchBool t (one.rule ≡ other.rule) (one.rule ≢ other.rule) → MatchBool t (one ≡ other) (one ≢ other)
+by_rule true one other number rule = ap (λ n. step_of n one.rule) number ∙ ap (λ r. step_of other.number r) rule
+by_rule false one other number apart = λ e. apart (ap (λ (s : Step). s.rule) e)

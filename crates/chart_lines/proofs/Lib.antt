@@ -1,0 +1,5 @@
+mod Joining
+mod Limits
+mod Somewhere
+mod Telling
+mod WitnessPoints

@@ -1,0 +1,8 @@
+use Rattle.chart_lines.specs.Mapped.{TellsLine}
+use Rattle.chart_lines.proofs.Telling.{tells_more}
+use Rattle.chart_lines.proofs.mapping.add_chart.Goals as goal
+
+pub loop-place-preserved : goal.loop-place-preserved
+loop-place-preserved c =
+    tells_more (TellsLine c.args.ports.now c.args.at.now c.args.chart.now) c.loop-place.place c.args.rows.now.items c.loop-place.rows.items c.add_line.new.rows.items
+    c.loop-place.invariant c.in_ok-add_line.ensures

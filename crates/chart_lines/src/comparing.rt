@@ -1,0 +1,202 @@
+//! The rows of a comparison.
+
+ghost use Rattle.std.specs.Prelude.{◌≡◌, ◌<◌, ◌∷◌, [], IfOk, OnOk, Some, length};
+ghost use Rattle.charts.specs.Lines.{IsComparison};
+ghost use Rattle.regions.specs.Points.{HasCommand};
+ghost use Rattle.chart_lines.specs.AskedTables.{asked_at};
+ghost use Rattle.chart_lines.specs.Compared.{AreDifferenceRows, IsDifferenceAt, TellsLine, TellsLines, TellsPorts};
+ghost use Rattle.chart_lines.specs.Ports.{AtPort, is_named_by, ports_for};
+ghost use Rattle.chart_lines.specs.Telling.{TellsFirst};
+
+use crate::asked::Asked;
+use crate::drawing::comparison_of;
+use crate::ports::{PORTS, Tables};
+use crate::rows::{Change, Row, Told, add_row, on_lines};
+use crate::witnesses::{line_at, witness};
+use charts::{Line, charts_are_read};
+use differences::{course, repeats_of, sign_of};
+use policy_table::Policy;
+use regions::{Point, Region};
+use std::alloc::{AllocError, Global};
+
+/// What two tables ask at a port, the lines of their comparison, and where the point of a line is looked for first.
+#[derive(Clone, Copy)]
+struct Comparison<'a> {
+    asked: &'a Region,
+    old: &'a Asked,
+    new: &'a Asked,
+    chart: &'a [Line],
+    preferred: &'a [Region],
+}
+
+/// What is said of a line: its words, what each table asks at a point, and how the new one differs there.
+#[tactic(auto, using(crate::proofs::Limits::steps_limited))]
+fn difference_told(
+    alloc: Global,
+    comparison: Comparison<'_>,
+    line: &Line,
+    point: &Point,
+) -> Result<Told, AllocError>
+    requires { HasCommand point.now }
+    ensures { IfOk result (IsDifferenceAt
+        comparison.entry.old.now comparison.entry.new.now line.now point.now) }
+{
+    let old = course(alloc, comparison.old.rules(), point)?;
+    let new = course(alloc, comparison.new.rules(), point)?;
+    let sign = sign_of(old.as_slice(), new.as_slice());
+    let repeats = repeats_of(alloc, old.as_slice(), new.as_slice())?;
+    let change = Change {
+        sign,
+        repeats,
+        point: *point,
+    };
+    let one = on_lines(alloc, comparison.old.lines(), old.as_slice())?;
+    let other = on_lines(alloc, comparison.new.lines(), new.as_slice())?;
+    Ok(Told::of_two(line, one, other, change))
+}
+
+/// Adds the line of a place, of these ports; nothing, where it has no command.
+fn add_line(
+    rows: &mut Vec<Row>,
+    alloc: Global,
+    ports: &[u8],
+    comparison: Comparison<'_>,
+    place: usize,
+) -> Result<(), AllocError>
+    requires place { place < length comparison.chart.now }
+    requires comparison { IsComparison comparison.asked.now comparison.old.now.rules comparison.new.now.rules comparison.chart.now }
+    ensures { OnOk result (TellsLine ports.now comparison.entry.old.now comparison.entry.new.now
+        comparison.entry.chart.now place rows.old.items rows.new.items) }
+{
+    charts_are_read();
+    let Some(point) = witness(comparison.chart, place, comparison.preferred) else {
+        return Ok(());
+    };
+    let line = line_at(comparison.chart, place);
+    let told = difference_told(alloc, comparison, &line, &point)?;
+    add_row(rows, alloc, ports, told)
+}
+
+/// Adds each line.
+fn add_chart(
+    rows: &mut Vec<Row>,
+    alloc: Global,
+    ports: &[u8],
+    comparison: Comparison<'_>,
+) -> Result<(), AllocError>
+    requires { IsComparison comparison.asked.now comparison.old.now.rules comparison.new.now.rules comparison.chart.now }
+    ensures { OnOk result (TellsFirst (TellsLine ports.now
+        comparison.entry.old.now comparison.entry.new.now
+        comparison.entry.chart.now) (length comparison.entry.chart.now)
+        rows.old.items rows.new.items) }
+{
+    for place in 0..comparison.chart.len() {
+        add_line(rows, alloc, ports, comparison, place)?;
+    }
+    Ok(())
+}
+
+/// Adds each line of a comparison of what two tables ask at a port.
+fn add_lines(
+    rows: &mut Vec<Row>,
+    alloc: Global,
+    ports: &[u8],
+    asked: &Region,
+    old: &Asked,
+    new: &Asked,
+    preferred: &[Region],
+) -> Result<(), AllocError>
+    ensures { OnOk result (TellsLines asked.now ports.now old.now new.now rows.old.items rows.new.items) }
+{
+    let chart = comparison_of(alloc, asked, old.rules(), new.rules())?;
+    let comparison = Comparison {
+        asked,
+        old,
+        new,
+        chart: chart.as_slice(),
+        preferred,
+    };
+    add_chart(rows, alloc, ports, comparison)
+}
+
+/// Adds the lines of a port, if a chart of it is made.
+fn add_port(
+    rows: &mut Vec<Row>,
+    alloc: Global,
+    asked: &Region,
+    old: &Policy,
+    new: &Policy,
+    preferred: &[Region],
+    port: u8,
+) -> Result<(), AllocError>
+    ensures { OnOk result (AtPort (λ own. is_named_by old.now new.now own)
+        (λ own. TellsLines asked.now (ports_for (λ p. is_named_by old.now new.now p) own)
+        (asked_at old.now own) (asked_at new.now own)) port rows.old.items rows.new.items) }
+{
+    let tables = Tables::Two(old, new);
+    if !tables.chart_port(port) {
+        return Ok(());
+    }
+    let ports = tables.ports_for(alloc, port)?;
+    let old = Asked::at(alloc, old, port)?;
+    let new = Asked::at(alloc, new, port)?;
+    add_lines(rows, alloc, ports.as_slice(), asked, &old, &new, preferred)
+}
+
+/// The rows of a comparison at each port.
+fn rows_at_all(
+    alloc: Global,
+    asked: &Region,
+    old: &Policy,
+    new: &Policy,
+    preferred: &[Region],
+) -> Result<Vec<Row>, AllocError>
+    ensures { IfOk result (λ rows. TellsPorts asked.now old.now new.now 32 [] rows.items) }
+{
+    let mut rows = Vec::new(alloc);
+    for port in 0..PORTS {
+        add_port(&mut rows, alloc, asked, old, new, preferred, port)?;
+    }
+    Ok(rows)
+}
+
+/// The rows of a comparison at a port.
+fn rows_at(
+    alloc: Global,
+    asked: &Region,
+    port: u8,
+    old: &Policy,
+    new: &Policy,
+    preferred: &[Region],
+) -> Result<Vec<Row>, AllocError>
+    ensures { IfOk result (λ rows. TellsLines asked.now (port ∷ []) (asked_at old.now port)
+        (asked_at new.now port) [] rows.items) }
+{
+    let old = Asked::at(alloc, old, port)?;
+    let new = Asked::at(alloc, new, port)?;
+    let mut rows = Vec::new(alloc);
+    add_lines(&mut rows, alloc, &[port], asked, &old, &new, preferred)?;
+    Ok(rows)
+}
+
+/// The rows of a comparison of two tables for the points of a region, at one port or at each: each command that they decide differently
+/// is in one row at each port, and no other in any. The point of a row is looked for in the preferred regions first, in their order.
+///
+/// # Errors
+///
+/// Only where memory was refused.
+pub fn difference_rows(
+    alloc: Global,
+    asked: &Region,
+    port: Option<u8>,
+    old: &Policy,
+    new: &Policy,
+    preferred: &[Region],
+) -> Result<Vec<Row>, AllocError>
+    ensures { IfOk result (λ rows. AreDifferenceRows asked.now port old.now new.now rows.items) }
+{
+    match port {
+        Some(port) => rows_at(alloc, asked, port, old, new, preferred),
+        None => rows_at_all(alloc, asked, old, new, preferred),
+    }
+}

@@ -1,0 +1,149 @@
+//! The rows of a map.
+
+ghost use Rattle.std.specs.Prelude.{◌≡◌, ◌<◌, ◌∷◌, [], IfOk, OnOk, length};
+ghost use Rattle.charts.specs.Lines.{IsMap};
+ghost use Rattle.policy_table.specs.PortTables.{is_named};
+ghost use Rattle.chart_lines.specs.AskedTables.{asked_at};
+ghost use Rattle.chart_lines.specs.Mapped.{AreMapRows, TellsLine, TellsLines, TellsPorts, map_told};
+ghost use Rattle.chart_lines.specs.Ports.{AtPort, ports_for};
+ghost use Rattle.chart_lines.specs.Telling.{TellsFirst};
+
+use crate::asked::Asked;
+use crate::drawing::map_of;
+use crate::ports::{PORTS, Tables};
+use crate::rows::{Row, Told, add_row, on_lines};
+use crate::witnesses::{line_at, some_point};
+use charts::{Line, charts_are_read};
+use differences::course;
+use policy_table::Policy;
+use regions::{Point, Region};
+use std::alloc::{AllocError, Global};
+
+/// What is said of a line: its words, and what the table asks at a point.
+fn map_told(alloc: Global, at: &Asked, line: &Line, point: &Point) -> Result<Told, AllocError>
+    ensures { IfOk result (λ said. said ≡ map_told at.now line.now point.now) }
+{
+    let steps = course(alloc, at.rules(), point)?;
+    let course = on_lines(alloc, at.lines(), steps.as_slice())?;
+    Ok(Told::of_map(alloc, line, course))
+}
+
+/// Adds the line of a place, of these ports; nothing, where it has no command.
+fn add_line(
+    rows: &mut Vec<Row>,
+    alloc: Global,
+    ports: &[u8],
+    at: &Asked,
+    asked: &Region,
+    chart: &[Line],
+    place: usize,
+) -> Result<(), AllocError>
+    requires place { place < length chart.now }
+    requires map { IsMap asked.now at.now.rules chart.now }
+    ensures { OnOk result
+        (TellsLine ports.now at.now chart.now place rows.old.items rows.new.items) }
+{
+    charts_are_read();
+    let Some(point) = some_point(chart, place) else {
+        return Ok(());
+    };
+    let line = line_at(chart, place);
+    let told = map_told(alloc, at, &line, &point)?;
+    add_row(rows, alloc, ports, told)
+}
+
+/// Adds each line of a chart.
+fn add_chart(
+    rows: &mut Vec<Row>,
+    alloc: Global,
+    ports: &[u8],
+    at: &Asked,
+    asked: &Region,
+    chart: &[Line],
+) -> Result<(), AllocError>
+    requires { IsMap asked.now at.now.rules chart.now }
+    ensures { OnOk result (TellsFirst (TellsLine ports.now at.now chart.now) (length chart.now)
+        rows.old.items rows.new.items) }
+{
+    for place in 0..chart.len() {
+        add_line(rows, alloc, ports, at, asked, chart, place)?;
+    }
+    Ok(())
+}
+
+/// Adds each line of a map of the table for the points of a region.
+fn add_lines(
+    rows: &mut Vec<Row>,
+    alloc: Global,
+    ports: &[u8],
+    at: &Asked,
+    asked: &Region,
+) -> Result<(), AllocError>
+    ensures { OnOk result (TellsLines asked.now ports.now at.now rows.old.items rows.new.items) }
+{
+    let chart = map_of(alloc, asked, at.rules())?;
+    add_chart(rows, alloc, ports, at, asked, chart.as_slice())
+}
+
+/// Adds the lines of a port, if a chart of it is made.
+fn add_port(
+    rows: &mut Vec<Row>,
+    alloc: Global,
+    policy: &Policy,
+    asked: &Region,
+    port: u8,
+) -> Result<(), AllocError>
+    ensures { OnOk result (AtPort (λ own. is_named own policy.now.rules)
+        (λ own. TellsLines asked.now (ports_for (λ p. is_named p policy.now.rules) own) (asked_at policy.now own))
+        port rows.old.items rows.new.items) }
+{
+    let tables = Tables::One(policy);
+    if !tables.chart_port(port) {
+        return Ok(());
+    }
+    let ports = tables.ports_for(alloc, port)?;
+    let at = Asked::at(alloc, policy, port)?;
+    add_lines(rows, alloc, ports.as_slice(), &at, asked)
+}
+
+/// The rows of a map at each port.
+fn rows_at_all(alloc: Global, asked: &Region, policy: &Policy) -> Result<Vec<Row>, AllocError>
+    ensures { IfOk result (λ rows. TellsPorts asked.now policy.now 32 [] rows.items) }
+{
+    let mut rows = Vec::new(alloc);
+    for port in 0..PORTS {
+        add_port(&mut rows, alloc, policy, asked, port)?;
+    }
+    Ok(rows)
+}
+
+/// The rows of a map at a port.
+fn rows_at(alloc: Global, asked: &Region, port: u8, policy: &Policy) -> Result<Vec<Row>, AllocError>
+    ensures { IfOk result (λ rows.
+        TellsLines asked.now (port ∷ []) (asked_at policy.now port) [] rows.items) }
+{
+    let at = Asked::at(alloc, policy, port)?;
+    let mut rows = Vec::new(alloc);
+    add_lines(&mut rows, alloc, &[port], &at, asked)?;
+    Ok(rows)
+}
+
+/// The rows of a map of a table for the points of a region, at one port or at each: what it decides, each of their commands in one row at
+/// each port.
+///
+/// # Errors
+///
+/// Only where memory was refused.
+pub fn map_rows(
+    alloc: Global,
+    asked: &Region,
+    port: Option<u8>,
+    policy: &Policy,
+) -> Result<Vec<Row>, AllocError>
+    ensures { IfOk result (λ rows. AreMapRows asked.now port policy.now rows.items) }
+{
+    match port {
+        Some(port) => rows_at(alloc, asked, port, policy),
+        None => rows_at_all(alloc, asked, policy),
+    }
+}

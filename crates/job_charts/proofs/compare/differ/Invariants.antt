@@ -1,6 +1,0 @@
-use Rattle.std.proofs.Common.{◌<◌, ℕ}
-use Rattle.job_charts.specs.ComparedFile.{AreSameIfCharted}
-use Rattle.job_charts.proofs.compare.differ.Given as goal
-
-abbrev pub invariant-loop-port : goal.invariant-loop-port
-invariant-loop-port l = (port : ℕ) → port < l.port → AreSameIfCharted l.old l.new port

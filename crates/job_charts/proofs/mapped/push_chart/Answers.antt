@@ -1,8 +1,0 @@
-use Rattle.job_charts.specs.Mapped.{TellsLine}
-use Rattle.job_charts.proofs.Telling.{tells_more}
-use Rattle.job_charts.proofs.mapped.push_chart.Goals as goal
-
-pub loop-place-preserved : goal.loop-place-preserved
-loop-place-preserved c =
-    tells_more (TellsLine c.args.how.now c.args.at.now c.args.chart.now) c.loop-place.place c.args.rows.now.items c.loop-place.rows.items c.push_line.new.rows.items
-    c.loop-place.invariant c.in_ok-push_line.ensures

@@ -1,6 +1,0 @@
-use Rattle.std.proofs.Common.{◌≡◌}
-use Rattle.job_charts.specs.Rows.{are_named, names_port}
-use Rattle.job_charts.proofs.ports.Tables.name_below.Given as goal
-
-abbrev pub invariant-loop-below : goal.invariant-loop-below
-invariant-loop-below l = l.are_named ≡ are_named (λ own. names_port l.self own) l.below

@@ -1,5 +1,0 @@
-use Rattle.job_charts.proofs.WitnessPoints.{witness_or_none}
-use Rattle.job_charts.proofs.witnesses.some_point.Goals as goal
-
-pub returns : goal.returns
-returns c = witness_or_none c.args.lines.now c.args.place c.whole-whole.result c.point_in.result c.whole-whole.ensures c.point_in.ensures

@@ -1,0 +1,100 @@
+//! Where the point is looked for whose packet is printed.
+
+use regions::{ByteSet, Region, Stretch};
+use rmap::{BOOT_WINDOW, CONTROL_SIZE, LOAD_REGISTER, LOAD_RESULT_SIZE, STAGING_SIZE, Windows};
+use std::alloc::{AllocError, Global};
+
+/// The initiator that is taken where any may be.
+const INITIATOR: u8 = 0x67;
+
+/// The most banks that a node has.
+const BANKS: u8 = 8;
+
+/// The commands whose bytes lie in so many from an address on, of an extended address.
+fn range(extended: u8, base: u32, size: u32) -> Region {
+    let addresses = Stretch {
+        start: u64::from(base),
+        end: u64::from(base) + u64::from(size),
+    };
+    let mut region = of_extended(extended);
+    region.first = addresses;
+    region.last = addresses;
+    region
+}
+
+/// The commands to just these bytes of the load register.
+fn register(size: u32) -> Region {
+    let base = u64::from(LOAD_REGISTER);
+    let behind = base + u64::from(size);
+    let mut region = range(BOOT_WINDOW, LOAD_REGISTER, size);
+    region.first.end = base + 1;
+    region.last.start = behind.saturating_sub(1);
+    region
+}
+
+/// Reads of the load result.
+fn results() -> Region {
+    let mut region = register(LOAD_RESULT_SIZE);
+    region.kinds.write = false;
+    region.kinds.rmw = false;
+    region
+}
+
+/// Control writes.
+fn controls() -> Region {
+    let mut region = register(CONTROL_SIZE);
+    region.kinds.read = false;
+    region.kinds.rmw = false;
+    region
+}
+
+/// The commands of an extended address.
+fn of_extended(extended: u8) -> Region {
+    let mut region = Region::whole();
+    region.extended = ByteSet::only(extended);
+    region
+}
+
+/// Adds the commands of a region that are of these initiators.
+fn add_place(
+    places: &mut Vec<Region>,
+    region: Region,
+    initiators: &ByteSet,
+) -> Result<(), AllocError> {
+    let mut place = region;
+    place.initiators = *initiators;
+    places.push(place)?;
+    Ok(())
+}
+
+/// Adds the places of a node with these windows, of these initiators: first where it brings commands to its table.
+fn add_places(
+    places: &mut Vec<Region>,
+    windows: &Windows,
+    initiators: &ByteSet,
+) -> Result<(), AllocError> {
+    for number in 0..BANKS {
+        if let Some((base, size)) = windows.bank(number) {
+            add_place(places, range(number, base, size), initiators)?;
+        }
+    }
+    add_place(places, range(BOOT_WINDOW, 0, STAGING_SIZE), initiators)?;
+    add_place(places, results(), initiators)?;
+    add_place(places, controls(), initiators)?;
+    for number in 0..BANKS {
+        if windows.bank(number).is_some() {
+            add_place(places, of_extended(number), initiators)?;
+        }
+    }
+    add_place(places, of_extended(BOOT_WINDOW), initiators)?;
+    add_place(places, Region::whole(), initiators)
+}
+
+/// Where the point of a row is looked for, in this order: with initiator 67 before any other, and first where a node with these
+/// windows brings commands to its table.
+pub fn places(alloc: Global, windows: &Windows) -> Result<Vec<Region>, AllocError> {
+    let mut places = Vec::new(alloc);
+    add_places(&mut places, windows, &ByteSet::only(INITIATOR))?;
+    add_places(&mut places, windows, &ByteSet::all())?;
+    Ok(places)
+}

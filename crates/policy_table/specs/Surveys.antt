@@ -1,0 +1,151 @@
+-- All faults of a table.
+use Rattle.std.specs.Prelude.{◌≡◌, ◌⊎◌, ℕ, suc, Bool, true, false, ◌&&◌, ◌==◌, bytes_eq, is_none, if◌then◌else◌}
+use Rattle.std.specs.Prelude.{List, [], ◌∷◌, ◌++◌, codes, Option, Some, None}
+use Rattle.std.specs.List.{find}
+use Rattle.std.specs.Option.{option_or}
+use Rattle.machine.specs.Sizes.{Maps}
+use Rattle.policy_table.specs.Codes.{policy_fault_code}
+use Rattle.policy_table.specs.Drafts.{DraftValue, IsNoStatement, IsStatement, after, draft, empty_draft, line_words}
+use Rattle.policy_table.specs.Policies.{IsPolicyFault, PolicyValue, ReadingValue, WritesPolicy, policy_fault}
+use Rattle.policy_table.specs.Policies.{reading_of, reversed_told, rule_told}
+use Rattle.policy_table.specs.Ranges.{RangeText, is_name, range_named}
+use Rattle.policy_table.specs.Room.{room_after, room_told, whole_room}
+use Rattle.policy_table.specs.TextFaults.{text_fault_of}
+use Rattle.policy_table.specs.declared.drafts.Statement.{Statement}
+use Rattle.policy_table.specs.declared.drafts.Statement.TheVariants.{Nothing, Range, Rule}
+use Rattle.policy_table.specs.declared.room.Room.{Room}
+use Rattle.policy_table.specs.declared.statement_faults.StatementFault.{StatementFault}
+use Rattle.policy_table.specs.declared.text_faults.TextFault.{TextFault}
+use Rattle.policy_table.specs.declared.text_faults.TextFault.TheVariants.{Line}
+use Rattle.policy_table.specs.declared.versions.TableVersion.{TableVersion}
+
+-- what lines said so far, the room that is left, and their faults
+pub record SurveyValue : Type 0 where
+  pub draft : DraftValue
+  pub room : Option Room
+  pub faults : List TextFault
+
+-- of these parts
+abbrev pub survey : DraftValue → Option Room → List TextFault → SurveyValue
+survey said room faults = record { draft = said; room = room; faults = faults }
+
+-- no line
+abbrev pub empty_survey : TableVersion → SurveyValue
+empty_survey version = survey empty_draft (Some (whole_room version)) []
+
+-- as a list
+abbrev pub listed : Option TextFault → List TextFault
+listed None = []
+listed (Some fault) = fault ∷ []
+
+-- ---- one line
+
+-- the range of this line, if it ends before it begins
+abbrev pub reversed_at : (line : ℕ) → (reversed : Bool) → Option ℕ
+reversed_at line true = Some line
+reversed_at line false = None
+
+-- the faults of what a line says: of a range that it ends before it begins; of a rule that there is no room for it, that its
+-- range ends before it begins, or that its quota has no cell
+abbrev pub statement_faults : TableVersion → Maps → Option Room → (line : ℕ) → Statement → List TextFault
+statement_faults version sizes room line Nothing = []
+statement_faults version sizes room line (Range range reversed) = listed (reversed_told (reversed_at line reversed))
+statement_faults version sizes room line (Rule own) =
+    listed (room_told version room own) ++ listed (rule_told sizes own)
+
+-- the room after what a line says
+abbrev pub room_behind : TableVersion → Option Room → Statement → Option Room
+room_behind version room Nothing = room
+room_behind version room (Range range reversed) = room
+room_behind version room (Rule own) = room_after version room own
+
+-- a line that says this
+abbrev pub with_statement : TableVersion → Maps → (line : ℕ) → Statement → SurveyValue → SurveyValue
+with_statement version sizes line statement s =
+    survey (after line statement s.draft) (room_behind version s.room statement)
+    (s.faults ++ statement_faults version sizes s.room line statement)
+
+-- a range of all addresses that has the name
+abbrev pub whole_range : (name : List ℕ) → RangeText
+whole_range name = record { name = name; low = codes "00000000"; high = codes "FFFFFFFF" }
+
+-- the words of a line give this name to a range, if it is a new one, whatever is wrong with the line: so no rule below that
+-- has the name is at fault for it
+abbrev pub named_by : List RangeText → (words : List (List ℕ)) → Option RangeText
+named_by ranges [] = None
+named_by ranges (first ∷ []) = None
+named_by ranges (first ∷ name ∷ rest) =
+    if bytes_eq first (codes ".range") && (is_name name && is_none (range_named ranges name))
+    then Some (whole_range name)
+    else None
+
+-- one range more, or none
+abbrev pub with_named : Option RangeText → DraftValue → DraftValue
+with_named None d = d
+with_named (Some range) d = draft (d.ranges ++ range ∷ []) d.reversed d.rules
+
+-- a line that says nothing that there is, for this fault
+abbrev pub with_bad : TableVersion → (line : ℕ) → (text : List ℕ) → StatementFault → SurveyValue → SurveyValue
+with_bad version line text fault s =
+    survey (with_named (named_by s.draft.ranges (line_words version text)) s.draft) s.room (s.faults ++ Line line fault ∷ [])
+
+-- the line of this number says this
+pub record FindsStatement (version : TableVersion) (sizes : Maps) (line : ℕ) (text : List ℕ) (old new : SurveyValue)
+    : Type 0 where
+  pub statement : Statement
+  pub is : IsStatement version old.draft.ranges line text statement
+  pub found : new ≡ with_statement version sizes line statement old
+
+-- the line of this number says nothing that there is, for this fault
+pub record FindsBad (version : TableVersion) (line : ℕ) (text : List ℕ) (old new : SurveyValue) : Type 0 where
+  pub fault : StatementFault
+  pub is : IsNoStatement version old.draft.ranges text fault
+  pub found : new ≡ with_bad version line text fault old
+
+-- the faults of the line of this number are found
+abbrev pub FindsLine : TableVersion → Maps → (line : ℕ) → (text : List ℕ) → (old new : SurveyValue) → Type 0
+FindsLine version sizes line text old new =
+    FindsStatement version sizes line text old new ⊎ FindsBad version line text old new
+
+-- ---- all lines
+
+-- the faults of these lines are found, of which the first has this number
+abbrev pub FindsLines : TableVersion → Maps → (line : ℕ) → List (List ℕ) → (old new : SurveyValue) → Type 0
+FindsLines version sizes line [] old new = new ≡ old
+FindsLines version sizes line (text ∷ lines) old new =
+    (next : SurveyValue) × FindsLine version sizes line text old next × FindsLines version sizes (suc line) lines next new
+
+-- the faults of lines that are read so
+pub record HasFaults (sizes : Maps) (how : ReadingValue) (faults : List TextFault) : Type 0 where
+  pub end : SurveyValue
+  pub found : FindsLines how.version sizes (suc how.before) how.lines (empty_survey how.version) end
+  pub are : faults ≡ end.faults
+
+-- these are all faults of the lines, in their order, for maps of these sizes
+abbrev pub AreFaults : Maps → (lines : List (List ℕ)) → List TextFault → Type 0
+AreFaults sizes lines faults = HasFaults sizes (reading_of lines) faults
+
+-- ---- the fault that is reported
+
+-- the number of the fault
+abbrev pub has_code : ℕ → TextFault → Bool
+has_code code fault = policy_fault_code (text_fault_of fault) == code
+
+-- the first fault of that number
+abbrev pub first_of_code : ℕ → List TextFault → Option TextFault
+first_of_code code faults = find (has_code code) faults
+
+-- the first fault
+abbrev pub first_of : List TextFault → Option TextFault
+first_of [] = None
+first_of (fault ∷ faults) = Some fault
+
+-- the fault that is reported: the first line that is none of its version (5), else the first rule for which there is no room
+-- (1), else the first
+abbrev pub reported : List TextFault → Option TextFault
+reported faults = option_or (first_of_code 5 faults) (option_or (first_of_code 1 faults) (first_of faults))
+
+-- it is the fault of the lines for maps of these sizes, and there is none where they are a table without a fault
+abbrev pub IsReported : Maps → (lines : List (List ℕ)) → Option TextFault → Type 0
+IsReported sizes lines None = (policy : PolicyValue) × WritesPolicy lines policy × (policy_fault sizes policy ≡ None)
+IsReported sizes lines (Some fault) = IsPolicyFault sizes lines fault
