@@ -14,7 +14,7 @@ function showCompare(map, compare, found) {
   const is_fault = found === null, differences = found ?? [], count = differences.length;
   $('h-differs').textContent = compare.status === 2 ? 'Where it differs from old.policy: a field above the map has a value that it may not have'
     : is_fault ? 'Where it differs from old.policy: a table has a fault' : count ? `Where it differs from old.policy: ${counted(count, 'place', 'places')}` : question().length > 0 ? 'It decides all of these commands as old.policy does' : 'It decides all commands as old.policy does';
-  if (map.status === 0) { shown.differences = differences; if (count > 0) drawMap(); }
+  if (isMap(map)) { shown.differences = differences; if (count > 0) drawMap(); }
   showDifferences(differences);
 }
 

@@ -7,11 +7,16 @@ const roomOf = (id) => Math.max(260, $(id).clientWidth - 4);
 let shown = null;
 
 // The fields above the map: of which commands it is asked. An empty one asks of all.
-const ASK_FIELDS = { '--kind': 'ask-kind', '--key': 'ask-key', '--initiator': 'ask-initiator', '--extended': 'ask-extended', '--address': 'ask-address', '--port': 'ask-port' };
-const question = () => Object.entries(ASK_FIELDS).flatMap(([option, id]) => ($(id).value.trim() ? [option, $(id).value.trim()] : []));
+const ASK_FIELDS = ['kind', 'key', 'initiator', 'extended', 'address', 'port'];
+const question = () => ASK_FIELDS.flatMap((name) => ($(`ask-${name}`).value.trim() ? [`--${name}`, $(`ask-${name}`).value.trim()] : []));
+
+// Whether a map came, whole or with its first lines only: then the status is 1, and what is too many is on standard error.
+const isCut = (map) => map.status === 1 && /^\S+ \S+ \S+ \S+ \S+(?: port \S+)? : /.test(map.text);
+const isMap = (map) => map.status === 0 || isCut(map);
 
 // What is said above the map: of which commands it is, or why it is the one from before.
 function saidOfMap(map) {
+  if (isCut(map)) return `This is only a part of the map: ${/^ *(the map has .*)$/m.exec(map.told)?.[1] ?? 'it has more lines'}`;
   if (map.status === 2) return 'A field above the map has a value that it may not have. This is the map from before.';
   if (map.status !== 0) return 'The table has a fault. This is the map of the last one without.';
   return question().length > 0 ? `The map and the differences are of these commands only: ${question().join(' ')}` : '';
@@ -19,7 +24,7 @@ function saidOfMap(map) {
 
 function showMap(map) {
   $('map-text').textContent = map.text + map.told;
-  const is_bad = map.status !== 0;
+  const is_bad = !isMap(map);
   $('map').classList.toggle('stale', is_bad);
   $('said-map').textContent = saidOfMap(map);
   if (is_bad) return;

@@ -44,7 +44,7 @@ const isStill = () => timer === 0 && seeing === 0 && calls.size === 0;
 
 // What is wrong in a table, or what is said of it on standard error, at its editor.
 function showTable(id, done) {
-  const text = (done.status === 0 ? done.told : done.text + done.told).trimEnd(), lines = linesOf(text);
+  const text = (done.status === 0 ? done.told.replace(/^ {4}/gm, '') : done.text + done.told).trimEnd(), lines = linesOf(text);
   mark(id, text, done.status === 0 ? [] : lines, done.status === 0 ? lines : []);
 }
 
@@ -61,6 +61,7 @@ function stateNow() {
   const names = [...files.keys()].filter((name) => is_node() && !editorOf(name) && !['new.img', 'old.img'].includes(name) && namesFile(name));
   return { new: textOf('new'), old: textOf('old'), lines: textOf('lines'), maps: $('maps').value, both: $('both').checked, node: textOf('node'),
     load: Object.fromEntries(Object.entries(LOAD_FIELDS).map(([name, [id]]) => [name, $(id).value])),
+    ask: Object.fromEntries(ASK_FIELDS.map((name) => [name, $(`ask-${name}`).value])),
     files: Object.fromEntries(names.map((name) => [name, review.base64(files.get(name))])) };
 }
 const namesFile = (name) => [`"${name}"`, `'${name}'`].some((word) => textOf('node').includes(word));
@@ -72,13 +73,14 @@ function replacing() { before = stateNow(); }
 function replaced() { replaced_by = JSON.stringify(stateNow()); }
 
 // Begins a review. Nothing that was put into another one is left: a file of a name that both have might be taken for its own.
-function begin({ texts: own, maps: sizes, both, load = {}, more = [] }) {
+function begin({ texts: own, maps: sizes, both, load = {}, ask: asked_of = {}, more = [] }) {
   for (const name of beside) files.delete(name);
   beside.clear();
   puts.clear();
   for (const [id, name] of Object.entries(EDITORS)) files.set(name, encoder.encode(own[id] ?? ''));
   for (const [name, content] of more) { files.set(name, content); beside.add(name); }
   for (const [name, [id, , first]] of Object.entries(LOAD_FIELDS)) $(id).value = load[name] ?? first;
+  for (const name of ASK_FIELDS) $(`ask-${name}`).value = asked_of[name] ?? '';
   $('maps').value = sizes;
   $('both').checked = both;
   refresh();
@@ -87,7 +89,7 @@ function begin({ texts: own, maps: sizes, both, load = {}, more = [] }) {
 }
 function beginState(state) {
   const more = Array.isArray(state.files) ? state.files : Object.entries(state.files).map(([name, text]) => [name, Uint8Array.from(atob(text), (c) => c.charCodeAt(0))]);
-  begin({ texts: { new: state.new, old: state.old, lines: state.lines, node: state.node }, maps: state.maps, both: state.both, load: state.load, more });
+  begin({ texts: { new: state.new, old: state.old, lines: state.lines, node: state.node }, maps: state.maps, both: state.both, load: state.load, ask: state.ask, more });
 }
 const ofExample = (own) => ({ texts: { new: own.new, old: own.old ?? '', lines: own.lines ?? '' }, maps: own.maps, both: Boolean(own.old) });
 
@@ -141,7 +143,7 @@ async function openReview(file) {
 function saveReview() {
   saveAs('review.json', encoder.encode(review.saved(stateNow())));
   clean = JSON.stringify(stateNow());
-  $('said-link').textContent = 'review.json has the tables, the packets, the maps, the fields of a load, the node\'s file and the files that it names.';
+  $('said-link').textContent = 'review.json has the tables, the packets, the maps, the fields of a load and of a question, the node\'s file and the files that it names.';
 }
 
 async function makeLink() {
@@ -156,7 +158,7 @@ async function makeLink() {
   const link = location.href;
   let where = 'It is in the address.';
   try { await navigator.clipboard.writeText(link); where = 'It was copied, and is in the address.'; } catch (refused) { /* the address has it */ }
-  $('said-link').textContent = 'The link has the tables, the packets, the maps, the fields of a load, the node\'s file and the files that it names, and no other: '
+  $('said-link').textContent = 'The link has the tables, the packets, the maps, the fields of a load and of a question, the node\'s file and the files that it names, and no other: '
     + `${link.length.toLocaleString('en')} characters. ${where}`;
 }
 
@@ -250,7 +252,7 @@ function listenForms() {
   $('make').addEventListener('submit', (event) => addPacket(event).catch(told));
   $('rehearse').addEventListener('submit', (event) => { event.preventDefault(); seen(); });
   for (const [id] of Object.values(LOAD_FIELDS)) $(id).addEventListener('input', () => { changed(); soon(); });
-  for (const id of Object.values(ASK_FIELDS)) $(id).addEventListener('input', soon);
+  for (const name of ASK_FIELDS) $(`ask-${name}`).addEventListener('input', () => { changed(); soon(); });
   $('question').addEventListener('submit', (event) => { event.preventDefault(); seen(); });
   $('typed').addEventListener('submit', typed);
   $('line').addEventListener('keydown', goBack);

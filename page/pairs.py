@@ -23,7 +23,7 @@ MAPS = "2"
 SCREEN = """drawAll(); $('map-lines').open = true; $('map-table').replaceChildren(linesTable(shown.chart.lines)); for (const group of document.querySelectorAll('.group')) group.open = true;
   const text = (e) => e.textContent;
   setTimeout(() => { const seen = { boxes: [...document.querySelectorAll('#map .frame')].map((e) => e.dataset.line), rows: [...document.querySelectorAll('#map-table tbody tr')].map((r) => [...r.cells].map(text)),
-    notes: text($('said-new')).split('\\n').filter((line) => line.startsWith('rule ')),
+    notes: text($('said-new')).split('\\n').filter((line) => /^rule \\d+ never matches/.test(line)),
     differences: [...document.querySelectorAll('.group')].flatMap((g) => [...g.querySelectorAll('li')].map((li) => [text(li.querySelector('.what b')).trim(), text(li.querySelector('.what code')), text(li.querySelector('button code')),
       /old .*(?=: [\\d,]+ place)/.exec(text(g.querySelector('summary')))[0]])) };
     $('map-lines').open = false; done(seen); }, 60);"""

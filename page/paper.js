@@ -53,8 +53,8 @@ function mapOfPaper() {
     return inRow(made('div', { className: 'band' }, words, svg));
   });
   const axis = made('div', { className: 'band' }, made('div', { className: 'labels' }), picture.drawnAxis(chart));
-  const stale = $('map').classList.contains('stale') ? [made('p', { textContent: 'The table has a fault: this is the map of the last one without.' })] : [];
-  return [part(`The map: ${counted(chart.bands.length, 'band', 'bands')} of ${chart.heads.join(' ')}`, ...stale, legendList(chart),
+  const said = $('said-map').textContent ? [made('p', { textContent: $('said-map').textContent })] : [];
+  return [part(`The map: ${counted(chart.bands.length, 'band', 'bands')} of ${chart.heads.join(' ')}`, ...said, legendList(chart),
     made('table', { className: 'bands' }, made('thead', {}, inRow(axis)), made('tbody', {}, ...rows))), linesOfPaper(chart)];
 }
 

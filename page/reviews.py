@@ -70,6 +70,7 @@ def try_node(browser: Browser, tally: Tally) -> None:
     begin(browser, TWO_BANKS, ONE_BANK, "".join(lines), node=NODE)
     said = text_of(browser, "#said-node")
     tally.note("a file that the node's file names and that was not given is named", said.startswith("The node's file names science.bin, which was not given") and "in place of flight.img" in said, said)
+    browser.run("drawAll()")
     tally.note("what does not need it is drawn", count_of(browser, "#map .frame") > 5 and count_of(browser, "#differences .group") > 0 and len(rows_of(browser)) == 3)
     tally.note("what needs it says so", "science.bin" in text_of(browser, "#said-judged") and "write of the image: status" in text_of(browser, "#rehearsed"), text_of(browser, "#said-judged"))
     drop(browser, "#node", {"science.bin": "What was seen in flight", "camera.toml": NODE})
@@ -101,7 +102,7 @@ def try_witnesses(browser: Browser, tally: Tally) -> None:
     found = browser.run("return shown.differences.map((d) => [picture.wordsOf(d), packetOf(d), d.packet])")
     second = [(own, packet) for words, own, packet in found if words.endswith(" 42 01 80000000-8003FFFF")]
     tally.note("a difference in the second bank has a packet for it", len(second) > 0 and all(re.match(r"0 42014C..42000001800000000000", own) and own.endswith(" EOP") for own, _ in second), str(found))
-    tally.note("compare has none for it", all(packet.endswith("unasked") for _, packet in second), str(found))
+    tally.note("so has compare, and none of its packets is unasked", all(re.match(r"0 42014C..42000001800000000000", packet) for _, packet in second) and not any("unasked" in packet for _, _, packet in found), str(found))
     begin(browser, TWO_BANKS, ONE_BANK, "".join(f"{own}\n" for _, own, _ in found if own), node=NODE)
     rows = rows_of(browser)
     tally.note(f"none of {len(rows)} packets of differences is answered 10: no place", len(rows) == sum(own is not None for _, own, _ in found) > 1 and not any("no place" in row[3] for row in rows), str(rows))
@@ -197,6 +198,8 @@ def try_drawn(browser: Browser, tally: Tally) -> None:
     browser.resize(*WIDTHS["desk"])
     try_folds(browser, tally)
     try_groups(browser, tally)
+    try_joined(browser, tally)
+    try_cut(browser, tally)
     try_many(browser, tally)
     words = count_of(browser, ".help")
     browser.run("for (const word of document.querySelectorAll('.help')) word.open = true")
@@ -237,6 +240,22 @@ def try_groups(browser: Browser, tally: Tally) -> None:
     tally.note("a click on a rule marks its line, which comes into view", here == ["14", True], str(here))
 
 
+def try_joined(browser: Browser, tally: Tally) -> None:
+    """What differs at all keys alike is one difference, though one of the keys differs elsewhere, too."""
+    rest = "read 20 67 00 A0000000 A0000FFF - 0\n"
+    begin(browser, "rmw 5A 42 01 90000000 90000FFF - 10\nrmw * 42 01 80000000 8003FFFF - 0\n" + rest, "rmw 5A 42 01 90000000 90000FFF - 0\n" + rest)
+    words = browser.run("return [...document.querySelectorAll('#differences .what code')].map((e) => e.textContent)")
+    tally.note("one row says what is so of all keys", words == ["rmw * 42 01 80000000-8003FFFF", "rmw 5A 42 01 90000000-90000FFF"], str(words))
+
+
+def try_cut(browser: Browser, tally: Tally) -> None:
+    """A map of which only the first lines came."""
+    browser.run("""showMap({ status: 1, text: 'read 20 * 00 * : verdict 0 rule 1\\n', told: '    the map has over 1 line: ask of fewer commands by --kind\\n' })""")
+    said = text_of(browser, "#said-map")
+    tally.note("a part of a map is drawn, and the page says so", said == "This is only a part of the map: the map has over 1 line: ask of fewer commands by --kind" and count_of(browser, "#map .band") == 1 and count_of(browser, "#map.stale") == 0, said)
+    choose_first(browser)
+
+
 def try_many(browser: Browser, tally: Tally) -> None:
     """2,000 bands and 20,000 differences, as texts that a word might print."""
     took = browser.later("""const lines = [], found = [];
@@ -256,8 +275,8 @@ def try_many(browser: Browser, tally: Tally) -> None:
 
 # ---- saved reviews
 
-SCREEN = """return ['new', 'old', 'node', 'lines'].map((id) => $(id).value).concat(['map-text', 'compare-text', 'loaders', 'rehearsed', 'judged', 'node-text', 'said-new', 'said-old', 'said-node', 'said-lines']
-  .map((id) => $(id).textContent), [...document.querySelectorAll('#differences summary, #differences p, #differences button')].map((e) => e.textContent), Object.values(LOAD_FIELDS).map(([id]) => $(id).value), $('maps').value, String($('both').checked), document.querySelectorAll('#map .band').length)"""
+SCREEN = """return ['new', 'old', 'node', 'lines'].map((id) => $(id).value).concat(['map-text', 'compare-text', 'loaders', 'rehearsed', 'judged', 'node-text', 'said-new', 'said-old', 'said-node', 'said-lines', 'said-map']
+  .map((id) => $(id).textContent), [...document.querySelectorAll('#differences summary, #differences p, #differences button')].map((e) => e.textContent), Object.values(LOAD_FIELDS).map(([id]) => $(id).value), ASK_FIELDS.map((name) => $(`ask-${name}`).value), $('maps').value, String($('both').checked), document.querySelectorAll('#map .band').length)"""
 
 
 def try_saved(browser: Browser, tally: Tally) -> None:
@@ -266,9 +285,10 @@ def try_saved(browser: Browser, tally: Tally) -> None:
     browser.chrome("Browser.setDownloadBehavior", {"behavior": "allow", "downloadPath": str(folder)})
     begin(browser, TWO_BANKS + "read * 43 01 80000000 8003FFFF - 0\n", ONE_BANK, packet_of(browser, "read", "80000000", "16", "--target", "42", "--extended", "01"), node=NODE)
     drop(browser, "#node", {"science.bin": "What was seen", "camera.toml": NODE})
-    browser.run("$('load-key').value = '77'; $('load-key').dispatchEvent(new Event('input'))")
+    browser.run("for (const [id, value] of [['load-key', '77'], ['ask-kind', 'read'], ['ask-extended', '01']]) { $(id).value = value; $(id).dispatchEvent(new Event('input')); }")
     settled(browser)
     was = browser.run(SCREEN)
+    tally.note("a question is on the screen", "--kind read --extended 01" in text_of(browser, "#said-map"), text_of(browser, "#said-map"))
     browser.click("#link")
     time.sleep(0.5)
     fragment = browser.run("return location.hash")
@@ -295,6 +315,7 @@ def try_saved(browser: Browser, tally: Tally) -> None:
     tally.note("the file gives the same screen", browser.run(SCREEN) == was)
     state = json.loads(saved.read_text(encoding="utf-8"))
     for field, value, named in (("new", 7, "field new"), ("both", "yes", "field both"), ("version", 9, "field version"), ("kind", "x", "field kind"), ("load", {"key": 1}, "field load.key"),
+                                ("ask", [], "field ask"), ("ask", {"port": 3}, "field ask.port"), ("ask", {"kind": "all"}, "field ask.kind"),
                                 ("files", {"science.bin": "*"}, "field files.science.bin"), ("files", {"new.policy": ""}, "field files"), ("files", [], "field files"), ("node", None, "field node")):
         (folder / "bad.json").write_text(json.dumps({**state, field: value}), encoding="utf-8")
         put(browser, "review", folder / "bad.json")
@@ -441,7 +462,7 @@ def try_steps(browser: Browser, tally: Tally, folder: Path | None = None) -> Non
     given = Path(tempfile.mkdtemp(prefix="page-steps-"))
     for name, text in (("new.policy", TWO_BANKS), ("old.policy", ONE_BANK), ("camera.toml", NODE), ("science.bin", "What was seen")):
         (given / name).write_text(text)
-    browser.run("begin(ofExample(EXAMPLES.nothing)); document.activeElement.blur(); window.scrollTo(0, 0); globalThis.printed_ = 0; window.print = () => { printed_ += 1; }")
+    browser.run("window.confirm = () => true; $('example').value = 'nothing'; $('example').dispatchEvent(new Event('input')); document.activeElement.blur(); window.scrollTo(0, 0); globalThis.printed_ = 0; window.print = () => { printed_ += 1; }")
     settled(browser)
     browser.run("document.querySelector('.skip').focus(); document.activeElement.blur()")
     steps: list[tuple[str, str, Any]] = [
@@ -465,6 +486,10 @@ def try_steps(browser: Browser, tally: Tally, folder: Path | None = None) -> Non
             browser.picture(folder / f"page_step_{number}.png")
     tally.note("what changed is there", count_of(browser, "#differences .group") == 2, str(count_of(browser, "#differences .group")))
     tally.note("who can load is there", count_of(browser, "#loaders .answer") == 2, text_of(browser, "#loaders"))
+    for _ in range(50):
+        if browser.run("return printed_"):
+            break
+        time.sleep(0.1)
     tally.note("the page was printed", browser.run("return printed_") == 1)
     browser.run("document.activeElement.blur(); window.scrollTo(0, 0); document.querySelector('.skip').focus()")
     for selector, part in (("#h-loads", "who can load"), ("#h-map", "the map"), ("#h-differs", "the differences"), ("#h-packets", "the packets")):

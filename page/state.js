@@ -7,6 +7,7 @@ const review = (() => {
   const HEADS = ['#1.', '#2.'];
   const VERSION = 2, KIND = 'sandbarstove review';
   const TEXTS = ['new', 'old', 'lines', 'maps'], LOAD = ['slots', 'port', 'initiator', 'key'];
+  const ASK = ['kind', 'key', 'initiator', 'extended', 'address', 'port'], KINDS = ['', 'read', 'write', 'rmw'];
   // The names of files that a review has in fields of their own, and that of standard input.
   const OWN = ['new.policy', 'old.policy', 'lines.txt', 'node.toml', 'judged.toml', 'new.img', 'old.img', '-', ''];
 
@@ -49,11 +50,17 @@ const review = (() => {
     return state[name];
   }
 
-  // The fields of a load: each is a text, and a missing one is as the page has it at first.
-  function loadOf(load) {
-    if (load === undefined) return {};
-    if (!isRecord(load)) throw Error('its field load is no record');
-    return Object.fromEntries(LOAD.filter((name) => name in load).map((name) => [name, textIn(load, name, `load.${name}`)]));
+  // Fields of a load or of a question: each is a text, and a missing one is as the page has it at first.
+  function fieldsOf(state, name, names) {
+    const fields = state[name];
+    if (fields === undefined) return {};
+    if (!isRecord(fields)) throw Error(`its field ${name} is no record`);
+    return Object.fromEntries(names.filter((own) => Object.hasOwn(fields, own)).map((own) => [own, textIn(fields, own, `${name}.${own}`)]));
+  }
+  function askOf(state) {
+    const ask = fieldsOf(state, 'ask', ASK);
+    if (!KINDS.includes(ask.kind ?? '')) throw Error('its field ask.kind is no kind of command');
+    return ask;
   }
 
   // The files that the node's file names, each a name and bytes.
@@ -74,9 +81,9 @@ const review = (() => {
     if (!isRecord(state)) throw Error('it has no tables');
     const texts = Object.fromEntries(TEXTS.map((name) => [name, textIn(state, name)]));
     if (typeof state.both !== 'boolean') throw Error('its field both is neither true nor false');
-    if (is_old) return { ...texts, both: state.both, node: '', load: {}, files: [] };
+    if (is_old) return { ...texts, both: state.both, node: '', load: {}, ask: {}, files: [] };
     const node = state.node === undefined ? '' : textIn(state, 'node');
-    return { ...texts, both: state.both, node, load: loadOf(state.load), files: filesOf(state.files) };
+    return { ...texts, both: state.both, node, load: fieldsOf(state, 'load', LOAD), ask: askOf(state), files: filesOf(state.files) };
   }
 
   // The state of a fragment; null if there is none. Anything that is no review is an error.

@@ -8,9 +8,11 @@ done before each. Lines with a sign in front begin a part of a case:
   others are what is printed, up to a line `[N]` or `[status N]` with the exit status, where that is not 0. Lines behind them that
   begin with `! ` are standard error, which is not looked at where there is none; at status 2 it then belongs to what is printed.
   A line `!` says that nothing comes there.
-  A last line that ends in `...` stands for any more. Between two quote marks a space is a part of a word.
+  A last line that ends in `...` stands for any more; a line `...` before others is refused. Between two quote marks a space is a part of a word.
   `$ hex NAME` prints the bytes of a file, or `no file`. Between jobs there may be ` | `, and behind the last ` > NAME`.
   Of `live --frames` a line `sent` and digits is printed for each frame, and what standard error tells between them.
+
+Usage: tests/sessions.py FILE..   reads the cases of these files and does none; ends with status 1 if one cannot be read
 
 A line `(N times)` repeats the line above it, and in a line `{DIGITS*N}` repeats the digits; a brace with digits alone is
 refused before `;`, and other braces stand for themselves. A line that begins with `#` and a space says something, and empty lines at
@@ -19,8 +21,10 @@ the end of a part do not count.
 from __future__ import annotations
 
 import re
+import sys
 from collections.abc import Iterable, Iterator
 from dataclasses import dataclass, field
+from pathlib import Path
 
 from rmapctl import Done, Room
 
@@ -80,10 +84,16 @@ class Part:
         elif self.is_job and line == "!":
             self.is_quiet = True
         elif self.is_job and line.startswith("! "):
-            self.told += spelled(line[2:])
+            self.told = self.more(self.told) + spelled(line[2:])
         else:
-            self.lines += "\n" * self.empty + spelled(line)
+            self.lines = self.more(self.lines) + "\n" * self.empty + spelled(line)
             self.empty = 0
+
+    def more(self, lines: str) -> str:
+        """These lines, after which another comes."""
+        if self.is_job and f"\n{lines}".endswith("\n...\n"):
+            raise BadCase(f"a line after `...`: {self.head}")
+        return lines
 
 
 def status_of(line: str) -> int:
@@ -262,3 +272,20 @@ def done_in(room: Room, case: Case) -> Session:
     for part in parts_of(case.lines):
         session.do(part)
     return session
+
+
+def main(names: list[str]) -> int:
+    """Reads the cases of these files, and prints which cannot be read."""
+    faults = []
+    for name in names:
+        try:
+            for case in cases_of(Path(name).read_text(encoding="utf-8")):
+                list(parts_of(case.lines))
+        except (BadCase, OSError, UnicodeDecodeError) as error:
+            faults.append(f"{name}: {error}")
+    print(*faults, sep="\n", end="\n" * bool(faults))
+    return int(bool(faults))
+
+
+if __name__ == "__main__":
+    sys.exit(main(sys.argv[1:]))

@@ -1,4 +1,5 @@
-"""What the prose of a page is made of: its sentences and cells, and how often it has what docs/WRITING.md wants seldom."""
+"""What the prose of a page, or of the comments of a crate, is made of: its sentences and cells, and how often it has what docs/WRITING.md
+wants seldom."""
 import re
 
 # The most words of a sentence, of a page for users and of one for those who change the code, and of a cell of a table.
@@ -18,6 +19,17 @@ WORDS = {
     "where": r"\bwhere\b",
     "has to": r"\b(?:has|have|had) to\b",
 }
+
+
+# A line that has only a comment, or one that ends in a comment after its code, by the ending of its file in Rattle.
+SLASHES, DASHES = (re.compile(rf'(?:^\s*|^[^"]*\s){sign}(?:\s(.*))?$') for sign in ("//[/!]?", "--"))
+COMMENTS = {".rt": SLASHES, ".rattle": SLASHES, ".antt": DASHES}
+
+
+def comments_of(ending, source):
+    """The comments of a source in Rattle, as Markdown: each block of lines is a paragraph or more."""
+    found = (COMMENTS[ending].match(line) for line in source.splitlines())
+    return "\n".join((it[1] or "").strip() if it else "" for it in found) + "\n\n"
 
 
 def of_markdown(page):

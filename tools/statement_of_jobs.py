@@ -9,6 +9,7 @@ ROOTS = [
     "job_charts::compare_file",
     "job_rehearse::rehearse_file",
     "job_suite::suite_file",
+    "commands::do_words",
     "doing::do_words",
 ]
 
@@ -48,9 +49,10 @@ and a definition is said there.
 | `job_charts::compare_file` | It prints `same` if two tables decide all commands alike at each port, and else a text of the rows of what they decide differently. How a row is written has no clause. At a fault nothing is printed |
 | `job_rehearse::rehearse_file` | It prints what becomes of each packet of the loads at a node on which the old policy judges, and whether the way back is open. Or it prints whose loads the new policy lets pass |
 | `job_suite::suite_file` | It prints packet lines of a node. Each packet meets its row: the first line of the order of checks that holds is this one, or the program gives this verdict at port 0 on cells that nobody asked. It may change memory only at the places that are named |
+| `commands::do_words` | Over any desk the work that the words name is done, with the status of that job; if output was lost, the status is 1. Words that name no work get a text, or nothing is printed and the status is 2. Of the program's own desk, that of the machine, no clause says what its files and its streams do |
 | `doing::do_words` | The page does what the words of a command line ask for over the files of a folder, with the output and the status of that job |
 
 A definition that prints a text has that text in it, so it is only named here: the cases of `tests/cases` hold such texts, and a
-person reads them in [COMMANDS](COMMANDS.md). The program calls these jobs over its own files. What its `main` adds to them is in
+person reads them in [COMMANDS](COMMANDS.md). The program calls `commands::do_words` over the desk of the machine. What its `main` adds to that is in
 [ASSURANCE](ASSURANCE.md).
 """

@@ -1,4 +1,4 @@
-"""The public functions of the libraries, as their source files have them. Read by tools/uncalled and tools/heads."""
+"""The public functions of the libraries, as their source files have them. Read by tools/uncalled, tools/heads, tools/unsaid and tools/pages."""
 import collections
 import pathlib
 import re

@@ -18,7 +18,7 @@ from models.policies import CELLS, port_table
 from rmapctl import Differs, Room
 
 # How many pairs of tables the gate makes, and how many rules at most a table has.
-PAIRS, RULES = 40, 9
+PAIRS, RULES = 50, 9
 
 # What the runs have to come to, and how often.
 KINDS = {"rows of maps": 800, "rows of comparisons": 90, "comments": 110, "rows with more than one rule": 100,

@@ -22,7 +22,7 @@ from rmapctl import Differs, Room
 PAIRS, RULES = 4, 12
 
 # The five pairs, and how many differences each has.
-STORED = {"all1": 4532, "deep": 6438, "small": 4246, "third0": 5824, "third1": 6054}
+STORED = {"all1": 1011, "deep": 260, "small": 3532, "third0": 1508, "third1": 1782}
 FOLDER = Path(__file__).resolve().parent.parent / "dense"
 
 NODE = ["--maps", "6"]

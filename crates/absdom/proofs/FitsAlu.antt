@@ -22,7 +22,7 @@ use Rattle.absdom.specs.Kinds.{number_of}
 use Rattle.absdom.specs.Effect.{binary_kind, unary_kind, copied_kind, signed_ends, pointer_kind, offsets_up, offsets_down, sum_kind, difference_kind, alu_kind}
 use Rattle.absdom.specs.Fits.{IsAmong, FitsKind}
 
--- where an operation is not refused, the machine gives a value that fits
+-- if an operation is not refused, the machine gives a value that fits
 abbrev pub FitsResult : Option Value → Result AbsKind Cause → Type 0
 FitsResult value (Err cause) = Unit {0}
 FitsResult None (Ok kind) = ⊥
@@ -115,7 +115,7 @@ sum_order a b c d g h = omega (arith, ints)
 pub difference_order : (a b c d : ℤ) → a ≤ℤ b → c ≤ℤ d → (a -ℤ d) ≤ℤ (b -ℤ c)
 difference_order a b c d g h = omega (arith, ints)
 
--- a pointer that was moved up by a number of known sign; where the sign is unknown, it is refused
+-- a pointer that moves up by a number of known sign; if the sign is unknown, it is refused
 up_by_test : (r s : Region) (z : ℤ) (o : ℤ × ℤ) (m : ℕ) (b : Range) → r ≡ s → IsAmong z o → IsIn m b → (t : Bool) → (nat_lt b.1 (2 ^ 63) || nat_le (2 ^ 63) b.0) ≡ t → FitsResult (Some (Pointer r (z +ℤ signed_value Bits64 m))) (pointer_kind s (offsets_up o (if t then Some (signed_value Bits64 b.0, signed_value Bits64 b.1) else None)))
 up_by_test r s z o m b e h i false t = tt
 up_by_test r s z o m b e h i true t =

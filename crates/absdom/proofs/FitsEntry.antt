@@ -40,7 +40,7 @@ entry_fits a port e h =
       words = λ k m. let no : true ≡ false = sym (marked_bytes a.marks (8 * k) 8 m 0 (omega arith)) ∙ e.marks (8 * k + 0) in absurd cc;
     }
 
--- the registers after a call, one written after another
+-- the registers after a call, written one after another
 one_by_one : (ℕ → Value) → ℕ → ℕ → Value
 one_by_one r answer =
     register_after (register_after (register_after (register_after (register_after (register_after r 0 (Number answer)) 1 Nothing) 2 Nothing) 3 Nothing) 4 Nothing) 5 Nothing

@@ -39,7 +39,7 @@ pub record IsBetween (size bytes first last place : ℕ) : Type 0 where
   pub below : place ≤ last
   pub room : place + bytes ≤ size
 
--- where both ends have a place, what is between has one between them
+-- if both ends have a place, what is between has one between them
 abbrev pub HasPlace : (size bytes : ℕ) → Option (ℕ × ℕ) → Option ℕ → Type 0
 HasPlace size bytes None place = Unit {0}
 HasPlace size bytes (Some places) None = ⊥
@@ -73,7 +73,7 @@ place_between Stack bytes o offset z h =
 
 -- ---- bytes
 
--- a number of so many bytes
+-- a number of as many bytes
 abbrev pub IsNumber : (limit : ℕ) → Option ℕ → Type 0
 IsNumber limit None = ⊥
 IsNumber limit (Some n) = n < limit
@@ -124,7 +124,7 @@ pub value_fits : (size : LoadSize) (o : Option ℕ) → IsNumber (256 ^ (load_by
 value_fits size None h = absurd h
 value_fits size (Some n) h = loaded_fits size n h
 
--- the bytes that a load reads are set: those of the header always, those of the stack where they are marked
+-- the bytes that a load reads are set: those of the header always, those of the stack if they are marked
 pub bytes_set : (header : Header) (s : State) (a : StateValue) (region : Region) (bytes first last place : ℕ) → IsHeader header → Fits s a → is_set region a.marks bytes (first, last) ≡ true → IsBetween (region_size region) bytes first last place → (k : ℕ) → k < bytes → IsByte (byte_of header s.stack region (place + k))
 bytes_set header s a Front bytes first last place known fits e between k h =
     byte_in header.front (place + k) known.front_bytes (omega (arith, known.front, between.room))
@@ -163,7 +163,7 @@ place_read own header s a LoadDouble first last place fits between e is =
     let P : Option ℕ → Type 0 = λ o. FitsResult (load_value LoadDouble o) (Ok (Num (range_at a (first / 8)))) in
     subst P (sym same) (whole_word (little_endian s.stack 8 (8 * (first / 8))) (range_at a (first / 8)) (fits.words (first / 8) marked))
 
--- what is in the table's range
+-- a load of bytes that are set gives a number in the range of its size
 table_read : (header : Header) (s : State) (a : StateValue) (size : LoadSize) (region : Region) (first last place : ℕ) → IsHeader header → Fits s a → IsBetween (region_size region) (load_bytes size) first last place → is_set region a.marks (load_bytes size) (first, last) ≡ true → FitsResult (load_value size (little_endian (byte_of header s.stack region) (load_bytes size) place)) (Ok (Num (loaded_range size)))
 table_read header s a size region first last place known fits between e =
     value_fits size (little_endian (byte_of header s.stack region) (load_bytes size) place)

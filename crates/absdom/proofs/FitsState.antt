@@ -41,7 +41,7 @@ use Rattle.absdom_stack.proofs.WordSteps.{set_at, apart, IsFilled, filled_at, to
 
 -- ---- registers
 
--- the kind at a register that was written, or nothing where there is no such register
+-- the kind at a register that was written, or nothing if there is no such register
 pub at_place : (kinds : List AbsKind) (r : ℕ) (v : Value) (k : AbsKind) → FitsKind v k → FitsKind v (kind_in (set kinds r k) r)
 at_place [] r v k f = tt
 at_place (x ∷ kinds) zero v k f = f
@@ -76,7 +76,7 @@ writes_sound s a next r (Some v) (Ok k) ne fits f = written_by_test s a next r v
 
 -- ---- the stack
 
--- a byte that is set stays set where others are written
+-- a byte that is set stays set if others are written
 byte_stays : (stack : ℕ → Option ℕ) (bytes start n place : ℕ) → IsByte (stack place) → IsByte (byte_after stack bytes start n place)
 byte_stays stack bytes start n place h =
     elim (nat_le start place && nat_lt place (start + bytes)) as (λ t. IsByte (if t then Some (n / 256 ^ (place - start) % 256) else stack place)) [
@@ -121,7 +121,7 @@ old_mark marks bytes firsts p out = by_test (firsts.0 == firsts.1) refl
               elim out [ inl h ↦ absurd (omega arith) | inr h ↦ absurd (omega arith) ]
         ]
 
--- a byte outside those that were written is what it was
+-- a byte outside those that were written is as before
 byte_kept : (stack : ℕ → Option ℕ) (bytes start n p : ℕ) → (start + bytes ≤ p) ⊎ (p < start) → byte_after stack bytes start n p ≡ stack p
 byte_kept stack bytes start n p out =
     let e : (nat_le start p && nat_lt p (start + bytes)) ≡ false = grind (arith, nat_tests) in

@@ -20,7 +20,7 @@ use Rattle.absdom.specs.Effect.{binary_kind, unary_kind, copied_kind, signed_end
 use Rattle.absdom.specs.State.{IsProper}
 use Rattle.absdom.proofs.FitsAlu.{HasSign, sign_known, negatives_rise, sum_order, difference_order}
 
--- where the larger kind is not refused, neither is the smaller
+-- if the larger kind is not refused, neither is the smaller
 abbrev pub IsKindGrown : (small large : Result AbsKind Cause) → Type 0
 IsKindGrown small (Err cause) = Unit {0}
 IsKindGrown (Err cause) (Ok large) = ⊥

@@ -105,7 +105,7 @@ still_set Stack xs ys size bytes large small m w e =
 within-refl : (r : Range) → IsWithin r r
 within-refl r = record { above = omega arith; below = omega arith }
 
--- a load of eight bytes alone is of one place
+-- only a load of eight bytes reads one whole word
 whole_loaded : (size : LoadSize) → load_bytes size ≡ 8 → (r : Range) → IsRange r → IsWithin r (loaded_range size)
 whole_loaded LoadByte e r h = absurd (omega (arith, e))
 whole_loaded LoadHalf e r h = absurd (omega (arith, e))

@@ -1,4 +1,4 @@
--- What an instruction leaves, and that a comparison only refines.
+-- What an instruction keeps, and that a comparison only refines.
 use Rattle.std.proofs.Common.{◌≡◌, ◌≢◌, ℕ, ◌+◌, ◌-◌, ◌≤◌, true, false, ◌==◌, if◌then◌else◌, ℤ, refl, ◌∙◌, ap, arith, Option, Some, None, Result, Ok, Err, List, length, length-set, get_or-set_other}
 use Rattle.std.specs.Prelude.{◌||◌, IfSome, IfOk}
 use Rattle.std.proofs.lemmas.Bool.Decides.{nat_tests}
@@ -37,7 +37,7 @@ use Rattle.absdom.proofs.GrowState.{operand_proper, with_kind_grows}
 use Rattle.absdom_stack.proofs.MarkSteps.{stored_stays}
 use Rattle.absdom_stack.proofs.WordSteps.{still_whole, stored_each, whole_proper}
 
--- ---- what an instruction leaves
+-- ---- what an instruction keeps
 
 abbrev Leaves : Insn → StateValue → Result StateValue Cause → Type 0
 Leaves insn a r = IfOk r (IsLeftBy insn a)
@@ -117,7 +117,7 @@ apply_leaves spill a (insns.LoadAddress dst address) = same (insns.LoadAddress d
 apply_leaves spill a (insns.Call callee number) = same (insns.Call callee number) a
 apply_leaves spill a insns.Exit = same insns.Exit a
 
--- where ranges are forgotten
+-- if ranges are forgotten
 
 forgets_wrote : (a : StateValue) (bytes : ℕ) (places : Option (ℕ × ℕ)) (value : Range) → AreAllWhole a.ranges → IfOk (after_write_at Forgets a bytes places value) (λ b. AreAllWhole b.ranges)
 forgets_wrote a bytes None value h = tt

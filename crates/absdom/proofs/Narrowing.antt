@@ -19,7 +19,7 @@ is_number Unset range e = absurd cc
 is_number (Ptr region offsets) range e = absurd cc
 is_number (Map index) range e = absurd cc
 
--- a kind that stood there already
+-- a kind that the register has already
 pub write_same : (kinds : List AbsKind) (register : ℕ) (kind : AbsKind) → kind_in kinds register ≡ kind → set kinds register kind ≡ kinds
 write_same [] register kind e = refl
 write_same (k ∷ kinds) zero kind e = ap (λ x. x ∷ kinds) (sym e)
@@ -41,7 +41,7 @@ edges_same condition width a dst src left right true t e d =
     ap (λ (b : StateValue). let edges : Edges = record { taken = Some b; not_taken = Some b } in edges) (sym (itself_same width a dst src left right t e d))
 edges_same condition width a dst src left right false t e d = refl
 
--- where the operands are numbers
+-- if the operands are numbers
 pub edges_by_ranges : (condition : Condition) (width : Width) (a : StateValue) (dst : ℕ) (src : Operand) (left right : Range) → number_of (kind_at a dst) ≡ Ok left → compared_range width a src ≡ Ok right → refined_edges a condition width dst src ≡ Ok (edge_states a dst src (ranges_of condition width dst src left right))
 edges_by_ranges condition width a dst src left right e d =
     ap (λ x. compared_edges condition width a dst src x (compared_range width a src)) e

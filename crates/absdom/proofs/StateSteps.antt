@@ -5,16 +5,16 @@ use Rattle.absdom.specs.State.{StateValue, IsBelow, AreBelow, kind_in, IsProper}
 use Rattle.absdom_stack.specs.Marks.{AreMarkedIn}
 use Rattle.absdom_stack.specs.StackWords.{AreRangesWithin}
 
--- states are below where their kinds, their marks and their ranges are
+-- a state is below another if its kinds, its marks and its ranges are
 pub below_by_ranges : (a b : StateValue) (r : Bool) → AreBelow a.kinds b.kinds → AreMarkedIn b.marks a.marks → (IsTrue r ↔ AreRangesWithin a.ranges b.ranges) → IsTrue r ↔ IsBelow a b
 below_by_ranges a b r kinds marks h =
     (λ t. record { kinds = kinds; marks = marks; ranges = h.0 t }, λ below. h.1 below.ranges)
 
--- where the kinds are not below, the states are not
+-- if the kinds are not below, the states are not
 pub not_below_by_kinds : (a b : StateValue) (r : Bool) → r ≡ false → (IsTrue r ↔ AreBelow a.kinds b.kinds) → IsTrue false ↔ IsBelow a b
 not_below_by_kinds a b r e k = (λ t. absurd cc, λ below. let never : true ≡ false = sym (k.1 below.kinds) ∙ e in absurd cc)
 
--- and where the marks are not
+-- and if the marks are not
 pub not_below_by_marks : (a b : StateValue) (r : Bool) → r ≡ false → (IsTrue r ↔ AreMarkedIn b.marks a.marks) → IsTrue false ↔ IsBelow a b
 not_below_by_marks a b r e m = (λ t. absurd cc, λ below. let never : true ≡ false = sym (m.1 below.marks) ∙ e in absurd cc)
 

@@ -4,7 +4,7 @@ use Rattle.absdom.specs.declared.cause.Cause.{Cause}
 use Rattle.absdom.specs.declared.cause.Cause.TheVariants.{UnsetOperand, KindMismatch, OutOfRegion, UnsetStack}
 use Rattle.absdom.specs.declared.cause.Cause.TheVariants.{HeaderWrite, PointerRange}
 
--- the number of a refusal, as the verifier tells it
+-- the number of a refusal, as the verifier gives it
 abbrev pub cause_code : Cause → ℕ
 cause_code UnsetOperand = 5
 cause_code KindMismatch = 6

@@ -17,7 +17,7 @@ use Rattle.absdom.specs.State.{StateValue, kind_at, with_kind}
 
 -- ---- the statement
 
--- what is known on the two edges of a comparison: none is known on an edge that no run takes
+-- what is known on the two edges of a comparison: nothing is known on an edge that no run takes
 pub record Edges : Type 0 where
   pub taken : Option StateValue
   pub not_taken : Option StateValue
@@ -36,7 +36,7 @@ with_source a (Immediate value) range = a
 abbrev pub with_operands : StateValue → (dst : ℕ) → Operand → Operands → StateValue
 with_operands a dst src new = with_source (with_kind a dst (Num new.dst)) src new.src
 
--- what is known on an edge, which is not followed where a range is empty
+-- what is known on an edge, which is not followed if a range is empty
 abbrev pub edge_state : StateValue → (dst : ℕ) → Operand → Option Operands → Option StateValue
 edge_state a dst src None = None
 edge_state a dst src (Some new) = Some (with_operands a dst src new)

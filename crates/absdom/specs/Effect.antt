@@ -1,5 +1,5 @@
--- What an instruction does to what is known, or why it is refused (a choice of this project). Operands are
--- tested first, the destination before the source, and of each whether it is set and then its kind.
+-- What an instruction does to what is known, or why it is refused (a choice of this project). The verifier tests the
+-- operands first, the destination before the source. Of each it tests whether it is set, and then its kind.
 use Rattle.std.specs.Prelude.{◌≡◌, ℕ, ◌+◌, ◌-◌, ◌^◌, ◌/◌, Bool, true, ◌||◌, nat_lt, nat_le, if◌then◌else◌}
 use Rattle.std.specs.Prelude.{ℤ, pos, negsuc, ◌+ℤ◌, ◌-ℤ◌, List, Option, Some, None, Result, Ok, Err}
 use Rattle.bpf_parts.specs.declared.operation.Width.{Width}
@@ -44,13 +44,13 @@ operand_kind a (Immediate value) = Num (single_range (word value))
 
 -- ---- arithmetic (RFC 9669, section 4.1)
 
--- what an operation on two numbers gives, where both are numbers
+-- what an operation on two numbers gives, if both are numbers
 abbrev pub binary_kind : AluOp → Width → Result Range Cause → Result Range Cause → Result AbsKind Cause
 binary_kind op width (Err cause) b = Err cause
 binary_kind op width (Ok a) (Err cause) = Err cause
 binary_kind op width (Ok a) (Ok b) = Ok (Num (alu_range op width a b))
 
--- what an operation on one number gives, where it is a number
+-- what an operation on one number gives, if it is a number
 abbrev pub unary_kind : (Range → Range) → Result Range Cause → Result AbsKind Cause
 unary_kind f (Err cause) = Err cause
 unary_kind f (Ok a) = Ok (Num (f a))
@@ -64,7 +64,7 @@ copied_kind Bits64 (Ptr region offsets) = Ok (Ptr region offsets)
 copied_kind Bits32 (Map index) = Err KindMismatch
 copied_kind Bits64 (Map index) = Ok (Map index)
 
--- the ends of a range whose numbers have one sign where they are read as signed
+-- the ends of a range whose numbers, read as signed, have one sign
 abbrev pub signed_ends : Range → Option (ℤ × ℤ)
 signed_ends a =
     if nat_lt a.1 (2 ^ 63) || nat_le (2 ^ 63) a.0 then Some (signed_value Bits64 a.0, signed_value Bits64 a.1) else None
@@ -74,12 +74,12 @@ abbrev pub pointer_kind : Region → Option (ℤ × ℤ) → Result AbsKind Caus
 pointer_kind region None = Err PointerRange
 pointer_kind region (Some offsets) = Ok (Ptr region offsets)
 
--- the offsets after so much was added
+-- the offsets after a number in this range is added
 abbrev pub offsets_up : ℤ × ℤ → Option (ℤ × ℤ) → Option (ℤ × ℤ)
 offsets_up offsets None = None
 offsets_up offsets (Some n) = offsets_within (offsets.0 +ℤ n.0) (offsets.1 +ℤ n.1)
 
--- the offsets after so much was subtracted
+-- the offsets after a number in this range is subtracted
 abbrev pub offsets_down : ℤ × ℤ → Option (ℤ × ℤ) → Option (ℤ × ℤ)
 offsets_down offsets None = None
 offsets_down offsets (Some n) = offsets_within (offsets.0 -ℤ n.1) (offsets.1 -ℤ n.0)
@@ -129,14 +129,14 @@ alu_kind Arsh width a b = binary_kind Arsh width (number_of a) (number_of b)
 
 -- ---- loads and stores (RFC 9669, section 5)
 
--- two places, where there are both
+-- two places, if there are both
 abbrev pub both_places : Option ℕ → Option ℕ → Option (ℕ × ℕ)
 both_places None b = None
 both_places (Some a) None = None
 both_places (Some a) (Some b) = Some (a, b)
 
--- the first place of an access of so many bytes, at the least offset and at the greatest; none where one of
--- the two is not wholly inside the region
+-- The first place of an access of `bytes` bytes, at the least offset and at the greatest. There is none if one of the
+-- two is not wholly inside the region.
 abbrev pub access_places : Region → (bytes : ℕ) → ℤ × ℤ → (offset : ℤ) → Option (ℕ × ℕ)
 access_places region bytes offsets offset =
     both_places (place_of region bytes (offsets.0 +ℤ offset)) (place_of region bytes (offsets.1 +ℤ offset))
@@ -147,7 +147,7 @@ is_set Front marks bytes places = true
 is_set Tail marks bytes places = true
 is_set Stack marks bytes places = all_marked marks places.0 (places.1 + bytes - places.0)
 
--- what a load gives: a number of so many bytes, or any word where the sign is extended
+-- what a load gives: a number of as many bytes, or any word if the sign is extended
 abbrev pub loaded_range : LoadSize → Range
 loaded_range LoadByte = (0, 2 ^ 8 - 1)
 loaded_range LoadHalf = (0, 2 ^ 16 - 1)
@@ -157,7 +157,7 @@ loaded_range SignedByte = (0, 2 ^ 64 - 1)
 loaded_range SignedHalf = (0, 2 ^ 64 - 1)
 loaded_range SignedWord = (0, 2 ^ 64 - 1)
 
--- where numbers keep their ranges, a load of one word of the stack gives the range of that word
+-- if numbers keep their ranges, a load of one word of the stack gives the range of that word
 abbrev pub kept_range : StateValue → LoadSize → Region → ℕ × ℕ → Range
 kept_range a size Front places = loaded_range size
 kept_range a size Tail places = loaded_range size
@@ -223,12 +223,12 @@ abbrev pub with_result : StateValue → (register : ℕ) → Result AbsKind Caus
 with_result a register (Err cause) = Err cause
 with_result a register (Ok kind) = Ok (with_kind a register kind)
 
--- a map by its index; of an index that no map has nothing is known
+-- a map by its index; if no map has the index, nothing is known
 abbrev pub map_kind : ℤ → AbsKind
 map_kind (pos index) = if nat_lt index 256 then Map index else Unset
 map_kind (negsuc n) = Unset
 
--- what an instruction does that goes on to the next one. All others leave what is known as it is.
+-- what an instruction does that goes on to the next one. All others do not change what is known.
 abbrev pub after_insn : Spill → StateValue → Insn → Result StateValue Cause
 after_insn spill a (Alu op width dst src) = with_result a dst (alu_kind op width (kind_at a dst) (operand_kind a src))
 after_insn spill a (Negate width dst) = with_result a dst (unary_kind (negated_range width) (number_of (kind_at a dst)))
@@ -250,12 +250,12 @@ after_insn spill a Exit = Ok a
 
 -- ---- what else contracts and proofs say
 
--- a change in place: the state becomes what is given, or stays what it was where it is refused
+-- a change in place: the state becomes what is given, or stays as before if the instruction is refused
 abbrev pub Becomes : Result (Unit {0}) Cause → (old new : StateValue) → (given : Result StateValue Cause) → Type 0
 Becomes (Ok done) old new given = given ≡ Ok new
 Becomes (Err cause) old new given = (given ≡ Err cause) × (new ≡ old)
 
--- a store of so many bytes of a value through a pointer, in place
+-- a store of `bytes` bytes of a value through a pointer, in place
 abbrev pub Stores : Spill → Result (Unit {0}) Cause → (old new : StateValue) → (bytes : ℕ) → (base : AbsKind)
     → (offset : ℤ) → (value : AbsKind) → Type 0
 Stores spill done old new bytes base offset value =

@@ -1,4 +1,4 @@
--- Which states of the machine are as a state of the verifier says (a choice of this project).
+-- Which states of the machine fit a state of the verifier (a choice of this project).
 use Rattle.std.specs.Prelude.{◌≡◌, ◌≢◌, ℕ, ◌*◌, ◌^◌, ◌<◌, ℤ, pos, negsuc, ◌≤ℤ◌, Bool, true, false, Option, Some, None}
 use Rattle.std.specs.Prelude.{Result, Ok, Err}
 use Rattle.bpf_insn.specs.declared.insn.Insn.{Insn}
@@ -24,8 +24,8 @@ pub record IsAmong (z : ℤ) (offsets : ℤ × ℤ) : Type 0 where
   pub above : offsets.0 ≤ℤ z
   pub below : z ≤ℤ offsets.1
 
--- the value is of the kind: a number in its range, a pointer into its region at one of its offsets, its map;
--- every value is of the kind Unset
+-- The value is of the kind: a number in its range, a pointer into its region at one of its offsets, or its map. Every
+-- value is of the kind Unset.
 abbrev pub FitsKind : Value → AbsKind → Type 0
 FitsKind value Unset = Unit {0}
 FitsKind Nothing (Num range) = ⊥
@@ -51,8 +51,8 @@ abbrev pub IsReadIn : Option ℕ → Range → Type 0
 IsReadIn None range = ⊥
 IsReadIn (Some n) range = IsIn n range
 
--- each register is of its kind, each byte that is marked is set, and the number in a word whose eight bytes are all
--- marked lies in the word's range
+-- Each register is of its kind, and each byte that is marked is set. If all eight bytes of a word are marked, its
+-- number lies in the word's range.
 pub record Fits (s : State) (a : StateValue) : Type 0 where
   pub registers : (register : ℕ) → FitsKind (s.registers register) (kind_at a register)
   pub bytes : (place : ℕ) → mark_at a.marks place ≡ true → IsByte (s.stack place)
@@ -66,22 +66,22 @@ GoesOn (Ask question on) slot a = ⊥
 GoesOn (Verdict n) slot a = ⊥
 GoesOn Trap slot a = ⊥
 
--- where an instruction is not refused, the machine goes on in a state that fits
+-- if an instruction is not refused, the machine goes on in a state that fits
 abbrev pub IsSound : Outcome → (slot : ℕ) → Result StateValue Cause → Type 0
 IsSound outcome slot (Err cause) = Unit {0}
 IsSound outcome slot (Ok a) = GoesOn outcome slot a
 
--- the state fits what is known on an edge; none does where the edge is not followed
+-- the state fits what is known on an edge; no state fits an edge that is not followed
 abbrev pub FitsEdge : State → Option StateValue → Type 0
 FitsEdge s None = ⊥
 FitsEdge s (Some a) = Fits s a
 
--- the edge that is followed where a comparison is true or false
+-- the edge that is followed if a comparison is true, and if it is false
 abbrev pub edge_where : Bool → Edges → Option StateValue
 edge_where true edges = edges.taken
 edge_where false edges = edges.not_taken
 
--- where a comparison is not refused, it is true or false, and the state fits the edge that it takes
+-- if a comparison is not refused, it is true or false, and the state fits the edge that it takes
 abbrev pub TakesEdge : State → (offset : ℤ) → Outcome → Result Edges Cause → Type 0
 TakesEdge s offset outcome (Err cause) = Unit {0}
 TakesEdge s offset outcome (Ok edges) =
@@ -92,7 +92,7 @@ abbrev pub IsIndex : ℤ → Type 0
 IsIndex (pos index) = Unit {0}
 IsIndex (negsuc n) = ⊥
 
--- an instruction that goes on to the next one, and leaves the frame pointer
+-- an instruction that goes on to the next one, and does not write the frame pointer
 abbrev pub GoesStraight : Insn → Type 0
 GoesStraight (Alu op width dst src) = dst ≢ 10
 GoesStraight (Negate width dst) = dst ≢ 10

@@ -52,8 +52,8 @@ number_of (Map index) = Err KindMismatch
 
 -- ---- what else contracts and proofs say
 
--- the least kind above both: of two numbers the least range that holds both, of two pointers into one
--- region the least offsets, the same map; of any other two different kinds Unset
+-- The least kind above both. For two numbers it is the least range that holds both, for two pointers into one region
+-- the least offsets, for one map that map. For any other two kinds it is Unset.
 abbrev pub joined_kinds : AbsKind → AbsKind → AbsKind
 joined_kinds Unset b = Unset
 joined_kinds (Num a) Unset = Unset

@@ -24,7 +24,7 @@ use Rattle.absdom.specs.Effect.{after_insn}
 use Rattle.absdom.specs.Edges.{Edges, refined_edges}
 use Rattle.absdom.specs.Fits.{Fits, IsSound, GoesStraight, TakesEdge}
 
--- whatever fits the first fits the second, where the first is below it
+-- what fits the first state fits the second, if the first is below it
 abbrev pub BelowFits : Type 0
 BelowFits = (s : State) (a b : StateValue) → IsBelow a b → Fits s a → Fits s b
 
@@ -57,15 +57,15 @@ abbrev pub CallFits : Type 0
 CallFits =
     (s : State) (a : StateValue) (answer : ℕ) → answer < 2 ^ 64 → Fits s a → Fits (after_answer s answer) (after_call a)
 
--- where an instruction is not refused, the machine goes on to the next one in a state that fits the result,
--- from every state that fits
+-- if an instruction is not refused, the machine goes on from every state that fits to the next one, which fits the
+-- result
 abbrev pub ApplyFits : Type 0
 ApplyFits =
     (spill : Spill) (header : Header) (s : State) (a : StateValue) (insn : Insn) → IsHeader header → GoesStraight insn
     → Fits s a
     → IsSound (perform header s insn) (s.slot + slots_of insn) (after_insn spill a insn)
 
--- where a comparison is not refused, every state that fits fits the edge that it takes
+-- if a comparison is not refused, every state that fits also fits the edge that it takes
 abbrev pub RefineFits : Type 0
 RefineFits =
     (header : Header) (s : State) (a : StateValue) (comparison : Comparison) (offset : ℤ) → Fits s a
@@ -74,25 +74,25 @@ RefineFits =
 
 -- ---- larger states give larger ones
 
--- where the larger result is not refused, neither is the smaller, and it is below
+-- if the larger result is not refused, neither is the smaller, and it is below
 abbrev pub IsGrown : (small large : Result StateValue Cause) → Type 0
 IsGrown small (Err cause) = Unit {0}
 IsGrown (Err cause) (Ok large) = ⊥
 IsGrown (Ok small) (Ok large) = IsBelow small large
 
--- where the smaller edge is followed, so is the larger, and it is above
+-- if the smaller edge is followed, so is the larger, and it is above
 abbrev pub IsEdgeBelow : (small large : Option StateValue) → Type 0
 IsEdgeBelow None large = Unit {0}
 IsEdgeBelow (Some small) None = ⊥
 IsEdgeBelow (Some small) (Some large) = IsBelow small large
 
--- where the larger state is not refused, neither is the smaller, and each of its edges is below
+-- if the larger state is not refused, neither is the smaller, and each of its edges is below
 abbrev pub AreEdgesGrown : (small large : Result Edges Cause) → Type 0
 AreEdgesGrown small (Err cause) = Unit {0}
 AreEdgesGrown (Err cause) (Ok large) = ⊥
 AreEdgesGrown (Ok small) (Ok large) = IsEdgeBelow small.taken large.taken × IsEdgeBelow small.not_taken large.not_taken
 
--- of a smaller state an instruction gives a smaller one, and it is not refused where that of the larger is not
+-- from a smaller state an instruction gives a smaller one; if the larger is not refused, neither is the smaller
 abbrev pub ApplyGrows : Type 0
 ApplyGrows =
     (spill : Spill) (a b : StateValue) (insn : Insn) → IsWhole a → IsWhole b → IsBelow a b
@@ -116,11 +116,11 @@ JoinGrows =
     (a b c d first second : StateValue) → IsJoin a b first → IsJoin c d second → IsBelow a c → IsBelow b d
     → IsBelow first second
 
--- ---- what an instruction leaves
+-- ---- what an instruction keeps
 
--- an instruction leaves what is known of the registers that it does not write, and each mark; one that is no
--- store makes none, and leaves what is known of each word. Of a whole state each word is left with a range whose ends
--- stand in order.
+-- an instruction keeps what is known of the registers that it does not write, and each mark. An instruction that is
+-- no store makes no mark, and keeps what is known of each word. After it, each word of a whole state has a range
+-- whose ends are in order.
 pub record IsLeftBy (insn : Insn) (before after : StateValue) : Type 0 where
   pub kinds : (k : ℕ) → is_written insn k ≡ false → kind_at after k ≡ kind_at before k
   pub marks : (place : ℕ) → mark_at before.marks place ≡ true → mark_at after.marks place ≡ true
@@ -128,11 +128,11 @@ pub record IsLeftBy (insn : Insn) (before after : StateValue) : Type 0 where
   pub ranges : is_store insn ≡ false → after.ranges ≡ before.ranges
   pub proper : IsWhole before → (word : ℕ) → IsRange (range_at after word)
 
--- an instruction that is not refused leaves what it does not write
+-- an instruction that is not refused keeps what it does not write
 abbrev pub ApplyLeaves : Type 0
 ApplyLeaves = (spill : Spill) (a : StateValue) (insn : Insn) → IfOk (after_insn spill a insn) (IsLeftBy insn a)
 
--- where ranges are forgotten and nothing is known of any word, no instruction tells anything of one
+-- if ranges are forgotten and nothing is known of any word, nothing is known of one after an instruction
 abbrev pub ForgetsAll : Type 0
 ForgetsAll =
     (a : StateValue) (insn : Insn) → AreAllWhole a.ranges → IfOk (after_insn Forgets a insn) (λ b. AreAllWhole b.ranges)

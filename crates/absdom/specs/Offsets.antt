@@ -8,7 +8,7 @@ use Rattle.std.specs.Int.{int_min, int_max}
 abbrev pub is_offset : ℤ → Bool
 is_offset z = int_le (negsuc 65535) z && int_le z (pos 65536)
 
--- both ends, where they are within the limits
+-- both ends, if they are within the limits
 abbrev pub offsets_within : ℤ → ℤ → Option (ℤ × ℤ)
 offsets_within low high = if is_offset low && is_offset high then Some (low, high) else None
 
@@ -30,6 +30,6 @@ pub record AreOffsets (low high : ℤ) : Type 0 where
   pub greatest : IsOffset high
   pub in_order : low ≤ℤ high
 
--- the least offsets that hold both
+-- the smallest offsets that hold both
 abbrev pub joined_offsets : ℤ × ℤ → ℤ × ℤ → ℤ × ℤ
 joined_offsets a b = (int_min a.0 b.0, int_max a.1 b.1)

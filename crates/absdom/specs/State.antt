@@ -15,8 +15,8 @@ use Rattle.absdom_stack.specs.StackWords.{range_in, AreAllWhole, AreRangesJoined
 
 -- ---- the statement
 
--- a kind for each register, a mark for each byte of the stack that is known to be set, and a range for each word of
--- eight bytes, of the number that it holds
+-- A kind for each register, and a mark for each byte of the stack that is known to be set. Each word of eight bytes
+-- has the range of its number.
 pub record StateValue : Type 0 where
   pub kinds : List AbsKind
   pub marks : List Bool
@@ -40,26 +40,26 @@ kind_at a register = kind_in a.kinds register
 abbrev pub range_at : StateValue → (word : ℕ) → Range
 range_at a word = range_in a.ranges word
 
--- the ends of a range, or of offsets, stand in order
+-- the ends of a range, or of offsets, are in order
 abbrev pub IsProper : AbsKind → Type 0
 IsProper Unset = Unit {0}
 IsProper (Num range) = IsRange range
 IsProper (Ptr region offsets) = offsets.0 ≤ℤ offsets.1
 IsProper (Map index) = Unit {0}
 
--- what every state is: eleven registers, each of a proper kind, 512 bytes, and 64 words, each with a range whose ends
--- stand in order. Nothing is known of a word whose eight bytes are not all set.
+-- What holds of every state. It has eleven registers, each of a proper kind, 512 bytes, and 64 words, each with a
+-- range whose ends are in order. If not all eight bytes of a word are set, nothing is known of the word.
 pub record IsWhole (a : StateValue) : Type 0 where
   pub sizes : IsState a
   pub kinds : (register : ℕ) → IsProper (kind_at a register)
   pub ranges : (word : ℕ) → IsRange (range_at a word)
   pub unset : (word : ℕ) → all_marked a.marks (8 * word) 8 ≡ false → range_at a word ≡ whole_range Bits64
 
--- what is known after a register was written
+-- what is known after a write of a register
 abbrev pub with_kind : StateValue → (register : ℕ) → AbsKind → StateValue
 with_kind a register kind = record { kinds = slice_set a.kinds register kind; marks = a.marks; ranges = a.ranges }
 
--- what is known after bytes of the stack were written
+-- what is known after a write of bytes of the stack
 abbrev pub with_stack : StateValue → (marks : List Bool) → (ranges : List Range) → StateValue
 with_stack a marks ranges = record { kinds = a.kinds; marks = marks; ranges = ranges }
 
@@ -100,8 +100,8 @@ abbrev pub AreJoined : List AbsKind → List AbsKind → List AbsKind → Type 0
 AreJoined first second joint =
     (register : ℕ) → kind_in joint register ≡ joined_kinds (kind_in first register) (kind_in second register)
 
--- register by register the least kind above both; a byte is set where it is in both; word by word the least range
--- that holds both
+-- Register by register the least kind above both, and word by word the least range that holds both. A byte is set if
+-- it is set in both.
 pub record IsJoin (a b joint : StateValue) : Type 0 where
   pub kinds : AreJoined a.kinds b.kinds joint.kinds
   pub marks : AreInBoth a.marks b.marks joint.marks

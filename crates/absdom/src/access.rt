@@ -16,7 +16,7 @@ use absdom_stack::{Spill, WORD_BYTES, is_stack_word};
 use bpf_insn::{LoadSize, Size};
 use machine::{Region, STACK_SIZE};
 
-/// The place of the first of so many bytes, where all of them lie in memory of that size.
+/// The place of the first of `bytes` bytes, if all of them lie in memory of that size.
 fn place_within(size: usize, bytes: usize, place: i32) -> Option<usize>
     requires size { size ≤ STACK_SIZE }
     requires bytes { bytes ≤ 8 }
@@ -43,7 +43,7 @@ fn from_bottom(offset: i32) -> i32
     offset + STACK_SIZE as i32
 }
 
-/// The place in the region of an access of so many bytes, where it is wholly inside.
+/// The place in the region of an access of `bytes` bytes, if it is wholly inside.
 fn place(region: Region, bytes: usize, offset: i32) -> Option<usize>
     requires low { negsuc 100000 ≤ℤ offset }
     requires high { offset ≤ℤ pos 100000 }
@@ -68,8 +68,8 @@ fn offset_sum(start: i32, offset: i16) -> i32
     start + i32::from(offset)
 }
 
-/// The first place of an access of so many bytes, at the least offset and at the greatest. `None` where
-/// one of the two is not wholly inside the region.
+/// The first place of an access of `bytes` bytes, at the least offset and at the greatest. It is `None` if one of the
+/// two is not wholly inside the region.
 fn access(region: Region, bytes: usize, offsets: Offsets, offset: i16) -> Option<(usize, usize)>
     requires { bytes ≤ 8 }
     ensures value { result ≡ access_places region bytes offsets offset }
@@ -92,7 +92,7 @@ fn is_set(state: &State, region: Region, bytes: usize, lowest: usize, highest: u
     }
 }
 
-/// What a load gives.
+/// The range of what a load gives.
 fn loaded_range(size: LoadSize) -> Range
     ensures { result ≡ loaded_range size }
 {
@@ -107,7 +107,7 @@ fn loaded_range(size: LoadSize) -> Range
     }
 }
 
-/// What a load gives where numbers keep their ranges: of one word of the stack its range.
+/// The range of what a load gives if numbers keep their ranges: of one word of the stack it is the word's range.
 fn kept_range(state: &State, size: LoadSize, region: Region, lowest: usize, highest: usize) -> Range
     requires { AreInside (load_bytes size) (lowest, highest) }
     ensures { result ≡ kept_range state.now size region (lowest, highest) }
@@ -125,7 +125,7 @@ fn kept_range(state: &State, size: LoadSize, region: Region, lowest: usize, high
     }
 }
 
-/// What a load of bytes that are set gives.
+/// The range of what a load of bytes that are set gives.
 fn read_range(
     state: &State,
     spill: Spill,

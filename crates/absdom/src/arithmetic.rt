@@ -40,7 +40,7 @@ fn copy(width: Width, source: &AbsKind) -> Result<AbsKind, Cause>
     }
 }
 
-/// The ends of a range whose numbers have one sign where they are read as signed.
+/// The ends of a range whose numbers, read as signed, have one sign.
 fn signed(range: Range) -> Option<(i64, i64)>
     ensures value { result ≡ signed_ends range }
     ensures ordered { IfSome result (λ ends. ends.0 ≤ℤ ends.1) }
@@ -67,7 +67,7 @@ fn difference(offset: i32, number: i64) -> i128
     i128::from(offset) - i128::from(number)
 }
 
-/// The offsets after a number from `least` to `greatest` was added.
+/// The offsets after a number from `least` to `greatest` is added.
 fn up(offsets: Offsets, least: i64, greatest: i64) -> Option<Offsets>
     requires { least ≤ℤ greatest }
     ensures { result ≡ offsets_up offsets (Some (least, greatest)) }
@@ -77,7 +77,7 @@ fn up(offsets: Offsets, least: i64, greatest: i64) -> Option<Offsets>
     Offsets::within(low, high)
 }
 
-/// The offsets after a number from `least` to `greatest` was subtracted.
+/// The offsets after a number from `least` to `greatest` is subtracted.
 fn down(offsets: Offsets, least: i64, greatest: i64) -> Option<Offsets>
     requires { least ≤ℤ greatest }
     ensures { result ≡ offsets_down offsets (Some (least, greatest)) }

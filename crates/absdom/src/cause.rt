@@ -5,8 +5,8 @@ ghost use Rattle.absdom.specs.Codes.{cause_code};
 
 use thiserror::Error;
 
-/// Why an instruction is refused at a state. The operands are tested first, the destination before the
-/// source, and of each whether it is set and then its kind.
+/// Why an instruction is refused at a state. The verifier tests the operands first, the destination before the
+/// source. Of each it tests whether it is set, and then its kind.
 #[derive(Clone, Copy, Debug, PartialEq, Eq, Error)]
 pub enum Cause {
     /// An operand may be unset.

@@ -17,7 +17,7 @@ fn immediate(width: Width, value: i32) -> u64
     machine::low_part(width, machine::word(i64::from(value)))
 }
 
-/// The range of a comparison's second operand: an immediate counts by the bits that the comparison reads.
+/// The range of a comparison's second operand. An immediate counts by the bits that the comparison reads.
 fn source(state: &State, width: Width, src: &Operand) -> Result<Range, Cause>
     ensures { result ≡ compared_range width state.now src.now }
 {
@@ -37,7 +37,8 @@ fn is_itself(dst: Register, src: &Operand) -> bool
     }
 }
 
-/// The ranges on the edges of a comparison of these numbers. One of a register with itself tells nothing.
+/// The ranges on the edges of a comparison of these numbers. A comparison of a register with itself leaves them as
+/// they are.
 fn edges_between(
     condition: Condition,
     width: Width,
@@ -64,8 +65,8 @@ fn edges_between(
     }
 }
 
-/// The ranges of the operands on the two edges of a comparison (RFC 9669, section 4.3). They shrink to what
-/// the edge tells, as [`absdom_num::refine`] does it. [`State::narrow`] gives the state on an edge.
+/// The ranges of the operands on the two edges of a comparison (RFC 9669, section 4.3). They shrink to what holds on
+/// the edge, as [`absdom_num::refine`] does it. [`State::narrow`] gives the state on an edge.
 ///
 /// # Errors
 ///
@@ -79,7 +80,7 @@ pub fn refine(
 ) -> Result<Edges, Cause>
     ensures ranges { result ≡ refined_operands state.now condition width dst src.now }
 
-    // With them the state is what is known on each edge.
+    // With these ranges the state is what is known on each edge.
     ensures edges { MatchResult result
         (λ new. refined_edges state.now condition width dst src.now
         ≡ Ok (edge_states state.now dst src.now new))

@@ -24,7 +24,7 @@ pub(crate) fn operand(state: &State, operand: &Operand) -> AbsKind
     }
 }
 
-/// The map of an index. Nothing is known of an index that no map has.
+/// The map of an index. If no map has the index, nothing is known.
 fn map_kind(index: i32) -> AbsKind
     ensures { result ≡ map_kind index }
 {
@@ -46,7 +46,7 @@ fn write(state: &mut State, register: Register, kind: Result<AbsKind, Cause>) ->
     Ok(())
 }
 
-/// The ranges of the numbers on which an operation gives one: for MOV, which reads the source alone, that one twice.
+/// The ranges of the numbers on which an operation gives one. MOV reads only the source, so they are its range twice.
 #[inline(always)]
 fn ranges(op: AluOp, a: &AbsKind, b: &AbsKind) -> Option<(Range, Range)>
     ensures { IfSome result (λ both. (width : Width)
@@ -115,15 +115,15 @@ fn put(
 }
 
 impl State {
-    /// Changes to what is known after an instruction that goes on to the next one: arithmetic, loads, stores
-    /// and two-slot loads of a constant or a map (RFC 9669, sections 4.1, 4.2, 5 and 5.4). Where numbers keep their
-    /// ranges on the stack, a store that fills a word and a load of it carry the range. All other
-    /// instructions leave the state as it is here: of a comparison [`refine`] tells the edges, after a
-    /// helper's call there is [`State::call`].
+    /// Changes to what is known after an instruction that goes on to the next one. These are arithmetic, loads,
+    /// stores and two-slot loads of a constant or a map (RFC 9669, sections 4.1, 4.2, 5 and 5.4). If numbers keep
+    /// their ranges on the stack, a store that fills a word and a load of it carry the range. All other instructions
+    /// leave the state as it is here: [`refine`] gives the edges of a comparison, and [`State::call`] is for a
+    /// helper's call.
     ///
     /// # Errors
     ///
-    /// Why the instruction is refused. The state is then what it was.
+    /// Why the instruction is refused. The state is then as before.
     ///
     /// [`refine`]: crate::refine
     pub fn apply(&mut self, spill: Spill, insn: &Insn) -> Result<(), Cause>

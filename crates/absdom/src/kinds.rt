@@ -46,7 +46,12 @@ impl AbsKind {
         }
     }
 
-    /// The range of a number. `UnsetOperand` where nothing is known, `KindMismatch` at another kind.
+    /// The range of a number.
+    ///
+    /// # Errors
+    ///
+    /// - `UnsetOperand`: nothing is known of the register.
+    /// - `KindMismatch`: it is of another kind.
     pub fn number(&self) -> Result<Range, Cause>
         ensures { result ≡ number_of self.now }
     {
@@ -58,7 +63,12 @@ impl AbsKind {
         }
     }
 
-    /// The index of a map. `UnsetOperand` where nothing is known, `KindMismatch` at another kind.
+    /// The index of a map.
+    ///
+    /// # Errors
+    ///
+    /// - `UnsetOperand`: nothing is known of the register.
+    /// - `KindMismatch`: it is of another kind.
     pub fn map(&self) -> Result<u8, Cause>
         ensures { result ≡ map_of self.now }
     {
@@ -155,7 +165,7 @@ fn is_map_below(kind: &AbsKind, index: u8) -> bool
     }
 }
 
-/// Whether two regions are one.
+/// Whether two regions are the same.
 fn is_same_region(a: Region, b: Region) -> bool
     ensures { result ≡ same_region a b }
 {

@@ -2,7 +2,7 @@
 
 ghost use Rattle.absdom.specs.Laws.{BelowFits, BelowIsReflexive, BelowIsTransitive, BelowIsAntisymmetric, EntryFits, CallFits, JoinIsAbove, JoinIsLeast, ApplyFits, RefineFits, ApplyGrows, RefineGrows, JoinGrows, CallGrows, ApplyLeaves, CallLeaves, ForgetsAll, RefineShrinks};
 
-/// A law and no work: whatever fits a state fits every state above it, and the order is one.
+/// A law and no work: whatever fits a state fits every state above it, and the states are in an order.
 pub fn order_of_states()
     ensures fits { BelowFits }
     ensures reflexive { BelowIsReflexive }
@@ -10,8 +10,8 @@ pub fn order_of_states()
     ensures antisymmetric { BelowIsAntisymmetric }
 {}
 
-/// A law and no work: from every state of the machine that fits what is known, an instruction that
-/// [`apply`] does not refuse goes on, in a state that fits what `apply` gives.
+/// A law and no work: if [`apply`] does not refuse an instruction, the machine goes on from every state that fits
+/// what is known. Its next state fits what `apply` gives.
 ///
 /// [`apply`]: crate::State::apply
 pub fn apply_fits()
@@ -29,8 +29,8 @@ pub fn entry_fits()
     ensures { EntryFits }
 {}
 
-/// A law and no work: whatever a helper answers, the machine's state after the call fits
-/// [`State::call`] of a state that fitted before.
+/// A law and no work: whatever a helper answers, the machine's state after the call fits [`State::call`] of a state
+/// that fitted before.
 ///
 /// [`State::call`]: crate::State::call
 pub fn after_call_fits()
@@ -44,8 +44,9 @@ pub fn join_is_least()
     ensures grows { JoinGrows }
 {}
 
-/// A law and no work: from every state of the machine that fits what is known, a comparison that
-/// [`refine`] does not refuse takes an edge that is followed, and the state fits what is known on it.
+/// A law and no work: from every state of the machine that fits what is known, a comparison takes an edge that
+/// [`refine`] follows. The state then fits what is known on that edge. The condition is that `refine` does not refuse
+/// the comparison.
 ///
 /// [`refine`]: crate::refine
 pub fn refine_fits()
@@ -54,8 +55,8 @@ pub fn refine_fits()
     absdom_num::edges_fit();
 }
 
-/// A law and no work: of a smaller state [`apply`] gives a smaller one, and does not refuse where it does
-/// not at the larger.
+/// A law and no work: from a smaller state [`apply`] gives a smaller one. If it does not refuse the larger, it does
+/// not refuse the smaller.
 ///
 /// [`apply`]: crate::State::apply
 pub fn apply_grows()
@@ -64,9 +65,9 @@ pub fn apply_grows()
     absdom_num::results_grow();
 }
 
-/// A law and no work: an instruction that [`apply`] does not refuse leaves the kinds of the registers that it
-/// does not write, and clears no mark; one that is no store makes none, and leaves the range of each word. So does
-/// [`State::call`] for what a helper's call leaves.
+/// A law and no work: an instruction that [`apply`] does not refuse keeps all marks, and the kinds of registers that
+/// it does not write. An instruction that is no store makes no mark, and keeps the range of each word.
+/// [`State::call`] does the same for a helper's call.
 ///
 /// [`apply`]: crate::State::apply
 /// [`State::call`]: crate::State::call
@@ -75,12 +76,13 @@ pub fn apply_leaves()
     ensures call { CallLeaves }
 {}
 
-/// A law and no work: where ranges are forgotten, nothing is known of any word of the stack, if nothing was before.
+/// A law and no work: if ranges are forgotten, and nothing was known of any word of the stack, nothing is known
+/// after.
 pub fn forgets_all()
     ensures { ForgetsAll }
 {}
 
-/// A law and no work: what [`refine`] tells of an edge that is followed is below the state that was refined.
+/// A law and no work: what [`refine`] gives on an edge that is followed is below the state that was refined.
 ///
 /// [`refine`]: crate::refine
 pub fn refine_shrinks()
@@ -89,15 +91,15 @@ pub fn refine_shrinks()
     absdom_num::edges_shrink();
 }
 
-/// A law and no work: of a smaller state [`State::call`] gives a smaller one.
+/// A law and no work: from a smaller state [`State::call`] gives a smaller one.
 ///
 /// [`State::call`]: crate::State::call
 pub fn after_call_grows()
     ensures { CallGrows }
 {}
 
-/// A law and no work: of a smaller state [`refine`] gives smaller edges, follows none that it does not follow
-/// from the larger, and does not refuse where it does not at the larger.
+/// A law and no work: from a smaller state [`refine`] gives smaller edges. It follows none that it does not follow
+/// from the larger. If it does not refuse the larger, it does not refuse the smaller.
 ///
 /// [`refine`]: crate::refine
 pub fn refine_grows()

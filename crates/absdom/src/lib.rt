@@ -1,12 +1,13 @@
-//! What the verifier knows of a program's registers and stack at a slot (RFC 9669; the abstract states
-//! are a choice of this project).
+//! What the verifier knows of a program's registers and stack at a slot (RFC 9669; the abstract states are a choice
+//! of this project).
 //!
-//! A [`State`] has a kind for each register, a mark for each byte of the stack that is set and a range for each
-//! word of eight bytes, and changes in place. [`State::apply`] does what an instruction does to it, or says why the
-//! instruction is refused; whether numbers on the stack keep their ranges is told by a [`Spill`]. [`refine`] tells
-//! the ranges on the two edges of a comparison. The definitions are in `specs/`: `Kinds` has the kinds and their
-//! order, `Effect` what an instruction does to all that is known, `Fits` which
-//! states of the machine a state stands for, and `Laws` what holds of all this.
+//! A [`State`] has a kind for each register, and a mark for each byte of the stack that is set. It has a range for
+//! each word of eight bytes. It changes in place. [`State::apply`] does what an instruction does to it, or says why
+//! the instruction is refused. A [`Spill`] says whether numbers on the stack keep their ranges. [`refine`] gives the
+//! ranges on the two edges of a comparison.
+//!
+//! The definitions are in `specs/`. `Kinds` has the kinds and their order, and `Effect` what an instruction does to
+//! all that is known. `Fits` says which states of the machine fit a state, and `Laws` what holds of all this.
 #![tactic(auto)]
 
 mod access;

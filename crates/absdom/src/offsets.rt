@@ -8,8 +8,8 @@ use std::marker::Model;
 /// The greatest distance of a pointer from offset 0 of its region.
 const LIMIT: i32 = 65_536;
 
-/// The least and the greatest offset of a pointer, in bytes from where its region begins (from the end of
-/// the stack), in order, each within -65,536 to 65,536.
+/// The least and the greatest offset of a pointer, in order, each within -65,536 to 65,536. They are in bytes from
+/// the beginning of its region, and for the stack from its end.
 #[derive(Clone, Copy, Debug, PartialEq, Eq)]
 pub struct Offsets {
     low: i32,
@@ -30,15 +30,15 @@ impl Model for Offsets {
 }
 
 impl Offsets {
-    /// Offset 0 alone: the first byte of a region of the header, the end of the stack.
+    /// Only offset 0: the first byte of a region of the header, or the end of the stack.
     pub fn zero() -> Offsets
         ensures { result ≡ (pos 0, pos 0) }
     {
         Offsets { low: 0, high: 0 }
     }
 
-    /// The offsets from `low` to `high`, which the caller has compared. `None` where one of them is outside
-    /// -65,536 to 65,536.
+    /// The offsets from `low` to `high`. The condition is that they are in order. It is `None` if one of them is
+    /// outside -65,536 to 65,536.
     pub fn within(low: i128, high: i128) -> Option<Offsets>
         requires { low ≤ℤ high }
         ensures { result ≡ offsets_within low high }
@@ -72,7 +72,7 @@ impl Offsets {
         self.high
     }
 
-    /// The least offsets that hold both.
+    /// The smallest offsets that hold both.
     pub fn join(self, other: Offsets) -> Offsets
         ensures { result ≡ joined_offsets self other }
     {

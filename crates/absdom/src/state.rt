@@ -23,8 +23,8 @@ struct Registers {
     kinds: [AbsKind; REGISTERS],
 }
 
-/// What is known at a slot: the kind of each register, which bytes of the stack are set, and the range of the number
-/// in each word of eight bytes. Of a word whose eight bytes are not all set nothing is known.
+/// What is known at a slot: the kind of each register, and which bytes of the stack are set. It also has the range of
+/// the number in each word of eight bytes. If not all eight bytes of a word are set, nothing is known of the word.
 #[derive(Clone, Debug, Drop)]
 pub struct State {
     registers: Registers,
@@ -45,8 +45,8 @@ impl Model for State {
 }
 
 impl State {
-    /// What the calling rules say at entry: r1 points to the front of the header, r2 to its tail, r10 to
-    /// the end of the stack, r3 is a port, 0 to 31. All else is unset.
+    /// What is known at entry, by the calling rules. The register r1 points to the front of the header, r2 to its
+    /// tail, and r10 to the end of the stack. The port is in r3, 0 to 31. All else is unset.
     pub fn entry() -> State
         ensures entry { IsEntry result }
         ensures known { IsState result }
@@ -61,9 +61,9 @@ impl State {
         }
     }
 
-    /// A law and no work: each state has eleven registers, whose ranges and offsets have their ends in order,
-    /// 512 marks, and 64 words with ranges in order, of which that of a word that is not all set is whole. Any two
-    /// states can be compared, so the laws on larger states hold of them.
+    /// A law and no work: each state has eleven registers, 512 marks, and 64 words. The ranges and offsets of
+    /// registers and words have their ends in order. The range of a word that is not all set is whole. Any two states
+    /// can be compared, so the laws on larger states hold of them.
     pub fn stands_whole(&self)
         ensures { IsWhole self.now }
     {
@@ -77,8 +77,8 @@ impl State {
         self.registers.kinds[usize::from(register.number())]
     }
 
-    /// The range of the number in a word of the stack: word k is the bytes 8k to 8k + 7, at offsets 8k - 512 to 8k - 505.
-    /// All numbers where none is known there, and for a word past the last one, 63.
+    /// The range of the number in a word of the stack. Word k is the bytes 8k to 8k + 7, at offsets 8k - 512 to 8k -
+    /// 505. If none is known there, or if the word is past the last one, 63, the range is all numbers.
     pub fn word(&self, word: usize) -> Range
         ensures { result ≡ range_in self.now.ranges word }
     {
@@ -97,8 +97,8 @@ impl State {
         self.registers.kinds[usize::from(register.number())] = kind;
     }
 
-    /// Writes a number to a register. Its range goes by registers of the processor: what is copied as a whole kind goes
-    /// by memory, in parts that are waited for.
+    /// Writes a number to a register. Its range goes through registers of the processor. A kind that is copied as a
+    /// whole goes through memory, in parts that the processor waits for.
     #[inline(always)]
     pub(crate) fn write_number(&mut self, register: Register, range: Range)
         ensures { self.new ≡ with_kind self.old register (AbsKind.Num range) }
@@ -106,7 +106,7 @@ impl State {
         self.write(register, AbsKind::Num(range));
     }
 
-    /// Becomes the same as the other.
+    /// Becomes equal to the other state.
     pub fn set_to(&mut self, other: &State)
         ensures { self.new ≡ other.now }
     {
@@ -123,7 +123,7 @@ impl State {
         self.words.forget();
     }
 
-    /// Grows to the least state above both: register by register, word by word, and a byte is set where it is in
+    /// Grows to the least state above both, register by register and word by word. A byte is set if it is set in
     /// both.
     pub fn join(&mut self, other: &State)
         ensures joint { IsJoin self.old other.now self.new }
@@ -160,7 +160,7 @@ impl State {
         self.registers.kinds[5] = AbsKind::Unset;
     }
 
-    /// Whether the bytes of the stack from place `first` to before `end` are set, counted from its lowest byte on.
+    /// Whether the bytes of the stack from `first` to before `end` are set, counted from its lowest byte.
     pub fn are_set(&self, first: usize, end: usize) -> bool
         requires { end ≤ STACK_SIZE }
         ensures { result ≡ all_marked self.now.marks first (end - first) }
@@ -176,8 +176,7 @@ impl State {
         self.words.get(word)
     }
 
-    /// Stores a number of that range in so many bytes of the stack, from `lowest` on or from any byte up to
-    /// `highest`.
+    /// Stores a number of that range in `bytes` bytes of the stack, from `lowest`, or from any byte up to `highest`.
     pub(crate) fn store(
         &mut self,
         spill: Spill,

@@ -399,7 +399,7 @@ rest_grows op width a b c d p q r s =
     row_grows op width (low_range width a) (low_range width b) (low_range width c) (low_range width d)
     (cut_proper width a p) (cut_proper width b q) (cut_grows width a c p r) (cut_grows width b d q s)
 
--- where one of the smaller operands is no single number
+-- if one of the smaller operands is no single number
 open_grows : (op : AluOp) (width : Width) (a b c d : Range) → IsRange a → IsRange b → IsWithin a c → IsWithin b d → (a.0 ≡ a.1 → b.0 ≡ b.1 → ⊥) → IsWithin (row op width (low_range width a) (low_range width b)) (alu_range op width c d)
 open_grows op width a b c d p q r s n =
     by_eq

@@ -34,7 +34,7 @@ no_zeros (suc k) (suc n) h =
     let e : 2 ^ k * 2 ≤ suc n = omega (arith, pow-suc 2 k) in
     no_zeros k (suc n / 2) (le-div (2 ^ k) (suc n) 2 (omega arith) e)
 
--- where the ones end, and that every word up to n ends there too
+-- the place at which the ones end, and that every word up to n ends there too
 pub record Ones (n k : ℕ) : Type 0 where
   pub ones : ones_over n ≡ 2 ^ k - 1
   pub room : (i : ℕ) → i ≤ n → i < 2 ^ 64 → i < 2 ^ k

@@ -16,7 +16,7 @@ same_ends a b e f = ap₂ (λ x y. let r : Range = (x, y) in r) e f
 pub within_both : (a b : Range) → IsWithin a b → IsWithin b a → a ≡ b
 within_both a b p q = same_ends a b (omega arith) (omega arith)
 
--- a range that has a number of words, within one number
+-- a range that holds a word and lies within one number is that number
 pub only_within : (a b : Range) → a.0 ≤ a.1 → b.0 ≡ b.1 → IsWithin a b → a ≡ b
 only_within a b h s p = same_ends a b (omega arith) (omega arith)
 

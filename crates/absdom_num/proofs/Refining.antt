@@ -140,7 +140,7 @@ both_fit SignedLess a b n m p q =
 both_fit SignedLessEqual a b n m p q =
     by_le (λ t. AreIn n m (followed_edge t (both SignedLessEqual a b))) n m (λ h. at_most_fits a b n m p q h) (λ h. greater_fits a b n m p q h)
 
--- where nothing is refined
+-- if nothing is refined
 abbrev pub same : Range → Range → Edges
 same a b = record { taken = Some (record { dst = a; src = b }); not_taken = Some (record { dst = a; src = b }) }
 

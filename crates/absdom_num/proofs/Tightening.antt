@@ -1,4 +1,4 @@
--- What smaller operands follow, larger ones do too, to ranges that are at least as large.
+-- If smaller operands follow an edge, larger ones do too, to ranges that are at least as large.
 use Rattle.std.proofs.Common.{ℕ, ◌≡◌, ◌+◌, ◌-◌, ◌<◌, ◌≤◌, ◌&&◌, min, max, Option, Some, None, sym, subst, ⊎_elim, arith}
 use Rattle.std.specs.Prelude.{◌==◌, nat_lt, nat_le, if◌then◌else◌}
 use Rattle.std.proofs.lemmas.Bool.{cases_eq}
@@ -257,7 +257,7 @@ not_taken_in LessEqual a b c d p = greater_in a b c d p
 not_taken_in SignedLess a b c d p = at_least_in a b c d p
 not_taken_in SignedLessEqual a b c d p = greater_in a b c d p
 
--- where the larger operands are not refined
+-- if the larger operands are not refined
 refined_in : (condition : Condition) (width : Width) (a b c d : Range) → Inside a b c d → AreBelow (refined_ranges condition width a b) (same c d)
 refined_in condition width a b c d p =
     by_lt
@@ -269,7 +269,7 @@ refined_in condition width a b c d p =
     (λ g. record { taken = (p.a_in, p.b_in); not_taken = (p.a_in, p.b_in) }))
     (λ h. record { taken = (p.a_in, p.b_in); not_taken = (p.a_in, p.b_in) })
 
--- where they are
+-- if the larger operands are refined
 refined_both : (condition : Condition) (width : Width) (a b c d : Range) → Pair a b c d → c.1 < reach condition width → d.1 < reach condition width → AreBelow (refined_ranges condition width a b) (both condition c d)
 refined_both condition width a b c d p u v =
     by_lt

@@ -40,7 +40,7 @@ extended_small ByteTo64 n = residue_small Bits64 (cast_signed w8 (n % 2 ^ 8))
 extended_small HalfTo64 n = residue_small Bits64 (cast_signed w16 (n % 2 ^ 16))
 extended_small WordTo64 n = residue_small Bits64 (cast_signed w32 (n % 2 ^ 32))
 
--- what is not negative stays
+-- a number that is not negative stays
 extended_same : (extension : Extension) (n : ℕ) → n < sign_bit extension → sign_extension extension n ≡ n
 extended_same ByteTo32 n h =
     let e : n % 2 ^ 8 ≡ n = omega arith in

@@ -1,4 +1,4 @@
--- Laws of the tables
+-- Laws of the tables.
 use Rattle.std.specs.Prelude.{◌≡◌, ℕ, ◌-◌, ◌^◌, ◌<◌, ◌≤◌, Bool, true, false, Option, Some, None}
 use Rattle.bpf_parts.specs.declared.operation.Width.{Width}
 use Rattle.bpf_parts.specs.declared.operation.AluOp.{AluOp}
@@ -37,12 +37,12 @@ ByteSwapFits =
     (swap : Swap) (bits : SwapBits) (a : Range) (n : ℕ) → IsIn n a
     → IsIn (swapped_bytes swap bits n) (swapped_range swap bits a)
 
--- the edge that is followed where a comparison is true or false
+-- the edge that is followed if a comparison is true, and if it is false
 abbrev pub followed_edge : Bool → Edges → Option Operands
 followed_edge true edges = edges.taken
 followed_edge false edges = edges.not_taken
 
--- the numbers lie in an edge's ranges. None do where the edge is not followed
+-- the numbers lie in an edge's ranges. If the edge is not followed, none do
 abbrev pub AreIn : ℕ → ℕ → Option Operands → Type 0
 AreIn n m None = ⊥
 AreIn n m (Some operands) = IsIn n operands.dst × IsIn m operands.src
@@ -77,24 +77,24 @@ ByteSwapGrows =
     (swap : Swap) (bits : SwapBits) (a c : Range) → IsRange a → IsWithin a c
     → IsWithin (swapped_range swap bits a) (swapped_range swap bits c)
 
--- what one edge leads to, the other does too, with ranges at least as large
+-- if one edge is followed, the other is too, with ranges at least as large
 abbrev pub IsBelow : Option Operands → Option Operands → Type 0
 IsBelow None other = Unit {0}
 IsBelow (Some operands) None = ⊥
 IsBelow (Some operands) (Some other) = IsWithin operands.dst other.dst × IsWithin operands.src other.src
 
--- both edges lead to what the others do, with ranges at least as large there
+-- if an edge of the first is followed, so is that of the others, with ranges at least as large
 pub record AreBelow (edges others : Edges) : Type 0 where
   pub taken : IsBelow edges.taken others.taken
   pub not_taken : IsBelow edges.not_taken others.not_taken
 
--- larger operands leave edges that are at least as large
+-- larger operands give edges that are at least as large
 abbrev pub RefineGrows : Type 0
 RefineGrows =
     (condition : Condition) (width : Width) (a b c d : Range) → IsRange a → IsRange b → IsWithin a c → IsWithin b d
     → AreBelow (refined_ranges condition width a b) (refined_ranges condition width c d)
 
--- refinement only shrinks: no edge leads to ranges but those inside the operands'
+-- refinement only shrinks: an edge leads only to ranges inside the operands'
 abbrev pub RefineShrinks : Type 0
 RefineShrinks =
     (condition : Condition) (width : Width) (a b : Range)
@@ -107,7 +107,7 @@ IsOrder =
     × ((a b c : Range) → IsWithin a b → IsWithin b c → IsWithin a c)
     × ((a b : Range) → IsWithin a b → IsWithin b a → a ≡ b)
 
--- what a range holds, each larger one does
+-- a number in a range is in each larger one
 abbrev pub IsSound : Type 0
 IsSound = (a b : Range) (n : ℕ) → IsWithin a b → IsIn n a → IsIn n b
 

@@ -4,7 +4,7 @@ use Rattle.absdom_num.specs.declared.ranges.Range.{Range}
 
 -- ---- the statement
 
--- the ends stand in order, and both are words
+-- the ends are in order, and both are words
 pub record IsRange (r : Range) : Type 0 where
   pub in_order : r.0 ≤ r.1
   pub words : r.1 < 2 ^ 64

@@ -1,4 +1,4 @@
--- What a comparison tells of its operands on each of its two edges (a choice of this project)
+-- What a comparison says of its operands on each of its two edges (a choice of this project).
 use Rattle.std.specs.Prelude.{ℕ, ◌+◌, ◌-◌, ◌&&◌, ◌==◌, nat_lt, nat_le, if◌then◌else◌, min, max, Option, Some, None}
 use Rattle.bpf_parts.specs.declared.operation.Width.{Width}
 use Rattle.bpf_parts.specs.declared.operation.Condition.{Condition}
@@ -18,14 +18,14 @@ abbrev pub edge : Range → Range → Option Operands
 edge a b =
     if nat_le a.0 a.1 && nat_le b.0 b.1 then Some (record { dst = a; src = b }) else None
 
--- a range without the number n, where n is one of its ends
+-- a range without the number n, if n is one of its ends
 abbrev pub range_without : Range → ℕ → Range
 range_without a n =
     if a.0 == n then (a.0 + 1, a.1)
     else if a.1 == n then (a.0, a.1 - 1)
     else a
 
--- where the other range is one number, it moves an end
+-- if the other range is one number, it moves an end
 abbrev pub range_apart : Range → Range → Range
 range_apart a b = if is_single b then range_without a b.0 else a
 
@@ -53,7 +53,7 @@ when_greater a b = edge (max a.0 (b.0 + 1), a.1) (b.0, min b.1 (a.1 - 1))
 abbrev pub when_at_least : Range → Range → Option Operands
 when_at_least a b = edge (max a.0 b.0, a.1) (b.0, min b.1 a.1)
 
--- where a comparison holds
+-- the edge on which a comparison holds
 abbrev pub when_taken : Condition → Range → Range → Option Operands
 when_taken Equal a b = when_equal a b
 when_taken Greater a b = when_greater a b
@@ -67,7 +67,7 @@ when_taken LessEqual a b = when_at_most a b
 when_taken SignedLess a b = when_less a b
 when_taken SignedLessEqual a b = when_at_most a b
 
--- where it does not
+-- the edge on which it does not
 abbrev pub when_not_taken : Condition → Range → Range → Option Operands
 when_not_taken Equal a b = when_not_equal a b
 when_not_taken Greater a b = when_at_most a b
@@ -81,8 +81,8 @@ when_not_taken LessEqual a b = when_greater a b
 when_not_taken SignedLess a b = when_at_least a b
 when_not_taken SignedLessEqual a b = when_greater a b
 
--- below this number both operands must lie: there a comparison of that width compares them whole, and
--- a signed one as an unsigned one
+-- both operands must lie below this number: there a comparison of that width compares them whole, and a signed one as
+-- an unsigned one
 abbrev pub reach : Condition → Width → ℕ
 reach SignedGreater width = sign_weight width
 reach SignedGreaterEqual width = sign_weight width
@@ -101,7 +101,7 @@ abbrev pub unrefined_ranges : Range → Range → Edges
 unrefined_ranges a b =
     record { taken = Some (record { dst = a; src = b }); not_taken = Some (record { dst = a; src = b }) }
 
--- the ranges on the two edges. Where nothing is refined, both edges keep them
+-- the ranges on the two edges. If nothing is refined, both edges keep them
 abbrev pub refined_ranges : Condition → Width → Range → Range → Edges
 refined_ranges condition width a b =
     if nat_lt a.1 (reach condition width) && nat_lt b.1 (reach condition width)

@@ -29,7 +29,7 @@ is_single a = a.0 == a.1
 abbrev pub whole_range : Width → Range
 whole_range width = (0, modulus width - 1)
 
--- the first number of that width that is negative where it is read as signed
+-- the first number of that width that is negative when read as signed
 abbrev pub sign_weight : Width → ℕ
 sign_weight Bits32 = 2 ^ 31
 sign_weight Bits64 = 2 ^ 63
@@ -42,7 +42,7 @@ low_range Bits32 a =
     else if is_single a then single_range (a.0 % 2 ^ 32)
     else whole_range Bits32
 
--- ADD: the sums of the ends, where both wrap or none does
+-- ADD: the sums of the ends, if both wrap or none does
 abbrev pub sum_range : Width → Range → Range → Range
 sum_range width a b =
     if nat_lt (a.1 + b.1) (modulus width) then (a.0 + b.0, a.1 + b.1)
@@ -56,7 +56,7 @@ difference_range width a b =
     else if nat_lt a.1 b.0 then (a.0 + modulus width - b.1, a.1 + modulus width - b.0)
     else whole_range width
 
--- MUL: the products of the ends, where the greatest does not wrap
+-- MUL: the products of the ends, if the greatest does not wrap
 abbrev pub product_range : Width → Range → Range → Range
 product_range width a b =
     if nat_lt (a.1 * b.1) (modulus width) then (a.0 * b.0, a.1 * b.1) else whole_range width
@@ -65,7 +65,7 @@ product_range width a b =
 abbrev pub quotient_range : Range → Range → Range
 quotient_range a b = if nat_le 1 b.0 then (a.0 / b.1, a.1 / b.0) else (0, a.1)
 
--- MOD: a number below the divisor stays, and modulo by zero leaves the destination
+-- MOD: a number below the divisor stays, and modulo by zero does not change the destination
 abbrev pub remainder_range : Range → Range → Range
 remainder_range a b =
     if nat_le 1 b.0 && nat_lt a.1 b.0 then a
@@ -104,11 +104,11 @@ abbrev pub right_range : Width → Range → Range → Range
 right_range width a b =
     if is_single b then (a.0 / 2 ^ distance width b.0, a.1 / 2 ^ distance width b.0) else (0, a.1)
 
--- ARSH: as RSH where no number is negative
+-- ARSH: as RSH if no number is negative
 abbrev pub signed_right_range : Width → Range → Range → Range
 signed_right_range width a b = if nat_le (sign_weight width) a.1 then whole_range width else right_range width a b
 
--- the table of an operation, for operands of that width of which one is not a single number
+-- the table of an operation, for operands of that width that are not both single numbers
 abbrev pub row : AluOp → Width → Range → Range → Range
 row Add width a b = sum_range width a b
 row Sub width a b = difference_range width a b
@@ -125,7 +125,7 @@ row Xor width a b = xor_range a b
 row Mov width a b = b
 row Arsh width a b = signed_right_range width a b
 
--- the result of an operation: exact where both operands are single numbers
+-- the result of an operation: exact if both operands are single numbers
 abbrev pub alu_range : AluOp → Width → Range → Range → Range
 alu_range op width a b =
     if is_single a && is_single b then single_range (alu_words op width a.0 b.0)
@@ -143,8 +143,8 @@ sign_bit ByteTo64 = 2 ^ 7
 sign_bit HalfTo64 = 2 ^ 15
 sign_bit WordTo64 = 2 ^ 31
 
--- MOVSX: what is not negative stays. To cut the operand would change nothing, since these bounds are
--- below 2^32.
+-- MOVSX: a number that is not negative stays. To cut the operand would change nothing, since these bounds are below
+-- 2^32.
 abbrev pub extended_range : Extension → Range → Range
 extended_range extension a =
     if is_single a then single_range (sign_extension extension a.0)

@@ -1,4 +1,4 @@
-//! Laws of ranges, each a function that does nothing and ensures the law.
+//! Laws of ranges. Each is a function that does nothing and ensures the law.
 
 ghost use Rattle.absdom_num.specs.Laws.{AluFits, NegateFits, MoveSignedFits, ByteSwapFits, RefineFits, AluGrows, NegateGrows, MoveSignedGrows, ByteSwapGrows, RefineGrows, RefineShrinks, IsOrder, IsSound, IsJoin, IsLeastOnes};
 
@@ -10,8 +10,8 @@ pub fn results_fit()
     ensures byte_swap { ByteSwapFits }
 {}
 
-/// Numbers that fit the operands of a comparison fit the operands on the edge that they take. So no
-/// numbers take an edge that is not followed.
+/// Numbers that fit the operands of a comparison fit the operands on the edge that they take. So no numbers take an
+/// edge that is not followed.
 pub fn edges_fit()
     ensures { RefineFits }
 {}
@@ -24,8 +24,7 @@ pub fn results_grow()
     ensures byte_swap { ByteSwapGrows }
 {}
 
-/// Of larger operands every edge is followed that smaller ones follow, and leads to ranges that are at
-/// least as large.
+/// If smaller operands follow an edge, larger ones follow it too, to ranges that are at least as large.
 pub fn edges_grow()
     ensures { RefineGrows }
 {}
@@ -35,15 +34,15 @@ pub fn edges_shrink()
     ensures { RefineShrinks }
 {}
 
-/// Containment is an order, in which what fits a range fits every larger one, and the join is the
-/// least range above both.
+/// Containment is an order. In it what fits a range fits every larger one, and the join is the least range above
+/// both.
 pub fn ranges_are_ordered()
     ensures order { IsOrder }
     ensures fits { IsSound }
     ensures join { IsJoin }
 {}
 
-/// The upper end of OR and XOR is the least number of ones only that no operand is above.
+/// The upper end of OR and XOR is the least number of only ones that is not below any operand.
 pub fn ones_are_least()
     ensures { IsLeastOnes }
 {}

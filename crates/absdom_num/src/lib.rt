@@ -1,8 +1,8 @@
 //! Ranges of numbers: what is known of a number before a program runs.
 //!
-//! A [`Range`] holds the words from its low end to its high end. [`alu`], [`negate`],
-//! [`move_signed`] and [`byte_swap`] give the range of an operation's results, and [`refine`] what a
-//! comparison tells of its operands on each edge.
+//! A [`Range`] holds the words from its low end to its high end. [`alu`], [`negate`], [`move_signed`] and
+//! [`byte_swap`] give the range of an operation's results. [`refine`] gives what a comparison says of its operands on
+//! each edge.
 #![tactic(auto)]
 
 mod laws;

@@ -32,7 +32,7 @@ impl Range {
         Range { low: n, high: n }
     }
 
-    /// The words from `low` to `high`. The caller has compared them.
+    /// The words from `low` to `high`. The condition is that they are in order.
     pub fn new(low: u64, high: u64) -> Range
         requires { low ≤ high }
         ensures { result ≡ (low, high) }
@@ -68,7 +68,7 @@ impl Range {
         self.high
     }
 
-    /// The one word of the range. `None` where there are more.
+    /// The one word of the range, or `None` if there are more.
     pub fn single_value(self) -> Option<u64>
         ensures { result ≡ single_value self }
     {

@@ -1,4 +1,4 @@
-//! What a comparison tells of its operands, on each of its edges.
+//! What a comparison says of its operands, on each of its edges.
 
 ghost use Rattle.std.specs.Prelude.{◌≡◌, ◌+◌};
 ghost use Rattle.absdom_num.specs.Refinement.{nonempty_range, range_apart, when_equal, when_not_equal, when_less, when_at_most, when_greater, when_at_least, when_taken, when_not_taken, reach, refined_ranges};
@@ -15,16 +15,16 @@ pub struct Operands {
     pub src: Range,
 }
 
-/// The operands on the two edges of a comparison. `None` where no operands take that edge.
+/// The operands on the two edges of a comparison. An edge is `None` if no operands take it.
 #[derive(Clone, Copy, Debug, PartialEq, Eq)]
 pub struct Edges {
-    /// Where the comparison holds.
+    /// The edge on which the comparison holds.
     pub taken: Option<Operands>,
-    /// Where it does not.
+    /// The edge on which it does not hold.
     pub not_taken: Option<Operands>,
 }
 
-/// Where a = b: the common part.
+/// The edge a = b: the common part.
 fn when_equal(a: Range, b: Range) -> Option<Operands>
     ensures { result ≡ when_equal a b }
 {
@@ -41,8 +41,8 @@ fn when_equal(a: Range, b: Range) -> Option<Operands>
     }
 }
 
-/// A range that moves an end in where the other range is that one number. `None` where nothing is
-/// left.
+/// A range without the number of the other range, if that is one number and an end of this one. It is `None` if
+/// nothing is left.
 fn range_apart(a: Range, b: Range) -> Option<Range>
     ensures { result ≡ nonempty_range (range_apart a b) }
 {
@@ -62,7 +62,7 @@ fn range_apart(a: Range, b: Range) -> Option<Range>
     }
 }
 
-/// Where a is not b.
+/// The edge on which a is not b.
 fn when_not_equal(a: Range, b: Range) -> Option<Operands>
     ensures { result ≡ when_not_equal a b }
 {
@@ -71,7 +71,7 @@ fn when_not_equal(a: Range, b: Range) -> Option<Operands>
     Some(Operands { dst, src })
 }
 
-/// Where a < b.
+/// The edge a < b.
 fn when_less(a: Range, b: Range) -> Option<Operands>
     ensures { result ≡ when_less a b }
 {
@@ -84,7 +84,7 @@ fn when_less(a: Range, b: Range) -> Option<Operands>
     }
 }
 
-/// Where a <= b.
+/// The edge a <= b.
 fn when_at_most(a: Range, b: Range) -> Option<Operands>
     ensures { result ≡ when_at_most a b }
 {
@@ -97,7 +97,7 @@ fn when_at_most(a: Range, b: Range) -> Option<Operands>
     }
 }
 
-/// Where a > b.
+/// The edge a > b.
 fn when_greater(a: Range, b: Range) -> Option<Operands>
     ensures { result ≡ when_greater a b }
 {
@@ -105,7 +105,7 @@ fn when_greater(a: Range, b: Range) -> Option<Operands>
     Some(Operands { dst: src, src: dst })
 }
 
-/// Where a >= b.
+/// The edge a >= b.
 fn when_at_least(a: Range, b: Range) -> Option<Operands>
     ensures { result ≡ when_at_least a b }
 {
@@ -113,7 +113,7 @@ fn when_at_least(a: Range, b: Range) -> Option<Operands>
     Some(Operands { dst: src, src: dst })
 }
 
-/// Where the comparison holds.
+/// The edge on which the comparison holds.
 fn when_taken(condition: Condition, a: Range, b: Range) -> Option<Operands>
     ensures { result ≡ when_taken condition a b }
 {
@@ -128,7 +128,7 @@ fn when_taken(condition: Condition, a: Range, b: Range) -> Option<Operands>
     }
 }
 
-/// Where the comparison does not hold.
+/// The edge on which the comparison does not hold.
 fn when_not_taken(condition: Condition, a: Range, b: Range) -> Option<Operands>
     ensures { result ≡ when_not_taken condition a b }
 {
@@ -143,8 +143,8 @@ fn when_not_taken(condition: Condition, a: Range, b: Range) -> Option<Operands>
     }
 }
 
-/// The greatest number that both operands may hold where a comparison is refined. Up to there a
-/// comparison of this width compares them whole, and a signed one as an unsigned one.
+/// The greatest number that both operands may have if a comparison is refined. Up to there a comparison of this width
+/// compares them whole, and a signed one as an unsigned one.
 fn greatest_refined(condition: Condition, width: Width) -> u64
     ensures { result + 1 ≡ reach condition width }
 {
@@ -163,9 +163,8 @@ fn greatest_refined(condition: Condition, width: Width) -> u64
     }
 }
 
-/// What a comparison of two registers that are not the same tells on its two edges (RFC 9669,
-/// section 4.3). Where it tells nothing both edges keep the ranges, as where the bits of operands
-/// are compared.
+/// What a comparison of two different registers says on its two edges (RFC 9669, section 4.3). If it says nothing,
+/// both edges keep the ranges. A comparison of bits says nothing.
 pub fn refine(condition: Condition, width: Width, a: Range, b: Range) -> Edges
     ensures { result ≡ refined_ranges condition width a b }
 {

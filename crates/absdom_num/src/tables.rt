@@ -42,7 +42,7 @@ fn cut_to_32(a: Range) -> Range
     }
 }
 
-/// ADD: the sums of the ends, where both wrap or none does.
+/// ADD: the sums of the ends, if both wrap or none does.
 fn sum(width: Width, a: Range, b: Range) -> Range
     requires a_low { a.1 < modulus width }
     requires b_low { b.1 < modulus width }
@@ -60,7 +60,7 @@ fn sum(width: Width, a: Range, b: Range) -> Range
     }
 }
 
-/// SUB: the differences of the ends, where both wrap or none does.
+/// SUB: the differences of the ends, if both wrap or none does.
 fn difference(width: Width, a: Range, b: Range) -> Range
     requires a_low { a.1 < modulus width }
     requires b_low { b.1 < modulus width }
@@ -78,7 +78,7 @@ fn difference(width: Width, a: Range, b: Range) -> Range
     }
 }
 
-/// MUL: the products of the ends, where the greatest does not wrap.
+/// MUL: the products of the ends, if the greatest does not wrap.
 fn product(width: Width, a: Range, b: Range) -> Range
     ensures { result ≡ product_range width a b }
 {
@@ -100,7 +100,7 @@ fn quotient(a: Range, b: Range) -> Range
     Range::new(a.low() / b.high(), high)
 }
 
-/// MOD: a number below the divisor stays, and modulo by zero leaves the destination.
+/// MOD: a number below the divisor stays, and modulo by zero does not change the destination.
 fn remainder(a: Range, b: Range) -> Range
     ensures { result ≡ remainder_range a b }
 {
@@ -182,7 +182,7 @@ fn right(width: Width, a: Range, b: Range) -> Range
     }
 }
 
-/// The first number of this width that is negative where it is read as signed.
+/// The first number of this width that is negative when read as signed.
 fn sign_weight(width: Width) -> u64
     ensures { result ≡ sign_weight width }
 {
@@ -192,7 +192,7 @@ fn sign_weight(width: Width) -> u64
     }
 }
 
-/// ARSH: as RSH where no number is negative.
+/// ARSH: as RSH if no number is negative.
 fn signed_right(width: Width, a: Range, b: Range) -> Range
     ensures { result ≡ signed_right_range width a b }
 {
@@ -226,8 +226,8 @@ fn row(op: AluOp, width: Width, a: Range, b: Range) -> Range
     }
 }
 
-/// The numbers that an operation can give on numbers of two ranges (RFC 9669, section 4.1): one
-/// number where both operands are, else a range that has them all.
+/// The numbers that an operation can give on numbers of two ranges (RFC 9669, section 4.1). If both operands are one
+/// number, it is one number, else a range that has them all.
 pub fn alu(op: AluOp, width: Width, a: Range, b: Range) -> Range
     ensures { result ≡ alu_range op width a b }
 {
@@ -260,8 +260,7 @@ fn sign_bit(extension: Extension) -> u64
     }
 }
 
-/// The numbers that a sign-extending move can give (RFC 9669, section 4.1): what is not negative
-/// stays.
+/// The numbers that a sign-extending move can give (RFC 9669, section 4.1). A number that is not negative stays.
 pub fn move_signed(extension: Extension, a: Range) -> Range
     ensures { result ≡ extended_range extension a }
 {

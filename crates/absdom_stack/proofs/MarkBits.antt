@@ -38,7 +38,7 @@ mark_of (word ∷ words) place = elim (cases_lt place 64) [
       ∙ ap (λ i. is_bit (get_or words ((place - 64) / 64) 0) i) (sym same) ∙ ap (λ k. is_bit (get_or (word ∷ words) k 0) (place % 64)) (sym later)
 ]
 
--- each word is a word after one was written
+-- each word is a word after one is written
 pub each_after : (words : List ℕ) (written word : ℕ) → word < 2 ^ 64 → ((k : ℕ) → get_or words k 0 < 2 ^ 64) → (k : ℕ) → get_or (set words written word) k 0 < 2 ^ 64
 each_after [] written word h each k = each k
 each_after (w ∷ words) zero word h each zero = h
@@ -59,7 +59,7 @@ bit_of_both a b i = ap (λ x. x == 1) (bit_at_and a b i) ∙ least (bit_at a i) 
     least zero (suc (suc y)) h g = absurd (omega arith)
     least (suc zero) (suc (suc y)) h g = absurd (omega arith)
 
--- the marks of words of which each has the bits of both
+-- the marks of words each of which has the bits of both
 pub marks_joined : (old other new : List ℕ) → length old ≡ 8 → length other ≡ 8 → length new ≡ 8 → ((k : ℕ) → k < 8 → get_or new k 0 ≡ bit_and (get_or old k 0) (get_or other k 0))
     → (place : ℕ) → mark_at (marks_of new) place ≡ (mark_at (marks_of old) place && mark_at (marks_of other) place)
 marks_joined old other new p q r both place =

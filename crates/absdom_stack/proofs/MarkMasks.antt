@@ -16,7 +16,7 @@ use Rattle.absdom_stack.proofs.MarkSteps.{all_marked_from, both_left, both_right
 
 -- ---- the bits of a word
 
--- a word has all of these bits where they are what it has in common with them
+-- a word has all of these bits if they are what it has in common with them
 pub has_bits : (word bits : ℕ) → (bit_and word bits == bits) ≡ true → AreBitsOf word bits
 has_bits word bits e i inside set =
     let same : bit_and word bits ≡ bits = grind (arith, nat_tests, e) in
@@ -108,7 +108,7 @@ at_place P word p above below each =
     let same : p ≡ 64 * word + (p - 64 * word) = omega arith in
     subst P (sym same) (each (p - 64 * word) (omega arith) same)
 
--- the bytes from the first to before the end are marked, as far as they lie in words before one
+-- the bytes from the first to before the end are marked, if they lie in words before one
 abbrev pub AreMarkedBelow : (marks : List Bool) (first end word : ℕ) → Type 0
 AreMarkedBelow marks first end word = (p : ℕ) → first ≤ p → p < end → p < 64 * word → mark_at marks p ≡ true
 
@@ -128,7 +128,7 @@ pub set_all : (marks : List Bool) (first end word : ℕ) → end ≤ 64 * word �
 set_all marks first end word past so =
     all_marked_from marks first (end - first) (λ k below. so (first + k) (omega arith) (omega (arith, below)) (omega (arith, below, past)))
 
--- where a word lacks one of them, not all are marked
+-- if a word lacks one of them, not all are marked
 pub unset_one : (words : List ℕ) (first end word bits : ℕ) → AreBitsIn word first end bits → (AreBitsOf (get_or words word 0) bits → ⊥)
     → all_marked (marks_of words) first (end - first) ≡ false
 unset_one words first end word bits within lacks = by_all (all_marked (marks_of words) first (end - first)) refl
@@ -148,7 +148,7 @@ unset_one words first end word bits within lacks = by_all (all_marked (marks_of 
 
 -- ---- marks that are made
 
--- the bytes from the first to before the end were marked, as far as they lie in words before one, and none else
+-- the bytes from the first to before the end, if they lie in words before one, were marked, and no others
 pub record AreMarkedTo (old new : List ℕ) (first end word : ℕ) : Type 0 where
   pub stays : (p : ℕ) → mark_at (marks_of old) p ≡ true → mark_at (marks_of new) p ≡ true
   pub made : AreMarkedBelow (marks_of new) first end word
@@ -262,9 +262,9 @@ marked_all old new first end word old_size new_size order inside past so =
           | inr at ↦ so.made p at.0 (omega (arith, order, at.1)) (omega (arith, order, past, at.1))
         ])
 
--- ---- marks of which each stands in another list too
+-- ---- marks that are in another list too
 
--- each mark in a word before one stands in the second list too
+-- each mark in a word before one is in the second list too
 abbrev pub AreKeptBelow : (first second : List ℕ) (word : ℕ) → Type 0
 AreKeptBelow first second word = (p : ℕ) → p < 64 * word → mark_at (marks_of first) p ≡ true → mark_at (marks_of second) p ≡ true
 
@@ -282,7 +282,7 @@ kept_all first second word size all so p set = elim (cases_lt p 512) [
   | inr past ↦ let no : false ≡ true = sym (unmarked_past first p size past) ∙ set in absurd cc
 ]
 
--- where a word lacks a bit of the first's, one of its marks does not stand in the second
+-- if a word lacks a bit of the first's, one of its marks is not in the second
 pub kept_bits : (first second : List ℕ) (word : ℕ) → AreMarkedIn (marks_of first) (marks_of second) → AreBitsOf (get_or second word 0) (get_or first word 0)
 kept_bits first second word kept i inside set =
     sym (mark_in second word i inside) ∙ kept (64 * word + i) (mark_in first word i inside ∙ set)

@@ -1,4 +1,4 @@
--- The marks of bytes: one more, and which stand after a write.
+-- The marks of bytes: one more, and which there are after a write.
 use Rattle.std.proofs.Common.{◌≡◌, ◌≢◌, ℕ, zero, suc, ◌+◌, ◌<◌, ◌≤◌, Bool, true, false, ◌&&◌, ◌==◌, if◌then◌else◌, List, length, get_or, refl, sym, ◌∙◌, subst, arith, ◌⊎◌, length-set, get_or-set_same, get_or-set_other}
 use Rattle.std.proofs.Common.{inl, inr}
 use Rattle.std.proofs.lemmas.Bool.{cases_lt}
@@ -22,7 +22,7 @@ pub both_right : (x y : Bool) → (x && y) ≡ true → y ≡ true
 both_right true y e = e
 both_right false y e = cc
 
--- of bytes that are all marked each is
+-- if all bytes are marked, each is
 pub marked_bytes : (marks : List Bool) (first n : ℕ) → all_marked marks first n ≡ true → (k : ℕ) → k < n → mark_at marks (first + k) ≡ true
 unfolding all_marked
 marked_bytes marks first zero e k h = absurd (omega arith)
@@ -35,7 +35,7 @@ marked_bytes marks first (suc n) e k h =
           subst P (sym d) (both_right (all_marked marks first n) (mark_at marks (first + n)) e)
     ]
 
--- all of so many are marked where each is
+-- all of `n` bytes are marked if each is
 pub all_marked_from : (marks : List Bool) (first n : ℕ) → ((k : ℕ) → k < n → mark_at marks (first + k) ≡ true) → all_marked marks first n ≡ true
 unfolding all_marked
 all_marked_from marks first zero h = refl
@@ -47,7 +47,7 @@ all_marked_from marks first (suc n) h =
 pub equal_or_not : (m n : ℕ) → (m ≡ n) ⊎ (m ≢ n)
 equal_or_not m n = grind (arith, nat_tests)
 
--- a mark stays where others are made
+-- a mark stays if others are made
 pub mark_stays : (marks : List Bool) (first bytes p : ℕ) → mark_at marks p ≡ true → mark_at (marks_after marks first bytes) p ≡ true
 unfolding marks_after
 mark_stays marks first zero p e = e
@@ -89,11 +89,11 @@ mark_is_new marks first (suc bytes) place e =
           ]
     ]
 
--- where each mark stands in another list too, so do all of so many
+-- if each mark is in another list too, `n` bytes that are all marked are all marked there
 pub still_marked : (marks more : List Bool) (first n : ℕ) → ((p : ℕ) → mark_at marks p ≡ true → mark_at more p ≡ true) → all_marked marks first n ≡ true → all_marked more first n ≡ true
 still_marked marks more first n m e = all_marked_from more first n (λ k l. m (first + k) (marked_bytes marks first n e k l))
 
--- a mark stays where bytes are stored
+-- a mark stays if bytes are stored
 pub stored_stays : (marks : List Bool) (bytes : ℕ) (firsts : ℕ × ℕ) (p : ℕ) → mark_at marks p ≡ true → mark_at (stored_marks marks bytes firsts) p ≡ true
 stored_stays marks bytes firsts p m =
     elim (firsts.0 == firsts.1) as (λ t. mark_at (if t then marks_after marks firsts.0 bytes else marks) p ≡ true) [

@@ -59,7 +59,7 @@ same_words r proper =
 pair_same : (a b : ℕ × ℕ) → a.0 ≡ b.0 → a.1 ≡ b.1 → a ≡ b
 pair_same a b e f = ap (λ (x : ℕ). (x, a.1)) e ∙ ap (λ (y : ℕ). (b.0, y)) f
 
--- what is joined with the whole range is whole
+-- the join of a range with the whole range is whole
 pub whole_joined : (r : Range) → IsRange r → joined_ranges (whole_range Bits64) r ≡ whole_range Bits64
 whole_joined r h = pair_same (joined_ranges (whole_range Bits64) r) (whole_range Bits64) (omega arith) (omega (arith, h.words))
 
@@ -96,7 +96,7 @@ set_words ranges word range h proper =
 
 -- ---- words that bytes touch
 
--- a word that is not touched lies before the bytes or behind them
+-- a word that is not touched lies before the bytes or after them
 pub apart : (word first last : ℕ) → is_touched word first last ≡ false → (last < 8 * word) ⊎ (8 * word + 7 < first)
 apart word first last e = grind (arith, nat_tests)
 
@@ -141,7 +141,7 @@ pub untouched_kept : (ranges : List Range) (first last k : ℕ) → is_touched k
 untouched_kept ranges first last k e =
     widened_at ranges first last k ∙ ap (λ t. if t then whole_range Bits64 else range_in ranges k) e
 
--- what holds of each range and of the whole one holds of each range that is left
+-- what holds of each range and of the whole one holds of each range after the widening
 pub widened_each : (P : Range → Type 0) (ranges : List Range) (first last : ℕ) → P (whole_range Bits64) → ((k : ℕ) → P (range_in ranges k)) → (k : ℕ) → P (range_in (widened ranges first last) k)
 widened_each P ranges first last w all k =
     subst P (sym (widened_at ranges first last k)) (either (is_touched k first last))
@@ -150,7 +150,7 @@ widened_each P ranges first last w all k =
     either true = w
     either false = all k
 
--- the ranges of the words from one on to before another were forgotten
+-- the ranges of the words from one to before another were forgotten
 pub record AreForgotten (old new : List Range) (first end : ℕ) : Type 0 where
   pub size : length new ≡ length old
   pub each : (k : ℕ) → range_in new k ≡ (if nat_le first k && nat_lt k end then whole_range Bits64 else range_in old k)
@@ -217,7 +217,7 @@ forgotten-all old new first last end a b c h =
         ∙ ap (λ u. if u then whole_range Bits64 else range_in old k) (same k (is_touched k first last) refl)
         ∙ sym (widened_at old first last k)
 
--- nothing was known, so nothing is
+-- if nothing was known before, nothing is known after
 pub still_whole : (ranges : List Range) (first last : ℕ) → AreAllWhole ranges → AreAllWhole (widened ranges first last)
 still_whole ranges first last h = widened_each (λ r. r ≡ whole_range Bits64) ranges first last refl h
 
@@ -249,7 +249,7 @@ joined_unset xs ys zs rs ss ts both joint g h one two k unset =
         let never : true ≡ false = sym yes ∙ unset in
         absurd cc
 
--- of 64 ranges each that is within holds at all words
+-- if each of 64 ranges is within its other, all words are
 pub within_all : (xs ys : List Range) → length xs ≡ 64 → length ys ≡ 64 → ((k : ℕ) → k < 64 → IsWithin (range_in xs k) (range_in ys k)) → AreRangesWithin xs ys
 within_all xs ys e f h k =
     elim (cases_lt k 64) [
@@ -268,12 +268,12 @@ joined_all xs ys zs e f g h k =
           (sym (whole_joined (whole_range Bits64) whole_proper))
     ]
 
--- the ranges that a flag tells are words
+-- the ranges that a flag selects are words
 pub view_words : (narrow : Bool) (ranges : List Range) → AreStackWords ranges → AreStackWords (if narrow then ranges else all_whole)
 view_words true ranges h = h
 view_words false ranges h = all_words
 
--- where a flag is off, nothing is known
+-- if a flag is off, nothing is known
 view_unknown : (n : Bool) (xs one : List Range) → (if n then xs else all_whole) ≡ one → n ≡ false → (k : ℕ) → range_in one k ≡ whole_range Bits64
 view_unknown true xs one e off k = cc
 view_unknown false xs one e off k = sym (ap (λ rs. range_in rs k) e) ∙ each_whole k
@@ -281,19 +281,19 @@ view_unknown false xs one e off k = sym (ap (λ rs. range_in rs k) e) ∙ each_w
 view_proper : (n : Bool) (xs one : List Range) → (if n then xs else all_whole) ≡ one → AreStackWords xs → (k : ℕ) → IsRange (range_in one k)
 view_proper n xs one e h k = subst (λ (rs : List Range). IsRange (range_in rs k)) e ((view_words n xs h).each k)
 
--- where the other's flag is off, nothing is known in the join
+-- if the other's flag is off, nothing is known in the join
 pub joined_off : (n m : Bool) (xs ys one two : List Range) → (if n then xs else all_whole) ≡ one → (if m then ys else all_whole) ≡ two → AreStackWords xs → m ≡ false → AreRangesJoined one two all_whole
 joined_off n m xs ys one two e f h off k =
     each_whole k
     ∙ sym (ap (λ r. joined_ranges (range_in one k) r) (view_unknown m ys two f off k) ∙ joined_whole (range_in one k) (view_proper n xs one e h k))
 
--- and where one's own is off
+-- and if one's own is off
 pub joined_kept : (n m : Bool) (xs ys one two : List Range) → (if n then xs else all_whole) ≡ one → (if m then ys else all_whole) ≡ two → AreStackWords ys → n ≡ false → AreRangesJoined one two one
 joined_kept n m xs ys one two e f h off k =
     view_unknown n xs one e off k
     ∙ sym (ap (λ r. joined_ranges r (range_in two k)) (view_unknown n xs one e off k) ∙ whole_joined (range_in two k) (view_proper m ys two f h k))
 
--- where the other's flag is off, each range is within
+-- if the other's flag is off, each range is within
 pub within_unknown : (n m : Bool) (xs ys one two : List Range) → (if n then xs else all_whole) ≡ one → (if m then ys else all_whole) ≡ two → AreStackWords xs → m ≡ false → AreRangesWithin one two
 within_unknown n m xs ys one two e f h off k =
     let P : Range → Type 0 = λ r. IsWithin (range_in one k) r in
@@ -302,7 +302,7 @@ within_unknown n m xs ys one two e f h off k =
 pub length-view : (n : Bool) (xs one : List Range) → (if n then xs else all_whole) ≡ one → AreStackWords xs → length one ≡ 64
 length-view n xs one e h = sym (ap length e) ∙ (view_words n xs h).count
 
--- nothing is forgotten where nothing was known
+-- if nothing was known, nothing is forgotten
 pub widened_whole : (first last : ℕ) → widened all_whole first last ≡ all_whole
 widened_whole first last =
     ext_get_or (whole_range Bits64) (widened all_whole first last) all_whole (length-widened_from 0 all_whole first last)
@@ -365,7 +365,7 @@ touched_at Keeps ranges bytes firsts value word t = either (is_stack_word bytes 
         inl (record { keeps = refl; eight = eight; one = one; first = omega arith })
     either false e = inr (touched_whole ranges firsts.0 (firsts.1 + bytes - 1) word t)
 
--- one that it does not touch is left
+-- a word that it does not touch keeps its range
 pub left_at : (spill : Spill) (ranges : List Range) (bytes : ℕ) (firsts : ℕ × ℕ) (value : Range) (word : ℕ) → is_touched word firsts.0 (firsts.1 + bytes - 1) ≡ false → range_in (stored_ranges spill ranges bytes firsts value) word ≡ range_in ranges word
 left_at Forgets ranges bytes firsts value word t = untouched_kept ranges firsts.0 (firsts.1 + bytes - 1) word t
 left_at Keeps ranges bytes firsts value word t = either (is_stack_word bytes firsts) refl

@@ -7,7 +7,7 @@ use Rattle.std.proofs.lemmas.Bool.Decides.{nat_tests}
 use Rattle.std.proofs.Math.Seq.{take-append_seam, drop-append_seam}
 use native.Mathlib.Nat.{pow-suc}
 
--- so many bits of a word
+-- the lowest `count` bits of a word
 unfoldable pub bits_of : (count word : ℕ) → List Bool
 bits_of zero word = []
 bits_of (suc count) word = (word % 2 == 1) ∷ bits_of count (word / 2)
@@ -23,7 +23,7 @@ word_of [] = 0
 word_of (true ∷ bits) = 1 + 2 * word_of bits
 word_of (false ∷ bits) = 2 * word_of bits
 
--- so many words from their bits
+-- `count` words from their bits
 unfoldable pub words_of : (count : ℕ) → List Bool → List ℕ
 words_of zero bits = []
 words_of (suc count) bits = word_of (take 64 bits) ∷ words_of count (drop 64 bits)

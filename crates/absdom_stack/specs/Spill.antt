@@ -4,8 +4,8 @@ use Rattle.bpf.specs.declared.version.Version.TheVariants.{One, Two}
 use Rattle.absdom_stack.specs.declared.spill.Spill.{Spill}
 use Rattle.absdom_stack.specs.declared.spill.Spill.TheVariants.{Forgets, Keeps}
 
--- whether the words of the stack keep the ranges of the numbers that are stored there, by the version of the format:
--- they came to keep them in version 2
+-- Whether the words of the stack keep the ranges of the numbers that are stored there, by the version of the format.
+-- They keep them from version 2.
 abbrev pub spill_of : Version → Spill
 spill_of One = Forgets
 spill_of Two = Keeps

@@ -1,5 +1,5 @@
--- What is known of the numbers that the stack holds: a range for each word, where word k is the
--- bytes 8k to 8k + 7 of the stack (a choice of this project).
+-- What is known of the numbers that the stack holds: a range for each word. Word k is the bytes 8k to 8k + 7 of the
+-- stack (a choice of this project).
 use Rattle.std.specs.Prelude.{◌≡◌, ℕ, suc, ◌+◌, ◌*◌, ◌%◌, Bool, ◌&&◌, ◌-◌, ◌/◌, ◌==◌, nat_le, if◌then◌else◌, List, [], ◌∷◌}
 use Rattle.std.specs.Prelude.{length, replicate, slice_index_or, slice_set}
 use Rattle.bpf_parts.specs.declared.operation.Width.TheVariants.{Bits64}
@@ -23,8 +23,8 @@ AreAllWhole ranges = (word : ℕ) → range_in ranges word ≡ whole_range Bits6
 abbrev pub is_touched : (word first last : ℕ) → Bool
 is_touched word first last = nat_le (8 * word) last && nat_le first (8 * word + 7)
 
--- the ranges of the words from one on, after the bytes from the first to the last were written: nothing is known
--- of a word that they touch
+-- The ranges of the words from one, after a write of the bytes from the first to the last. Nothing is known of a word
+-- that they touch.
 unfoldable pub widened_from : (word : ℕ) → List Range → (first last : ℕ) → List Range
 widened_from word [] first last = []
 widened_from word (range ∷ ranges) first last =
@@ -34,13 +34,13 @@ widened_from word (range ∷ ranges) first last =
 abbrev pub widened : List Range → (first last : ℕ) → List Range
 widened ranges first last = widened_from 0 ranges first last
 
--- whether an access of so many bytes, which begins at either of two bytes or between, is of the eight bytes
--- of one word
+-- whether an access of `bytes` bytes, which begins at either of two bytes or between, is of the eight bytes of one
+-- word
 abbrev pub is_stack_word : (bytes : ℕ) → ℕ × ℕ → Bool
 is_stack_word bytes firsts = (bytes == 8) && (firsts.0 == firsts.1) && (firsts.0 % 8 == 0)
 
--- where numbers keep their ranges, a store to one word of the stack gives that word the range of the number that is
--- stored; after every other store nothing is known of a word that it may touch
+-- If numbers keep their ranges, a store to one word of the stack gives that word the range of its number. After every
+-- other store nothing is known of a word that it may touch.
 abbrev pub stored_ranges : Spill → List Range → (bytes : ℕ) → ℕ × ℕ → Range → List Range
 stored_ranges Forgets ranges bytes places value = widened ranges places.0 (places.1 + bytes - 1)
 stored_ranges Keeps ranges bytes places value =

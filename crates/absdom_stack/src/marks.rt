@@ -8,11 +8,11 @@ ghost use Rattle.absdom_stack.specs.Marks.{stored_marks, AreInside};
 use machine::STACK_SIZE;
 use std::marker::Model;
 
-/// How many words hold a mark for each.
+/// How many words hold the marks.
 const WORDS: usize = STACK_SIZE / 64;
 
-/// A mark for each byte of the stack that is known to be set: the bits of words, the lowest first. Place 0 is
-/// the byte at offset -512.
+/// A mark for each byte of the stack that is known to be set: the bits of words, the lowest first. Place 0 is the
+/// byte at offset -512.
 #[derive(Clone, Copy, Debug)]
 pub struct Marks {
     words: [u64; WORDS],
@@ -67,8 +67,8 @@ impl Marks {
         }
     }
 
-    /// Marks the bytes of a store of so many, from `lowest` on or from any byte up to `highest`: none, where it
-    /// may go to more than one place.
+    /// Marks the bytes of a store of `bytes` bytes, from `lowest`, or from any byte up to `highest`. If the store may
+    /// go to more than one place, it marks none.
     pub fn mark_stored(&mut self, bytes: usize, lowest: usize, highest: usize)
         requires { AreInside bytes (lowest, highest) }
         ensures { self.new ≡ stored_marks self.old bytes (lowest, highest) }
@@ -78,7 +78,7 @@ impl Marks {
         }
     }
 
-    /// Keeps the marks that stand in both.
+    /// Keeps the marks that are in both.
     pub fn join(&mut self, other: &Marks)
         ensures both { AreInBoth self.old other.now self.new }
         ensures length { length self.new ≡ STACK_SIZE }
@@ -89,7 +89,7 @@ impl Marks {
         }
     }
 
-    /// Whether each mark of the other stands here too.
+    /// Whether each mark of the other is here too.
     pub fn leq(&self, other: &Marks) -> bool
         ensures { IsTrue result ↔ AreMarkedIn other.now self.now }
     {

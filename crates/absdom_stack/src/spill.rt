@@ -8,14 +8,14 @@ use bpf::Version;
 /// Whether a number that a program puts on the stack keeps its range there.
 #[derive(Clone, Copy, Debug, PartialEq, Eq)]
 pub enum Spill {
-    /// It does not: what is loaded from the stack is any number of its size.
+    /// It does not: a load from the stack gives any number of its size.
     Forgets,
-    /// It does, where it fills a word of the stack: what is loaded from the word has its range.
+    /// It does, if it fills a word of the stack: a load from the word gives its range.
     Keeps,
 }
 
 impl Spill {
-    /// What a version of the format says: ranges are kept in version 2.
+    /// What a version of the format says: numbers keep their ranges in version 2.
     pub fn of_version(version: Version) -> Spill
         ensures { result ≡ spill_of version }
     {

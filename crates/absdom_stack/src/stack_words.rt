@@ -24,16 +24,15 @@ fn whole_ranges() -> [Range; STACK_WORDS]
     [Range::whole(); STACK_WORDS]
 }
 
-/// Ranges that stand for nothing. Zeros cost least to write.
+/// Ranges without a meaning. Zeros cost least to write.
 fn no_ranges() -> [Range; STACK_WORDS]
     ensures { AreStackWords result }
 {
     [Range::single(0); STACK_WORDS]
 }
 
-/// A range for each word of the stack: word k is the bytes 8k to 8k + 7. Where none is narrow,
-/// each word has the whole range, and the array stands for nothing: so a state of a program that keeps no
-/// ranges is copied without it.
+/// A range for each word of the stack: word k is the bytes 8k to 8k + 7. If no range is narrow, each word has the
+/// whole range, and the array has no meaning. So a state of a program that keeps no ranges is copied without it.
 #[derive(Clone, Debug, Drop)]
 pub struct StackWords {
     narrow: bool,
@@ -102,7 +101,7 @@ impl StackWords {
         }
     }
 
-    /// A store of a number of that range in so many bytes, from `lowest` on or from any byte up to `highest`.
+    /// A store of a number of that range in `bytes` bytes, from `lowest`, or from any byte up to `highest`.
     pub fn store(&mut self, spill: Spill, bytes: usize, lowest: usize, highest: usize, value: Range)
         requires bytes { 1 ≤ bytes }
         requires inside { AreInside bytes (lowest, highest) }
@@ -114,7 +113,7 @@ impl StackWords {
         }
     }
 
-    /// A store of a number that keeps its range where it fills a word.
+    /// A store of a number that keeps its range, if it fills a word.
     fn keep(&mut self, bytes: usize, lowest: usize, highest: usize, value: Range)
         requires bytes { 1 ≤ bytes }
         requires inside { AreInside bytes (lowest, highest) }
@@ -164,7 +163,7 @@ impl StackWords {
         true
     }
 
-    /// Becomes the same as the other. The array is copied only where it stands for something.
+    /// Becomes equal to the other. It copies the array only if the array has a meaning.
     pub fn set_to(&mut self, other: &StackWords)
         ensures { self.new ≡ other.now }
     {
@@ -175,7 +174,7 @@ impl StackWords {
     }
 }
 
-/// Whether an access of so many bytes, which begins at `lowest`, at `highest` or between, is of the eight bytes of
+/// Whether an access of `bytes` bytes, which begins at `lowest`, at `highest` or between, is of the eight bytes of
 /// one word.
 pub fn is_stack_word(bytes: usize, lowest: usize, highest: usize) -> bool
     ensures { result ≡ is_stack_word bytes (lowest, highest) }

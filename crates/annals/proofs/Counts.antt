@@ -67,7 +67,7 @@ still_counted k place next old before log b counts s j e fit counted same new at
           numbers_of-other port (entries_of k before) e (λ is. other (sym at ∙ is)) ∙ (ap (λ (l : List Link). numbers_of port (entries_in l)) same ∙ (counted port within ∙ ap (λ (n : ℕ). range_with_len 0 n) (sym count)))
     ]
 
--- the share and the line behind an entry
+-- the share and the line after an entry
 pub counts_on : (k : ℕ) (s after : ShareValue) (line line' : LineValue) (e : EntryValue) → after ≡ record { port = s.port; number = s.number + 1 } → e.number ≡ s.number → line' ≡ line_with line k (Leaves e)
     → CountsOn k s after line line'
 counts_on k s after line line' e next number more = record {
@@ -91,7 +91,7 @@ counts_same k s after line line' same still = record {
 pub next_share_is : (b : BankValue) (s : ShareValue) (j : JudgedValue) → has_room b j.port ≡ true → next_share b s j ≡ record { port = s.port; number = s.number + 1 }
 next_share_is b s j room = ap (λ (r : Bool). if r then record { port = s.port; number = s.number + 1 } else s) room
 
--- where no number was left the share stays
+-- if no number was left the share stays
 pub share_stays : (b : BankValue) (s : ShareValue) (j : JudgedValue) (n : Option ℕ) → n ≡ number_left b s j → is_some n ≡ false → next_share b s j ≡ s
 share_stays b s j n left none = go (has_room b j.port) refl where
   go : (r : Bool) → has_room b j.port ≡ r → next_share b s j ≡ s
@@ -112,7 +112,7 @@ fresh_kept b c first size journal ports extent is at bytes memory entries =
           ap (λ (l : List EntryValue). numbers_of port l) entries ∙ ap (λ (n : ℕ). range_with_len 0 n) (sym (get_or-replicate ports port 0 0 within));
     })
 
--- behind a deed of no command the entries are counted as before
+-- after a deed of no command the entries are counted as before
 pub set_counted : (k : ℕ) (old before log : List Link) (l : Link) (counts : List ℕ)
     → ((port : ℕ) → port < length counts → numbers_of port (entries_of k old) ≡ range_with_len 0 (get_or counts port 0))
     → chain_of k before ≡ chain_of k old → l.chain ≡ k → with_entry l.deed [] ≡ [] → log ≡ before ++ l ∷ []

@@ -151,7 +151,7 @@ other_acts owner k chain (Does a) ds not = here (owner_of a == owner) where
 other_acts owner k chain (Asks x) ds not = refl
 other_acts owner k chain Shows ds not = refl
 
--- what somebody did at a chain are his acts in it
+-- what somebody did at a chain are the acts of that owner in it
 acts_at : (owner k : ℕ) (log : List Link) → at_chain k (done_for owner log) ≡ acts_in owner (chain_of k log)
 unfolding acts_in
 acts_at owner k [] = refl
@@ -169,7 +169,7 @@ acts_at owner k (l ∷ ls) = here (l.chain == k) refl (acts_at owner k ls) where
 abbrev pub by_port : ℕ → List EntryValue → List EntryValue
 by_port port entries = filter (λ (e : EntryValue). e.port == port) entries
 
--- where no act of the instrument leaves an entry, those of an owner are those of a port
+-- if no act of the instrument leaves an entry, those of an owner are those of a port
 left_of : (owner : ℕ) (d : Deed) (acts : List Act) (es : List EntryValue) → left_in acts ≡ by_port owner es → left_in (with_act owner d acts) ≡ by_port owner (with_entry d es)
 left_of owner (Opens x) acts es same = same
 left_of owner (Does (Leaves e)) acts es same = here (e.port == owner) where
@@ -228,7 +228,7 @@ drop_front : {A : Type 0} (xs ys zs : List A) → xs ++ ys ≡ xs ++ zs → ys �
 drop_front [] ys zs is = is
 drop_front (x ∷ xs) ys zs is = drop_front xs ys zs (cc is)
 
--- where the chain is whole, nobody did what is due there
+-- if the chain is whole, nobody did what is due there
 pub none_more : (owner k : ℕ) (a : Act) (v log : List Link) → IsPrefix v log → chain_of k v ≡ chain_of k log → IsPrefix (done_for owner log) (asked_by owner log)
     → asked_by owner v ≡ done_for owner v ++ (k, a) ∷ [] → done_for owner log ≡ done_for owner v
 none_more owner k a v log pre same asked due =
@@ -292,7 +292,7 @@ still_asked log v chain place next Shows pre same due asked = absurd due
 both_begin : {A : Type 0} (xs ys : List A) → IsPrefix xs ys → IsPrefix ys xs → xs ≡ ys
 both_begin xs ys p q = prefix_whole xs ys p (prefix_length ys xs q)
 
--- where the line has asked for one more, that one is due
+-- if the line has asked for one more, that one is due
 pub asks_next : (owner place next : ℕ) (own before left reached : List Link) (due : Due) → AreAsked before → chain_of (line_of owner) before ≡ chain_of (line_of owner) own
     → IsPrefix (asked_by owner own) (done_for owner left) → IsPrefix left before → reached ≡ before ++ link (line_of owner) place (Asks due) next ∷ []
     → asked_by owner reached ≡ done_for owner reached ++ due ∷ []
@@ -305,7 +305,7 @@ asks_next owner place next own before left reached due asked same all pre is =
     let stays : done_for owner reached ≡ done_for owner before = ap (done_for owner) is ∙ same_done owner before e refl in
     ap (asked_by owner) is ∙ (asked_more owner place next before due ∙ ap (λ (ds : List Due). ds ++ due ∷ []) (sym even ∙ sym stays))
 
--- and once it was done, all that the line asked for was
+-- and after it was done, all that the line asked for was done
 pub all_left : (owner chain place next : ℕ) (reached before after : List Link) (a : Act) → owner_of a ≡ owner → AreAsked before → IsPrefix reached before
     → chain_of chain reached ≡ chain_of chain before → asked_by owner reached ≡ done_for owner reached ++ (chain, a) ∷ []
     → after ≡ before ++ link chain place (Does a) next ∷ [] → IsPrefix (asked_by owner reached) (done_for owner after)

@@ -79,7 +79,7 @@ high_enough found count before after some grown m low = by_test (found == count 
         let not : found ≢ count - 1 = λ same. absurd (grind (arith, nat_tests, is, same)) in
         omega (arith, m, grown, low, not, some)
 
--- a moment at which so many programs were shown
+-- a moment at which that many programs were shown
 pub record IsMoment (known reached : List Link) (count : ℕ) : Type 0 where
   pub at : List Link
   pub after : IsPrefix known at
@@ -119,7 +119,7 @@ take_front : {A : Type 0} (xs ys : List A) → take (length xs) (xs ++ ys) ≡ x
 take_front [] ys = refl
 take_front (x ∷ xs) ys = ap (λ zs. x ∷ zs) (take_front xs ys)
 
--- a table of so many programs is what readers saw at that moment
+-- a table of that many programs is what readers saw at that moment
 pub taken_at : (known reached table : List Link) (count : ℕ) → IsMoment known reached count → AreListed reached → IsPrefix table reached → length (publishes_of table) ≡ count
     → IsTakenAt known reached (publishes_of table)
 taken_at known reached table count moment listed begins many =

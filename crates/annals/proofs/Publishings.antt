@@ -46,7 +46,7 @@ publishes_more c old before log place next by publish same more =
     ∙ (publishes_append (chain_of c before) (l ∷ [])
     ∙ ap (λ (ls : List Link). publishes_in ls ++ publish ∷ []) same))
 
--- a chain that begins has no publish but what its first deed is
+-- a chain that begins has no publish except what its first deed is
 pub first_publishes : (c : ℕ) (v w : List Link) (e : Link) → e.chain ≡ c → IsFirst v w e → publishes_in (chain_of c w) ≡ with_publish e.deed []
 first_publishes c v w e chain f =
     let none : chain_of c f.added.before ≡ [] = subst (λ (k : ℕ). chain_of k f.added.before ≡ []) chain f.none in

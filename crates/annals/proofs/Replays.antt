@@ -31,7 +31,7 @@ last_is old xs x y is found =
     let there : Some y ≡ Some x = found ∙ (ap (λ (k : ℕ). slice_get xs k) place ∙ (ap (λ (l : List EntryValue). slice_get l (length old)) is ∙ get_snoc old x)) in
     cc there
 
--- where a number was left there was room
+-- if a number was left there was room
 pub room_of : (b : BankValue) (s : ShareValue) (j : JudgedValue) (n : Option ℕ) → n ≡ number_left b s j → is_some n ≡ true → has_room b j.port ≡ true
 room_of b s j n left some = go (has_room b j.port) refl (ap is_some (sym left) ∙ some) where
   go : (r : Bool) → has_room b j.port ≡ r → is_some (if r then Some s.number else None) ≡ true → has_room b j.port ≡ true
@@ -48,7 +48,7 @@ entries_after b s j room = ap (λ (r : Bool). (if r then after_record b s j (ans
 pub same_memory : (k : ℕ) (old before : List Link) (b : BankValue) → memory_of b ≡ memory_after k old → chain_of k before ≡ chain_of k old → memory_after k before ≡ memory_of b
 same_memory k old before b kept same = ap (λ (l : List Link). fold after_link (zeros (0, 0)) l) same ∙ sym kept
 
--- what a bank answers is what is answered behind the history
+-- the answer of a bank is the answer after the history
 pub answers : (k : ℕ) (before : List Link) (b : BankValue) (j : JudgedValue) → has_room b j.port ≡ true → memory_after k before ≡ memory_of b → answer_of b j ≡ answer_after k before j
 answers k before b j room same =
     ap (λ (r : Bool). answer (memory_of b) r (command_of j.packet) j.verdict) room

@@ -96,7 +96,7 @@ stays old n = same (n == old) refl where
   same true is = grind (arith, nat_tests)
   same false is = refl
 
--- the cells stay where the word of a chain is exchanged by itself
+-- the cells stay if the word of a chain is exchanged by itself
 unchanged : (cs : List Cell) (log : List Link) (c : ℕ) → c < 42 → AreChained cs log → slice_set cs c (either ((cell cs c).0 == 1) 1 (cell cs c).0, true) ≡ cs
 unchanged cs log c few kept = same_cell cs c (either ((cell cs c).0 == 1) 1 (cell cs c).0) (kept.homes c few) (stays 1 (cell cs c).0)
 
@@ -130,7 +130,8 @@ draws_moves c v e few cs log kept pre away = (
   ),
 )
 
--- behind a step that gives its pen's cell home, the entry that was added follows the one of its chain that names the cell
+-- after a step that gives its pen's cell home, the entry that was added follows the one of its chain that names the
+-- cell
 adds_kept : (cs : List Cell) (log : List Link) (e : Link) (key value : ℕ) → key ≡ next_of (chain_of e.chain log) → key < length cs → (cell cs key).1 ≡ false → 0 < length (chain_of e.chain log) → AreAsked (log ++ e ∷ []) → shows e.deed ≡ 0 → AreChained cs log
     → AreChained (slice_set cs key (value, true)) (log ++ e ∷ [])
 adds_kept cs log e key value names few away some asked quiet kept =

@@ -16,7 +16,7 @@ use Rattle.annals.specs.declared.deed.Deed.TheVariants.{Opens, Does, Asks, Shows
 use Rattle.annals.specs.declared.deed.Link.{Link}
 use Rattle.annals.specs.Chains.{ChainValue, Due, LineValue, IsLast, at_bank, chain_of, with_left}
 
--- so many zero bytes from an address on
+-- that many zero bytes from an address on
 abbrev pub zeros : ℕ × ℕ → Memory
 zeros extent = memory_at extent.0 (replicate extent.1 0)
 
@@ -38,7 +38,7 @@ after_deed m Shows = m
 abbrev pub after_link : Memory → Link → Memory
 after_link m l = after_deed m l.deed
 
--- the memory of a bank behind a history: the replay of its chain
+-- the memory of a bank after a history: the replay of its chain
 abbrev pub memory_after : ℕ → List Link → Memory
 memory_after bank log = fold after_link (zeros (0, 0)) (chain_of bank log)
 
@@ -62,13 +62,13 @@ entries_of bank log = entries_in (chain_of bank log)
 abbrev pub entries_by : (port bank : ℕ) → List Link → List EntryValue
 entries_by port bank log = filter (λ (e : EntryValue). e.port == port) (entries_of bank log)
 
--- what a judged command is answered behind a history, where there is room
+-- the answer to a judged command after a history, if there is room
 abbrev pub answer_after : ℕ → List Link → JudgedValue → Answer
 answer_after bank log judged = answer (memory_after bank log) true (command_of judged.packet) judged.verdict
 
--- the command was done at the bank that is its place: it is the last of a history that goes on from what the port knew, and
--- status and reply are the definition's on the replay of what stood before it; there the port had as many entries as its share
--- tells, with the numbers from 0 on, each once
+-- The command was done at the bank that is its place. It is the last of a history that goes on from what the port knew.
+-- Status and reply are the definition's on the replay of what was before it. There the port had as many entries as its
+-- share says, with the numbers from 0 on, each once.
 pub record IsDone (bank : ℕ) (known reached : List Link) (share : ShareValue) (judged : JudgedValue) (result : Applied)
     (reply : List ℕ) : Type 0 where
   pub place : judged.place ≡ Bank bank
@@ -77,7 +77,7 @@ pub record IsDone (bank : ℕ) (known reached : List Link) (share : ShareValue) 
   pub numbers : numbers_of judged.port (entries_of bank last.before) ≡ range_with_len 0 share.number
   pub reply_is : reply ≡ (answer_after bank last.before judged).reply
 
--- the command was applied to the bank with that share: memory, status, reply and share are those of its answer
+-- The command was applied to the bank with that share. Memory, status, reply and share are those of its answer.
 pub record IsAppliedTo (old new : BankValue) (share after : ShareValue) (judged : JudgedValue) (result : Applied)
     (reply : List ℕ) : Type 0 where
   pub status : result.status ≡ (answer_of old judged).status
@@ -92,7 +92,7 @@ pub record KeptValue : Type 0 where
   pub bank : BankValue
   pub chain : ChainValue
 
--- the command was not done at the bank: a general error, and all is as it was
+-- The command was not done at the bank. The answer is a general error, and all is as it was.
 pub record IsRefusedAt (old new : KeptValue) (share after : ShareValue) (judged : JudgedValue) (result : Applied)
     (reply : List ℕ) : Type 0 where
   pub status : result.status ≡ GeneralError
@@ -109,7 +109,7 @@ numbers_at bank dues = map (λ (e : EntryValue). e.number) (at_bank bank dues)
 abbrev pub IsCountOf : ShareValue → (bank : ℕ) → LineValue → Type 0
 IsCountOf share bank line = numbers_at bank line.asked ≡ range_with_len 0 share.number
 
--- the share of that bank goes on with what its port asked for there, and of no other bank was anything asked for
+-- The share of that bank goes on with what its port asked for there. The port asked for nothing at another bank.
 pub record CountsOn (bank : ℕ) (share after : ShareValue) (old new : LineValue) : Type 0 where
   pub port : after.port ≡ share.port
   pub line : new.port ≡ old.port

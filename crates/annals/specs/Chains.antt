@@ -1,7 +1,7 @@
--- The rule of one history for all banks of a node. Each bank has a chain in it: each entry of a chain names the cell whose
--- pen adds the next entry of that chain. The chain of a bank has the number of the bank, and a word of that key; one more has
--- the publishes of programs. Each port has a chain too, its line, and so has the instrument: there each asks for what it does
--- at the other chains before that is done.
+-- The rule of one history for all banks of a node. Each bank has a chain in it: each entry of a chain names the cell
+-- whose pen adds the next entry of that chain. The chain of a bank has the number of the bank, and a word of that key.
+-- One chain more has the publishes of programs. Each port has a chain too, its line, and so has the instrument. There
+-- each asks for what it does at the other chains before that is done.
 use Rattle.std.specs.Prelude.{ℕ, ◌≡◌, ◌<◌, ◌+◌, ◌==◌, true, List, [], ◌∷◌, ◌++◌, length, map, MatchBool, if◌then◌else◌}
 use Rattle.std.specs.List.{filter}
 use mathlib.Core.List.{IsPrefix}
@@ -13,7 +13,7 @@ use Rattle.annals.specs.declared.deed.Deed.{Deed}
 use Rattle.annals.specs.declared.deed.Deed.TheVariants.{Opens, Does, Asks, Shows}
 use Rattle.annals.specs.declared.deed.Link.{Link}
 
--- that deed, which is the one of that place of its chain, behind which the pen of that cell adds
+-- that deed, which is the one of that place of its chain, and after which the pen of that cell adds
 abbrev pub link : (chain place : ℕ) → Deed → ℕ → Link
 link chain place deed next = record { chain = chain; place = place; deed = deed; next = next }
 
@@ -25,7 +25,7 @@ blank = link 0 0 (Opens (0, 0, 0)) 0
 abbrev pub chain_of : ℕ → List Link → List Link
 chain_of c log = filter (λ (l : Link). l.chain == c) log
 
--- the number of the instrument's line: those of ports are below it
+-- The number of the instrument's line. Those of ports are below it.
 abbrev pub instrument : ℕ
 instrument = 32
 
@@ -36,7 +36,7 @@ owner_of (Sets setting) = instrument
 owner_of (Rotates room) = instrument
 owner_of (Publishes publish) = publish.0
 
--- an act, behind the number of the chain at which it is done
+-- an act, after the number of the chain at which it is done
 abbrev pub Due : Type 0
 Due = ℕ × Act
 
@@ -52,7 +52,8 @@ abbrev pub asked_in : List Link → List Due
 asked_in [] = []
 asked_in (l ∷ ls) = with_asked l.deed (asked_in ls)
 
--- the chain that is a line: those of eight banks and one for what is published stand before, and the instrument's is the first
+-- The chain that is a line. Those of eight banks and one for what is published come before, and the instrument's is the
+-- first.
 abbrev pub line_of : ℕ → ℕ
 line_of owner = if owner == instrument then 9 else 10 + owner
 
@@ -92,7 +93,8 @@ left_in (act ∷ acts) = with_left act (left_in acts)
 abbrev pub at_bank : ℕ → List Due → List EntryValue
 at_bank bank dues = left_in (at_chain bank dues)
 
--- the deed may be the next at that chain: an act has to be the next one that its owner asked for, and no chain shows programs
+-- The deed may be the next at that chain. An act must be the next one that its owner asked for, and no chain shows
+-- programs.
 abbrev pub IsDue : ℕ → Deed → List Link → Type 0
 IsDue chain (Opens opening) log = Unit {0}
 IsDue chain (Does act) log = asked_by (owner_of act) log ≡ done_for (owner_of act) log ++ (chain, act) ∷ []
@@ -103,7 +105,7 @@ IsDue chain Shows log = ⊥
 abbrev pub AreAsked : List Link → Type 0
 AreAsked log = (owner : ℕ) → IsPrefix (done_for owner log) (asked_by owner log)
 
--- what begins a history has of each line's owner the acts that begin those which the history has of him
+-- what begins a history has of each line's owner the acts that begin those which the history has of that owner
 abbrev pub ActsGrow : Type 0
 ActsGrow =
     (owner : ℕ) (known reached : List Link) → IsPrefix known reached → IsPrefix (done_for owner known) (done_for owner reached)
@@ -148,12 +150,12 @@ pub record LineValue : Type 0 where
   pub port : ℕ
   pub asked : List Due
 
--- the chain is the line of that number, and where that was reached all that it asks for had been done
+-- The chain is the line of that number. When that was reached, all that it asks for had been done.
 pub record IsLine (owner : ℕ) (chain : ChainValue) (reached : List Link) : Type 0 where
   pub number : chain.number ≡ line_of owner
   pub left : IsPrefix (asked_by owner chain.log) (done_for owner reached)
 
--- the line, and behind what it asked for that act at that chain
+-- the line, and after what it asked for that act at that chain
 abbrev pub line_with : LineValue → (chain : ℕ) → Act → LineValue
 line_with line chain act = record { port = line.port; asked = line.asked ++ (chain, act) ∷ [] }
 
@@ -164,7 +166,7 @@ pub record IsWhole (chain : ChainValue) (front : List Link) : Type 0 where
   pub whole : chain_of chain.number log ≡ chain_of chain.number chain.log
   pub asked : AreAsked log
 
--- the deed is the last of a history that goes on from what was known: it is the next one of the bank of that number
+-- The deed is the last of a history that goes on from what was known. It is the next one of the chain of that number.
 pub record IsLast (bank : ℕ) (known reached : List Link) (deed : Deed) : Type 0 where
   pub before : List Link
   pub next : ℕ
@@ -175,13 +177,13 @@ pub record IsLast (bank : ℕ) (known reached : List Link) (deed : Deed) : Type 
 abbrev pub Draws : Step Link → View Link ℕ → ℕ → View Link ℕ → Type 0
 Draws s v found w = w.1.0.right ≡ may_make
 
--- the deed was added to a chain, of which all stands before it, and what had been done was asked for
+-- The deed was added to a chain, all of which is before it. What had been done was asked for.
 pub record IsLastOf (chain : ChainValue) (known reached : List Link) (deed : Deed) : Type 0 where
   pub last : IsLast chain.number known reached deed
   pub whole : chain_of chain.number last.before ≡ chain_of chain.number chain.log
   pub asked : AreAsked last.before
 
--- before it, all that was seen, and so many entries of its chain, and what had been done was asked for
+-- Before it is all that was seen, and that many entries of its chain. What had been done was asked for.
 pub record IsAdded (v w : List Link) (e : Link) : Type 0 where
   pub before : List Link
   pub log : w ≡ before ++ e ∷ []
@@ -194,7 +196,7 @@ pub record IsFirst (v w : List Link) (e : Link) : Type 0 where
   pub added : IsAdded v w e
   pub none : chain_of e.chain added.before ≡ []
 
--- the chain had no entry, and has this one; or it had one
+-- the chain had no entry, and has this one, or it had one already
 abbrev pub Begins : Step Link → View Link ℕ → ℕ → View Link ℕ → Type 0
 Begins s v found w = MatchBool (found == s.old) (IsFirst v.0 w.0 s.ask) (Unit {0})
 
@@ -202,6 +204,6 @@ Begins s v found w = MatchBool (found == s.old) (IsFirst v.0 w.0 s.ask) (Unit {0
 abbrev pub Adds : Step Link → View Link ℕ → ℕ → View Link ℕ → Type 0
 Adds s v found w = IsAdded v.0 w.0 s.ask
 
--- the chain is as long as was asked, the pen is as it was, and what had been done was asked for
+-- The chain is as long as was asked, and the pen is as it was. What had been done was asked for.
 abbrev pub Looks : Step Link → View Link ℕ → ℕ → View Link ℕ → Type 0
 Looks s v found w = (length (chain_of s.ask.chain w.0) ≡ s.ask.place) × (w.1.0 ≡ v.1.0) × AreAsked w.0

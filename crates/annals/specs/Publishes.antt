@@ -11,7 +11,7 @@ use Rattle.annals.specs.declared.deed.Deed.TheVariants.{Opens, Does, Asks, Shows
 use Rattle.annals.specs.declared.deed.Link.{Link}
 use Rattle.annals.specs.Chains.{Due, LineValue, at_bank, at_chain, chain_of, done_for, line_with}
 
--- the number of the chain of the publishes: that behind the chains of banks
+-- the number of the chain of the publishes: the one after the chains of banks
 abbrev pub publishes_chain : ℕ
 publishes_chain = 8
 
@@ -51,7 +51,7 @@ loads_in dues = published_in (at_chain publishes_chain dues)
 abbrev pub loads_by : ℕ → List Link → List Publish
 loads_by owner log = loads_in (done_for owner log)
 
--- the line, and behind what it asked for the publish of its owner
+-- the line, and after what it asked for the publish of its owner
 abbrev pub line_loading : LineValue → Publish → LineValue
 line_loading line publish = line_with line publishes_chain (Publishes (line.port, publish))
 

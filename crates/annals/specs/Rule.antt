@@ -6,12 +6,13 @@ use Rattle.annals.specs.declared.deed.Link.{Link}
 use Rattle.annals.specs.Chains.{AreAsked, AreHome, IsHome, chain_of, link}
 use Rattle.annals.specs.Shown.{AreListed, shown_in}
 
--- the key of the word that counts the programs which readers see: that behind the words of the chains
+-- the key of the word that counts the programs which readers see: the one after the words of the chains
 abbrev pub shown_word : ℕ
 shown_word = 42
 
--- the words of the 42 chains are at home, a chain whose word is 0 has no entry, of each chain what each entry but the last
--- names was used, and what was done was asked for; one word more is how many programs readers see, which were published
+-- The words of the 42 chains are at home, and a chain whose word is 0 has no entry. Of each chain, what each entry
+-- except the last names was used. What was done was asked for. One word more is how many programs readers see, and
+-- these were published.
 pub record AreChained (cells : List Cell) (log : List Link) : Type 0 where
   pub row : 43 ≤ length cells
   pub homes : (c : ℕ) → c < 42 → IsHome cells c
@@ -30,6 +31,6 @@ showing = link shown_word 0 Shows shown_word
 abbrev pub Counts : Step Link → View Link ℕ → ℕ → View Link ℕ → Type 0
 Counts s v found w = shown_in w.0 ≡ found
 
--- readers see one program more; or they saw another number of them
+-- readers see one program more, or they saw another number of them
 abbrev pub Raises : Step Link → View Link ℕ → ℕ → View Link ℕ → Type 0
 Raises s v found w = MatchBool (found == s.old) (shown_in w.0 ≡ s.old + 1) (shown_in w.0 ≡ found)

@@ -8,8 +8,8 @@ use crate::deed::Link;
 use logbook::Seen;
 use std::marker::{Model, PhantomData};
 
-/// A beginning of a history that was seen, as a value can hold it that is no node's. Contracts see it as the history's book,
-/// and the entries.
+/// A beginning of a history that was seen, as a value can hold it that is no node's. Contracts see it as the history's
+/// book, and the entries.
 #[derive(Drop)]
 pub struct Beginning {
     pub(crate) seen: Seen<Link, u64, Chained>,
@@ -45,7 +45,7 @@ impl Beginning {
         }
     }
 
-    /// Of two beginnings of one history one begins the other.
+    /// Two beginnings of one history: one begins the other.
     pub fn meets(&self, other: &Beginning)
         requires { other.now.book ≡ self.now.book }
         ensures { IsPrefix self.now.log other.now.log ⊎ IsPrefix other.now.log self.now.log }

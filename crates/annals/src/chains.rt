@@ -1,4 +1,4 @@
-//! The history, and the right to add to a chain of it. It exists in proofs alone.
+//! The history, and the right to add to a chain of it. It exists only in proofs.
 
 ghost use Rattle.std.specs.Prelude.{◌≡◌, ◌<◌, ◌≤◌, ◌+◌, ◌∷◌, ◌++◌, ◌⊎◌, ℕ, List, [], length, IfSome};
 ghost use mathlib.Core.List.{IsPrefix};
@@ -13,8 +13,8 @@ use crate::shown_count::ShownCount;
 use logbook::{Gain, Offer, Opening, Pen, Pens, Plain, Play, Rule, Seen, Start, Word};
 use std::marker::{Brand, Model, PhantomData};
 
-/// The rule of the history: each entry of a chain but its last names a cell that is at home, and one word counts the programs
-/// that readers see.
+/// The rule of the history. Each entry of a chain, except its last, names a cell that is at home. One word counts the
+/// programs that readers see.
 pub(crate) struct Chained;
 
 impl Rule<Link, u64> for Chained {
@@ -142,8 +142,8 @@ fn drawn(word: &Word<Link, u64, Chained>, seen: &Seen<Link, u64, Chained>) -> Pe
     pen
 }
 
-/// An empty history, which belongs to no node yet, and the rights to its chains. Contracts see it as its book, and how
-/// many chains it has left.
+/// An empty history, which belongs to no node yet, and the rights to its chains. Contracts see it as its book, and as
+/// how many chains it has left.
 #[derive(Drop)]
 pub struct Opened {
     pens: Pens,
@@ -181,7 +181,7 @@ impl Opened {
         }
     }
 
-    /// Leaves so many chains out: nobody adds to them.
+    /// Leaves that many chains out: nobody adds to them.
     pub fn skip(&mut self, count: u8)
         requires { count ≤ self.old.1 }
         ensures left { self.new.1 + count ≡ self.old.1 }
@@ -194,8 +194,9 @@ impl Opened {
         }
     }
 
-    /// The next chain, with its first entry, of a bank of so many zero bytes from an address on, with room for so many
-    /// entries in its journal. `None` where it has one already (no test met that). The condition is a chain that is left.
+    /// The next chain, with its first entry. It is the chain of a bank with that many zero bytes from an address on,
+    /// and room for that many entries in its journal. If it has an entry already, the call gives `None` (no test met
+    /// that). The condition is a chain that is left.
     pub fn chain<J: Family>(&mut self, opening: (u32, u32, u32)) -> Option<Chain<J>>
         requires family { self.old.0 ≡ J.book }
         requires left { 0 < self.old.1 }
@@ -237,7 +238,8 @@ impl Opened {
 }
 
 impl Opened {
-    /// The word that counts the programs which readers see. The condition is a history of which all chains are taken or left out.
+    /// The word that counts the programs which readers see. The condition is a history of which all chains are taken or
+    /// left out.
     pub fn into_shown_count<J: Family>(self) -> ShownCount<J>
         requires family { self.0 ≡ J.book }
         requires none { self.1 ≡ 0 }
@@ -251,8 +253,8 @@ impl Opened {
     }
 }
 
-/// A chain of the history, whole, and the right to add to it. Contracts see it as its number, and all that is known of the
-/// history, which is all of it that is of the chain.
+/// A chain of the history, whole, and the right to add to it. Contracts see it as its number, and as what is known of
+/// the history, with all that the chain has.
 #[derive(Drop)]
 pub struct Chain<J: Family> {
     word: Word<Link, u64, Chained>,
@@ -280,8 +282,8 @@ impl<J: Family> Chain<J> {
         front.seen.learn(&self.seen);
     }
 
-    /// Adds a deed, behind all that somebody has seen, who then has seen it too. The conditions are one who has seen all that
-    /// is known of the chain, and a deed that may be the next.
+    /// Adds a deed, after all that somebody has seen, who then has seen it too. The conditions are one who has seen all
+    /// that is known of the chain, and a deed that may be the next.
     pub(crate) fn push<D: Tells>(&mut self, front: &mut Front<J>, told: &D)
         requires begins { IsPrefix self.old.log front.old }
         requires due { IsDue self.old.number (D.deed told.now) front.old }
@@ -305,7 +307,7 @@ impl<J: Family> Chain<J> {
         self.seen = front.seen.again();
     }
 
-    /// Adds a deed, behind all that is known of the chain and all that somebody has seen, who then has seen it too. The
+    /// Adds a deed, after all that is known of the chain and all that somebody has seen, who then has seen it too. The
     /// condition is a deed of no command.
     pub(crate) fn add<D: Tells>(&mut self, front: &mut Front<J>, told: &D)
         requires free { (log : List Link) → IsDue self.old.number (D.deed told.now) log }
@@ -368,7 +370,7 @@ impl<J: Family> Front<J> {
         }
     }
 
-    /// Learns what another has seen: what each has seen begins what is known then.
+    /// Learns what another has seen. What each had seen begins what is known then.
     pub fn learn(&mut self, other: &Front<J>)
         ensures this { IsPrefix self.old self.new }
         ensures that { IsPrefix other.now self.new }
@@ -376,7 +378,7 @@ impl<J: Family> Front<J> {
         self.seen.learn(&other.seen);
     }
 
-    /// Of what two have seen one begins the other.
+    /// What two have seen: one begins the other.
     pub(crate) fn meets(&self, other: &Front<J>)
         ensures { IsPrefix self.now other.now ⊎ IsPrefix other.now self.now }
     {

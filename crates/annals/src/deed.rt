@@ -1,4 +1,4 @@
-//! What is done at a node, as the history tells it.
+//! What is done at a node, as the history has it.
 
 use bank::Entry;
 use bver::Accepted;
@@ -6,33 +6,34 @@ use node_programs::Publish;
 use std::collections::LinkedList;
 use std::sync::Arc;
 
-/// What is asked for in a line, and then done: by a port, whose line that is, or by the instrument. No value of it is made.
+/// What a line asks for, and what is then done. The line is a port's or the instrument's. No value of it is made.
 pub enum Act {
     /// A judged command of a port leaves that entry in a bank's journal.
     Leaves(Entry),
     /// The instrument puts those bytes at an address of a bank.
     Sets((u32, LinkedList<u8>)),
-    /// The instrument takes a bank's journal, and begins one with room for so many entries.
+    /// The instrument takes a bank's journal, and begins one with room for that many entries.
     Rotates(u64),
-    /// A program is published for a slot: by the line of that number, which is a port's or the instrument's.
+    /// A program is published for a slot, by the line of that number, which is a port's or the instrument's.
     Publishes((u64, Publish)),
 }
 
 /// What a chain of the history has. No value of it is made.
 pub enum Deed {
-    /// A bank began, with so many zero bytes from an address on, and with room for so many entries in its journal. The other
-    /// chains begin with a bank of none.
+    /// A bank began, with that many zero bytes from an address on, and with room for that many entries in its journal.
+    /// The other chains begin with a bank of none.
     Opens((u32, u32, u32)),
-    /// That was done: at a bank, or to what is published.
+    /// That was done, at a bank or to what is published.
     Does(Act),
-    /// That was asked for, at the chain of that number.
+    /// A line asked for that, at the chain of that number.
     Asks((u64, Act)),
     /// From here on readers see one program more of those that were published.
     Shows,
 }
 
-/// An entry of the history: a deed in the chain of that number, which is a bank's, that of the publishes, or a port's line, its
-/// place among the deeds there, and the key of the cell whose pen adds the next one. No value of it is made.
+/// An entry of the history. It has a deed and the number of the deed's chain, which is that of a bank, of the
+/// publishes, or of a line. It also has its place among the deeds there, and the key of the cell whose pen adds the
+/// next one. No value of it is made.
 pub struct Link {
     pub chain: u64,
     pub place: u64,
@@ -40,7 +41,7 @@ pub struct Link {
     pub next: u64,
 }
 
-/// What tells of a deed.
+/// What reports a deed.
 pub(crate) trait Tells {
     ghost use Rattle.annals.specs.declared.deed.Deed.{Deed};
 
@@ -48,7 +49,7 @@ pub(crate) trait Tells {
     ghost deed: { Self → Deed };
 }
 
-/// What tells of an act.
+/// What reports an act.
 pub(crate) trait TellsAct {
     ghost use Rattle.annals.specs.declared.deed.Act.{Act};
 
@@ -75,7 +76,7 @@ impl<'a> TellsAct for Setting<'a> {
     ghost act = { λ setting. Sets (setting.address, setting.bytes.now) };
 }
 
-/// An instrument takes a journal, and begins one with room for so many entries.
+/// An instrument takes a journal, and begins one with room for that many entries.
 #[derive(Drop)]
 pub(crate) struct Rotation {
     pub(crate) room: u32,
@@ -87,7 +88,7 @@ impl TellsAct for Rotation {
     ghost act = { λ rotation. Rotates rotation.room };
 }
 
-/// A program is published for a slot, by the line of that number.
+/// The line of that number publishes a program for a slot.
 #[derive(Drop)]
 pub(crate) struct Publishing<'a> {
     pub(crate) by: u8,
@@ -114,7 +115,7 @@ impl<'a, A: TellsAct> Tells for Doing<'a, A> {
     ghost deed = { λ doing. Does (A.act doing.act.now) };
 }
 
-/// An act was asked for, at the chain of that number.
+/// A line asked for an act, at the chain of that number.
 #[derive(Drop)]
 pub(crate) struct Asking<'a, A: TellsAct> {
     pub(crate) chain: u8,
@@ -127,7 +128,7 @@ impl<'a, A: TellsAct> Tells for Asking<'a, A> {
     ghost deed = { λ asking. Asks (asking.chain, A.act asking.act.now) };
 }
 
-/// A bank began, of so many zero bytes from an address on, with room for so many entries.
+/// A bank began, of that many zero bytes from an address on, with room for that many entries.
 #[derive(Drop)]
 pub(crate) struct OpensBank(pub(crate) (u32, u32, u32));
 

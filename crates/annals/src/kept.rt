@@ -1,4 +1,4 @@
-//! A bank with its chain, as it lies behind a lock.
+//! A bank with its chain, as a lock guards it.
 
 ghost use Rattle.std.specs.Prelude.{◌≡◌, ◌<◌, ◌+◌, ℕ, [], IfSome, IfNone, length, true, false};
 ghost use Rattle.bank.specs.Records.{after_command, after_rotation, after_setting, answer_of, covers, entry_of, fits, is_place_of, memory_of, next_share, number_left};
@@ -16,8 +16,8 @@ use rmap::{Place, ReplyBuf};
 use std::marker::Model;
 use std::ops::Deref;
 
-/// A bank, its number, and its chain of the history. The bank's memory is the replay of the chain, in which the entries of
-/// each port are numbered from 0 up to the bank's count of it, each once.
+/// A bank, its number, and its chain of the history. The bank's memory is the replay of the chain. There the entries of
+/// each port are numbered from 0 up to the bank's count of them, each once.
 #[derive(Drop)]
 pub struct Kept<J: Family> {
     number: u8,
@@ -37,8 +37,9 @@ impl<J: Family> Model for Kept<J> {
 }
 
 impl<J: Family> Kept<J> {
-    /// A bank to which no command was applied, with the next chain of a history, which begins with it. `None` where the
-    /// chain has an entry already (no test met that). Conditions: a bank as [`Bank::new`] makes it, and a chain that is left.
+    /// A bank to which no command was applied, with the next chain of a history, which begins with it. If the chain has
+    /// an entry already, the call gives `None` (no test met that). The conditions are a bank as [`Bank::new`] makes it,
+    /// and a chain that is left.
     pub fn new(number: u8, bank: Bank, opened: &mut Opened) -> Option<Kept<J>>
         requires family { opened.old.0 ≡ J.book }
         requires number { (number < 9) × (number + opened.old.1 ≡ 42) }
@@ -64,8 +65,8 @@ impl<J: Family> Kept<J> {
         self.number
     }
 
-    /// Does a judged command, as [`Bank::apply`] does. Where it leaves an entry, that is the last of a history which goes on
-    /// from what the port knew, and status and reply are the definition's on the replay of what stood before it.
+    /// Does a judged command, as [`Bank::apply`] does. If it leaves an entry, that is the last of a history which goes
+    /// on from what the port knew. Status and reply are then the definition's on the replay of what was before it.
     fn apply(
         &mut self,
         front: &mut Front<J>,
@@ -112,10 +113,12 @@ impl<J: Family> Kept<J> {
         }
     }
 
-    /// Ends a judged command: does it where its place is this bank and it fits ([`Bank::fits`]), and answers a general error
-    /// where not, which leaves all as it was. Where it leaves an entry, that is the last of a history which goes on from
-    /// what the port knew, and status and reply are the definition's on the replay of what stood before it; and the port's line
-    /// asked for it. The condition is a line and a share of one port.
+    /// Ends a judged command. If its place is this bank and it fits ([`Bank::fits`]), the bank does it. Otherwise the
+    /// answer is a general error, and all is as it was.
+    ///
+    /// If the command leaves an entry, the port's line asked for it. The entry is the last of a history which goes on
+    /// from what the port knew. Status and reply are then the definition's on the replay of what was before it. The
+    /// condition is a line and a share of one port.
     pub fn finish(
         &mut self,
         front: &mut Front<J>,
@@ -154,7 +157,7 @@ impl<J: Family> Kept<J> {
     }
 
     /// Begins a new journal and hands the old one out, as [`Bank::rotate`] does, and adds that to the history, as the
-    /// instrument's line asks. Conditions: the line is the instrument's, and `fresh` is empty.
+    /// instrument's line asks. The conditions are the instrument's line, and an empty `fresh`.
     pub fn rotate(&mut self, front: &mut Front<J>, line: &mut Line<J>, fresh: Journal) -> Journal
         requires line { line.old.port ≡ instrument }
         requires empty { fresh.entries ≡ [] }
@@ -170,8 +173,9 @@ impl<J: Family> Kept<J> {
         journal
     }
 
-    /// Puts bytes at an address without a command, as [`Bank::set`] does, and adds that to the history, as the instrument's line
-    /// asks. Conditions: the line is the instrument's, `fresh` is empty, and the bytes lie inside ([`Bank::covers`]).
+    /// Puts bytes at an address without a command, as [`Bank::set`] does, and adds that to the history, as the
+    /// instrument's line asks. The conditions are the instrument's line, an empty `fresh`, and bytes that lie inside
+    /// ([`Bank::covers`]).
     pub fn set(
         &mut self,
         front: &mut Front<J>,

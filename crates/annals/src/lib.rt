@@ -1,12 +1,14 @@
-//! The annals of a node: one history of all that was done at its banks and of what was published, in the order in which it
-//! was done.
+//! The annals of a node: one history of all that was done at its banks and of what was published, in order.
 //!
-//! Each bank has a [`Chain`] in it, and a [`Kept`] bank is one with its chain, as it lies behind a lock: whoever has the
-//! lock, and nobody else, can add to the chain, and the bank's memory is the replay of it. One chain more has the publishes
-//! of programs ([`Chain::publish`]). What a port knows of the history is its [`Front`], and a [`Beginning`] is what was seen
-//! of it. Each port has a [`Line`] in it, and asks there for each entry before a bank has it, and for each publish before it is
-//! one: so nobody else can have entries or publishes of the port. What no command does is asked for in the instrument's line: so
-//! without it nobody sets memory, takes a journal, or publishes. The history exists in proofs alone: at run time a chain is one word, and a front is nothing.
+//! Each bank has a [`Chain`] in it. A [`Kept`] bank is one with its chain, as a lock guards it. Only who has the lock
+//! can add to the chain, and the bank's memory is the replay of it. One chain more has the publishes of programs
+//! ([`Chain::publish`]). What a port knows of the history is its [`Front`], and a [`Beginning`] is what was seen of it.
+//!
+//! Each port has a [`Line`] in it. It asks there for each entry before a bank has it, and for each publish before it is
+//! one. So nobody else can have entries or publishes of the port. The instrument's line asks for all that no command
+//! does. So nobody without it sets memory, takes a journal, or publishes.
+//!
+//! The history exists only in proofs. At run time a chain is one word, and a front is nothing.
 #![tactic(auto)]
 
 mod beginning;

@@ -14,9 +14,10 @@ use std::marker::Model;
 /// The number of the instrument's line. Those of ports are below it.
 const INSTRUMENT: u8 = 32;
 
-/// A line of the history, whole, and the right to add to it, which nobody else has. In it a port asks for each entry of its
-/// commands before a bank has it, and for each publish before it is one; in the instrument's line all that is asked for which no
-/// command does. Contracts see it as its number, which is the port's, and what was asked for, all of which was done.
+/// A line of the history, whole, and the right to add to it, which nobody else has. In it a port asks for each entry of
+/// its commands before a bank has it, and for each publish before it is one. The instrument's line asks for all that no
+/// command does. Contracts see a line as its number, which is the port's, and as what it asked for, all of which was
+/// done.
 #[derive(Drop)]
 pub struct Line<J: Family> {
     port: u8,
@@ -35,7 +36,7 @@ impl<J: Family> Model for Line<J> {
 }
 
 impl<J: Family> Line<J> {
-    /// The line of that number in which nothing was asked for, as the next chain of a history.
+    /// The line of that number, which asked for nothing, as the next chain of a history.
     fn begin(port: u8, opened: &mut Opened) -> Option<Line<J>>
         requires family { opened.old.0 ≡ J.book }
         requires number { line_of port + opened.old.1 ≡ 42 }
@@ -49,8 +50,8 @@ impl<J: Family> Line<J> {
         Some(Line { port, chain, left })
     }
 
-    /// The line of a port that asked for nothing, as the next chain of a history. `None` where the chain has an entry already
-    /// (no test met that). The conditions are a chain that is left, and that of the port.
+    /// The line of a port that asked for nothing, as the next chain of a history. If the chain has an entry already,
+    /// the call gives `None` (no test met that). The conditions are a chain that is left, and that of the port.
     pub fn new(port: u8, opened: &mut Opened) -> Option<Line<J>>
         requires family { opened.old.0 ≡ J.book }
         requires number { (port < 32) × (port + opened.old.1 ≡ 32) }
@@ -61,9 +62,9 @@ impl<J: Family> Line<J> {
         Line::begin(port, opened)
     }
 
-    /// The line of the instrument, in which nothing was asked for, as the next chain of a history. `None` where the chain has an
-    /// entry already (no test met that). The condition is a history of which the chains of banks and of publishes are taken or
-    /// left out, and no other.
+    /// The line of the instrument, in which nothing was asked for, as the next chain of a history. If the chain has an
+    /// entry already, the call gives `None` (no test met that). The condition is a history of which only the chains of
+    /// banks and of publishes are taken or left out, and all of these are.
     pub fn of_instrument(opened: &mut Opened) -> Option<Line<J>>
         requires family { opened.old.0 ≡ J.book }
         requires number { opened.old.1 ≡ 33 }
@@ -81,8 +82,9 @@ impl<J: Family> Line<J> {
         self.port
     }
 
-    /// Does an act at the chain of that number, behind all that is known of the chain and all that somebody has seen, who then
-    /// has seen it too: the line asks for it, and the chain has it. The conditions are that chain, and an act of the line's owner.
+    /// Does an act at the chain of that number: the line asks for it, and the chain has it. The act is after all that
+    /// is known of the chain and all that somebody has seen, who then has seen it too. The conditions are that chain,
+    /// and an act of the line's owner.
     pub(crate) fn leave<A: TellsAct>(
         &mut self,
         front: &mut Front<J>,
@@ -104,7 +106,7 @@ impl<J: Family> Line<J> {
         self.left = front.again();
     }
 
-    /// Somebody learns so much of the history that all which was asked for in the line stands there, done.
+    /// Somebody learns enough of the history that all which the line asked for is in it, done.
     pub fn tell(&self, front: &mut Front<J>)
         ensures known { IsPrefix front.old front.new }
         ensures told { IsPrefix self.now.asked (done_for self.now.port front.new) }
@@ -112,7 +114,8 @@ impl<J: Family> Line<J> {
         front.learn(&self.left);
     }
 
-    /// What anybody has seen of the acts of the line's owner begins what was asked for in it, over all chains, and at each bank.
+    /// What anybody has seen of the acts of the line's owner begins what the line asked for, over all chains, and at
+    /// each bank.
     pub fn knows_all(&mut self, front: &Front<J>)
         ensures begins { IsPrefix (done_for self.old.port front.now) self.old.asked }
         ensures numbers { (bank : ℕ) → IsPrefix (numbers_of self.old.port (entries_of bank front.now))

@@ -16,12 +16,12 @@ use crate::line::Line;
 use bver::Accepted;
 use std::sync::Arc;
 
-/// How many chains of a history stand before that of the publishes: those of banks ([`MAX_BANKS`](rmap::MAX_BANKS)).
+/// How many chains of a history come before that of the publishes: those of banks ([`MAX_BANKS`](rmap::MAX_BANKS)).
 pub const BANK_CHAINS: u8 = 8;
 
 impl Opened {
-    /// The chain of the publishes, in which nothing was published yet. `None` where it has begun already (no test met that).
-    /// The condition is a history of which the chains of banks are taken or left out.
+    /// The chain of the publishes, in which nothing was published yet. If it has begun already, the call gives `None`
+    /// (no test met that). The condition is a history of which the chains of banks are taken or left out.
     pub fn publishes<J: Family>(&mut self) -> Option<Chain<J>>
         requires family { self.old.0 ≡ J.book }
         requires next { self.old.1 + publishes_chain ≡ 42 }
@@ -36,8 +36,8 @@ impl Opened {
 }
 
 impl<J: Family> Chain<J> {
-    /// Adds the publish of a program for a slot, behind all that is known of the history, as the line asks. The condition is the
-    /// chain of the publishes.
+    /// Adds the publish of a program for a slot, after all that is known of the history, as the line asks. The
+    /// condition is the chain of the publishes.
     pub fn publish(&mut self, line: &mut Line<J>, publish: &(u8, Arc<Accepted>))
         requires { self.old.number ≡ publishes_chain }
         ensures number { self.new.number ≡ self.old.number }
@@ -62,8 +62,8 @@ impl<J: Family> Chain<J> {
         self.begins_with(known);
     }
 
-    /// The publishes that were seen begin all that the chain has. The condition is the chain of the publishes, and what was
-    /// seen of its history.
+    /// The publishes that were seen begin all that the chain has. The conditions are the chain of the publishes, and
+    /// what was seen of its history.
     pub fn has_published(&mut self, seen: &Beginning)
         requires number { self.old.number ≡ publishes_chain }
         requires book { seen.now.book ≡ J.book }

@@ -32,7 +32,7 @@ impl Plain<(), Link, u64> for Raise {
     ghost state = { λ _. None };
 }
 
-/// The word that says how many of the published programs readers see. What publishes and what reads share it.
+/// The word that says how many of the published programs readers see. The publisher and the readers share it.
 #[derive(Drop)]
 pub struct ShownCount<J: Family> {
     pub(crate) word: Word<Link, u64, Chained>,
@@ -53,8 +53,8 @@ impl<J: Family> ShownCount<J> {
             .load::<Count, Nothing>(&mut front.seen, &mut offer)
     }
 
-    /// Shows the program of that number, if the one before it is the last that readers see: so if they saw that one, they see
-    /// this. The condition is a program that was published.
+    /// Shows the program of that number, if the one before it is the last that readers see. So if they saw that one,
+    /// they see this. The condition is a program that was published.
     pub fn raise(&self, front: &mut Front<J>, count: u64)
         requires some { 0 < count }
         requires published { count ≤ length (publishes_of front.old) }
@@ -76,10 +76,10 @@ impl<J: Family> ShownCount<J> {
             );
     }
 
-    /// Readers saw `least` programs, and then one was given a table of `count`, of which `table` is what its publisher had seen.
-    /// It is as if it had been given at one moment in between, at which readers saw exactly these programs: none was shown
-    /// before it that the table does not have, and none that it has came later. `false` where the table has fewer than were
-    /// seen (no test met that).
+    /// Readers saw `least` programs, and then one reader got a table of `count`, of which `table` is what its publisher
+    /// had seen. It is as if the reader got it at one moment in between, at which readers saw exactly these programs.
+    /// No program was shown before that moment that the table does not have, and none that it has came later. If the
+    /// table has fewer than were seen, the call gives `false` (no test met that).
     pub fn settle(&self, front: &mut Front<J>, least: u64, table: &Front<J>, count: u64) -> bool
         requires least { least ≡ shown_in front.old }
         requires count { count ≡ length (publishes_of table.now) }

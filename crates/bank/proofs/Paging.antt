@@ -27,7 +27,7 @@ use Rattle.bank.proofs.Parts.{part_changed}
 abbrev pub page : List (List ℕ) → ℕ → List ℕ
 page ps k = get_or ps k []
 
--- byte j of page k is byte k * 4096 + j of all
+-- byte j of page k is byte k * 4096 + j of the whole
 pub at_page : (ps : List (List ℕ)) (k j : ℕ) → ArePages ps → k < length ps → j < length (page ps k) → get_or (concat ps) (k * 4096 + j) 0 ≡ get_or (page ps k) j 0
 at_page [] k j are below inside = absurd (omega arith)
 at_page (p ∷ []) zero j are below inside =
@@ -65,7 +65,7 @@ within_all (p ∷ q ∷ ps) zero j are below inside = omega (arith, length-appen
 within_all (p ∷ q ∷ ps) (suc k) j are below inside =
     omega (arith, length-append p (concat (q ∷ ps)), are.0, within_all (q ∷ ps) k j are.1 (omega arith) inside)
 
--- a page has at most 4,096 bytes, and exactly as many where another follows
+-- a page has at most 4,096 bytes, and exactly 4,096 if another follows
 pub page_few : (ps : List (List ℕ)) (k : ℕ) → ArePages ps → length (page ps k) ≤ 4096
 page_few [] k are = omega arith
 page_few (p ∷ []) zero are = are.1
@@ -79,7 +79,7 @@ page_full (p ∷ []) k are below = absurd (omega arith)
 page_full (p ∷ q ∷ ps) zero are below = are.0
 page_full (p ∷ q ∷ ps) (suc k) are below = page_full (q ∷ ps) k are.1 (omega arith)
 
--- another page of the same length in its place
+-- the pages are still pages with another page of the same length in place k
 pub are_set : (ps : List (List ℕ)) (k : ℕ) (q : List ℕ) → ArePages ps → length q ≡ length (page ps k) → ArePages (set ps k q)
 are_set [] k q are long = are
 are_set (p ∷ []) zero q are long = (rw long are.0, rw long are.1)
@@ -88,7 +88,7 @@ are_set (p ∷ r ∷ ps) zero q are long = (long ∙ are.0, are.1)
 are_set (p ∷ r ∷ ps) (suc zero) q are long = (are.0, are_set (r ∷ ps) zero q are.1 long)
 are_set (p ∷ r ∷ ps) (suc (suc k)) q are long = (are.0, are_set (r ∷ ps) (suc k) q are.1 long)
 
--- where a page lies
+-- a page as a memory of its own
 abbrev pub page_at : (first : ℕ) → List (List ℕ) → ℕ → Memory
 page_at first ps k = record { first = first + k * 4096; bytes = page ps k }
 
@@ -105,7 +105,7 @@ page_is_part first ps k are below = record {
       sym (at_page ps k j are below (omega arith)) ∙ ap (λ (i : ℕ). get_or (concat ps) i 0) index;
 }
 
--- a command leaves the first address and the number of bytes
+-- a command does not change the first address and the number of bytes
 first_stays : (kind : Kind) (m : Memory) (c : CommandValue) → (effect_of kind m c).memory.first ≡ m.first
 first_stays Read m c = refl
 first_stays Write m c = refl
@@ -124,7 +124,7 @@ effect_size m c = size_stays (command_kind c) m c
 whole : (first : ℕ) (bytes : List ℕ) (m : Memory) → m.first ≡ first → bytes ≡ m.bytes → record { first = first; bytes = bytes } ≡ m
 whole first bytes m place same = rw (← place, same) refl
 
--- each page is as the command leaves it as a memory of its own
+-- each page is what the command makes of it as a memory of its own
 pub record ArePaged (first : ℕ) (ps qs : List (List ℕ)) (c : CommandValue) : Type 0 where
   pub as_many : length qs ≡ length ps
   pub each : (k : ℕ) → k < length ps → page qs k ≡ (effect (page_at first ps k) c).memory.bytes
@@ -244,7 +244,7 @@ two_changed first ps c k start are below begins =
       size = set_size (set ps k q) (k + 1) r next_long ∙ set_size ps k q long;
     }
 
--- the same, where the pages and their addresses are told by equations
+-- the same, with the pages and their addresses given by equations
 pub one_is_changed : (first : ℕ) (ps qs : List (List ℕ)) (c : CommandValue) (k start : ℕ) → qs ≡ after_page (first + k * 4096) ps k c → ArePages ps → k < length ps → BeginsAt first c k start → length ps ≤ k + 1 → ArePaged first ps qs c
 one_is_changed first ps qs c k start new are below begins last = rw new (one_changed first ps c k start are below begins last)
 
@@ -282,7 +282,7 @@ in_page first ps c address is are inside admitted =
     let there = is_at ps k start are small (omega arith) in
     record { start = start; begins = record { place = omega arith; small = small; short = short }; below = there.below }
 
--- what is read of a part is what is read of the whole
+-- what is read from a part is what is read from the whole
 in_part : (next : Bool) (part : Memory) (c : CommandValue) (n i : ℕ) → increments c ≡ next → IsWithin part.first (length part.bytes) c n → i < n → (part.first ≤ address_of_byte c i) × (address_of_byte c i < part.first + length part.bytes)
 in_part true part c n i next within below = rw next (omega (arith, within.above), omega (arith, within.all next))
 in_part false part c n i again within below = rw again (within.above, within.below)
@@ -294,7 +294,7 @@ read_in_part m part c n of within =
     get_or-map-range_with_len (λ k. byte_at part (address_of_byte c k)) 0 n i i 0 below (omega arith)
     ∙ of.same (address_of_byte c i) place.0 place.1)
 
--- the last page ends where all end
+-- the end of the last page is the end of the whole
 pub total : (ps : List (List ℕ)) (k : ℕ) → ArePages ps → k + 1 ≡ length ps → length (concat ps) ≡ k * 4096 + length (page ps k)
 total [] k are last = absurd (omega arith)
 total (p ∷ []) zero are last = omega (arith, length-append p [])
@@ -318,7 +318,7 @@ left_in_page ps k j are there =
           omega arith
     ]
 
--- the bytes of a page from one on are those of all from there on
+-- the bytes of a page from an index are those of the whole from there
 pub rest_of_page : (ps : List (List ℕ)) (k j n : ℕ) → ArePages ps → IsAt ps k j → n ≡ k * 4096 + j → take (length (page ps k) - j) (drop j (page ps k)) ≡ take (4096 - j) (drop n (concat ps))
 rest_of_page ps k j n are there is =
     let left = left_in_page ps k j are there in
@@ -336,7 +336,7 @@ rest_of_page ps k j n are there is =
     ∙ ap (λ (m : ℕ). get_or (concat ps) m 0) index
     ∙ sym (get_or-take (4096 - j) (drop n (concat ps)) i 0 (omega arith) ∙ get_or-drop n (concat ps) i 0))
 
--- some bytes from an address on are a part of memory
+-- some bytes from an address are a part of memory
 pub slice_is_part : (m : Memory) (n count address : ℕ) → address ≡ m.first + n → n ≤ length m.bytes → IsPartOf m (record { first = address; bytes = take count (drop n m.bytes) })
 slice_is_part m n count address place below = record {
   above = omega arith;
@@ -355,13 +355,13 @@ put_takes start xs part rest below =
     ∙ take-append-add (take start xs) (part ++ rest) (length part)
     ∙ ap (λ (l : List ℕ). take start xs ++ l) (take-append_seam part rest)
 
--- where a byte stands
+-- the page of a byte, and its index there
 pub found : (ps : List (List ℕ)) (n : ℕ) → ArePages ps → n < length (concat ps) → IsAt ps (n / 4096) (n % 4096)
 found ps n are below =
     let index : n / 4096 * 4096 + n % 4096 ≡ n = div-add-mod' n 4096 in
     is_at ps (n / 4096) (n % 4096) are (mod-lt n (omega arith)) (omega arith)
 
--- where bytes from a command's address on are enough for it
+-- the bytes from a command's address are enough for it
 pub is_within_slice : (c : CommandValue) (address size count : ℕ) (next : Bool) → address ≡ address_of c → 0 < size → next ≡ increments c → (next ≡ false) ⊎ ((next ≡ true) × (count ≤ size)) → IsWithin address size c count
 is_within_slice c address size count next is some same enough = record {
   above = omega arith;
@@ -369,7 +369,7 @@ is_within_slice c address size count next is some same enough = record {
   all = λ goes. elim enough [ inl again ↦ absurd cc | inr far ↦ omega (arith, far.1) ];
 }
 
--- the bytes at the end of a page and those of the next are bytes that follow each other
+-- the bytes at the end of a page and those of the next follow each other in the whole
 pub joined_slice : (all bytes next result : List ℕ) (offset count a b : ℕ) → bytes ≡ take a (drop offset all) → next ≡ take b (drop (offset + length bytes) all) → take (length bytes + length (take (count - length bytes) next)) result ≡ bytes ++ take (count - length bytes) next → length bytes < count → count - length bytes ≤ length next → take count result ≡ take count (drop offset all)
 joined_slice all bytes next result offset count a b first second joined more enough =
     let l = drop offset all in
@@ -430,7 +430,7 @@ zeros_join_pushed ps n rest size same sum =
     ∙ ap (λ (l : List ℕ). replicate (n * 4096) 0 ++ l) (append-nil (replicate rest 0))
     ∙ replicate-append-replicate (n * 4096) rest 0 ∙ ap (λ (m : ℕ). replicate m 0) sum
 
--- the first n pages are those of others of the same lengths
+-- the first n pages are those of other pages of the same lengths
 pub record AreCopied (n : ℕ) (ps qs : List (List ℕ)) : Type 0 where
   pub alike : map length qs ≡ map length ps
   pub same : (k : ℕ) → k < n → page ps k ≡ page qs k

@@ -7,7 +7,7 @@ use Rattle.bank.specs.Effect.{overlaid}
 use Rattle.bank.specs.Pages.{ArePages}
 use Rattle.bank.proofs.Paging.{page, found, are_set}
 
--- another byte j of page k is another byte k * 4096 + j of all
+-- another byte j of page k is another byte k * 4096 + j of the whole
 set_in_page : (ps : List (List ℕ)) (k j b : ℕ) → ArePages ps → k < length ps → j < length (page ps k) → concat (set ps k (set (page ps k) j b)) ≡ set (concat ps) (k * 4096 + j) b
 set_in_page [] k j b are below inside = absurd (omega arith)
 set_in_page (p ∷ []) zero j b are below inside =
@@ -28,7 +28,7 @@ set_in_page (p ∷ q ∷ ps) (suc (suc k)) j b are below inside =
     ∙ ap (λ (i : ℕ). p ++ set (concat (q ∷ ps)) i b) index
     ∙ ap (λ (l : List ℕ). p ++ l) (sym (set_in_page (q ∷ ps) (suc k) j b are.1 (omega arith) inside)))
 
--- another byte of all is another byte of its page
+-- another byte of the whole is another byte of its page
 pub record IsPut (ps qs : List (List ℕ)) (n b : ℕ) : Type 0 where
   pub are : ArePages qs
   pub value : concat qs ≡ set (concat ps) n b
@@ -51,7 +51,7 @@ overlaid_none old bytes offset =
     ∙ ap (λ (i : ℕ). take offset old ++ drop i old) index
     ∙ take-append-drop offset old
 
--- one byte more
+-- one more byte is put
 pub overlaid_more : (old bytes : List ℕ) (offset i : ℕ) → offset + i < length old → i < length bytes
     → set (overlaid offset old (take i bytes)) (offset + i) (get_or bytes i 0) ≡ overlaid offset old (take (i + 1) bytes)
 overlaid_more old bytes offset i room below =
@@ -76,7 +76,7 @@ overlaid_more old bytes offset i room below =
 pub overlaid_all : (old bytes : List ℕ) (offset i : ℕ) → length bytes ≤ i → overlaid offset old (take i bytes) ≡ overlaid offset old bytes
 overlaid_all old bytes offset i all = ap (overlaid offset old) (take_all i bytes all)
 
--- as many bytes as before
+-- putting bytes does not change the number of bytes
 pub overlaid_long : (old bytes : List ℕ) (offset : ℕ) → offset + length bytes ≤ length old → length (overlaid offset old bytes) ≡ length old
 overlaid_long old bytes offset inside =
     omega (arith, length-append (take offset old ++ bytes) (drop (offset + length bytes) old), length-append (take offset old) bytes, length-take offset old, length-drop (offset + length bytes) old)

@@ -30,9 +30,9 @@ pub const MAX_SIZE: u32 = 1_048_576;
 /// How a judged command ended at a bank.
 #[derive(Clone, Copy, Debug, PartialEq, Eq)]
 pub struct Applied {
-    /// The status of the command, and of its reply where it wants one.
+    /// The status of the command, and of its reply if it wants one.
     pub status: Status,
-    /// The number of the entry that the command left in the journal, or `None` where it left none.
+    /// The number of the entry that the command left in the journal, or `None` if it left none.
     pub number: Option<u64>,
 }
 
@@ -56,7 +56,7 @@ impl Model for Bank {
     ghost invariant = { λ b. IsBank (record { first = b.first; bytes = b.bytes; base = b.base; journal = b.journal; counts = b.counts.items }) };
 }
 
-/// Whether a bank may have that many bytes from that address on.
+/// Whether a bank may have that many bytes from that address.
 fn is_range(base: u32, size: u32) -> bool
     ensures { result ≡ is_range base size }
 {
@@ -64,8 +64,8 @@ fn is_range(base: u32, size: u32) -> bool
     1 <= size && size <= MAX_SIZE && end <= 1 << 32
 }
 
-/// Whether a bank may have that many bytes from that address on, and a journal of that room: 1 to
-/// 1,048,576 bytes, none past the last address, and a room of 1 to 65,536 entries.
+/// Whether a bank may have that many bytes from that address, and a journal of that room. It may have 1 to 1,048,576
+/// bytes, none past the last address, and room for 1 to 65,536 entries.
 pub fn is_bank_size(base: u32, size: u32, room: u32) -> bool
     ensures { result ≡ is_bank_size base size room }
 {
@@ -84,9 +84,13 @@ fn shares(alloc: Global, ports: u8) -> Result<Vec<Share>, AllocError>
 }
 
 impl Bank {
-    /// A bank of `size` zero bytes from the address `base` on, and a share of it for each port, in
-    /// order. `Size` for no bytes or more than 1,048,576, for bytes past the last address, for no
-    /// ports or more than 32, and for a journal that is not empty; `Memory` where memory was refused.
+    /// A bank of `size` zero bytes from the address `base`, and a share of it for each port, in order.
+    ///
+    /// # Errors
+    ///
+    /// - `Size`: the size is 0 or more than 1,048,576 bytes, or bytes lie past the last address. There are no ports
+    ///   or more than 32, or the journal is not empty.
+    /// - `Memory`: there is none of these, and memory is refused.
     pub fn new(
         alloc: Global,
         base: u32,
@@ -129,8 +133,8 @@ impl Bank {
         self.base.get(offset as usize)
     }
 
-    /// The pages of memory, in order: each but the last has 4,096 bytes, the last one 1 to 4,096.
-    /// Joined they are the memory.
+    /// The pages of memory, in order. Each has 4,096 bytes, except the last, which has 1 to 4,096. Joined they are
+    /// the memory.
     pub fn pages(&self) -> &[Vec<u8>]
         ensures joined { concat (map vec_items result.now) ≡ self.now.bytes }
         ensures pages { ArePages (map vec_items result.now) }
@@ -178,8 +182,8 @@ impl Bank {
         self.counts.len() as u8
     }
 
-    /// How many commands of the port were recorded: the number of its next one. The condition is a port of the
-    /// bank ([`Bank::ports`]).
+    /// How many commands of the port the journals have recorded: the number of its next one. The condition is a port
+    /// of the bank ([`Bank::ports`]).
     pub fn count(&self, port: u8) -> u64
         requires { port < length self.now.counts }
         ensures { result ≡ slice_index self.now.counts port }
@@ -187,9 +191,9 @@ impl Bank {
         self.counts[usize::from(port)]
     }
 
-    /// Whether the command may be applied with that share: the share is the command's port's, its
-    /// number is the bank's count of that port, and the command's place is a bank in whose range its
-    /// bytes lie. A bank does not know its number: that it is the bank of the place is the caller's to see.
+    /// Whether the command may be applied with that share. The share must be that of the command's port, and its
+    /// number the bank's count of that port. The command's place must be a bank in whose range its bytes lie. A bank
+    /// does not know its number: the caller must make sure that it is the bank of the place.
     pub fn fits(&self, share: &Share, judged: &Judged) -> bool
         ensures { result ≡ fits self.now share.now judged.now }
     {
@@ -216,9 +220,9 @@ impl Bank {
         !self.journal.is_full() && self.counts[usize::from(port)] < u64::MAX
     }
 
-    /// Whether the command may be done and recorded: the journal has room for another entry of its port, and its bytes
-    /// lie in the range of the bank's own bytes. What a caller knows of that range may be damaged, so it is looked at
-    /// once more where the bytes are used.
+    /// Whether the bank may do and record the command. The journal must have room for another entry of its port, and
+    /// its bytes must lie in the range of the bank's own bytes. What a caller knows of that range may be damaged, so
+    /// the bank looks at it again at the point of use.
     fn takes(&self, judged: &Judged) -> bool
         requires { judged.now.port < length self.now.counts }
         ensures inside { lies_inside self.now.first (length self.now.bytes) (command_of judged.now.packet) ≡ true
@@ -229,8 +233,8 @@ impl Bank {
         self.has_room(judged.port()) && judged.command().lies_inside(self.first, self.bytes.len())
     }
 
-    /// Executes a judged command, if its verdict is yes, its body is right and there is room, and
-    /// leaves the reply. While there is room each command leaves an entry, whatever its status. The condition is
+    /// Executes a judged command if its verdict is authorised, its body is right and there is room, and writes the
+    /// reply. While there is room, each command leaves an entry, whatever its status. The condition is
     /// [`Bank::fits`].
     pub fn apply(&mut self, share: &mut Share, judged: Judged, reply: &mut ReplyBuf) -> Applied
         requires { fits self.old share.old judged ≡ true }
@@ -239,7 +243,7 @@ impl Bank {
         ensures memory { memory_of self.new ≡ (answer_of self.old judged).memory }
         ensures reply { reply.new ≡ (answer_of self.old judged).reply }
 
-        // Where there is room it leaves one entry, the others stay, and bank and share count it.
+        // If there is room, it leaves one entry, the others stay, and bank and share count it.
         ensures number { result.number ≡ number_left self.old share.old judged }
         ensures bank { self.new ≡ after_command self.old share.old judged }
         ensures share { share.new ≡ next_share self.old share.old judged }
@@ -263,9 +267,9 @@ impl Bank {
         }
     }
 
-    /// Begins a new journal and hands the old one out. Memory, counts and shares stay, and the memory
-    /// of now is what the new journal begins with: the replay of the old journal on the base before.
-    /// Condition: `fresh` is empty.
+    /// Begins a new journal and hands the old one out. Memory, counts and shares stay. The new journal begins with
+    /// the memory as it is now, which is the replay of the old journal on the old base. The condition is that `fresh`
+    /// is empty.
     pub fn rotate(&mut self, fresh: Journal) -> Journal
         requires { fresh.entries ≡ [] }
         ensures bank { self.new ≡ after_rotation self.old fresh }
@@ -276,9 +280,9 @@ impl Bank {
         mem::replace(&mut self.journal, fresh)
     }
 
-    /// Begins a new journal of that room in the memory of the old one, whose entries are gone: memory and counts are as
-    /// after [`Bank::rotate`] with a fresh journal of that room. So it takes no memory. The condition is a room of 1 to
-    /// that of the journal ([`Bank::room`]).
+    /// Begins a new journal of that room in the memory of the old one, and drops the old entries. Memory and counts
+    /// are as after [`Bank::rotate`] with an empty journal of that room. So it takes no memory. The condition is a
+    /// room of 1 to that of the journal ([`Bank::room`]).
     pub fn turn(&mut self, room: u32)
         requires some { 1 ≤ room }
         requires room { room ≤ self.old.journal.room }
@@ -290,7 +294,7 @@ impl Bank {
         self.journal.turn(room);
     }
 
-    /// Whether so many bytes from the address on lie in the bank.
+    /// Whether `count` bytes from the address lie in the bank.
     pub fn covers(&self, address: u32, count: usize) -> bool
         ensures { result ≡ covers self.now address count }
     {
@@ -302,10 +306,10 @@ impl Bank {
         self.first <= address && end <= u64::from(self.first) + u64::from(size)
     }
 
-    /// Puts bytes at an address without a command: the write of an instrument, of which no entry tells. So a new
-    /// journal begins with the memory that is then there, and the old one is handed out, whose replay on the base
-    /// before is the memory before. Counts and shares stay. It costs a copy of the memory. Conditions: `fresh` is
-    /// empty, and the bytes lie inside ([`Bank::covers`]).
+    /// Puts bytes at an address without a command. An instrument writes so, and no entry has it. So a new journal
+    /// begins with the memory that is then there. The old journal is handed out: its replay on the old base is the
+    /// memory before. Counts and shares stay. It costs a copy of the memory. The conditions are that `fresh` is
+    /// empty, and that the bytes lie inside ([`Bank::covers`]).
     pub fn set(&mut self, address: u32, bytes: &[u8], fresh: Journal) -> Journal
         requires empty { fresh.entries ≡ [] }
         requires inside { covers self.old address (length bytes.now) ≡ true }
@@ -319,8 +323,8 @@ impl Bank {
         journal
     }
 
-    /// Puts bytes at an address, in memory and in what the journal begins with. Conditions: there is no entry, and the
-    /// bytes lie inside.
+    /// Puts bytes at an address, in memory and in the base of the journal. The conditions are that there is no entry,
+    /// and that the bytes lie inside.
     fn put(&mut self, address: u32, bytes: &[u8])
         requires empty { self.old.journal.entries ≡ [] }
         requires inside { covers self.old address (length bytes.now) ≡ true }
@@ -331,8 +335,8 @@ impl Bank {
         self.base.put(offset, bytes);
     }
 
-    /// Puts bytes at an address without a command, as [`Bank::set`] does, and begins a new journal of that room in the
-    /// memory of the old one, as [`Bank::turn`] does. Conditions: those of both.
+    /// Puts bytes at an address without a command, as [`Bank::set`] does. It begins a new journal of that room in the
+    /// memory of the old one, as [`Bank::turn`] does. The conditions are those of both.
     pub fn turn_and_set(&mut self, address: u32, bytes: &[u8], room: u32)
         requires some { 1 ≤ room }
         requires room { room ≤ self.old.journal.room }
@@ -346,8 +350,8 @@ impl Bank {
     }
 }
 
-/// Replies to a judged command on the bytes of a bank, and does to them what it asks for, if it may be done. If there is
-/// room for it, its bytes lie in the bank.
+/// Replies to a judged command on the bytes of a bank, and does to them what it asks for, if that is allowed. If
+/// there is room for it, its bytes lie in the bank.
 fn carry_out(
     bytes: &mut Pages,
     first: u32,

@@ -12,8 +12,8 @@ use rmap::{Command, Kind, MAX_DATA, ReplyBuf, Status, put_reply};
 /// The most bytes that a read-modify-write changes.
 const MAX_MODIFIED: usize = 4;
 
-/// Replies with `count` bytes of the memory that begins at the address `first`: those from the
-/// command's address on, or the one there again and again.
+/// Replies with `count` bytes of the memory that begins at the address `first`. With increment they are those from
+/// the command's address, else the one there `count` times.
 pub(crate) fn reply_read(
     reply: &mut ReplyBuf,
     command: &Command,
@@ -39,8 +39,8 @@ pub(crate) fn reply_read(
     }
 }
 
-/// Puts bytes behind each other into the memory that begins at the address `first`, from the command's
-/// address on: those whose addresses are there.
+/// Puts bytes at addresses that follow each other, from the command's address, into the memory that begins at the
+/// address `first`. It puts only the bytes whose addresses are there.
 fn store_next(memory: &mut [u8], first: u32, command: &Command, bytes: &[u8])
     requires { increments command.now ≡ true }
     ensures { memory.new ≡ (after_write (memory_at first memory.old) command.now bytes.now).bytes }
@@ -54,8 +54,7 @@ fn store_next(memory: &mut [u8], first: u32, command: &Command, bytes: &[u8])
     }
 }
 
-/// Puts the last byte at the command's address, if the memory that begins at the address `first` has
-/// it.
+/// Puts the last byte at the command's address, if the memory that begins at the address `first` has that address.
 fn store_last(memory: &mut [u8], first: u32, command: &Command, bytes: &[u8])
     requires { increments command.now ≡ false }
     ensures { memory.new ≡ (after_write (memory_at first memory.old) command.now bytes.now).bytes }
@@ -69,8 +68,8 @@ fn store_last(memory: &mut [u8], first: u32, command: &Command, bytes: &[u8])
     }
 }
 
-/// Puts bytes into the memory that begins at the address `first`, as far as their addresses are there:
-/// each at the next address from the command's on, or all at that one.
+/// Puts bytes into the memory that begins at the address `first`, if their addresses are there. With increment each
+/// has the next address from the command's, else all have that one.
 fn store(memory: &mut [u8], first: u32, command: &Command, bytes: &[u8])
     ensures { memory.new ≡ (after_write (memory_at first memory.old) command.now bytes.now).bytes }
 {
@@ -81,8 +80,8 @@ fn store(memory: &mut [u8], first: u32, command: &Command, bytes: &[u8])
     }
 }
 
-/// The byte at an address of the memory that begins at the address `first`. At an address that is not
-/// there it says nothing.
+/// The byte at an address of the memory that begins at the address `first`. If the address is not there, the result
+/// means nothing.
 fn byte_at(memory: &[u8], first: u32, address: u64) -> u8
     ensures { result ≡ byte_at (memory_at first memory.now) address }
 {
@@ -90,8 +89,8 @@ fn byte_at(memory: &[u8], first: u32, address: u64) -> u8
     memory.get(offset).copied().unwrap_or(0)
 }
 
-/// What a read-modify-write of `half` bytes writes: of each byte the bits of the data where the mask
-/// has ones, else those of memory. Data and mask are the halves of the data in the body.
+/// What a read-modify-write of `half` bytes writes. In each byte it is the bits of the data that have a one in the
+/// mask, else those of memory. Data and mask are the halves of the data in the body.
 fn modified(memory: &[u8], first: u32, command: &Command, half: usize) -> [u8; MAX_MODIFIED]
     requires few { half ≤ 4 }
     requires body { half + half ≤ length command.now.body }
@@ -110,8 +109,7 @@ fn modified(memory: &[u8], first: u32, command: &Command, half: usize) -> [u8; M
     bytes
 }
 
-/// Does what the command does to those of its bytes that are in the memory that begins at the address
-/// `first`.
+/// Does what the command does to those of its bytes that are in the memory that begins at the address `first`.
 pub(crate) fn change(memory: &mut [u8], first: u32, command: &Command)
     requires admitted { IsAdmissible command.now }
     requires body { body_line command.now ≡ None }

@@ -16,10 +16,10 @@ use rmap::{Command, Kind, ReplyBuf};
 use std::alloc::{AllocError, Global};
 use std::marker::Model;
 
-/// How many bytes a page has, but for the last one, which may be shorter.
+/// How many bytes a page has, except the last one, which may be shorter.
 const PAGE: usize = 4096;
 
-/// Memory in pages of [`PAGE`] bytes, the last one possibly shorter. Joined they are the memory.
+/// Memory in pages of [`PAGE`] bytes. The last page may be shorter. Joined they are the memory.
 #[derive(Debug, Drop)]
 pub(crate) struct Pages {
     pages: Vec<Vec<u8>>,
@@ -63,7 +63,7 @@ impl Pages {
         self.pages.as_slice()
     }
 
-    /// The byte that many bytes behind the first, or `None` past the end.
+    /// The byte at an offset from the first, or `None` past the end.
     pub(crate) fn get(&self, offset: usize) -> Option<u8>
         ensures { result ≡ slice_get self.now offset }
     {
@@ -74,7 +74,7 @@ impl Pages {
         }
     }
 
-    /// The bytes from that many bytes behind the first to the end of their page.
+    /// The bytes from an offset to the end of their page.
     fn from(&self, offset: usize) -> &[u8]
         requires { offset < length self.now }
         ensures { result.now ≡ take (PAGE - offset % PAGE) (drop offset self.now) }
@@ -83,7 +83,7 @@ impl Pages {
         from_byte(&pages[offset / PAGE], offset % PAGE)
     }
 
-    /// Takes the bytes of memory of the same length.
+    /// Copies the bytes of other memory of the same length.
     pub(crate) fn copy_from(&mut self, other: &Pages)
         requires { length other.now ≡ length self.old }
         ensures { self.new ≡ other.now }
@@ -91,7 +91,7 @@ impl Pages {
         copy_pages(&mut self.pages, &other.pages);
     }
 
-    /// Puts bytes from that many bytes behind the first on.
+    /// Puts bytes into memory, the first of them at an offset.
     pub(crate) fn put(&mut self, offset: usize, bytes: &[u8])
         requires { offset + length bytes.now ≤ length self.old }
         ensures { self.new ≡ overlaid offset self.old bytes.now }
@@ -99,8 +99,8 @@ impl Pages {
         put_bytes(&mut self.pages, offset, bytes);
     }
 
-    /// Does what the command does to its bytes, which lie in the memory that begins at the address
-    /// `first`. A read looks for no page.
+    /// Does what the command does to its bytes, which lie in the memory that begins at the address `first`. A read
+    /// looks for no page.
     pub(crate) fn change(&mut self, first: u32, command: &Command)
         requires admitted { IsAdmissible command.now }
         requires body { body_line command.now ≡ None }
@@ -115,7 +115,7 @@ impl Pages {
         }
     }
 
-    /// Does what the command does to its bytes: in one page, or in one and the next.
+    /// Does what the command does to its bytes, which are in one page, or in one and the next.
     fn change_pages(&mut self, first: u32, command: &Command)
         requires admitted { IsAdmissible command.now }
         requires body { body_line command.now ≡ None }
@@ -171,7 +171,7 @@ fn zero_pages(alloc: Global, size: usize) -> Result<Vec<Vec<u8>>, AllocError>
     Ok(pages)
 }
 
-/// So many full pages of zeros.
+/// `count` full pages of zeros.
 fn full_pages(alloc: Global, count: usize) -> Result<Vec<Vec<u8>>, AllocError>
     ensures { IfOk result (λ pages. map vec_items pages.items
         ≡ replicate count (replicate PAGE 0)) }
@@ -183,14 +183,14 @@ fn full_pages(alloc: Global, count: usize) -> Result<Vec<Vec<u8>>, AllocError>
     Ok(pages)
 }
 
-/// A page of so many zeros.
+/// A page of `count` zeros.
 fn zero_page(alloc: Global, count: usize) -> Result<Vec<u8>, AllocError>
     ensures { IfOk result (λ page. page.items ≡ replicate count 0) }
 {
     vec![in alloc; 0; count]
 }
 
-/// Takes the bytes of others, page by page.
+/// Copies the bytes of other pages, page by page.
 fn copy_pages(pages: &mut Vec<Vec<u8>>, others: &Vec<Vec<u8>>)
     requires { map length (map vec_items others.now.items)
         ≡ map length (map vec_items pages.old.items) }
@@ -202,7 +202,7 @@ fn copy_pages(pages: &mut Vec<Vec<u8>>, others: &Vec<Vec<u8>>)
     }
 }
 
-/// Takes the bytes of page k of others.
+/// Copies the bytes of page k of other pages.
 fn copy_page(pages: &mut Vec<Vec<u8>>, others: &Vec<Vec<u8>>, k: usize)
     requires below { k < length pages.old.items }
     requires alike { map length (map vec_items others.now.items)
@@ -213,7 +213,7 @@ fn copy_page(pages: &mut Vec<Vec<u8>>, others: &Vec<Vec<u8>>, k: usize)
     copy_bytes(&mut pages[k], &others[k]);
 }
 
-/// Takes the bytes of a page of the same length.
+/// Copies the bytes of a page of the same length.
 fn copy_bytes(page: &mut Vec<u8>, other: &Vec<u8>)
     requires { length other.now.items ≡ length page.old.items }
     ensures { page.new.items ≡ other.now.items }
@@ -221,7 +221,7 @@ fn copy_bytes(page: &mut Vec<u8>, other: &Vec<u8>)
     page.copy_from_slice(other);
 }
 
-/// Puts bytes from that many bytes behind the first on.
+/// Puts bytes into the pages, the first of them at an offset.
 fn put_bytes(pages: &mut Vec<Vec<u8>>, offset: usize, bytes: &[u8])
     requires pages { ArePages (map vec_items pages.old.items) }
     requires inside { offset + length bytes.now ≤ length (concat (map vec_items pages.old.items)) }
@@ -235,7 +235,7 @@ fn put_bytes(pages: &mut Vec<Vec<u8>>, offset: usize, bytes: &[u8])
     }
 }
 
-/// Puts a byte that many bytes behind the first.
+/// Puts a byte at an offset.
 fn put_byte(pages: &mut Vec<Vec<u8>>, offset: usize, byte: u8)
     requires pages { ArePages (map vec_items pages.old.items) }
     requires inside { offset < length (concat (map vec_items pages.old.items)) }
@@ -275,7 +275,7 @@ fn change_bytes(page: &mut Vec<u8>, address: u32, command: &Command)
     change(page, address, command);
 }
 
-/// The bytes of a page from one on.
+/// The bytes of a page from an index.
 fn from_byte(page: &Vec<u8>, start: usize) -> &[u8]
     requires { start ≤ length page.now.items }
     ensures { result.now ≡ take (length page.now.items - start) (drop start page.now.items) }
@@ -283,7 +283,7 @@ fn from_byte(page: &Vec<u8>, start: usize) -> &[u8]
     &page[start..]
 }
 
-/// The bytes at the end of a page and those at the beginning of the next, and zeros behind them.
+/// The bytes at the end of a page and those at the beginning of the next, and zeros after them.
 fn joined(end: &[u8], next: &[u8]) -> [u8; PAGE]
     requires { length end.now + length next.now ≤ PAGE }
     ensures { take (length end.now + length next.now) result ≡ end.now ++ next.now }
@@ -294,7 +294,7 @@ fn joined(end: &[u8], next: &[u8]) -> [u8; PAGE]
     bytes
 }
 
-/// Puts some bytes behind the first `start`.
+/// Puts some bytes after the first `start`.
 fn put_at(bytes: &mut [u8], start: usize, part: &[u8])
     requires { start + length part.now ≤ length bytes.old }
     ensures value { take (start + length part.now) bytes.new ≡ take start bytes.old ++ part.now }

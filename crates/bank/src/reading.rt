@@ -11,7 +11,7 @@ ghost use Rattle.bank.specs.Answer.{executed_reply};
 use crate::effect::reply_read;
 use rmap::{Command, Kind, MAX_DATA, ReplyBuf, Status, put_reply};
 
-/// Bytes of memory that replies are read from: those of a bank, in pages, and those that are lent.
+/// Bytes of memory from which replies read: those of a bank, in pages, and those that are lent.
 pub(crate) trait Bytes {
     ghost use Rattle.std.specs.Prelude.{◌≡◌, ◌≤◌, List, ℕ, length};
     ghost use Rattle.bank.specs.Effect.{IsWithin, memory_at};
@@ -20,8 +20,8 @@ pub(crate) trait Bytes {
     /// The bytes.
     ghost bytes: { Self → List ℕ };
 
-    /// Replies with `count` bytes of the memory that begins at the address `first`: those from the
-    /// command's address on, or the one there again and again.
+    /// Replies with `count` bytes of the memory that begins at the address `first`. With increment they are those
+    /// from the command's address, else the one there `count` times.
     fn reply_read(&self, first: u32, command: &Command, count: usize, reply: &mut ReplyBuf)
         requires few { count ≤ MAX_DATA }
         requires within { IsWithin first (length (bytes self.now)) command.now count }
@@ -36,8 +36,8 @@ impl Bytes for &[u8] {
     }
 }
 
-/// Replies with success to a command that is to be executed on the memory that begins at the address `first`, with
-/// what it reads there.
+/// Replies with success to a command that is to be executed on the memory that begins at the address `first`. The
+/// reply has what the command reads there.
 pub(crate) fn reply_executed<B: Bytes>(
     memory: &B,
     first: u32,

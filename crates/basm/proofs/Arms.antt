@@ -1,4 +1,4 @@
--- Which item a right line has, by its first word.
+-- The item of a right line, by its first word.
 use Rattle.std.proofs.Common.{true, false, ◌≡◌, ℕ, pos, List, [], ◌∷◌, Option, None, refl, sym, ap, ◌∙◌, subst, arith}
 use Rattle.std.specs.Prelude.{◌≢◌, codes}
 use Rattle.std.proofs.lemmas.Bool.{true≢false}
@@ -53,7 +53,7 @@ loop_no_label : label_of (codes ".loop") ≡ None
 unfolding label_of
 loop_no_label = refl
 
--- the letter that tells the directives apart
+-- the letter by which directives differ
 abbrev second : List ℕ → ℕ
 second [] = 0
 second (c ∷ []) = 0

@@ -1,4 +1,4 @@
--- Where the first line of a text ends.
+-- The place at which the first line of a text ends.
 use Rattle.std.proofs.Common.{◌≡◌, ℕ, suc, ◌+◌, ◌-◌, ◌<◌, false, List, [], ◌∷◌, ◌++◌, length, get_or, take, drop, refl, sym, ap, ◌∙◌, subst, arith, eqb-true}
 use Rattle.std.specs.Prelude.{◌==◌, slice_range}
 use Rattle.std.specs.List.{All}
@@ -31,7 +31,7 @@ one_line text bytes same none =
     let P : List ℕ → Type 0 = λ t. Nowhere (Passes (is_byte 10) t) 0 (length t) in
     only_line text (subst P same none)
 
--- a line feed is found there, and none before it
+-- a line feed is there, and none before it
 abbrev pub Feeds : List ℕ → ℕ → Type 0
 Feeds text end = NoneBefore (Passes (is_byte 10) text) 0 (length text) end × Passes (is_byte 10) text end
 
@@ -39,7 +39,7 @@ module _ (text bytes : List ℕ) (end : ℕ) (same : bytes ≡ text) (found : Fe
   feeds : Feeds text end
   feeds = subst (λ (t : List ℕ). Feeds t end) same found
 
-  -- a text is its first line, and the lines behind its line feed
+  -- a text is its first line, and the lines after its line feed
   pub line_cut : (line rest : List ℕ) → line ≡ slice_range text 0 end → rest ≡ drop (end + 1) text → pieces_of text ≡ line ∷ pieces_of rest
   line_cut line rest front behind =
       let next : suc end ≡ end + 1 = omega arith in
@@ -48,7 +48,7 @@ module _ (text bytes : List ℕ) (end : ℕ) (same : bytes ≡ text) (found : Fe
       let cut = slice_split_at (λ c. c == 10) (take end text) (get_or text end 0) (drop (end + 1) text) (free_of_feeds text end feeds.0.before) feeds.1 in
       ap pieces_of parts ∙ cut ∙ ap (λ l. l ∷ pieces_of (drop (end + 1) text)) (sym (front ∙ ap (λ n. take n text) whole)) ∙ ap (λ r. line ∷ pieces_of r) (sym behind)
 
-  -- the text can be cut behind it
+  -- the text can be cut after it
   pub behind_feed : IsUtf8 text → IsCharBoundary text (end + 1)
   behind_feed utf8 =
       let is = eqb-true (get_or text end 0) 10 feeds.1 in

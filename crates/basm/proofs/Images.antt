@@ -1,4 +1,4 @@
--- What is made of the parts of an image.
+-- The image that is made of its parts.
 use Rattle.std.proofs.Common.{◌≡◌, ℕ, ◌+◌, ◌≤◌, ◌<◌, Bool, true, false, ◌&&◌, List, [], ◌∷◌, length, Option, Some, None, Result, Ok, Err, refl, sym, ap, ◌∙◌, subst, arith, nat_le, nat_lt}
 use Rattle.std.specs.Prelude.{if◌then◌else◌}
 use Rattle.std.specs.List.{flat_map}
@@ -68,7 +68,7 @@ same_version [] m n first second = first ∙ sym second
 same_version (v ∷ []) m n first second = first ∙ sym second
 same_version (v ∷ w ∷ more) m n first second = absurd first
 
--- a program is made of its parts
+-- a program is the image of its parts
 pub program_made : (p : Program) (insns : List Insn) → IsProgram p → p.slots ≡ flat_map placed_slots insns → parts_reading p.version insns p.loops p.budget ≡ Ok p
 program_made p insns is code =
     let slots = flat_map placed_slots insns in
@@ -76,7 +76,7 @@ program_made p insns is code =
     ap (λ (s : List (Option Insn)). parts_fault (length s) p.loops p.budget) (sym code) ∙ no_fault (length p.slots) p.budget p.loops is.slots is.few_loops is.budget is.loops in
     ap (λ (f : Option ImageFault). unless f (program p.version p.budget p.loops slots)) fault ∙ ap (λ (q : Program). Ok q) (is_made p slots code)
 
--- where parts have an image, nothing is wrong with them once their loops are sorted
+-- if parts have an image, nothing is wrong with them after their loops are sorted
 pub image_reading : (parts : Draft) (sorted : List Loop) (version : Version) (budget : ℕ) (p : Program) → IsVersionOf (option_to_list parts.version) version → parts.budget ≡ Some budget → IsPermutation parts.loops.items sorted → IsNonDecreasingBy (λ l. l.head) sorted → IsImageOf parts p
     → parts_reading version parts.insns.items sorted budget ≡ Ok p
 image_reading parts sorted version budget p says declared moved heads image =
@@ -98,7 +98,7 @@ only_memory faults.Budget p fails = cc
 only_memory faults.Loop p fails = cc
 only_memory (faults.Insn slot fault) p fails = cc
 
--- and then what is refused is memory
+-- and then only memory can be refused
 pub refused : (r : Result Program AsmFault) (fault : ImageFault) (p : Program) (read : Result Program ImageFault) → read ≡ Ok p → Fails fault read → IsErrAnd r (λ given. given ≡ text_fault (image_code fault)) → Makes p r
 refused (Ok image) fault p read same fails gives = absurd gives
 refused (Err given) fault p read same fails gives =

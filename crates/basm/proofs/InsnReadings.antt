@@ -54,7 +54,7 @@ insn_named (Call callee number) = refl
 insn_named Exit = refl
 
 module _ {E : Type 0} (names : List ℕ → Option ℕ) (slot : ℕ) (xs : List (List ℕ)) (r : Result Insn E) (apart : (m n : Mnemonic) → mnemonic_word m ≡ mnemonic_word n → m ≡ n) where
-  -- the operands are read where the mnemonic is known
+  -- the operands are read if the mnemonic is known
   abbrev pub Reads : Mnemonic → Type 0
   Reads (Arithmetic op width) = (dst : ℕ) (src : Operand) → Two xs (λ a. WritesRegister a dst) (λ b. WritesOperand b src) → r ≡ Ok (Alu op width dst src)
   Reads (Negation width) = (dst : ℕ) → One xs (λ a. WritesRegister a dst) → r ≡ Ok (Negate width dst)

@@ -33,7 +33,7 @@ cases_bytes xs ys = elim (cases_Bool (bytes_eq xs ys)) [
   | inr other ↦ inr (λ same. true≢false (sym ((bytes_eq-Decides xs ys).1 same) ∙ other))
 ]
 
--- ---- the slot that a name stands for
+-- ---- the slot of a name
 
 pub at_pair : (pair : List ℕ × ℕ) (pairs : List (List ℕ × ℕ)) (name : List ℕ) → pair.0 ≡ name → slot_named (pair ∷ pairs) name ≡ Some pair.1
 at_pair pair pairs name same =
@@ -43,7 +43,7 @@ pub past_pair : (pair : List ℕ × ℕ) (pairs : List (List ℕ × ℕ)) (name 
 past_pair pair pairs name apart =
     cond-false (is_eq (slice_cmp nat_cmp name pair.0)) (Some pair.1) (slot_named pairs name) (is_eq-slice_cmp name pair.0 ∙ apart_bytes name pair.0 (λ same. apart (sym same)))
 
--- a pair behind others counts only where they have no such name
+-- a pair after others counts only if they do not have such a name
 pub slot_named-push : (pairs : List (List ℕ × ℕ)) (name : List ℕ) (slot : ℕ) (other : List ℕ)
     → slot_named (pairs ++ (name, slot) ∷ []) other ≡ option_or (slot_named pairs other) (cond (bytes_eq other name) (Some slot) None)
 slot_named-push [] name slot other = ap (λ (t : Bool). cond t (Some slot) None) (is_eq-slice_cmp other name)
@@ -114,7 +114,7 @@ apart_parts (p ∷ pairs) pair apart =
     let front = free_parts pairs pair p.0 apart.0 in let rest = apart_parts pairs pair apart.1 in
     ((front.0, rest.0), (λ same. front.1 (sym same), rest.1))
 
--- one more name leaves them apart where none of them is it
+-- one more name leaves them apart if none of them is it
 pub apart_more : (pairs : List (List ℕ × ℕ)) (name : List ℕ) (slot : ℕ) → AreApart (pairs ++ (name, slot) ∷ []) ↔ (AreApart pairs × (slot_named pairs name ≡ None))
 apart_more pairs name slot = (
   λ apart. let parts = apart_parts pairs (name, slot) apart in (parts.0, none_from_free pairs name parts.1),
@@ -140,7 +140,7 @@ found_from (pair ∷ pairs) name slot apart (inr there) =
     past_pair pair pairs name (λ same. let P : List ℕ → Type 0 = λ n. IsFree pairs n in free_undefined pairs name slot (subst P same apart.0) there)
     ∙ found_from pairs name slot apart.1 there
 
--- names that are apart stand for the slots that they are defined with
+-- names that are apart have the slots that they are defined with
 pub slot_named-Defines : (pairs : List (List ℕ × ℕ)) → AreApart pairs → (name : List ℕ) (slot : ℕ) → (slot_named pairs name ≡ Some slot) ↔ Defines pairs name slot
 slot_named-Defines pairs apart name slot = (defines_from pairs name slot, found_from pairs name slot apart)
 

@@ -47,7 +47,7 @@ pub same_loop : {E : Type 0} (head back bound register : ℕ) (l : Loop)
 same_loop head back bound register l same =
     ap (λ x. Ok (record { head = x.0.0; back = x.0.1; bound = x.1.0; register = x.1.1 })) (one_value ((head, back), (bound, register)) ((l.head, l.back), (l.bound, l.register)) same)
 
--- the loop that is read is one of a program of so many slots
+-- the loop that is read is one of a program of `slots` slots
 pub fitting : {E : Type 0} (slots given head back bound register : ℕ) (l : Loop)
     → ◌≡◌ {A = Result ((ℕ × ℕ) × (ℕ × ℕ)) E} (Ok ((head, back), (bound, register))) (Ok ((l.head, l.back), (l.bound, l.register)))
     → given ≡ slots → IsLoop slots l → IsLoop given (record { head = head; back = back; bound = bound; register = register })

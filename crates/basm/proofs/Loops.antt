@@ -30,7 +30,7 @@ loops_rise : (slots least : ℕ) (ls : List Loop) → AreLoops slots least ls �
 loops_rise slots least [] loops = tt
 loops_rise slots least (l ∷ ls) loops = (loops.0, rises_lower (l.head + 1) l.head ls (omega arith) (loops_rise slots (l.head + 1) ls loops.2))
 
--- what no loop has from `least` on is none's
+-- if no loop has any from `least`, the sum is zero
 sum_zero : (f : Loop → ℕ) (least : ℕ) (ls : List Loop) → Rises least ls → ((l : Loop) → least ≤ l.head → f l ≡ 0) → sum_by f ls ≡ 0
 sum_zero f least [] rises none = refl
 sum_zero f least (l ∷ ls) rises none =

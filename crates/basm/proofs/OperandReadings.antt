@@ -1,4 +1,4 @@
--- The operands one by one, and what is read of two results.
+-- The operands one by one, and what is read from two results.
 use Rattle.std.proofs.Common.{◌≡◌, ℕ, ◌-◌, ℤ, List, [], ◌∷◌, map, length, get_or, take, drop, refl, sym, ap, subst, arith}
 use Rattle.std.proofs.lemmas.List.{take_all}
 use Rattle.std.specs.Borrow.{Bor}
@@ -41,7 +41,7 @@ three_from text (a ∷ b ∷ []) d P Q R three p q r = absurd (omega arith)
 three_from text (a ∷ b ∷ c ∷ []) d P Q R three p q r = (p, (q, r))
 three_from text (a ∷ b ∷ c ∷ e ∷ xs) d P Q R three p q r = absurd (omega arith)
 
--- words that are lent are none where their texts are none
+-- if the texts of lent words are none, so are the words
 pub no_words : (words : List (Bor (List ℕ))) → texts words ≡ [] → words ≡ []
 no_words [] none = refl
 no_words (a ∷ words) none = absurd (cc none)

@@ -1,4 +1,4 @@
--- The items of a right text: each has room behind those before it.
+-- The items of a right text: each has room after those before it.
 use Rattle.std.proofs.Common.{◌≡◌, Bool, false, cond, ℕ, zero, suc, ◌+◌, ◌≤◌, ◌<◌, List, [], ◌∷◌, ◌++◌, length, get_or, take, drop, Option, Some, None, inl, inr, refl, sym, ap, ◌∙◌, subst, arith}
 use Rattle.std.specs.Prelude.{◌==◌}
 use Rattle.std.specs.List.{All, flat_map, slice_split, sum_by}
@@ -83,7 +83,7 @@ all_loops : (slots least : ℕ) (ls : List Loop) → AreLoops slots least ls →
 all_loops slots least [] are = All-nil (IsLoop slots)
 all_loops slots least (l ∷ ls) are = All-cons (IsLoop slots) l ls are.1 (all_loops slots (l.head + 1) ls are.2)
 
--- ---- room behind the items before
+-- ---- room after the items before
 
 room_for : (before after : List Item) (item : Item) (p : Program) (parts : Draft)
     → IsVersionOf (flat_map version_in (before ++ item ∷ after)) p.version → flat_map budget_in (before ++ item ∷ after) ≡ p.budget ∷ [] → IsPermutation (flat_map loop_in (before ++ item ∷ after)) p.loops

@@ -1,4 +1,4 @@
--- What the survey of some lines is with one line more, and what it is where the lines are right.
+-- What the survey of some lines is with one line more, and what it is if the lines are right.
 use Rattle.std.proofs.Common.{◌≡◌, Bool, true, false, ℕ, ◌+◌, ◌-◌, ◌≤◌, List, [], ◌∷◌, ◌++◌, length, take, Option, Some, None, refl, sym, ap, ◌∙◌, subst, inl, inr, arith, rules}
 use Rattle.std.specs.Prelude.{◌≢◌, ◌&&◌, ◌||◌, codes}
 use Rattle.std.specs.List.{list_any}
@@ -104,7 +104,7 @@ survey_label lines line name old new says adds is =
       budget = adds.budget ∙ is.budget ∙ sym (any_push declares_budget lines line ∙ rw (label_budget (word_of line) name (label_named (word_of line) name says.0 says.1)) (or_false _));
     }
 
--- a line that is none
+-- a line that is no label
 pub survey_word : (lines : List (List ℕ)) (line : List ℕ) (old new : Survey) → ((name : List ℕ) → ¬ IsLabel line name)
     → new.names ≡ old.names → new.repeated ≡ old.repeated → new.slots ≡ slot_count (old.slots + word_slots (word_of line))
     → new.has_budget ≡ (old.has_budget || declares_budget line) → IsSurvey lines old → IsSurvey (lines ++ line ∷ []) new

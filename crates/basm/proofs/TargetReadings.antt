@@ -15,7 +15,7 @@ pub named_target : (names : List ℕ → Option ℕ) (slot : ℕ) (word : List �
 named_target names slot word offset name (inl n) = (n.target, n.stands, n.away)
 named_target names slot word offset name (inr d) = absurd (no_name word offset d name)
 
--- and what is no name
+-- and the same of a word that is no name
 pub other_target : (names : List ℕ → Option ℕ) (slot : ℕ) (word : List ℕ) (offset : ℤ) → is_name word ≡ false → WritesTarget names slot word offset → WritesDistance word offset
 other_target names slot word offset other (inl n) = absurd (true≢false (sym n.name ∙ other))
 other_target names slot word offset other (inr d) = d

@@ -58,7 +58,7 @@ line_says named names slot line (OneLoop l) says = let P : List ℕ → Type 0 =
 line_says named names slot line (Code insn) says =
     let P : List ℕ → Type 0 = SaysWord slot [] (slots_in (Code insn)) in subst P (sym says.name) (other_word slot (slots_in (Code insn)) _ (insn_takes named insn))
 
--- whether something stands behind the word counts for a label alone
+-- whether something comes after the word matters only for a label
 unless_none : (operands : List (List ℕ)) (o : Option (List ℕ)) → o ≡ None → lone_label operands o ≡ o
 unless_none [] o none = refl
 unless_none (operand ∷ operands) o none = sym none

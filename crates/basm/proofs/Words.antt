@@ -1,4 +1,4 @@
--- What the names of instructions say where they are read as first words.
+-- What the names of instructions say if they are read as first words.
 use Rattle.std.proofs.Common.{◌≡◌, ℕ, true, List, [], ◌∷◌, ◌++◌, Some, None, refl, sym, ap, ◌∙◌, subst, eqb-true}
 use Rattle.std.specs.Prelude.{◌==◌}
 use Rattle.std.specs.Char.{is_ascii_alphabetic}
@@ -22,7 +22,7 @@ use Rattle.basm.proofs.Surveys.{no_label}
 abbrev pub AreNamed : Type 0
 AreNamed = (found : Mnemonic) → (mnemonic_named (mnemonic_word found) ≡ Some found) × IsName (mnemonic_word found)
 
--- the word is no label, and stands for so many slots
+-- the word is no label, and takes `slots` slots
 pub record Takes (slots : ℕ) (word : List ℕ) : Type 0 where
   pub no_label : label_of word ≡ None
   pub slots_are : word_slots word ≡ slots
@@ -56,7 +56,7 @@ insn_slots (Goto (Short offset)) = refl
 insn_slots (Goto (Long slots)) = refl
 insn_slots _ = refl
 
--- an instruction's name is no label, and stands for the slots that the instruction takes
+-- an instruction's name is no label, and takes the slots that the instruction takes
 pub insn_takes : AreNamed → (insn : Insn) → Takes (slots_of insn) (insn_name insn)
 insn_takes mnemonic_named insn =
     let found = mnemonic_of insn in

@@ -34,7 +34,7 @@ asm_of_code code =
     else (if code == 10 then Some BadVersion
     else None)))))))))
 
--- the fault of a word that is no number as it should be
+-- the fault of a word that is not the number it should be
 abbrev pub number_code : NumberFault → AsmCode
 number_code Form = BadOperand
 number_code Range = BadNumber

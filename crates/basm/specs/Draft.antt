@@ -20,7 +20,7 @@ use Rattle.basm.specs.Names.{slot_named}
 use Rattle.basm.specs.Relation.{Four, Item, Nothing, Label, OneVersion, Budget, OneLoop, Code, AreLines, IsLine}
 use Rattle.basm.specs.Relation.{IsText, IsVersionOf, WritesEnd, version_in, budget_in, loop_in, insn_in, slots_in}
 
--- the slots that the names of a text stand for, as its survey found them
+-- the slots of the names of a text, as its survey found them
 abbrev pub names_in : Survey → List ℕ → Option ℕ
 names_in survey = slot_named survey.names
 
@@ -36,7 +36,7 @@ pub record PushesInsn (old new : List Insn) (slot : ℕ) (insn : Insn) (after : 
   pub next : after ≡ slot + slots_of insn
   pub few : after ≤ MAX_SLOTS
 
--- the item is added behind the others
+-- the item is added after the others
 pub record AddsItem (item : Item) (old new : Draft) : Type 0 where
   pub version : option_to_list new.version ≡ option_to_list old.version ++ version_in item
   pub budget : option_to_list new.budget ≡ option_to_list old.budget ++ budget_in item
@@ -44,7 +44,7 @@ pub record AddsItem (item : Item) (old new : Draft) : Type 0 where
   pub insns : new.insns.items ≡ old.insns.items ++ insn_in item
   pub slots : new.slots ≡ old.slots + slots_in item
 
--- what is made has the property, unless memory was refused
+-- the result has the property, unless memory was refused
 abbrev pub UnlessMemory : {X : Type 0} → Result X AsmCode → (X → Type 0) → Type 0
 UnlessMemory result P = MatchResult result P (λ code. code ≡ Memory)
 
@@ -52,7 +52,7 @@ UnlessMemory result P = MatchResult result P (λ code. code ≡ Memory)
 abbrev pub has_head : ℕ → List Loop → Bool
 has_head head loops = list_any (λ l. l.head == head) loops
 
--- the item may stand behind the parts, in a text of so many slots
+-- the item may come after the parts, in a text of this many slots
 abbrev pub HasRoom : (slots : ℕ) → Item → Draft → Type 0
 HasRoom slots Nothing parts = Unit {0}
 HasRoom slots (Label name) parts = Unit {0}

@@ -17,21 +17,21 @@ label_of word =
     let name = take (length word - 1) word in
     if is_name name && bytes_eq word (name ++ codes ":") then Some name else None
 
--- the name, where no operands follow it
+-- the name, if no operands follow it
 abbrev pub lone_label : List (List ℕ) → Option (List ℕ) → Option (List ℕ)
 lone_label [] name = name
 lone_label (operand ∷ operands) name = None
 
--- the name that a line defines: a label with something behind it defines none
+-- the name that a line defines: a label with something after it defines none
 abbrev pub label_in : List ℕ → Option (List ℕ)
 label_in line = lone_label (operands_of line) (label_of (word_of line))
 
--- how many slots a mnemonic stands for; an unknown word for one
+-- how many slots a mnemonic takes; an unknown word takes one
 abbrev pub slots_named : Option Mnemonic → ℕ
 slots_named None = 1
 slots_named (Some found) = mnemonic_slots found
 
--- how many slots a word that is no label stands for: a directive and no word for none
+-- how many slots a word that is no label takes; a directive takes none, and so does no word
 unfoldable pub word_slots : List ℕ → ℕ
 word_slots [] = 0
 word_slots (c ∷ cs) = if c == 46 then 0 else slots_named (mnemonic_named (c ∷ cs))
@@ -41,15 +41,15 @@ abbrev pub slots_beside : Option (List ℕ) → List ℕ → ℕ
 slots_beside None word = word_slots word
 slots_beside (Some name) word = 0
 
--- so many slots, as far as 32 bits count them
+-- the number of slots, if 32 bits can count them, else the greatest number of 32 bits
 abbrev pub slot_count : ℕ → ℕ
 slot_count slots = min slots 4294967295
 
--- the slot of the next instruction, behind a line
+-- the slot of the next instruction, after a line
 abbrev pub slot_after : ℕ → List ℕ → ℕ
 slot_after slot line = slot_count (slot + slots_beside (label_in line) (word_of line))
 
--- the same, behind lines
+-- the same, after lines
 abbrev pub slots_from : ℕ → List (List ℕ) → ℕ
 slots_from slot [] = slot
 slots_from slot (line ∷ lines) = slots_from (slot_after slot line) lines
@@ -75,7 +75,7 @@ pub record IsSurvey (lines : List (List ℕ)) (survey : Survey) : Type 0 where
   pub slots : survey.slots ≡ slots_from 0 lines
   pub budget : survey.has_budget ≡ list_any declares_budget lines
 
--- the survey has met one more name
+-- the survey has found one more name
 pub record AddsName (name : List ℕ) (old new : Survey) : Type 0 where
   pub names : HasOneMore old.names new.names name old.slots
   pub repeated : (new.repeated ≡ None) ↔ ((old.repeated ≡ None) × (slot_named old.names name ≡ None))

@@ -14,7 +14,7 @@ use Rattle.basm.specs.declared.faults.AsmFault.{AsmFault}
 abbrev pub text_fault : AsmCode → AsmFault
 text_fault code = record { line = 0; code = code }
 
--- want of memory, which is no line's
+-- refused memory, which is the fault of no line
 abbrev pub out_of_memory : AsmFault
 out_of_memory = text_fault Memory
 
@@ -37,7 +37,7 @@ line_fault line BadLoop = record { line = line; code = BadLoop }
 line_fault line Memory = out_of_memory
 line_fault line BadVersion = record { line = line; code = BadVersion }
 
--- what a fault of the image's parts is called here
+-- the assembler's fault for a fault of the image's parts
 abbrev pub image_code : ImageFault → AsmCode
 image_code image.Magic = TooMany
 image_code image.Version = BadVersion

@@ -3,7 +3,7 @@ use Rattle.std.specs.Prelude.{ℕ, List, [], Option, Some, None}
 use Rattle.std.specs.Borrow.{Bor}
 use Rattle.basm_lex.specs.Lines.{pieces_of}
 
--- the lines of what is left of a text, none where nothing is left
+-- the lines of what is left of a text; if nothing is left, none
 abbrev pub pieces_left : Option (Bor (List ℕ)) → List (List ℕ)
 pieces_left None = []
 pieces_left (Some text) = pieces_of text.now

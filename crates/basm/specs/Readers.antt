@@ -1,4 +1,4 @@
--- What the readers of operands promise: what they read is written, and what is written they read.
+-- What the readers of operands promise: the operands write what they read, and they read what operands write.
 use Rattle.std.specs.Prelude.{◌≡◌, ℕ, ℤ, pos, List, Option, None, Result, Ok, IfOk}
 use Rattle.std.specs.Borrow.{Bor}
 use Rattle.bpf_parts.specs.declared.address.Address.{Address}
@@ -15,7 +15,7 @@ use Rattle.basm.specs.Relation.{Four, One, Three, Two, WritesInsn, WritesOperand
 
 -- ---- an instruction
 
--- the mnemonic and the operands write what was read, where names stand for slots
+-- the mnemonic and the operands write what was read, if names have these slots
 abbrev pub ReadsAt : (names : List ℕ → Option ℕ) (slot : ℕ) → Mnemonic → List (Bor (List ℕ)) → Result Insn AsmCode
     → Type 0
 ReadsAt names slot mnemonic operands read = IfOk read (WritesInsn names slot (mnemonic_word mnemonic) (texts operands))
@@ -24,11 +24,11 @@ ReadsAt names slot mnemonic operands read = IfOk read (WritesInsn names slot (mn
 abbrev pub Reads : Mnemonic → List (Bor (List ℕ)) → Result Insn AsmCode → Type 0
 Reads mnemonic operands read = (names : List ℕ → Option ℕ) (slot : ℕ) → ReadsAt names slot mnemonic operands read
 
--- where the operands write the instruction, it is read
+-- if the operands write the instruction, it is read
 abbrev pub IsReadAt : (names : List ℕ → Option ℕ) (slot : ℕ) → List (Bor (List ℕ)) → Insn → Result Insn AsmCode → Type 0
 IsReadAt names slot operands insn read = WritesOperands names slot (texts operands) insn → read ≡ Ok insn
 
--- where operands that name no slot write the instruction, it is read
+-- if operands that name no slot write the instruction, it is read
 abbrev pub IsRead : List (Bor (List ℕ)) → Insn → Result Insn AsmCode → Type 0
 IsRead = IsReadAt (λ name. None) 0
 
@@ -40,13 +40,13 @@ WriteFields operands found =
     Four (texts operands) (λ a. WritesNumber a found.0) (λ b. WritesRegister b found.1.0)
     (λ c. WritesNumber c found.1.1.0) (λ d. WritesNumber d found.1.1.1)
 
--- the operands of `ldimm` behind its subtype write a register and two numbers
+-- the operands of `ldimm` after its subtype write a register and two numbers
 abbrev pub WriteRegisterAndNumbers : List (Bor (List ℕ)) → ℕ × (ℤ × ℤ) → Type 0
 WriteRegisterAndNumbers operands found =
     Three (texts operands) (λ a. WritesRegister a found.0) (λ b. WritesNumber b found.1.0)
     (λ c. WritesNumber c found.1.1)
 
--- the operands of `ldimm` behind its register write two numbers
+-- the operands of `ldimm` after its register write two numbers
 abbrev pub WriteNumbers : List (Bor (List ℕ)) → ℤ × ℤ → Type 0
 WriteNumbers operands found = Two (texts operands) (λ a. WritesNumber a found.0) (λ b. WritesNumber b found.1)
 

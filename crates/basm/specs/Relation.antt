@@ -1,4 +1,4 @@
--- The text relation: when lines stand to an image.
+-- The text relation: which lines write an image.
 use Rattle.std.specs.Prelude.{◌≡◌, ◌≢◌, ◌↔◌, ◌⊎◌, ℕ, ◌+◌, ℤ, pos, ◌-ℤ◌, List, [], ◌∷◌, ◌++◌, codes, Option, Some}
 use Rattle.std.specs.Prelude.{FitsSigned}
 use Rattle.std.specs.Int.{w16, w32}
@@ -32,14 +32,14 @@ abbrev pub WritesOperand : List ℕ → Operand → Type 0
 WritesOperand word (FromRegister register) = WritesRegister word register
 WritesOperand word (Immediate value) = WritesNumber word value
 
--- the name of a slot, so far from the next one
+-- the name of a slot at this distance from the next one
 pub record NamesTarget (names : List ℕ → Option ℕ) (slot : ℕ) (word : List ℕ) (offset : ℤ) : Type 0 where
   pub name : IsName word
   pub target : ℕ
   pub stands : names word ≡ Some target
   pub away : offset ≡ pos target -ℤ pos slot -ℤ pos 1
 
--- a target by its distance or its name, where names stand for slots
+-- a target by its distance or its name, if names have these slots
 abbrev pub WritesTarget : (names : List ℕ → Option ℕ) (slot : ℕ) → List ℕ → ℤ → Type 0
 WritesTarget names slot word offset = NamesTarget names slot word offset ⊎ WritesDistance word offset
 
@@ -53,7 +53,7 @@ WritesLongTarget names slot word offset = WritesTarget names slot word offset ×
 
 -- ---- the words of an instruction, by its own name
 
--- one operand, which stands in the relation
+-- one operand, which is in the relation
 abbrev pub One : List (List ℕ) → (List ℕ → Type 0) → Type 0
 One [] P = ⊥
 One (a ∷ []) P = P a
@@ -128,7 +128,7 @@ slots_in (Budget n) = 0
 slots_in (OneLoop l) = 0
 slots_in (Code insn) = slots_of insn
 
--- the line says it, where the next instruction begins at the slot
+-- the line says the item, if the next instruction begins at the slot
 abbrev pub IsLine : (names : List ℕ → Option ℕ) (slot : ℕ) → List ℕ → Item → Type 0
 IsLine names slot line Nothing = (word_of line ≡ []) × (operands_of line ≡ [])
 IsLine names slot line (Label name) = IsLabel line name
@@ -161,7 +161,7 @@ name_of slot (Budget n) = []
 name_of slot (OneLoop l) = []
 name_of slot (Code insn) = []
 
--- the names that the labels of some items define, with their slots, from a slot on
+-- the names that the labels of some items define, with their slots, from a slot
 abbrev pub names_from : ℕ → List Item → List (List ℕ × ℕ)
 names_from slot [] = []
 names_from slot (item ∷ items) = name_of slot item ++ names_from (slot + slots_in item) items
@@ -175,7 +175,7 @@ version_in (Budget n) = []
 version_in (OneLoop l) = []
 version_in (Code insn) = []
 
--- the version of a text that declares these versions: the only one, and 1 where there is none
+-- the version of a text that declares these versions: the only one, or 1 if there is none
 abbrev pub IsVersionOf : List Version → Version → Type 0
 IsVersionOf [] version = version ≡ versions.One
 IsVersionOf (declared ∷ []) version = version ≡ declared
@@ -223,7 +223,7 @@ abbrev pub AreApart : List (List ℕ × ℕ) → Type 0
 AreApart [] = Unit {0}
 AreApart (pair ∷ pairs) = IsFree pairs pair.0 × AreApart pairs
 
--- the lines write the image: at most one version, one budget, loops in any order, and the instructions in theirs
+-- the lines write the image: at most one version, one budget, loops in any order, and the instructions in their order
 pub record IsText (text : List ℕ) (p : Program) : Type 0 where
   pub items : List Item
   pub names : List ℕ → Option ℕ

@@ -15,13 +15,16 @@ use basm_lex::mnemonic_laws;
 use bpf::Image;
 use std::alloc::Global;
 
-/// The image that the text writes. Its loops are sorted by their heads.
+/// The image that the text writes. Its loops are in the order of their heads.
 ///
 /// # Errors
 ///
-/// The fault of the lowest line that has one, and on that line the one with the lowest code. A text
-/// without instructions is `TooMany` and one without a budget `BadBudget` at line 0, and so is
-/// `Memory` wherever it was refused.
+/// The fault of the lowest line that has one, and on that line the one with the lowest code. A fault of the whole
+/// text is at line 0:
+///
+/// - `TooMany`: the text has no instructions.
+/// - `BadBudget`: the text has no budget.
+/// - `Memory`: memory is refused, at whatever line.
 pub fn assemble(alloc: Global, text: &str) -> Result<Image, AsmFault>
     ensures text { IfOk result (IsText text.now) }
 
@@ -60,7 +63,7 @@ fn read_lines(alloc: Global, text: &str, survey: &Survey) -> Result<Draft, AsmFa
     Ok(parts)
 }
 
-/// The fault of this line, or that of an earlier one which defines a name again.
+/// The fault of this line, or that of an earlier one that defines a name again.
 fn first_fault(repeated: Option<u32>, number: u32, code: AsmCode) -> AsmFault
     ensures { code ≡ Memory → result ≡ out_of_memory }
 {

@@ -18,6 +18,11 @@ use basm_lex::{NumberFault, is_name, number};
 use bpf::{Loop, MAX_SLOTS, Version, is_budget};
 
 /// The version that the operands of `.version` declare.
+///
+/// # Errors
+///
+/// - `BadOperand`: there is not exactly one operand, or it is no number.
+/// - `BadVersion`: the number is out of range, or no version has it.
 pub fn read_version(operands: &[&str]) -> Result<Version, AsmCode>
     ensures writes { IfOk result (WritesVersion operands.now) }
     ensures exact { (version : AVersion) → WritesVersion operands.now version
@@ -32,6 +37,11 @@ pub fn read_version(operands: &[&str]) -> Result<Version, AsmCode>
 }
 
 /// The budget that the operands of `.budget` declare.
+///
+/// # Errors
+///
+/// - `BadOperand`: there is not exactly one operand, or it is no number.
+/// - `BadBudget`: the number is out of range.
 pub fn read_budget(operands: &[&str]) -> Result<u32, AsmCode>
     ensures writes { IfOk result (WritesBudget operands.now) }
     ensures exact { (n : ℕ) → IsBudget n → WritesBudget operands.now n → result ≡ Ok n }
@@ -48,6 +58,16 @@ pub fn read_budget(operands: &[&str]) -> Result<u32, AsmCode>
 }
 
 /// The loop that the operands of `.loop` declare.
+///
+/// # Errors
+///
+/// `BadOperand` if there are not exactly four operands. Else the one with the lowest code of the operands' faults:
+///
+/// - `BadOperand`: an operand is no number, no name or no register.
+/// - `BadLabel`: the name of the head or the back is unknown.
+/// - `BadLoop`: a number is out of range.
+///
+/// `BadLoop` also if the operands are right, and the loop does not fit the program.
 pub fn read_loop(operands: &[&str], survey: &Survey) -> Result<Loop, AsmCode>
     ensures writes { IfOk result (WritesLoop (names_in survey.now) (texts operands.now)) }
     ensures exact { (l : Loop) → IsLoop survey.now.slots l → survey.now.slots ≤ MAX_SLOTS
@@ -72,7 +92,7 @@ pub fn read_loop(operands: &[&str], survey: &Survey) -> Result<Loop, AsmCode>
     }
 }
 
-/// The number of a directive's field, where a number out of range is the directive's own fault.
+/// The number of a directive's field. If the number is out of range, the fault is the directive's own.
 fn field(word: &str, out_of_range: AsmCode) -> Result<i32, AsmCode>
     ensures writes { IfOk result (WritesNumber word.now) }
     ensures exact { (value : ℤ) → WritesNumber word.now value → result ≡ Ok value }
@@ -84,7 +104,7 @@ fn field(word: &str, out_of_range: AsmCode) -> Result<i32, AsmCode>
     }
 }
 
-/// The slots of the program, where an image may have so many.
+/// The slots of the program, if an image may have as many.
 fn most_slots(survey: &Survey) -> u16
     ensures { survey.now.slots ≤ MAX_SLOTS → result ≡ survey.now.slots }
 {

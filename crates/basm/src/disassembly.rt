@@ -13,12 +13,12 @@ use bpf_insn::Insn;
 use std::alloc::{AllocError, Global};
 use std::fmt::Write;
 
-/// The text of the image: its version where that is not 1, its budget, its loops, and one instruction a
-/// line. `assemble` makes an equal image of it.
+/// The text of the image: its version if that is not 1, its budget, its loops, and one instruction a line. `assemble`
+/// makes an equal image of it.
 ///
 /// # Errors
 ///
-/// `AllocError` where memory was refused.
+/// Memory is refused.
 pub fn disassemble(alloc: Global, image: &Image) -> Result<String, AllocError>
     ensures printed { IfOk result (λ text. string_bytes text ≡ printed_image image.now) }
 
@@ -40,11 +40,11 @@ fn print_image(alloc: Global, image: &Image) -> Result<String, AllocError>
     Ok(text)
 }
 
-/// Adds the lines of an image before its instructions: its version where that is not 1, its budget and its loops.
+/// Adds the lines of an image before its instructions: its version if that is not 1, its budget and its loops.
 ///
 /// # Errors
 ///
-/// `AllocError` where memory was refused.
+/// Memory is refused.
 pub fn print_directives(text: &mut String, image: &Image) -> Result<(), AllocError>
     ensures printed { OnOk result
         (string_bytes text.new ≡ string_bytes text.old ++ directives image.now) }

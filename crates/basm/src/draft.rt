@@ -52,6 +52,12 @@ impl Draft {
     }
 
     /// Adds what a line says.
+    ///
+    /// # Errors
+    ///
+    /// The fault of the line: `BadWord` for an unknown word, or the fault of its operands. `BadVersion` and
+    /// `BadBudget` also for a second such line. `TooMany` for too many slots or loops, `BadLoop` for a second loop
+    /// with one head. `Memory` if memory is refused.
     pub fn add_line(&mut self, alloc: Global, survey: &Survey, line: &str) -> Result<(), AsmCode>
         ensures adds { IfOk result
             (λ _. AddsLine (names_in survey.now) line.now self.old self.new) }
@@ -150,7 +156,7 @@ impl Draft {
         Ok(())
     }
 
-    /// The version that is declared, and the first where none is.
+    /// The version that the lines declare, or the first if they declare none.
     fn version(&self) -> Version
         ensures { IsVersionOf (option_to_list self.now.version) result }
     {
@@ -161,8 +167,12 @@ impl Draft {
     }
 
     /// The image of these parts, its loops by rising head.
+    ///
+    /// # Errors
+    ///
+    /// At line 0: `BadBudget` if the lines declare no budget, the fault of the image's parts, or `Memory`.
     pub fn into_image(mut self, alloc: Global) -> Result<Image, AsmFault>
-        // What is made is the image of the parts, and if they have one it is made, unless memory is refused.
+        // The result is the image of the parts. If they have one, the function makes it, unless memory is refused.
         ensures image { IfOk result (IsImageOf self) }
         ensures exact { (p : Program) → IsImageOf self p → Makes p result }
     {

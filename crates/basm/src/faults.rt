@@ -62,7 +62,7 @@ pub enum AsmCode {
     /// No instruction, directive or label begins with the word.
     #[error("an unknown word")]
     BadWord,
-    /// The number or the form of the operands is another.
+    /// The operands have another number or form.
     #[error("other operands are wanted")]
     BadOperand,
     /// A number is out of range.
@@ -86,7 +86,7 @@ pub enum AsmCode {
     /// Memory was refused.
     #[error("no memory")]
     Memory,
-    /// The version is declared twice, or is none that there is.
+    /// The version is declared twice, or there is no such version.
     #[error("the version is declared twice or is neither 1 nor 2")]
     BadVersion,
 }
@@ -111,7 +111,7 @@ impl AsmCode {
         }
     }
 
-    /// The fault of a number, as [`AsmCode::code`] gives it. `None` where no fault has it.
+    /// The fault of a number, as [`AsmCode::code`] gives it, or `None` if no fault has it.
     pub fn from_code(code: u8) -> Option<AsmCode>
         ensures value { result ≡ asm_of_code code }
         ensures number { IfSome result (λ fault. asm_code fault ≡ code) }
@@ -131,7 +131,7 @@ impl AsmCode {
         }
     }
 
-    /// What to say of the fault beside its name: when it comes, and what to do, in lines of at most 114 columns.
+    /// What to say of the fault beside its name: when it comes, and what to do. The lines have at most 114 columns.
     pub fn advice(self) -> &'static str {
         match self {
             AsmCode::BadWord => BAD_WORD,
@@ -159,7 +159,11 @@ impl AsmCode {
     }
 }
 
-/// Both values, or the lowest fault.
+/// Both values.
+///
+/// # Errors
+///
+/// The fault, or the one of two faults that has the lower number.
 pub fn both<A: Drop, B: Drop>(
     first: Result<A, AsmCode>,
     second: Result<B, AsmCode>,
@@ -210,7 +214,7 @@ impl From<NumberFault> for AsmCode {
 #[derive(Clone, Copy, Debug, PartialEq, Eq, Error)]
 #[error("line {line}: {code}")]
 pub struct AsmFault {
-    /// The number of the line, from 1; 0 where the fault is the whole text's.
+    /// The number of the line, from 1. It is 0 if the fault is the whole text's.
     pub line: u32,
     /// What is wrong.
     pub code: AsmCode,
@@ -224,7 +228,7 @@ impl AsmFault {
         AsmFault { line: 0, code }
     }
 
-    /// A fault of a line; want of memory is no line's.
+    /// A fault of a line. Refused memory is no line's.
     pub fn of_line(line: u32, code: AsmCode) -> AsmFault
         ensures { result ≡ line_fault line code }
     {

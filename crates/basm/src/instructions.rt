@@ -25,6 +25,11 @@ use bpf_insn::{
 };
 
 /// Appends the instruction of this name with these operands, at the slot, and gives the slot after it.
+///
+/// # Errors
+///
+/// The fault of the operands, else `TooMany` if the instruction goes past the last slot of a program, or `Memory` if
+/// memory is refused.
 pub fn add_insn(
     insns: &mut Vec<Insn>,
     found: Mnemonic,
@@ -97,6 +102,10 @@ fn read_insn(found: Mnemonic, operands: &[&str], names: &Names, slot: u32) -> Re
 }
 
 /// The register that an operand names.
+///
+/// # Errors
+///
+/// `BadOperand`: the operand names no register.
 pub fn reg(word: &str) -> Result<Register, AsmCode>
     ensures writes { IfOk result (WritesRegister word.now) }
     ensures exact { (number : ℕ) → WritesRegister word.now number → result ≡ Ok number }
@@ -355,7 +364,7 @@ fn two_numbers(operands: &[&str]) -> Result<(i32, i32), AsmCode>
     both(immediate(first), immediate(second))
 }
 
-/// The address of this subtype; `None` where there is none with these numbers.
+/// The address of this subtype, or `None` if no address has it with these numbers.
 fn address(subtype: i32, first: i32, second: i32) -> Option<Address>
     ensures writes { IfSome result (HasFields subtype first second) }
     ensures exact { (found : Address) → pos (address_subtype found) ≡ subtype
@@ -374,7 +383,7 @@ fn address(subtype: i32, first: i32, second: i32) -> Option<Address>
     }
 }
 
-/// The address of this subtype, which may leave the second number out.
+/// The address of this subtype. The second number may be left out.
 fn known_address(subtype: u8, first: i32, second: i32) -> Option<Address>
     ensures writes { IfSome result
         (λ found. (address_subtype found ≡ subtype) × (address_first found ≡ first)) }

@@ -1,4 +1,4 @@
-//! What printing and assembling do together.
+//! The result of printing and assembling together.
 
 ghost use Rattle.basm.specs.Outcomes.{Makes};
 
@@ -12,7 +12,7 @@ use std::alloc::Global;
 ///
 /// # Errors
 ///
-/// `Memory` at line 0, where memory was refused.
+/// `Memory` at line 0: memory is refused.
 pub fn printed_again(alloc: Global, image: &Image) -> Result<Image, AsmFault>
     ensures { Makes image.now result }
 {

@@ -7,7 +7,7 @@ use std::alloc::{AllocError, Global};
 use std::collections::BTreeMap;
 use std::marker::Model;
 
-/// The slots that names stand for.
+/// The slots of names.
 #[derive(Drop)]
 pub struct Names<'a> {
     slots: BTreeMap<&'a str, u32>,
@@ -31,7 +31,7 @@ impl<'a> Names<'a> {
         }
     }
 
-    /// The slot that the name stands for.
+    /// The slot of the name, if it has one.
     pub fn slot_of(&self, name: &str) -> Option<u32>
         ensures { result ≡ slot_named self.now name.now }
     {
@@ -41,7 +41,11 @@ impl<'a> Names<'a> {
         }
     }
 
-    /// Lets the name stand for a slot, unless it stands for one. Gives whether it does so now.
+    /// Gives the name a slot, unless it has one. The result is whether it gave it now.
+    ///
+    /// # Errors
+    ///
+    /// Memory is refused.
     pub fn define(&mut self, name: &'a str, slot: u32) -> Result<bool, AllocError>
         ensures names { IfOk result (λ _. HasOneMore self.old self.new name.now slot) }
         ensures is_new { IfOk result (IsNew self.old name.now) }

@@ -7,7 +7,7 @@ ghost use Rattle.basm.specs.Pieces.{pieces_left};
 use memchr::memchr;
 use std::marker::Model;
 
-/// The lines of a text that are still to come, in order: what stands between its line feeds.
+/// The lines of a text that are still to come, in order: the parts between its line feeds.
 #[derive(Drop)]
 pub struct Pieces<'a> {
     rest: Option<&'a str>,

@@ -12,7 +12,7 @@ use std::alloc::{AllocError, Global};
 /// What the whole text says before its lines are read one by one.
 #[derive(Drop)]
 pub struct Survey<'a> {
-    /// The slots that the labels' names stand for.
+    /// The slots of the labels' names.
     pub names: Names<'a>,
     /// The first line that defines a name again.
     pub repeated: Option<u32>,
@@ -24,6 +24,10 @@ pub struct Survey<'a> {
 
 impl<'a> Survey<'a> {
     /// What the text says.
+    ///
+    /// # Errors
+    ///
+    /// Memory is refused.
     pub fn of(alloc: Global, text: &'a str) -> Result<Survey<'a>, AllocError>
         ensures { IfOk result (IsSurvey (pieces_of text.now)) }
     {
@@ -68,8 +72,8 @@ impl<'a> Survey<'a> {
     }
 }
 
-/// How many slots a line with this first word takes, where it is no label. An unknown word counts as an
-/// instruction, and as none where it begins with a full stop.
+/// How many slots a line with this first word takes, if it is no label. An unknown word counts as an instruction. If
+/// it begins with a full stop, it counts as none.
 #[tactic(auto, unfolding(crate::specs::Labels::word_slots))]
 fn slots_of(word: &str) -> u32
     ensures { result ≡ word_slots word.now }

@@ -9,7 +9,13 @@ use crate::faults::AsmCode;
 use crate::names::Names;
 use basm_lex::{NumberFault, distance, is_name};
 
-/// How far a jump at the slot goes to the target, in slots from the next one: `+N`, `-N` or a name.
+/// The distance of a jump from the slot to the target, in slots from the next one: `+N`, `-N` or a name.
+///
+/// # Errors
+///
+/// - `BadOperand`: the word is no name and no distance.
+/// - `BadLabel`: the name is unknown.
+/// - `Reach`: the distance is out of range.
 pub fn read_target(word: &str, names: &Names, slot: u32) -> Result<i64, AsmCode>
     ensures writes { IfOk result (WritesTarget (slot_named names.now) slot word.now) }
     ensures exact { (offset : ℤ) → WritesTarget (slot_named names.now) slot word.now offset
@@ -30,6 +36,10 @@ pub fn read_target(word: &str, names: &Names, slot: u32) -> Result<i64, AsmCode>
 }
 
 /// The target of a jump, as a distance that a field of 16 bits holds.
+///
+/// # Errors
+///
+/// Those of [`read_target`], and `Reach` if the field does not hold the distance.
 pub fn read_short_target(word: &str, names: &Names, slot: u32) -> Result<i16, AsmCode>
     ensures writes { IfOk result (WritesShortTarget (slot_named names.now) slot word.now) }
     ensures exact { (offset : ℤ) → WritesTarget (slot_named names.now) slot word.now offset
@@ -40,6 +50,10 @@ pub fn read_short_target(word: &str, names: &Names, slot: u32) -> Result<i16, As
 }
 
 /// The same in a field of 32 bits.
+///
+/// # Errors
+///
+/// Those of [`read_target`], and `Reach` if the field does not hold the distance.
 pub fn read_long_target(word: &str, names: &Names, slot: u32) -> Result<i32, AsmCode>
     ensures writes { IfOk result (WritesLongTarget (slot_named names.now) slot word.now) }
     ensures exact { (offset : ℤ) → WritesTarget (slot_named names.now) slot word.now offset

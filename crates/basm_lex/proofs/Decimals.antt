@@ -32,6 +32,6 @@ pub without_minus : (word : List ℕ) → ((rest : List ℕ) → word ≢ 45 ∷
 without_minus [] other = refl
 without_minus (c ∷ cs) other = rw (ne_eqb c 45 (λ same. other cs (ap (λ x. x ∷ cs) same)))
 
--- what is left of a word behind a text
+-- the rest of a word after a text
 pub behind : (front word rest : List ℕ) → StripsPrefix (FindsTextPrefix front) word rest → word ≡ front ++ rest
 behind front word rest strips = strips.1.1 ∙ ap (λ x. front ++ x) (sym strips.2)

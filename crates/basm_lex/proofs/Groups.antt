@@ -14,7 +14,7 @@ use Rattle.basm_lex.specs.Mnemonics.{group_of, mnemonic_word, mnemonic_named, st
 abbrev elsewhere : ℕ → Mnemonic → Bool
 elsewhere group m = not (eqb (group_of (mnemonic_word m)) group)
 
--- whether all others stand before the group or behind it
+-- whether all others come before the group or after it
 abbrev stands : ℕ → Bool
 stands group =
     (list_all (elsewhere group) (take (start_of group) MNEMONICS) && list_all (elsewhere group) (drop (start_of (suc group)) MNEMONICS))
@@ -61,7 +61,7 @@ module _ (word : List ℕ) where
   abbrev has : Mnemonic → Bool
   has m = bytes_eq word (mnemonic_word m)
 
-  -- those of other groups that stand before the rest count for nothing
+  -- those of other groups that come before the rest do not matter
   behind : (n : ℕ) (ms : List Mnemonic) → list_all (elsewhere (group_of word)) (take n ms) ≡ true → find has (drop n ms) ≡ find has ms
   behind zero ms all = refl
   behind (suc n) [] all = refl
@@ -75,7 +75,7 @@ module _ (word : List ℕ) where
       let parts = and_parts _ _ all in
       cond-false (has m) (Some m) (find has ms) (other_word word m parts.0) ∙ none_of ms parts.1
 
-  -- and so do those that stand behind it
+  -- and neither do those that come after it
   before : (n : ℕ) (ms : List Mnemonic) → list_all (elsewhere (group_of word)) (drop n ms) ≡ true → find has (take n ms) ≡ find has ms
   before zero ms all = sym (none_of ms all)
   before (suc n) [] all = refl

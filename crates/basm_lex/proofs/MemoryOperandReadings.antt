@@ -1,4 +1,4 @@
--- How the word of a memory operand is taken apart.
+-- How the reader takes the word of a memory operand apart.
 use Rattle.std.proofs.Common.{◌≡◌, ℕ, zero, suc, ◌<◌, ◌≤◌, ℤ, List, [], ◌∷◌, ◌++◌, length, get_or, refl, Some, None, Bor, inl, inr, sym, ap, ◌∙◌, subst, lit<, arith}
 use Rattle.std.specs.Prelude.{◌≢◌, Option, MatchOption}
 use Rattle.std.specs.Char.{digit_value}
@@ -42,7 +42,7 @@ magnitude_lacks ds value (inr p) =
     let all : Lacks 43 digits = numeral_lacks 16 (omega arith) digits p.written.hexadecimal.0.1 in
     subst (λ x. Lacks 43 x) (sym p.written.prefix) (λ same. absurd (omega arith), (λ same. absurd (omega arith), all))
 
--- nor have the names of registers a plus or a minus
+-- and the names of registers have no plus and no minus
 short_name : (c d : ℕ) → c < 48 → 48 ≤ d → Lacks c (114 ∷ d ∷ [])
 short_name c d low high = (λ same. absurd (omega arith), (λ same. absurd (omega arith), tt))
 
@@ -64,7 +64,7 @@ register_lacks c low (suc (suc (suc (suc (suc (suc (suc (suc (suc (suc zero)))))
     subst (λ t. Lacks c t) (sym text_10) (λ same. absurd (omega arith), short_tail c low)
 register_lacks c low (suc (suc (suc (suc (suc (suc (suc (suc (suc (suc (suc n))))))))))) most = absurd (omega arith)
 
--- the two parts of what stands in the brackets
+-- the two parts of the text between the brackets
 inside_is : (word inner : List ℕ) (place : MemoryOperand) → word ≡ 91 ∷ (inner ++ 93 ∷ []) → (w : WritesMemoryOperand word place) → inner ≡ register_text place.base ++ w.distance
 inside_is word inner place outside w =
     let same : 91 ∷ (inner ++ 93 ∷ []) ≡ 91 ∷ ((register_text place.base ++ w.distance) ++ 93 ∷ []) = sym outside ∙ w.word_is in
@@ -81,7 +81,7 @@ no_plus_in word inner place outside w b =
     subst (λ x. Lacks 43 x) (sym (inside_is word inner place outside w ∙ ap (λ d. register_text place.base ++ d) b.signed))
     (lacks_both 43 (register_text place.base) (45 ∷ b.digits) (register_lacks 43 (omega arith) place.base w.is_base) (λ same. absurd (omega (arith, same)), magnitude_lacks b.digits b.forward b.magnitude))
 
--- what is read behind a plus
+-- what is read after a plus
 pub at_plus : (word inner : List ℕ) → word ≡ 91 ∷ (inner ++ 93 ∷ []) → (x : Bor (List ℕ) × Bor (List ℕ)) → IsSplitOnceResult 43 inner (Some x)
     → (place : MemoryOperand) → WritesMemoryOperand word place → (x.0.now ≡ register_text place.base) × WritesDistance (43 ∷ x.1.now) place.offset
 at_plus word inner outside x split place w = elim w.writes [
@@ -93,7 +93,7 @@ at_plus word inner outside x split place w = elim w.writes [
       absurd (lacks_none 43 x.0.now x.1.now (subst (λ t. Lacks 43 t) whole.0 (no_plus_in word inner place outside w b)))
 ]
 
--- and behind a minus, where there is no plus
+-- and after a minus, if there is no plus
 pub at_minus : (word inner : List ℕ) → word ≡ 91 ∷ (inner ++ 93 ∷ []) → IsSplitOnceResult 43 inner None → (x : Bor (List ℕ) × Bor (List ℕ)) → IsSplitOnceResult 45 inner (Some x)
     → (place : MemoryOperand) → WritesMemoryOperand word place → (x.0.now ≡ register_text place.base) × WritesDistance (45 ∷ x.1.now) place.offset
 at_minus word inner outside none x split place w = elim w.writes [

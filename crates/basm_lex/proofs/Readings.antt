@@ -9,7 +9,7 @@ use Rattle.std.proofs.lemmas.Int.Digits.{digits_value-lt}
 use Rattle.std.specs.declared.result.Result.{Result}
 use Rattle.basm_lex.specs.Numbers.{IsHexadecimal, WritesDistance, WritesMagnitude, WritesWide, WritesWideDecimal}
 
--- so many hexadecimal digits write a number below a power of 16
+-- `most` hexadecimal digits write a number below a power of 16
 pub hexadecimal_low : (most : ℕ) (digits : List ℕ) → IsHexadecimal most digits → digits_value 16 digits < 16 ^ most
 hexadecimal_low most digits hex =
     let below : digits_value 16 digits < 16 ^ length digits = digits_value-lt 16 digits hex.0.1 in
@@ -30,7 +30,7 @@ first_same a b xs ys same = cc
 rest_same : (a b : ℕ) (xs ys : List ℕ) → a ∷ xs ≡ b ∷ ys → xs ≡ ys
 rest_same a b xs ys same = cc
 
--- what stands behind the sign of a distance
+-- the text after the sign of a distance
 pub behind_plus : (digits : List ℕ) (value : ℤ) → WritesDistance (43 ∷ digits) value → WritesMagnitude digits value
 behind_plus digits value (inl f) = subst (λ d. WritesMagnitude d value) (sym (rest_same 43 43 digits f.digits f.signed)) f.magnitude
 behind_plus digits value (inr b) = absurd (omega (arith, first_same 43 45 digits b.digits b.signed))
@@ -48,7 +48,7 @@ signed word value plus minus (inr b) = minus b.digits b.signed
 pub no_value : {T E : Type 0} (e : E) (x : T) → Err e ≡ Ok x → ⊥
 no_value e x same = cc same
 
--- a refused magnitude is none that fits
+-- if a magnitude is refused, none fits
 pub refused_plus : {E : Type 0} (digits : List ℕ) (e : E) → ((value : ℤ) → WritesMagnitude digits value → value ≤ℤ pos 2147483648 → Err e ≡ Ok value)
     → (value : ℤ) → WritesDistance (43 ∷ digits) value → FitsSigned w32 value → ⊥
 refused_plus digits e read value w fits = no_value e value (read value (behind_plus digits value w) (omega (arith, ints)))
@@ -60,7 +60,7 @@ refused_minus digits e read value w fits =
     let negated : value ≡ neg_ℤ back.0 = back.2 in
     no_value e back.0 (read back.0 back.1 (omega (arith, ints)))
 
--- what fits 16 bits fits 32
+-- a number that fits 16 bits fits 32
 pub fits_more : (value : ℤ) → FitsSigned w16 value → FitsSigned w32 value
 fits_more value fits = omega (arith, ints)
 

@@ -31,7 +31,7 @@ pub some_separated : (text : List ℕ) → (length text == 0) ≡ false → map 
 some_separated [] some = absurd (true≢false some)
 some_separated (c ∷ cs) some = refl
 
--- what does not begin with a semicolon keeps its first character
+-- a text that does not begin with a semicolon keeps its first character
 before_kept : (c : ℕ) (cs : List ℕ) → (c == 59) ≡ false → before_first is_semicolon (c ∷ cs) ≡ c ∷ before_first is_semicolon cs
 before_kept c cs other =
     let n = position_or_len is_semicolon cs in
@@ -40,7 +40,7 @@ before_kept c cs other =
 not_bare : (n : ℕ) → (suc n == 0) ≡ false
 not_bare n = false_from_ne_true (suc n == 0) (λ same. let none = eqb-true (suc n) 0 same in absurd (omega (arith, none)))
 
--- whether a text begins with a comment is told by its first character
+-- the first character says whether a text begins with a comment
 pub begins_bare : (text : List ℕ) (d : ℕ) → 1 ≤ length text → (get_or text 0 d == 59) ≡ (length (before_first is_semicolon text) == 0)
 begins_bare [] d some = absurd (omega arith)
 begins_bare (c ∷ cs) d some =
@@ -50,7 +50,7 @@ begins_bare (c ∷ cs) d some =
       | inr other ↦ other ∙ sym (ap (λ xs. length xs == 0) (before_kept c cs other) ∙ not_bare (length (before_first is_semicolon cs)))
     ]
 
--- spaces before a text stand before its comment
+-- spaces before a text are before its comment
 pub skip_first : (text : List ℕ) → without_leading_spaces (before_first is_semicolon text) ≡ before_first is_semicolon (without_leading_spaces text)
 skip_first [] = refl
 skip_first (c ∷ cs) =

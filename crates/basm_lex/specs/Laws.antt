@@ -1,4 +1,4 @@
--- Laws of printed words: what is printed is read as it was.
+-- Laws of printed words: a reader reads what was printed.
 use Rattle.std.specs.Prelude.{◌≡◌, ◌≤◌, ◌<◌, ◌^◌, ◌++◌, ◌∷◌, ℕ, ℤ, List, decimal, pos, FitsSigned}
 use Rattle.std.specs.Fmt.{signed_decimal}
 use Rattle.std.specs.Int.{w16, w32}
@@ -12,7 +12,7 @@ use Rattle.basm_lex.specs.Numbers.{WritesDistance, WritesNumber, WritesWide}
 use Rattle.basm_lex.specs.Operands.{WritesMemoryOperand}
 use Rattle.basm_lex.specs.Printed.{AreWords, IsWord}
 
--- ---- printed numbers, distances, memory operands and constants write what they are
+-- ---- printed numbers, distances, memory operands and constants write their values
 
 -- a printed number without a sign writes the number
 abbrev pub NumbersAreWritten : Type 0

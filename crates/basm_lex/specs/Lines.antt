@@ -6,7 +6,7 @@ use Rattle.basm_lex.specs.Names.{IsName}
 
 -- ---- the statement
 
--- the lines of a text: what stands between its line feeds (10)
+-- the lines of a text: the parts between its line feeds (10)
 abbrev pub pieces_of : List ℕ → List (List ℕ)
 pieces_of text = slice_split (λ c. c == 10) text
 
@@ -27,7 +27,7 @@ abbrev pub without_leading_spaces : List ℕ → List ℕ
 without_leading_spaces [] = []
 without_leading_spaces (c ∷ cs) = if is_space c then without_leading_spaces cs else c ∷ cs
 
--- a character and what follows it, nothing where both are nothing but a space
+-- a character and what follows it, or nothing if both are only spaces
 abbrev pub trailing_part : ℕ → List ℕ → List ℕ
 trailing_part c [] = if is_space c then [] else c ∷ []
 trailing_part c (d ∷ ds) = c ∷ d ∷ ds
@@ -49,7 +49,7 @@ code_of line = trimmed_text (before_first is_semicolon line)
 unfoldable pub word_of : List ℕ → List ℕ
 word_of line = before_first is_space (code_of line)
 
--- what stands between commas, without the spaces around it
+-- the parts between commas, without the spaces around them
 abbrev pub parts_between_commas : List ℕ → List (List ℕ)
 parts_between_commas [] = []
 parts_between_commas (c ∷ cs) = map trimmed_text (slice_split is_comma (c ∷ cs))
@@ -62,7 +62,7 @@ rest_of line = after_first is_space (code_of line)
 abbrev pub operands_of : List ℕ → List (List ℕ)
 operands_of line = parts_between_commas (rest_of line)
 
--- the line is the label of the name, with nothing behind it
+-- the line is the label of the name, with nothing after it
 abbrev pub IsLabel : List ℕ → List ℕ → Type 0
 IsLabel line name = IsName name × (word_of line ≡ name ++ codes ":") × (operands_of line ≡ [])
 

@@ -53,7 +53,8 @@ mnemonic_named word = find (λ m. bytes_eq word (mnemonic_word m)) MNEMONICS
 
 -- ---- what else contracts and proofs say
 
--- the group of the words that begin with a letter and have so many more: a number from 0 to 207, or 208 where no mnemonic is so
+-- The group of the words that begin with a letter and have `more` letters after it. It is a number from 0 to 207, or
+-- 208 if no mnemonic is so.
 abbrev pub group_at : (first more : ℕ) → ℕ
 group_at first more =
     if nat_lt first 97 || nat_lt 122 first || nat_lt more 1 || nat_lt 8 more then 208 else (first - 97) * 8 + (more - 1)
@@ -63,6 +64,6 @@ abbrev pub group_of : List ℕ → ℕ
 group_of [] = 208
 group_of (c ∷ cs) = group_at c (length cs)
 
--- where the mnemonics of a group begin
+-- the index of the first mnemonic of a group
 abbrev pub start_of : ℕ → ℕ
 start_of group = get_or STARTS group 0

@@ -19,11 +19,11 @@ decimal_value word =
 abbrev pub WritesDecimal : List ℕ → ℤ → Type 0
 WritesDecimal word value = IsDecimal word × (value ≡ decimal_value word)
 
--- at most so many hexadecimal digits, in either case
+-- at most `most` hexadecimal digits, in either case
 abbrev pub IsHexadecimal : ℕ → List ℕ → Type 0
 IsHexadecimal most digits = IsNumeral 16 digits × (length digits ≤ most)
 
--- `0x` and at most so many hexadecimal digits, and the number that they write
+-- `0x` and at most `most` hexadecimal digits, and the number that they write
 pub record WritesBits (most : ℕ) (word : List ℕ) (bits : ℕ) : Type 0 where
   pub digits : List ℕ
   pub prefix : word ≡ codes "0x" ++ digits
@@ -54,17 +54,17 @@ WritesWide word value =
     (IsNumeral 10 word × (value ≡ digits_value 10 word) × (value < 2 ^ 64))
     ⊎ (WritesBelowZero word value ⊎ WritesBits 16 word value)
 
--- how far: digits, or bits as of a number of 32 bits
+-- a distance without its sign: digits, or the bits of a number of 32 bits
 abbrev pub WritesMagnitude : List ℕ → ℤ → Type 0
 WritesMagnitude word value = (IsNumeral 10 word × (value ≡ pos (digits_value 10 word))) ⊎ WritesPattern word value
 
--- a plus, and how far
+-- a plus, and a distance without its sign
 pub record WritesForward (word : List ℕ) (value : ℤ) : Type 0 where
   pub digits : List ℕ
   pub signed : word ≡ 43 ∷ digits
   pub magnitude : WritesMagnitude digits value
 
--- a minus, and how far back
+-- a minus, and a distance back without its sign
 pub record WritesBackward (word : List ℕ) (value : ℤ) : Type 0 where
   pub digits : List ℕ
   pub forward : ℤ
@@ -72,7 +72,7 @@ pub record WritesBackward (word : List ℕ) (value : ℤ) : Type 0 where
   pub magnitude : WritesMagnitude digits forward
   pub negated : value ≡ neg_ℤ forward
 
--- a distance: a sign, and how far
+-- a distance: a sign, and a distance without it
 abbrev pub WritesDistance : List ℕ → ℤ → Type 0
 WritesDistance word value = WritesForward word value ⊎ WritesBackward word value
 

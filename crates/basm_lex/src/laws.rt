@@ -2,9 +2,9 @@
 
 ghost use Rattle.basm_lex.specs.Laws.{ConstantsAreWritten, DistancesAreWritten, FirstIsTheName, IsOneLine, NamesAreWords, NumbersAreWords, NumbersAreWritten, OperandsAreWords, MemoryOperandsAreWritten, RegistersAreWords, RestAreTheOperands, SignedAreWritten};
 
-/// What holds of the words that are printed: it does nothing, and its contract is the laws.
+/// What holds of printed words. The function does nothing: its contract is the laws.
 pub fn printed_words()
-    // Printed numbers, distances, memory operands and constants write what they are.
+    // Printed numbers, distances, memory operands and constants write their values.
     ensures number { NumbersAreWritten }
     ensures signed { SignedAreWritten }
     ensures distance { DistancesAreWritten }

@@ -1,8 +1,7 @@
 //! Lines of assembler text: their words, and what a word writes.
 //!
-//! A line is read without its comment. [`read_head`] finds its first word and [`read_statement`] its operands too; the
-//! other functions say what one word writes: an instruction, a register, a number, a memory operand or a
-//! name.
+//! A line is read without its comment. [`read_head`] finds its first word, and [`read_statement`] also its operands.
+//! The other functions say what one word writes: an instruction, a register, a number, a memory operand or a name.
 #![tactic(auto)]
 
 mod laws;

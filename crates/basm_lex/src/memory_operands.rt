@@ -8,6 +8,11 @@ use crate::registers::register;
 use bpf_insn::{MemoryOperand, Register};
 
 /// The memory operand that a word writes: `[rB+N]` or `[rB-N]`.
+///
+/// # Errors
+///
+/// - `Form`: the word does not have this form.
+/// - `Range`: the offset does not fit 16 bits.
 pub fn read_memory_operand(word: &str) -> Result<MemoryOperand, NumberFault>
     ensures writes { IfOk result (WritesMemoryOperand word.now) }
     ensures exact { (place : MemoryOperand) → WritesMemoryOperand word.now place
@@ -49,7 +54,7 @@ fn backward(digits: &str) -> Result<i16, NumberFault>
     i16::try_from(offset).map_err(|_| NumberFault::Range)
 }
 
-/// What stands between the brackets.
+/// The text between the brackets.
 fn inside(word: &str) -> Result<&str, NumberFault>
     ensures { MatchResult result (λ inner. IsBracketed word.now inner.now)
         (λ _. IsUnbracketed word.now) }

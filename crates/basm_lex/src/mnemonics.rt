@@ -68,7 +68,7 @@ impl Mnemonic {
         }
     }
 
-    /// Whether this is its word.
+    /// Whether the word is the mnemonic's.
     fn has_word(self, word: &str) -> bool
         ensures { result ≡ bytes_eq word.now (mnemonic_word self) }
     {
@@ -80,7 +80,7 @@ impl Mnemonic {
     }
 }
 
-/// All mnemonics, each once: by the first letter of their words, and by their lengths.
+/// All mnemonics, each once, in the order of the first letter of their words, and then of their lengths.
 const MNEMONICS: [Mnemonic; 90] = [
     Mnemonic::Arithmetic(AluOp::Add, Width::Bits64),
     Mnemonic::Arithmetic(AluOp::And, Width::Bits64),
@@ -174,10 +174,11 @@ const MNEMONICS: [Mnemonic; 90] = [
     Mnemonic::Arithmetic(AluOp::Xor, Width::Bits32),
 ];
 
-/// The group of words that have no place in the table: none has so few letters, so many, or another beginning.
+/// The group of words that have no place in the table. No mnemonic begins with their letter, or none has as few or as
+/// many letters.
 const NO_GROUP: usize = 208;
 
-/// Where the mnemonics of each group begin, and behind the last group how many there are.
+/// The index of the first mnemonic of each group, and after the last group the number of all.
 const STARTS: [u8; 210] = [
     0, 0, 2, 3, 5, 6, 6, 6, 6, 6, 6, 9, 9, 9, 9, 9, 9, 9, 9, 10, 10, 10, 11, 11, 12, 12, 13, 13,
     14, 14, 14, 14, 14, 14, 14, 15, 15, 15, 15, 15, 15, 15, 15, 15, 15, 15, 15, 15, 15, 15, 15, 15,
@@ -190,7 +191,7 @@ const STARTS: [u8; 210] = [
     90, 90, 90, 90, 90, 90, 90, 90, 90, 90, 90, 90, 90, 90,
 ];
 
-/// What the word says, where it begins an instruction.
+/// The mnemonic of the word, if it begins an instruction.
 pub fn read_mnemonic(word: &str) -> Option<Mnemonic>
     ensures value { result ≡ mnemonic_named word.now }
     ensures names { IfSome result (λ found. word.now ≡ mnemonic_word found) }
@@ -218,7 +219,7 @@ fn group_of(word: &str) -> usize
     }
 }
 
-/// The group of the words that begin with a letter and have so many more.
+/// The group of the words that begin with a letter and have `more` letters after it.
 fn group_at(first: u8, more: usize) -> usize
     ensures value { result ≡ group_at first more }
     ensures few { result ≤ 208 }
@@ -246,7 +247,7 @@ fn part(all: &[Mnemonic], start: usize, end: usize) -> &[Mnemonic]
     &all[start..end]
 }
 
-/// Where the mnemonics of a group begin.
+/// The index of the first mnemonic of a group.
 fn start_of(group: usize) -> usize
     requires { group ≤ 209 }
     ensures { result ≡ start_of group }
@@ -254,15 +255,15 @@ fn start_of(group: usize) -> usize
     usize::from(STARTS[group])
 }
 
-/// What holds of all mnemonics: it does nothing, and its contract is the laws.
+/// What holds of all mnemonics. The function does nothing: its contract is the laws.
 pub fn mnemonic_laws()
-    // Each is found by its word.
+    // Each mnemonic is found by its word.
     ensures named { (found : Mnemonic) → mnemonic_named (mnemonic_word found) ≡ Some found }
 
     // Its word is a name, and so no directive, and no label.
     ensures plain { (found : Mnemonic) → IsName (mnemonic_word found) }
 
-    // No two have one word.
+    // No two mnemonics have one word.
     ensures apart { (m n : Mnemonic) → mnemonic_word m ≡ mnemonic_word n → m ≡ n }
 {}
 

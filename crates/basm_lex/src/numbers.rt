@@ -8,7 +8,7 @@ ghost use Rattle.basm_lex.specs.Numbers.{IsDecimal, IsHexadecimal, IsNumeralBelo
 
 use thiserror::Error;
 
-/// Why a word is no number of its place.
+/// Why a word is not the number that its place needs.
 #[derive(Clone, Copy, Debug, PartialEq, Eq, Error)]
 pub enum NumberFault {
     /// It is no number.
@@ -19,8 +19,13 @@ pub enum NumberFault {
     Range,
 }
 
-/// The number of 32 bits that a word writes: a decimal with an optional minus, or `0x` and at most 8
-/// hexadecimal digits, which are its bits.
+/// The number of 32 bits that a word writes: a decimal with an optional minus, or `0x` and at most 8 hexadecimal
+/// digits. These digits are its bits.
+///
+/// # Errors
+///
+/// - `Form`: the word is no number.
+/// - `Range`: the number does not fit 32 bits.
 pub fn number(word: &str) -> Result<i32, NumberFault>
     ensures writes { IfOk result (WritesNumber word.now) }
     ensures exact { (value : ℤ) → WritesNumber word.now value → result ≡ Ok value }
@@ -31,8 +36,13 @@ pub fn number(word: &str) -> Result<i32, NumberFault>
     }
 }
 
-/// The number of 64 bits that a word writes: a decimal from -2^63 to 2^64 - 1, or `0x` and at most 16
-/// hexadecimal digits.
+/// The number of 64 bits that a word writes: a decimal from -2^63 to 2^64 - 1, or `0x` and at most 16 hexadecimal
+/// digits.
+///
+/// # Errors
+///
+/// - `Form`: the word is no number.
+/// - `Range`: the number does not fit 64 bits.
 pub fn wide_number(word: &str) -> Result<u64, NumberFault>
     ensures writes { IfOk result (WritesWide word.now) }
     ensures exact { (value : ℕ) → WritesWide word.now value → result ≡ Ok value }
@@ -43,8 +53,13 @@ pub fn wide_number(word: &str) -> Result<u64, NumberFault>
     }
 }
 
-/// The distance that a word writes: a plus or a minus, and then decimal digits, or `0x` and at most 8
-/// hexadecimal digits, which are the bits of a number of 32 bits.
+/// The distance that a word writes: a plus or a minus, and after it decimal digits or `0x` and at most 8 hexadecimal
+/// digits. The hexadecimal digits are the bits of a number of 32 bits.
+///
+/// # Errors
+///
+/// - `Form`: the word is no distance.
+/// - `Range`: the digits do not fit 32 bits.
 pub fn distance(word: &str) -> Result<i64, NumberFault>
     ensures writes { IfOk result (WritesDistance word.now) }
     ensures exact { (value : ℤ) → WritesDistance word.now value → FitsSigned w32 value
@@ -59,7 +74,12 @@ pub fn distance(word: &str) -> Result<i64, NumberFault>
     }
 }
 
-/// What follows the sign of a distance.
+/// The number after the sign of a distance.
+///
+/// # Errors
+///
+/// - `Form`: the word is no number without a sign.
+/// - `Range`: the digits do not fit 32 bits.
 pub fn magnitude(word: &str) -> Result<i64, NumberFault>
     ensures writes { IfOk result (WritesMagnitude word.now) }
     ensures low { IfOk result (λ n. negsuc 2147483647 ≤ℤ n) }
@@ -146,7 +166,7 @@ fn is_decimal(word: &str) -> bool
     }
 }
 
-/// Whether the text is digits in the radix, one at least.
+/// Whether the text is one digit or more in the radix.
 fn is_numeral(text: &str, radix: u32) -> bool
     requires low { 2 ≤ radix }
     requires high { radix ≤ 36 }

@@ -10,18 +10,18 @@ use std::alloc::{AllocError, Global};
 /// What a line says, without its comment.
 #[derive(Debug, Drop)]
 pub struct Statement<'a> {
-    /// The first word, empty in a line without words.
+    /// The first word. It is empty in a line without words.
     pub word: &'a str,
-    /// What stands between the commas after it, without the spaces around it.
+    /// The parts between the commas after it, without the spaces around them.
     pub operands: Vec<&'a str>,
 }
 
-/// What a line begins with, without its comment.
+/// The beginning of a line, without its comment.
 #[derive(Debug, Drop)]
 pub struct Head<'a> {
-    /// The first word, empty in a line without words.
+    /// The first word. It is empty in a line without words.
     pub word: &'a str,
-    /// The name that the line defines, where it is a label and nothing behind it.
+    /// The name that the line defines, if the line is a label with nothing after it.
     pub label: Option<&'a str>,
 }
 
@@ -37,7 +37,7 @@ fn code_of(line: &str) -> &str
     trim_end(before_comment(begun))
 }
 
-/// Whether there is nothing but a comment.
+/// Whether the text has nothing except a comment.
 fn is_bare(text: &str) -> bool
     ensures { result ≡ (length (before_first is_semicolon text.now) == 0) }
 {
@@ -47,7 +47,7 @@ fn is_bare(text: &str) -> bool
     }
 }
 
-/// What a line says before its comment.
+/// The text of a line before its comment.
 pub fn before_comment(line: &str) -> &str
     ensures { result.now ≡ before_first is_semicolon line.now }
 {
@@ -90,12 +90,12 @@ pub fn read_head(line: &str) -> Head<'_>
     }
 }
 
-/// The first word and the operands of a line. Words are separated by spaces, operands by a comma and
-/// spaces; what follows a semicolon is a comment. A tab or a carriage return is part of a word.
+/// The first word and the operands of a line. Spaces separate words; a comma and spaces separate operands. A comment
+/// begins with a semicolon. A tab or a carriage return is part of a word.
 ///
 /// # Errors
 ///
-/// `AllocError` where memory was refused.
+/// Memory is refused.
 pub fn read_statement<'a>(alloc: Global, line: &'a str) -> Result<Statement<'a>, AllocError>
     ensures word { IfOk result (λ found. found.word.now ≡ word_of line.now) }
     ensures operands { IfOk result (λ found. texts found.operands.items ≡ operands_of line.now) }
@@ -105,7 +105,7 @@ pub fn read_statement<'a>(alloc: Global, line: &'a str) -> Result<Statement<'a>,
     Ok(Statement { word, operands })
 }
 
-/// What stands between commas, without the spaces around it.
+/// The parts between commas, without the spaces around them.
 fn read_operands(alloc: Global, rest: &str) -> Result<Vec<&str>, AllocError>
     ensures { IfOk result (λ operands. texts operands.items ≡ parts_between_commas rest.now) }
 {

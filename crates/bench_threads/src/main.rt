@@ -1,6 +1,6 @@
-//! `bench_threads`: how often a second packets are served at ports that run at once, each in a thread of its own: one, two and
-//! four ports, with a bank each and with one bank for all. Without an argument it serves full ports once and prints how many
-//! writes were done; with a number it serves them so often and prints rates.
+//! `bench_threads`: how often a second packets are served at ports that run at once, each in a thread of its own. It
+//! runs one, two and four ports, with a bank each and with one bank for all. Without an argument it serves full ports
+//! once and prints how many writes were done. With a number N it serves them N times and prints rates.
 #![tactic(auto)]
 
 mod serves;
@@ -27,8 +27,8 @@ fn yes(alloc: Global) -> Result<Accepted> {
     Ok(verify(alloc, image, &MapSizes::new(&[])?)?)
 }
 
-/// Serves so many full ports, which have a bank each or one for all, as often as asked, or once, and prints how many writes
-/// a second were done, or how many.
+/// Serves this many full ports, which have a bank each or one for all, as often as asked, or once. Prints how many
+/// writes a second were done, or how many.
 fn measure<R: Threads + Wait + Clock + Print + Sync>(
     rt: &R,
     alloc: Global,
@@ -66,7 +66,7 @@ fn measure<R: Threads + Wait + Clock + Print + Sync>(
     Ok(())
 }
 
-/// How often full ports are to be served, where the command line says it.
+/// How often full ports are to be served, if the command line says it.
 fn rounds_given<R: Env + AllocGlobal>(rt: &R) -> Result<Option<u32>> {
     match env::args(rt)?.nth(1) {
         Some(word) => Ok(Some(word.parse::<u32>().context("the rounds are a number")?)),

@@ -104,7 +104,7 @@ fn desks<J: Family, R: Wait + Drop, W: Wait>(
     Ok((ports, workers))
 }
 
-/// How many of the workers' replies tell success.
+/// How many of the workers' replies report success.
 fn successes<J: Family>(workers: &[Worker<J, Replies>]) -> u64 {
     let mut done = 0u64;
     for worker in workers {
@@ -117,8 +117,12 @@ fn successes<J: Family>(workers: &[Worker<J, Replies>]) -> u64 {
     done
 }
 
-/// Serves so many full ports of a fresh node, which has a bank for each or one for all: how many writes were done, and
-/// the nanoseconds that the ports were served.
+/// Serves this many full ports of a fresh node, which has a bank for each or one for all. Returns how many writes were
+/// done, and the nanoseconds that the ports were served.
+///
+/// # Errors
+///
+/// It fails if a node may not have this many ports, if memory or a thread is refused, or if there is no clock.
 pub fn serve_writes<J: Family + Send + Sync + 'static, R: Threads + Wait + Clock + Sync>(
     rt: &R,
     alloc: Global,

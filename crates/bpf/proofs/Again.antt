@@ -12,7 +12,7 @@ use Rattle.bpf.specs.declared.fault.ImageFault.{ImageFault}
 use Rattle.bpf.specs.Program.{AreSlots, AreLoops, IsLoop, slot_bytes, loop_bytes}
 use Rattle.bpf.specs.Reading.{slot_in, slot_reading, slots_reading, are_loops, is_loop, loop_in, loops_in, loops_reading}
 
--- the law of `bpf_insn` that is used: what is spelled so is read so
+-- the law of `bpf_insn` that the proofs use: bytes that spell an instruction are read as it
 abbrev pub IsRead : Type 0
 IsRead = (bytes : List ℕ) (next : Option (List ℕ)) (insn : Insn) → Spells bytes next insn → reading bytes next ≡ Ok insn
 

@@ -71,7 +71,7 @@ pub loops_tested_fail : (slots count : ℕ) (bytes : List ℕ) (e : ImageFault) 
 unfolding loops_reading
 loops_tested_fail slots count bytes e fails = fails_first e (loops_in count bytes) _ fails
 
--- an error is never a fault of memory by itself
+-- an error is by itself never a fault of memory
 pub is_failure : {X : Type 0} (e : ImageFault) (total : Result X ImageFault) → total ≡ Err e → Fails e total
 is_failure faults.Memory total h = tt
 is_failure faults.Magic total h = h

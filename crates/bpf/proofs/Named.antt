@@ -1,4 +1,4 @@
--- The fault of an instruction that is named stands in the bytes.
+-- The fault of an instruction that a reading gives is in the bytes.
 use Rattle.std.proofs.Common.{◌≡◌, ℕ, zero, suc, ◌+◌, ◌*◌, ◌<◌, Bool, true, false, List, [], ◌∷◌, Option, Some, None, Result, Ok, Err, ◌⊎◌, inl, inr, refl, sym, ap, ◌∙◌, subst, arith, take, drop, slice_index, nat_eq, nat_lt, length, IfErr, if◌then◌else◌, lit<}
 use Rattle.std.specs.List.{starts_with}
 use Rattle.std.proofs.lemmas.List.{drop-drop}
@@ -15,7 +15,7 @@ use Rattle.bpf.specs.declared.fault.ImageFault.TheVariants as faults
 use Rattle.bpf.specs.Program.{Program, program}
 use Rattle.bpf.specs.Reading.{◌>>=◌, Gives, IsFaultAt, begins_two, bytes_at, counts_reading, slot_result, half_at, is_budget, is_count, known_version, magic, word_at, header_reading, version_reading, image_reading, are_loops, loop_in, loops_in, loops_reading, slot_in, slot_reading, slots_reading}
 
--- the law of `bpf_insn` that is used: a fault that is read stands in the bytes
+-- the law of `bpf_insn` that the proofs use: a fault that is read is in the bytes
 abbrev pub IsExplained : Type 0
 IsExplained = (bytes : List ℕ) (next : Option (List ℕ)) (e : BadInsn) → slice_index bytes 0 < 256 → reading bytes next ≡ Err e → IsFault bytes next e
 
@@ -114,7 +114,7 @@ loops_no_slot slots count bytes slot fault e = by_found (came_from (loops_in cou
 
 -- ---- slots
 
--- the fault is read some slots further on
+-- the fault is found some slots further on
 abbrev pub IsRead : (slot : ℕ) → List ℕ → (named : ℕ) → BadInsn → Type 0
 IsRead slot bytes named fault =
     (j : ℕ) × (named ≡ slot + j) × (reading (take 8 (drop (8 * j) bytes)) (slot_in (drop 8 (drop (8 * j) bytes))) ≡ Err fault)

@@ -11,7 +11,7 @@ use Rattle.bpf.specs.declared.fault.ImageFault.TheVariants as faults
 use Rattle.bpf.specs.Reading.{slot_result, slot_in, slot_reading}
 use Rattle.bpf.proofs.Again.{IsRead}
 
--- the law of `bpf_insn` that is used: a fault that stands in slots is the one that is read
+-- the law of `bpf_insn` that the proofs use: a fault that is in slots is the one that is read
 abbrev pub IsNamed : Type 0
 IsNamed = (bytes : List ℕ) (next : Option (List ℕ)) (e : BadInsn) → AreSlotBytes bytes → IfSome next AreSlotBytes → IsFault bytes next e → reading bytes next ≡ Err e
 
@@ -26,7 +26,7 @@ below_drop zero xs h i = h i
 below_drop (suc k) [] h i = lit< tt
 below_drop (suc k) (x ∷ xs) h i = below_drop k xs (λ j. h (suc j)) i
 
--- the first eight bytes, where there are so many
+-- the first eight bytes, if there are as many
 are_first : (bytes : List ℕ) → 8 ≤ length bytes → ((i : ℕ) → slice_index bytes i < 256) → AreSlotBytes (take 8 bytes)
 are_first bytes long below = (length-take-le 8 bytes long, below_take 8 bytes below)
 

@@ -19,7 +19,7 @@ spelled_more f bytes xs x rest after so_far next =
 pub front_and_rest : (rest front after : List ℕ) → take 8 rest ≡ front → after ≡ drop 8 rest → rest ≡ front ++ after
 front_and_rest rest front after h k = rw (← h, k) (sym (take-append-drop 8 rest))
 
--- what is left after the slot whose first bytes stand in an instruction
+-- what is left after the slot whose first bytes are in an instruction
 abbrev pub skip : Bool → List ℕ → List ℕ
 skip true rest = drop 8 rest
 skip false rest = rest
@@ -69,7 +69,7 @@ slot_held true two rest (Some i) slot h t = absurd slot
 slot_held false two rest None slot h t = absurd slot
 slot_held false two rest (Some i) slot h t = second_there (second_immediate i) rest slot.second (sym h ∙ t)
 
--- at the end nothing is left, and no second slot is wanted
+-- at the end nothing is left, and no second slot is missing
 pub slots_ended : (bytes : List ℕ) (xs : List (Option Insn)) (second : Bool) (rest : List ℕ) → length rest ≡ 0 → (second ≡ true → 8 ≤ length rest) → ((ys : List (Option Insn)) → AreSlots second ys → AreSlots false (xs ++ ys)) → bytes ≡ flat_map slot_bytes xs ++ skip second rest → AreSlots false xs × (bytes ≡ flat_map slot_bytes xs)
 slots_ended bytes xs true rest e held before so_far = absurd (omega (arith, held refl))
 slots_ended bytes xs false [] e held before so_far =

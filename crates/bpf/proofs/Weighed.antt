@@ -1,4 +1,4 @@
--- Weights that are summed and multiplied one after the other, each step saturated.
+-- Weights that are summed and multiplied one after the other. Each step is saturated.
 use Rattle.std.proofs.Common.{◌≡◌, ℕ, zero, suc, ◌+◌, ◌*◌, ◌≤◌, ◌<◌, Bool, true, false, List, [], ◌∷◌, Option, refl, sym, ap, ◌∙◌, arith, drop, length, nat_le, get_or, add-one}
 use Rattle.std.proofs.lemmas.Bool.Decides.{nat_tests}
 use Rattle.std.proofs.Math.Seq.{drop-cons}

@@ -43,7 +43,7 @@ other_length bytes h header len =
     let test : nat_eq (length bytes) (16 + 8 * h.loops + 8 * h.slots) ≡ false = grind (arith, nat_tests) in
     rw (← header) (by_other_length _ (rest_reading bytes h) test)
 
--- the bytes are cut where the header says
+-- the bytes are cut as the header says
 pub record Cut (bytes : List ℕ) (h : Header) (front middle tail : List ℕ) (code : ℕ) : Type 0 where
   pub header : Ok h ≡ header_reading bytes
   pub len : length bytes ≡ 16 + 8 * h.loops + 8 * h.slots

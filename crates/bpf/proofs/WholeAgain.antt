@@ -94,7 +94,7 @@ one_program law p q is_p is_q same =
     let both : Ok p ≡ Ok q = sym (image_again law p is_p) ∙ ap image_reading same ∙ image_again law q is_q in
     cc
 
--- the header that stands before those bytes
+-- the header before those bytes
 abbrev made : Program → Header
 made p = record { version = p.version; loops = length p.loops; slots = length p.slots; budget = p.budget }
 

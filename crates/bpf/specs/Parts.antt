@@ -1,4 +1,4 @@
--- How an image is made of its parts, with the first fault that is met.
+-- How an image is made of its parts, or the first fault of them.
 use Rattle.std.specs.Prelude.{ℕ, Bool, true, false, if◌then◌else◌, List, [], ◌∷◌, length, Option, Some, None, is_some}
 use Rattle.std.specs.Prelude.{Result, Ok, Err}
 use Rattle.std.specs.List.{flat_map}
@@ -14,7 +14,7 @@ use Rattle.bpf.specs.Reading.{are_loops, is_budget, is_count}
 
 -- ---- the statement
 
--- a second slot, where there is one, has no instruction
+-- a second slot, if there is one, has no instruction
 abbrev pub second_slots : Bool → List (Option Insn)
 second_slots true = None ∷ []
 second_slots false = []
@@ -25,7 +25,7 @@ placed_slots insn = Some insn ∷ second_slots (is_some (second_immediate insn))
 
 -- ---- what else contracts and proofs say
 
--- what is wrong with the parts of an image of so many slots
+-- what is wrong with the parts of an image of `slots` slots
 unfoldable pub parts_fault : (slots : ℕ) → List Loop → (budget : ℕ) → Option ImageFault
 parts_fault slots loops budget =
     if is_count (length loops) slots 0

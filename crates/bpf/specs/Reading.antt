@@ -1,4 +1,4 @@
--- How an image is read, from its first byte to its last, with the first fault that is met.
+-- How an image is read, from its first byte to its last, or the first fault of it.
 use Rattle.std.specs.Prelude.{◌≡◌, ◌≤◌, ℕ, zero, suc, ◌+◌, ◌*◌, Bool, true, false, ◌&&◌, ◌==◌, nat_eq, nat_lt, nat_le}
 use Rattle.std.specs.Prelude.{if◌then◌else◌, List, [], ◌∷◌, ◌++◌, length, take, drop, slice_index, Option, Some, None}
 use Rattle.std.specs.Prelude.{is_some, Result, Ok, Err}
@@ -57,7 +57,7 @@ declared_header version loops slots reserved budget =
     else Err faults.Budget)
     else Err faults.Count
 
--- the counts and the budget, behind a version
+-- the counts and the budget, after a version
 unfoldable pub counts_reading : Version → List ℕ → Result Header ImageFault
 counts_reading version bytes =
     declared_header version (slice_index bytes 5) (half_at 6 bytes) (word_at 12 bytes) (word_at 8 bytes)
@@ -67,7 +67,7 @@ abbrev pub known_version : Option Version → Result Version ImageFault
 known_version (Some version) = Ok version
 known_version None = Err faults.Version
 
--- the version in the fifth byte, where it is there
+-- the version in the fifth byte, if it is there
 unfoldable pub version_reading : List ℕ → Result Version ImageFault
 version_reading bytes =
     if nat_lt (length bytes) 5 then Err faults.Version else known_version (version_of (slice_index bytes 4))
@@ -80,12 +80,12 @@ header_reading bytes =
     if nat_lt (length bytes) 16 then Err faults.Length else counts_reading version bytes))
     else Err faults.Magic
 
--- whether it is a loop of so many slots
+-- whether it is a loop of `slots` slots
 abbrev pub is_loop : (slots : ℕ) → Loop → Bool
 is_loop slots l =
     nat_lt l.head l.back && nat_lt l.back slots && nat_le 1 l.bound && nat_le l.bound MAX_BOUND && nat_le l.register 9
 
--- whether the heads of the loops rise strictly from `least`, and each is a loop of so many slots
+-- whether the heads of the loops rise strictly from `least`, and each is a loop of `slots` slots
 abbrev pub are_loops : (slots least : ℕ) → List Loop → Bool
 are_loops slots least [] = true
 are_loops slots least (l ∷ ls) = nat_le least l.head && is_loop slots l && are_loops slots (l.head + 1) ls
@@ -103,17 +103,17 @@ loop_in bytes =
     })
     else Err faults.Loop
 
--- so many loops, or the fault
+-- `count` loops, or the fault
 unfoldable pub loops_in : (count : ℕ) → List ℕ → Result (List Loop) ImageFault
 loops_in zero bytes = Ok []
 loops_in (suc n) bytes = loop_in bytes >>= (λ l. loops_in n (drop 8 bytes) >>= (λ ls. Ok (l ∷ ls)))
 
--- so many loops of an image of so many slots, by rising head, or the fault
+-- `count` loops of an image of `slots` slots, by rising head, or the fault
 unfoldable pub loops_reading : (slots count : ℕ) → List ℕ → Result (List Loop) ImageFault
 loops_reading slots count bytes =
     loops_in count bytes >>= (λ loops. if are_loops slots 0 loops then Ok loops else Err faults.Loop)
 
--- the next slot, where it is there
+-- the next slot, if it is there
 abbrev pub slot_in : List ℕ → Option (List ℕ)
 slot_in bytes = if nat_lt (length bytes) 8 then None else Some (take 8 bytes)
 
@@ -122,7 +122,7 @@ abbrev pub slot_result : ℕ → Result Insn BadInsn → Result (Option Insn) Im
 slot_result slot (Ok insn) = Ok (Some insn)
 slot_result slot (Err fault) = Err (faults.Insn slot fault)
 
--- a slot, where it is known whether it is the second of an instruction
+-- a slot, if it is known whether it is the second of an instruction
 unfoldable pub slot_reading : (slot : ℕ) (second : Bool) → List ℕ → Result (Option Insn) ImageFault
 slot_reading slot true bytes = Ok None
 slot_reading slot false bytes = slot_result slot (reading (take 8 bytes) (slot_in (drop 8 bytes)))
@@ -132,7 +132,7 @@ abbrev pub begins_two : Option Insn → Bool
 begins_two None = false
 begins_two (Some insn) = is_some (second_immediate insn)
 
--- so many slots from one on, or the first fault
+-- `count` slots from one, or the first fault
 unfoldable pub slots_reading : (count slot : ℕ) (second : Bool) → List ℕ → Result (List (Option Insn)) ImageFault
 slots_reading zero slot second bytes = Ok []
 slots_reading (suc n) slot second bytes =
@@ -192,16 +192,16 @@ pub record PushesSlot (old new : List (Option Insn)) (slot : ℕ) (second : Bool
     pub next : two ≡ begins_two found
     pub spelled : IsSlot second bytes found
 
--- what spells a program is read as it, unless memory was refused
+-- bytes that spell a program are read as that program, unless memory was refused
 abbrev pub ReadsWhatSpells : List ℕ → Result Program ImageFault → Type 0
 ReadsWhatSpells bytes read =
     (p : Program) → IsProgram p → bytes ≡ image_bytes p → Gives (λ image. image) read (Ok p)
 
--- the bytes from a slot on, which stand after the header and as many loops as it counts
+-- the bytes from a slot, which are after the header and as many loops as it counts
 abbrev pub bytes_at : List ℕ → ℕ → List ℕ
 bytes_at bytes slot = drop (8 * slot) (drop (16 + 8 * slice_index bytes 5) bytes)
 
--- the fault of an instruction stands in the bytes of its slot and the next one
+-- the fault of an instruction is in the bytes of its slot and the next one
 abbrev pub IsFaultAt : List ℕ → ImageFault → Type 0
 IsFaultAt bytes (faults.Insn slot fault) =
     IsFault (take 8 (bytes_at bytes slot)) (slot_in (drop 8 (bytes_at bytes slot))) fault

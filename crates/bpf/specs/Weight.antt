@@ -7,7 +7,7 @@ use Rattle.bpf.specs.Program.{Program}
 
 -- ---- the statement
 
--- how often a loop lets a slot be passed: its bound, where it holds the slot
+-- how often a loop lets a run pass a slot: its bound, if it holds the slot, else 1
 abbrev pub passes_of : Loop → ℕ → ℕ
 passes_of l slot = if nat_le l.head slot && nat_le slot l.back then l.bound else 1
 
@@ -21,7 +21,7 @@ abbrev pub part_of : List Loop → ℕ → Option Insn → ℕ
 part_of loops slot None = 0
 part_of loops slot (Some insn) = times_at loops slot
 
--- the sum of that over the slots from one on
+-- the sum of that over the slots from one
 unfoldable pub weight_from : List Loop → ℕ → List (Option Insn) → ℕ
 weight_from loops slot [] = 0
 weight_from loops slot (x ∷ xs) = part_of loops slot x + weight_from loops (slot + 1) xs
@@ -33,6 +33,6 @@ weight_of p = weight_from p.loops 0 p.slots
 
 -- ---- what else contracts and proofs say
 
--- a number, or 2^64 - 1 where it is above
+-- a number, or 2^64 - 1 if it is above
 abbrev pub saturated_weight : ℕ → ℕ
 saturated_weight n = min n (2 ^ 64 - 1)

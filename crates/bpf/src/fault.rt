@@ -41,9 +41,9 @@ const MEMORY: &str = "\
 The process was refused memory while the image was read.
 Give the process more memory.";
 
-/// Why bytes are no image: the first fault in the order of the variants, where the length is tested
-/// twice. It is `Length` as soon as there are fewer than 16 bytes after a right magic and version,
-/// and else after `Budget`.
+/// Why bytes are no image: the first fault in the order of the variants. The length is tested twice. If there are
+/// fewer than 16 bytes after a right magic and version, the fault is `Length` at once. Else `Length` comes after
+/// `Budget`.
 #[derive(Clone, Copy, Debug, PartialEq, Eq, Error)]
 pub enum ImageFault {
     /// The first four bytes are not `BPFA`.
@@ -90,8 +90,8 @@ impl ImageFault {
         }
     }
 
-    /// A fault of a number, as [`ImageFault::code`] gives it. `None` where no fault has it. Number 7 is that of each
-    /// fault of an instruction; of these it is `Opcode` at slot 0.
+    /// A fault of a number, as [`ImageFault::code`] gives it, or `None` if no fault has it. Each fault of an
+    /// instruction has number 7, for which the result is `Opcode` at slot 0.
     pub fn from_code(code: u8) -> Option<ImageFault>
         ensures value { result ≡ image_fault_of_code code }
         ensures number { IfSome result (λ fault. image_fault_code fault ≡ code) }
@@ -112,7 +112,7 @@ impl ImageFault {
         }
     }
 
-    /// What to say of the fault beside its name: when it comes, and what to do, in lines of at most 113 columns.
+    /// What to say of the fault beside its name: when it comes, and what to do. The lines have at most 113 columns.
     pub fn advice(self) -> &'static str {
         match self {
             ImageFault::Magic => MAGIC,
@@ -126,7 +126,7 @@ impl ImageFault {
         }
     }
 
-    /// The slot of a faulty instruction, 0 for every other fault.
+    /// The slot of a faulty instruction, or 0 for every other fault.
     pub fn slot(self) -> u16
         ensures { result ≡ image_fault_slot self }
     {

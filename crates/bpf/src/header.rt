@@ -26,8 +26,11 @@ pub struct Header {
 }
 
 impl Header {
-    /// The header of this version, these counts and this budget: a fault of the counts and the reserved
-    /// word is told before one of the budget.
+    /// The header of this version, these counts and this budget.
+    ///
+    /// # Errors
+    ///
+    /// `Count` for the counts or the reserved word, else `Budget`.
     pub fn new(
         version: Version,
         loops: usize,
@@ -54,6 +57,10 @@ impl Header {
 }
 
 /// The header of an image.
+///
+/// # Errors
+///
+/// The first of `Magic`, `Version`, `Length`, `Count` and `Budget`. `Length` if there are fewer than 16 bytes.
 #[tactic(auto, unfolding(crate::specs::Reading::header_reading))]
 pub fn read_header(bytes: &[u8]) -> Result<Header, ImageFault>
     ensures value { result ≡ header_reading bytes.now }

@@ -43,9 +43,9 @@ impl Image {
     ///
     /// # Errors
     ///
-    /// The first fault in the order of `ImageFault`, or `Memory`.
+    /// The first fault in the order of [`ImageFault`]. `Memory` if memory is refused.
     pub fn read(alloc: Global, bytes: &[u8]) -> Result<Image, ImageFault>
-        // What is read is spelled so.
+        // The bytes that were read are those that spell the image.
         ensures found { IfOk result (λ image. IsProgram image × (bytes.now ≡ image_bytes image)) }
 
         ensures only { ReadsWhatSpells bytes.now result }
@@ -53,7 +53,7 @@ impl Image {
         // The first fault, or the image, unless memory is refused.
         ensures exact { Gives (λ image. image) result (image_reading bytes.now) }
 
-        // The fault of an instruction stands in the bytes of its slot.
+        // The fault of an instruction is in the bytes of its slot.
         ensures fault { IfErr result (IsFaultAt bytes.now) }
     {
         image_laws();
@@ -77,12 +77,12 @@ impl Image {
         Ok(Image::of_parts(header.version, header.budget, loops, slots))
     }
 
-    /// The image of this version, of these instructions, which take 1 to 512 slots, of at most 8
-    /// loops by rising head, and of a budget of 1 to 65,536.
+    /// The image of this version, these instructions and loops, and this budget. The instructions take 1 to 512
+    /// slots. There are at most 8 loops, by rising head. The budget is 1 to 65,536.
     ///
     /// # Errors
     ///
-    /// `Count`, `Budget` or `Loop`, in this order, or `Memory`.
+    /// The first of `Count`, `Budget` and `Loop`. `Memory` if memory is refused.
     pub fn new(
         alloc: Global,
         version: Version,
@@ -116,6 +116,10 @@ impl Image {
     }
 
     /// An equal image.
+    ///
+    /// # Errors
+    ///
+    /// Memory is refused.
     pub fn copy(&self) -> Result<Image, AllocError>
         ensures { IfOk result (λ image. image ≡ self.now) }
     {
@@ -124,8 +128,12 @@ impl Image {
         Ok(Image::of_parts(self.version, self.budget, loops, slots))
     }
 
-    /// The bytes that spell the image: `read` gives an equal image from them, and from no others. Memory
-    /// is asked for once.
+    /// The bytes that spell the image: `read` gives an equal image from them, and from no others. The call asks for
+    /// memory once.
+    ///
+    /// # Errors
+    ///
+    /// Memory is refused.
     #[tactic(auto, unfolding(crate::specs::Program::image_bytes))]
     pub fn write(&self) -> Result<Vec<u8>, AllocError>
         ensures { IfOk result (λ bytes. bytes.items ≡ image_bytes self.now) }
@@ -176,8 +184,7 @@ impl Image {
         &self.loops
     }
 
-    /// The instruction that begins at the slot. `None` at the second slot of an instruction, and past
-    /// the end.
+    /// The instruction that begins at the slot. It is `None` at the second slot of an instruction, and past the end.
     pub fn insn(&self, slot: u16) -> Option<Insn>
         ensures value { result ≡ insn_at self.now slot }
         ensures program { IsProgram self.now }
@@ -188,9 +195,9 @@ impl Image {
         }
     }
 
-    /// The weight: the sum over the instructions, one of two slots once, of the product of the bounds
-    /// of the loops that hold it. A sum above 2^64 - 1 gives that number. No run of an accepted image
-    /// takes more instructions.
+    /// The weight: a sum over the instructions, one of two slots once. Each adds the product of the bounds of the
+    /// loops that hold it. If the sum is above 2^64 - 1, the weight is that number. No run of an accepted image takes
+    /// more instructions.
     pub fn weight(&self) -> u64
         ensures { result ≡ saturated_weight (weight_of self.now) }
     {

@@ -4,7 +4,7 @@ ghost use Rattle.bpf.specs.Laws.{BytesSpellOneProgram, ImagesAreApart, ImagesAre
 
 use bpf_insn::spelling_laws;
 
-/// What holds of all images: it does nothing, and its contract is the laws.
+/// What holds of all images. The function does nothing: its contract is the laws.
 pub fn image_laws()
     ensures read { ImagesAreRead }
     ensures one_meaning { BytesSpellOneProgram }

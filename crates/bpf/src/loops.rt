@@ -12,8 +12,8 @@ use std::alloc::{AllocError, Global};
 /// The greatest bound of a loop.
 pub const MAX_BOUND: u16 = 4_096;
 
-/// A loop that an image declares: the slots `head` to `back`, passed at most `bound` times in a row,
-/// which `register` counts down to zero.
+/// A loop that an image declares: the slots `head` to `back`, which a run passes at most `bound` times in a row.
+/// `register` counts the passes down to zero.
 #[derive(Clone, Copy, Debug, PartialEq, Eq)]
 pub struct Loop {
     pub head: u16,
@@ -25,8 +25,8 @@ pub struct Loop {
 }
 
 impl Loop {
-    /// Whether the loop is within the limits of an image of so many slots: its head is before its back,
-    /// that before the end, its bound 1 to 4,096, and its register r0 to r9.
+    /// Whether the loop is within the limits of an image of `slots` slots. Its head must be before its back, that
+    /// before the end, its bound 1 to 4,096, and its register r0 to r9.
     pub fn fits(&self, slots: u16) -> bool
         ensures value { result ≡ is_loop slots self.now }
         ensures exact { IsTrue result ↔ IsLoop slots self.now }
@@ -39,7 +39,11 @@ impl Loop {
     }
 }
 
-/// The loops that the bytes spell, 8 bytes each, in an image of so many slots.
+/// The loops that the bytes spell, 8 bytes each, in an image of `slots` slots.
+///
+/// # Errors
+///
+/// `Loop` if a loop is out of the limits, or if the heads do not rise. `Memory` if memory is refused.
 #[tactic(auto, unfolding(crate::specs::Reading::loops_reading))]
 pub fn read_loops(
     alloc: Global,
@@ -61,7 +65,7 @@ pub fn read_loops(
     }
 }
 
-/// So many loops, 8 bytes each, whatever their slots and bounds are.
+/// `count` loops, 8 bytes each, whatever their slots and bounds are.
 fn parse_loops(alloc: Global, bytes: &[u8], count: u8) -> Result<Vec<Loop>, ImageFault>
     requires { length bytes.now ≡ 8 * count }
     ensures value { Gives (λ v. v.items) result (loops_in count bytes.now) }
@@ -98,7 +102,7 @@ fn parse_loop(bytes: &[u8]) -> Result<Loop, ImageFault>
     })
 }
 
-/// Whether the loops are within the limits of an image of so many slots, and their heads rise.
+/// Whether the loops are within the limits of an image of `slots` slots, and their heads rise.
 pub fn are_loops(slots: u16, loops: &[Loop]) -> bool
     ensures { result ≡ are_loops slots 0 loops.now }
 {
@@ -113,6 +117,10 @@ pub fn are_loops(slots: u16, loops: &[Loop]) -> bool
 }
 
 /// Appends the bytes of the loops.
+///
+/// # Errors
+///
+/// Memory is refused.
 pub fn write_loops(bytes: &mut Vec<u8>, loops: &[Loop]) -> Result<(), AllocError>
     ensures { OnOk result (bytes.new.items ≡ bytes.old.items ++ flat_map loop_bytes loops.now) }
 {

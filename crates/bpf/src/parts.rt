@@ -18,7 +18,7 @@ use std::alloc::{AllocError, Global};
 ///
 /// # Errors
 ///
-/// `Count`, `Budget` or `Loop`, the first of them.
+/// The first of `Count`, `Budget` and `Loop`.
 #[tactic(auto, unfolding(crate::specs::Parts::parts_fault))]
 pub fn header_of(
     version: Version,
@@ -28,7 +28,7 @@ pub fn header_of(
 ) -> Result<Header, ImageFault>
     ensures { result ≡ header_of version insns.now loops.now budget }
 {
-    // Each instruction takes a slot at least, so that the sum of so many fits.
+    // Each instruction takes at least one slot. So the sum of at most 512 fits.
     if insns.len() > usize::from(MAX_SLOTS) {
         return Err(ImageFault::Count);
     }
@@ -52,8 +52,11 @@ fn count_slots(insns: &[Insn]) -> usize
     count
 }
 
-/// Each instruction at its first slot; a second slot has none. Memory is asked for once, for `count`
-/// slots.
+/// Each instruction at its first slot; a second slot has none. The call asks for memory once, for `count` slots.
+///
+/// # Errors
+///
+/// Memory is refused.
 pub fn place_insns(
     alloc: Global,
     insns: &[Insn],

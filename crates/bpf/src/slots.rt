@@ -12,6 +12,10 @@ use bpf_insn::{Insn, decode, encode, spelling_laws};
 use std::alloc::{AllocError, Global};
 
 /// The instructions that the bytes spell, each at its first slot; a second slot has none.
+///
+/// # Errors
+///
+/// `Insn` with the first slot whose bytes spell no instruction, and the fault there. `Memory` if memory is refused.
 pub fn read_slots(alloc: Global, bytes: &[u8], count: u16) -> Result<Vec<Option<Insn>>, ImageFault>
     requires { length bytes.now ≡ 8 * count }
     ensures value { Gives (λ v. v.items) result (slots_reading count 0 false bytes.now) }
@@ -29,7 +33,7 @@ pub fn read_slots(alloc: Global, bytes: &[u8], count: u16) -> Result<Vec<Option<
     Ok(slots)
 }
 
-/// Appends the slot in the first 8 bytes, and tells whether an instruction of two begins there.
+/// Appends the slot in the first 8 bytes. The result is whether an instruction of two slots begins there.
 #[tactic(auto, unfolding(crate::specs::Reading::slot_reading))]
 fn push_slot(
     slots: &mut Vec<Option<Insn>>,
@@ -72,7 +76,7 @@ fn read_insn(slot: u16, bytes: &[u8]) -> Result<(Insn, bool), ImageFault>
     }
 }
 
-/// The first slot of the bytes, where it is there.
+/// The first slot of the bytes, if it is there.
 fn next_slot(bytes: &[u8]) -> Option<&[u8; 8]>
     ensures { option_copied result ≡ slot_in bytes.now }
 {
@@ -80,6 +84,10 @@ fn next_slot(bytes: &[u8]) -> Option<&[u8; 8]>
 }
 
 /// Appends the bytes of the slots.
+///
+/// # Errors
+///
+/// Memory is refused.
 pub fn write_slots(bytes: &mut Vec<u8>, slots: &[Option<Insn>]) -> Result<(), AllocError>
     ensures { OnOk result (bytes.new.items ≡ bytes.old.items ++ flat_map slot_bytes slots.now) }
 {

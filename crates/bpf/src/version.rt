@@ -3,7 +3,7 @@
 ghost use Rattle.std.specs.Prelude.{◌≡◌, IfSome, Some};
 ghost use Rattle.bpf.specs.Version.{version_number, version_of};
 
-/// A version of the format of images: it says which helpers a program may call, and whether a number that is stored
+/// A version of the format of images. It says which helpers a program may call, and whether a number that is stored
 /// keeps its range.
 #[derive(Clone, Copy, Debug, PartialEq, Eq)]
 pub enum Version {
@@ -23,7 +23,7 @@ impl Version {
         }
     }
 
-    /// The version of a number, as [`Version::number`] gives it. `None` where no version has it.
+    /// The version of a number, as [`Version::number`] gives it, or `None` if no version has it.
     pub fn from_number(number: u8) -> Option<Version>
         ensures value { result ≡ version_of number }
         ensures number { IfSome result (λ version. version_number version ≡ number) }

@@ -7,8 +7,8 @@ ghost use Rattle.bpf.specs.Weight.{part_of, passes_of, saturated_weight, times_a
 use crate::loops::Loop;
 use bpf_insn::Insn;
 
-/// The sum over the instructions of the product of the bounds of the loops that hold it, or
-/// 2^64 - 1 where that is above.
+/// The sum over the instructions of the product of the bounds of the loops that hold each. If it is above 2^64 - 1,
+/// the result is that number.
 pub fn weight(loops: &[Loop], slots: &[Option<Insn>]) -> u64
     requires { length slots.now ≤ MAX_SLOTS }
     ensures { result ≡ saturated_weight (weight_from loops.now 0 slots.now) }
@@ -22,7 +22,7 @@ pub fn weight(loops: &[Loop], slots: &[Option<Insn>]) -> u64
     weight
 }
 
-/// How often an instruction at the slot is run at most, by the loops round it; nothing for a second slot.
+/// The most times that a run performs an instruction at the slot, by the loops around it; 0 for a second slot.
 fn part(loops: &[Loop], slot: u16, insn: &Option<Insn>) -> u64
     ensures { result ≡ saturated_weight (part_of loops.now slot insn.now) }
 {
@@ -32,7 +32,8 @@ fn part(loops: &[Loop], slot: u16, insn: &Option<Insn>) -> u64
     }
 }
 
-/// How often a run passes the slot at most: the product of the bounds of the loops that hold it, or 2^64 - 1 where it is above.
+/// The most times that a run passes the slot: the product of the bounds of the loops that hold it. If it is above
+/// 2^64 - 1, the result is that number.
 pub fn times(loops: &[Loop], slot: u16) -> u64
     ensures { result ≡ saturated_weight (times_at loops.now slot) }
 {
@@ -43,7 +44,7 @@ pub fn times(loops: &[Loop], slot: u16) -> u64
     times
 }
 
-/// The loop's bound, where it holds the slot, else 1.
+/// The loop's bound, if it holds the slot, else 1.
 fn passes(found: &Loop, slot: u16) -> u64
     ensures { result ≡ passes_of found.now slot }
 {

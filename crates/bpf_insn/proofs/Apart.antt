@@ -33,7 +33,7 @@ rest_same a b after more e =
     let r : first_bytes a ++ (unwrap_or (second_bytes a) [] ++ after) ≡ first_bytes b ++ (unwrap_or (second_bytes b) [] ++ more) = sym (append_assoc (first_bytes a) (unwrap_or (second_bytes a) []) after) ∙ e ∙ append_assoc (first_bytes b) (unwrap_or (second_bytes b) []) more in
     sym p ∙ ap (drop 8) r ∙ q
 
--- the second slots, where both have one
+-- the second slots, if both have one
 both_second : (y z : Option ℤ) (after more : List ℕ) → unwrap_or (option_map bytes_of (second_fields y)) [] ++ after ≡ unwrap_or (option_map bytes_of (second_fields z)) [] ++ more → (next : Option (List ℕ)) × IfSome (option_map bytes_of (second_fields y)) (λ s. next ≡ Some s) × IfSome (option_map bytes_of (second_fields z)) (λ s. next ≡ Some s)
 both_second None None after more e = (None, tt, tt)
 both_second None (Some z) after more e = (Some (bytes_of (fields 0 0 0 (pos 0) z)), tt, refl)

@@ -33,7 +33,7 @@ use Rattle.bpf_parts.specs.Kinds.{swap_bits_of, wide_address, callee_of}
 use Rattle.bpf_insn.specs.Reading.{◌>>=◌, register_of, meant_of, wide_of, pair_of, load_of, store_of, arithmetic_of, negation_of, byte_swap_of, two_operands_of, move_of, jump_of, call_of, branch_of, comparison_of, has_fields, fields_in, reading_of, reading}
 use Rattle.bpf_insn.proofs.Spelled.{reading-spelled}
 
--- no register is over 10, and a second slot is there where the instruction wants one
+-- no register is over 10, and if the instruction wants a second slot, it is there
 abbrev pub is_fine : Insn → ℕ → ℕ → Option Fields → Bool
 is_fine i d s next = not (has_register_over i d s) && (not (is_some (second_immediate i)) || is_some next)
 

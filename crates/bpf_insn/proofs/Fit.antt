@@ -176,7 +176,7 @@ fields_fit (Call callee number) h =
 fields_fit Exit h =
     record { opcode = lit< tt; dst = lit< tt; src = lit< tt; offset = sfits_lit tt; immediate = sfits_lit tt }
 
--- so does the immediate of a second slot
+-- and so does the immediate of a second slot
 pub second_fits : (i : Insn) → IsInsn i → IfSome (second_immediate i) (λ z. FitsSigned w32 z)
 second_fits (Wide dst value) h = half_fits (value / 2 ^ 32) (omega (arith, h.1))
 second_fits (LoadMap dst index) h = sfits_lit tt

@@ -1,4 +1,4 @@
--- What is read from the bytes of a slot is an instruction that they spell.
+-- A reading of the bytes of a slot gives an instruction that they spell.
 use Rattle.std.proofs.Common.{◌≡◌, ℕ, ◌^◌, ◌<◌, ◌≤◌, ℤ, pos, Bool, true, false, List, Option, Some, None, Result, Ok, Err, refl, sym, ap, ◌∙◌, arith, FitsSigned, IfSome, IfOk, if◌then◌else◌, nat_eq, nat_le}
 use Rattle.std.proofs.lemmas.Bool.{and_parts}
 use Rattle.std.proofs.lemmas.Bool.Decides.{nat_tests, Decides-int_eq}
@@ -42,7 +42,7 @@ next_fit (Some bytes) are = numbers_fit bytes are
 
 -- ---- what the used fields mean is an instruction
 
--- what is read is an instruction, if it is no fault
+-- if a reading is no fault, it is an instruction
 record Is (r : Result Insn BadInsn) : Type 0 where
   is : IfOk r IsInsn
 

@@ -1,4 +1,5 @@
--- Fields and bytes are each other's: what is read from a slot has its bytes, and the other way round.
+-- Fields and bytes determine each other: fields that are read from a slot have its bytes, and bytes of fields are
+-- read as these.
 use Rattle.std.proofs.Common.{◌≡◌, ℕ, zero, suc, ◌+◌, ◌*◌, ◌/◌, ◌%◌, ◌<◌, ℤ, List, [], ◌∷◌, length, get_or, refl, arith, FitsSigned, lit<}
 use Rattle.std.specs.Int.{w16, w32, cast_signed, cast_unsigned, to_le_bytes, from_le_bytes}
 use Rattle.std.proofs.lemmas.Int.{of_z-to_z, to_z-of_z}

@@ -1,4 +1,5 @@
--- Between fields and bytes: what is read from bytes has them, and the bytes of an instruction are read as it.
+-- Between fields and bytes: an instruction that is read from bytes has them, and the bytes of an instruction are read
+-- as it.
 use Rattle.std.proofs.Common.{◌≡◌, ℕ, ℤ, pos, Bool, true, false, ◌&&◌, List, Option, Some, None, Result, Ok, Err, refl, sym, ap, ◌∙◌, arith, FitsSigned, IfSome, if◌then◌else◌, nat_eq, IfOk, lit<, subst}
 use Rattle.std.proofs.lemmas.Bool.{and_parts}
 use Rattle.std.proofs.lemmas.Bool.Decides.{nat_tests, Decides-int_eq}
@@ -44,13 +45,13 @@ fields_same f g h =
 same_fields-refl : (f : Fields) → same_fields f f ≡ true
 same_fields-refl f = rw (nat_eq_refl f.opcode) (rw (nat_eq_refl f.dst) (rw (nat_eq_refl f.src) (rw (int_eq_refl f.offset) (rw (int_eq_refl f.immediate) refl))))
 
--- ---- what has the fields has the bytes
+-- ---- an instruction that has the fields has the bytes
 
 pub slots_same : (i : Insn) (f g : Fields) (immediate : Option ℤ) (next : Option (List ℕ)) → f ≡ first_fields i → immediate ≡ second_immediate i → (nat_eq f.opcode g.opcode && (nat_eq f.dst g.dst && (nat_eq f.src g.src && (int_eq f.offset g.offset && int_eq f.immediate g.immediate)))) ≡ true → HasSecond immediate next → HasSlots i g next
 slots_same i f g immediate next is_first is_second same second =
     record { first = sym is_first ∙ fields_same f g same; second = subst (λ (z : Option ℤ). HasSecond z next) is_second second }
 
--- ---- what an instruction spells is read as it
+-- ---- the bytes of an instruction are read as it
 
 second_read : (second : Option ℤ) (next : Option (List ℕ)) → IfSome (option_map bytes_of (second_fields second)) (λ s. next ≡ Some s) → IfSome second (λ z. FitsSigned w32 z) → IfSome (second_fields second) (λ g. option_map fields_in next ≡ Some g)
 second_read None next e fits = tt

@@ -18,7 +18,7 @@ greatest_bit (suc (suc x)) y h g = absurd (omega arith)
 greatest_bit zero (suc (suc y)) h g = absurd (omega arith)
 greatest_bit (suc zero) (suc (suc y)) h g = absurd (omega arith)
 
--- a bit is set in the `or` of two numbers where it is set in one of them
+-- a bit is set in the `or` of two numbers if it is set in one of them
 pub bit_of_either : (a b i : ℕ) → is_bit (bit_or a b) i ≡ (is_bit a i || is_bit b i)
 bit_of_either a b i =
     ap (λ x. x == 1) (bit_at_or a b i)

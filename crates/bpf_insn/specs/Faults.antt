@@ -30,7 +30,7 @@ bad_insn_of_code code =
 abbrev pub opcode_of : Insn → ℕ
 opcode_of insn = (first_fields insn).opcode
 
--- whether the instruction has a destination or base register there (sections 4 and 5)
+-- whether the instruction has a destination or base register in the destination field (sections 4 and 5)
 abbrev pub uses_dst : Insn → Bool
 uses_dst (Goto distance) = false
 uses_dst (Call callee number) = false
@@ -51,7 +51,7 @@ abbrev pub is_register : Operand → Bool
 is_register (FromRegister register) = true
 is_register (Immediate value) = false
 
--- whether it has a source or base register there
+-- whether it has a source or base register in the source field
 abbrev pub uses_src : Insn → Bool
 uses_src (Alu op width dst src) = is_register src
 uses_src (MoveSigned extension dst src) = true
@@ -75,8 +75,9 @@ has_register_over insn dst src = (uses_dst insn && not (nat_le dst 10)) || (uses
 abbrev pub spells_register_over : Insn → List ℕ → Bool
 spells_register_over insn bytes = has_register_over insn (slice_index bytes 1 % 16) (slice_index bytes 1 / 16)
 
--- what the first fault of bytes says of them: no instruction has the opcode; else one has, and a register that
--- it uses is over 10; else it has a second slot, which is missing; else no instruction has these bytes
+-- What the first fault of bytes says of them. `Opcode`: no instruction has the opcode. `Register`: one has it, and a
+-- register that it uses is over 10. `Half`: neither, and the instruction has a second slot, which is missing.
+-- `Unused`: none of these, and no instruction has these bytes.
 abbrev pub IsFault : List ℕ → Option (List ℕ) → BadInsn → Type 0
 IsFault bytes next faults.Opcode = (insn : Insn) → opcode_of insn ≢ slice_index bytes 0
 IsFault bytes next faults.Register =

@@ -1,4 +1,4 @@
--- Laws of the spelling of instructions (RFC 9669, section 3): bytes and instructions tell each other.
+-- Laws of the spelling of instructions (RFC 9669, section 3): bytes and instructions determine each other.
 use Rattle.std.specs.Prelude.{◌≡◌, ◌<◌, ℕ, List, ◌++◌, Option, Ok, Err, IfSome, slice_index}
 use Rattle.bpf_insn.specs.declared.insn.Insn.{Insn}
 use Rattle.bpf_insn.specs.declared.decoder.BadInsn.{BadInsn}
@@ -6,7 +6,7 @@ use Rattle.bpf_insn.specs.Faults.{IsFault}
 use Rattle.bpf_insn.specs.Spelling.{AreSlotBytes, IsInsn, Spells, spelling}
 use Rattle.bpf_insn.specs.Reading.{reading}
 
--- what is spelled so is read so
+-- bytes that spell an instruction are read as it
 abbrev pub SpellingsAreRead : Type 0
 SpellingsAreRead =
     (bytes : List ℕ) (next : Option (List ℕ)) (insn : Insn)
@@ -24,7 +24,7 @@ SpellingsAreApart =
     (a b : Insn) (after more : List ℕ) → IsInsn a → IsInsn b
     → spelling a ++ after ≡ spelling b ++ more → a ≡ b
 
--- a fault that is read stands in the bytes
+-- a fault that is read is in the bytes
 abbrev pub FaultsStand : Type 0
 FaultsStand =
     (bytes : List ℕ) (next : Option (List ℕ)) (fault : BadInsn)
@@ -37,7 +37,7 @@ ReadingsAreSpelled =
     → AreSlotBytes bytes → IfSome next AreSlotBytes
     → reading bytes next ≡ Ok insn → Spells bytes next insn
 
--- a fault that stands in slots is the one that is read: they have no other
+-- a fault that is in slots is the one that is read: they have no other
 abbrev pub FaultsAreRead : Type 0
 FaultsAreRead =
     (bytes : List ℕ) (next : Option (List ℕ)) (fault : BadInsn)

@@ -1,4 +1,5 @@
--- How bytes are read: the fields, what the used fields mean, and whether that has these bytes.
+-- How bytes are read: the fields, what the used fields mean, and whether an instruction that means so has these
+-- bytes.
 use Rattle.std.specs.Prelude.{ℕ, ◌+◌, ◌-◌, ◌*◌, ◌/◌, ◌%◌, ℤ, pos, Bool, true, false, ◌&&◌, ◌==◌, nat_le}
 use Rattle.std.specs.Prelude.{if◌then◌else◌, List, slice_index, Option, Some, None, Result, Ok, Err}
 use Rattle.std.specs.Int.{w16, w32, cast_signed, cast_unsigned}
@@ -71,12 +72,12 @@ two_operands_of f width code =
     operand_of f (names_register f) >>= (λ src.
     Ok (Alu op width dst src))))
 
--- a move from a register, sign-extending where there is an extension
+-- a move from a register, sign-extending if there is an extension
 abbrev pub register_move : Width → ℕ → ℕ → Option Extension → Insn
 register_move width dst src None = Alu Mov width dst (FromRegister src)
 register_move width dst src (Some extension) = MoveSigned extension dst src
 
--- MOV, or MOVSX where a register is moved at an offset
+-- MOV; if a register is moved at an offset, MOVSX
 unfoldable pub move_of : Fields → Width → Result Insn BadInsn
 move_of f width =
     register_of f.dst >>= (λ dst.
@@ -145,7 +146,7 @@ pair_of f dst second =
     else (ok_or (wide_address f.src f.immediate second.immediate) faults.Unused >>=
     (λ address. Ok (LoadAddress dst address))))
 
--- an instruction of the class LD: only the one of two slots, where the next slot is there
+-- an instruction of the class LD: only the one of two slots, if the next slot is there
 unfoldable pub wide_of : Fields → Option Fields → Result Insn BadInsn
 wide_of f next =
     if f.opcode == 0x18
@@ -170,11 +171,11 @@ same_fields f g =
     f.opcode == g.opcode && f.dst == g.dst && f.src == g.src && int_eq f.offset g.offset
     && int_eq f.immediate g.immediate
 
--- the fields of the next slot, where there is one
+-- the fields of the next slot, if there is one
 abbrev pub next_fields : Option (List ℕ) → Option Fields
 next_fields next = option_map fields_in next
 
--- whether the next slot is the second one of this immediate, where there is one
+-- whether the next slot is the second one of this immediate, if there is one
 abbrev pub same_second : Option ℤ → Option Fields → Bool
 same_second None next = true
 same_second (Some immediate) None = false
@@ -188,6 +189,6 @@ has_fields insn f next = same_fields (first_fields insn) f && same_second (secon
 unfoldable pub reading_of : Fields → Option Fields → Result Insn BadInsn
 reading_of f next = meant_of f next >>= (λ insn. if has_fields insn f next then Ok insn else Err faults.Unused)
 
--- the instruction that the bytes spell, or the first fault; the next slot is read only where it is wanted
+-- the instruction that the bytes spell, or the first fault; the next slot is read only if it is wanted
 unfoldable pub reading : List ℕ → Option (List ℕ) → Result Insn BadInsn
 reading bytes next = reading_of (fields_in bytes) (next_fields next)

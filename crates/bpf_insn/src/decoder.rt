@@ -39,18 +39,18 @@ const HALF: &str = "\
 `lddw`, `ldmap` and `ldimm` have two slots, and the second is missing.
 Look whether the image was cut off, or a slot taken out.";
 
-/// Why bytes spell no instruction: the first fault in this order, but for `Half`, which comes before
+/// Why bytes spell no instruction: the first fault in the order of the variants, except that `Half` comes before
 /// `Unused`.
 #[derive(Clone, Copy, Debug, PartialEq, Eq, Error)]
 pub enum BadInsn {
-    /// No instruction has the opcode, of those that are read.
+    /// No instruction that the reader knows has the opcode.
     #[error("no instruction has the opcode")]
     Opcode,
     /// A register's number is over 10.
     #[error("a register's number is over 10")]
     Register,
-    /// A field that the instruction does not use is not zero, or a field that selects among
-    /// instructions selects none.
+    /// A field that the instruction does not use is not zero, or a field that selects among instructions selects
+    /// none.
     #[error("an unused field is not zero")]
     Unused,
     /// The second slot of an instruction of two is missing.
@@ -72,7 +72,7 @@ impl BadInsn {
         }
     }
 
-    /// The fault of a number, as [`BadInsn::code`] gives it. `None` where no fault has it.
+    /// The fault of a number, as [`BadInsn::code`] gives it, or `None` if no fault has it.
     pub fn from_code(code: u8) -> Option<BadInsn>
         ensures value { result ≡ bad_insn_of_code code }
         ensures number { IfSome result (λ fault. bad_insn_code fault ≡ code) }
@@ -86,7 +86,7 @@ impl BadInsn {
         }
     }
 
-    /// What to say of the fault beside its name: when it comes, and what to do, in lines of at most 113 columns.
+    /// What to say of the fault beside its name: when it comes, and what to do. The lines have at most 113 columns.
     pub fn advice(self) -> &'static str {
         match self {
             BadInsn::Opcode => OPCODE,
@@ -97,15 +97,16 @@ impl BadInsn {
     }
 }
 
-/// The instruction that the bytes spell, where `next` holds the bytes of the next slot. That is not
-/// read where the instruction has one slot.
+/// The instruction that the bytes spell, if `next` holds the bytes of the next slot. If the instruction has one slot,
+/// `next` is not read.
 ///
 /// # Errors
 ///
 /// The first fault of `Opcode`, `Register`, `Half` and `Unused`.
 #[tactic(auto, unfolding(crate::specs::Reading::reading))]
 pub fn decode(bytes: &[u8; 8], next: Option<&[u8; 8]>) -> Result<Insn, BadInsn>
-    // What is decoded is spelled so, and what is spelled so is decoded.
+    // The bytes that were decoded are those that spell the instruction, and bytes that spell an instruction are
+    // decoded as it.
     ensures found { IfOk result (Spells bytes.now (option_copied next.entry)) }
     ensures only { (insn : Insn) → Spells bytes.now (option_copied next.entry) insn
         → result ≡ Ok insn }
@@ -116,7 +117,7 @@ pub fn decode(bytes: &[u8; 8], next: Option<&[u8; 8]>) -> Result<Insn, BadInsn>
     checked(&Fields::read(bytes), next)
 }
 
-/// The instruction that has these fields, and in the next slot its own.
+/// The instruction that has these fields, and its own in the next slot.
 #[tactic(auto, unfolding(crate::specs::Reading::reading_of))]
 fn checked(fields: &Fields, next: Option<&[u8; 8]>) -> Result<Insn, BadInsn>
     ensures value { result ≡ reading_of fields.now (next_fields (option_copied next.entry)) }
@@ -140,7 +141,7 @@ fn has_fields(insn: &Insn, fields: &Fields, next: Option<&[u8; 8]>) -> bool
     first_fields(insn) == *fields && has_second(second_immediate(insn), next)
 }
 
-/// Whether the next slot, where a second one is wanted, holds nothing but the immediate.
+/// Whether the next slot, if a second one is wanted, holds only the immediate.
 fn has_second(immediate: Option<i32>, next: Option<&[u8; 8]>) -> bool
     ensures value { result ≡ same_second immediate (next_fields (option_copied next.entry)) }
     ensures own { IsTrue result → HasSecond immediate (option_copied next.entry) }
@@ -252,7 +253,7 @@ fn two_operands(fields: &Fields, width: Width, code: u8) -> Result<Insn, BadInsn
     })
 }
 
-/// A move, of a register's low bits where the offset says how many.
+/// A move. If the offset says how many, it moves a register's low bits.
 #[tactic(auto, unfolding(crate::specs::Reading::move_of))]
 fn move_of(fields: &Fields, width: Width) -> Result<Insn, BadInsn>
     ensures value { result ≡ move_of fields.now width }

@@ -1,4 +1,4 @@
-//! The text of an instruction, one line without its end.
+//! The text of an instruction: one line without its end.
 
 ghost use Rattle.std.specs.Prelude.{◌≡◌, Some, IfOk};
 ghost use Rattle.std.specs.String.{string_bytes};
@@ -106,13 +106,12 @@ impl fmt::Display for Insn {
     }
 }
 
-/// The instruction as a line of assembler text: its mnemonic, and its operands with `, ` between them.
-/// Numbers are decimal, but for the constant of `lddw`, which has 16 hexadecimal digits; targets and
-/// offsets have their sign.
+/// The instruction as a line of assembler text: its mnemonic, and its operands with `, ` between them. Numbers are
+/// decimal, except the constant of `lddw`, which has 16 hexadecimal digits. Targets and offsets have their sign.
 ///
 /// # Errors
 ///
-/// `AllocError` where memory was refused.
+/// Memory is refused.
 pub fn text(alloc: Global, insn: &Insn) -> Result<String, AllocError>
     ensures { IfOk result (λ text. string_bytes text ≡ insn_text insn.now) }
 {

@@ -27,7 +27,7 @@ pub fn encode(insn: &Insn) -> ([u8; 8], Option<[u8; 8]>)
     (first_fields(insn).bytes(), second_bytes(insn))
 }
 
-/// The bytes of the second slot, where the instruction has one.
+/// The bytes of the second slot, if the instruction has one.
 fn second_bytes(insn: &Insn) -> Option<[u8; 8]>
     ensures { result ≡ second_bytes insn.now }
 {
@@ -68,7 +68,7 @@ pub fn first_fields(insn: &Insn) -> Fields
     }
 }
 
-/// The immediate of the second slot, where the instruction has one.
+/// The immediate of the second slot, if the instruction has one.
 pub fn second_immediate(insn: &Insn) -> Option<i32>
     ensures { result ≡ second_immediate insn.now }
 {

@@ -30,8 +30,8 @@ impl Fields {
         }
     }
 
-    /// The fields that the bytes hold: the destination is in the low half of the second byte, and
-    /// numbers of several bytes have the lowest byte first.
+    /// The fields that the bytes hold. The destination is in the low half of the second byte. Numbers of several
+    /// bytes have the lowest byte first.
     pub fn read(bytes: &[u8; 8]) -> Fields
         ensures value { result ≡ fields_in bytes.now }
         ensures bytes { bytes_of result ≡ bytes.now }

@@ -1,4 +1,4 @@
-//! The shape of an instruction: where a run goes on after it, and which registers it names.
+//! The shape of an instruction: how a run goes on after it, and which registers it names.
 
 ghost use Rattle.std.specs.Prelude.{◌≡◌, ◌≤◌, ℕ};
 ghost use Rattle.bpf_insn.specs.Bits.{is_bit};
@@ -10,16 +10,16 @@ use bpf_parts::{Callee, Register};
 /// The registers that a call writes, r0 to r5, as bits: that of r0 is the lowest.
 const CLOBBERED: u16 = 0x3F;
 
-/// Where a run goes on after an instruction. Distances are in slots from the next instruction.
+/// How a run goes on after an instruction. Distances are in slots from the next instruction.
 #[derive(Clone, Copy, Debug, PartialEq, Eq)]
 pub enum Flow {
     /// At the next instruction.
     GoesOn,
-    /// At the next one, or by the distance further where the condition holds.
+    /// If the condition holds, by the distance further, else at the next one.
     Branches(i32),
     /// By the distance further.
     Jumps(i32),
-    /// At the next one, after what is called by this number has answered.
+    /// At the next one, after the callee of this number has answered.
     Calls(Callee, i32),
     /// Nowhere: r0 is the answer.
     Ends,
@@ -28,8 +28,8 @@ pub enum Flow {
 }
 
 impl Flow {
-    /// The registers that a run that goes on so may change, though the instruction does not name them, as bits: that of
-    /// r0 is the lowest. They are r0 to r5 for a call (a choice of this project).
+    /// The registers that a run of an instruction with this flow may change, though the instruction does not name
+    /// them. They are bits: that of r0 is the lowest. For a call they are r0 to r5 (a choice of this project).
     #[tactic(auto, using(crate::proofs::Clobbered::clobbered_bits))]
     pub fn clobbered(self) -> u16
         ensures { (register : ℕ) → register ≤ 10 → is_bit result register ≡ is_clobbered self register }
@@ -42,7 +42,7 @@ impl Flow {
 }
 
 impl Insn {
-    /// Where a run goes on after the instruction.
+    /// How a run goes on after the instruction.
     pub fn flow(&self) -> Flow
         ensures { result ≡ flow_of self.now }
     {
@@ -113,7 +113,7 @@ impl Insn {
     }
 }
 
-/// Whether it is the register that is named, if one is.
+/// Whether the register is the named one, if one is named.
 fn is_named(named: Option<Register>, register: Register) -> bool
     ensures { result ≡ is_named named register }
 {

@@ -36,19 +36,19 @@ pub enum Insn {
         bits: SwapBits,
         dst: Register,
     },
-    /// `dst` is read from memory at the place.
+    /// Reads `dst` from memory at the place.
     Load {
         size: LoadSize,
         dst: Register,
         place: MemoryOperand,
     },
-    /// The low bytes of `src` are written at the place.
+    /// Writes the low bytes of `src` at the place.
     Store {
         size: Size,
         place: MemoryOperand,
         src: Operand,
     },
-    /// A jump by `offset` slots from the next one, where the comparison holds.
+    /// A jump by `offset` slots from the next one, if the comparison holds.
     Jump {
         comparison: Comparison,
         offset: i16,

@@ -2,7 +2,7 @@
 
 ghost use Rattle.bpf_insn.specs.Laws.{BytesSpellOne, FaultsAreRead, FaultsStand, ReadingsAreSpelled, SpellingsAreApart, SpellingsAreRead};
 
-/// What holds of all spellings: it does nothing, and its contract is the laws.
+/// What holds of all spellings. The function does nothing: its contract is the laws.
 pub fn spelling_laws()
     ensures read { SpellingsAreRead }
     ensures one_meaning { BytesSpellOne }

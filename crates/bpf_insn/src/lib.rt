@@ -1,8 +1,7 @@
 //! Instructions of BPF, and the one spelling of each (RFC 9669).
 //!
-//! An instruction is a value of [`Insn`]. [`decode`] reads it from its 8 or 16 bytes, and [`encode`]
-//! gives those bytes. Unused fields must be zero, so an instruction has one spelling. Its parts are those of
-//! `bpf_parts`.
+//! An instruction is a value of [`Insn`]. [`decode`] reads it from its 8 or 16 bytes, and [`encode`] gives those
+//! bytes. Unused fields must be zero, so an instruction has one spelling. Its parts are those of `bpf_parts`.
 #![tactic(auto)]
 
 mod decoder;

@@ -1,4 +1,4 @@
--- What a number of those tables stands for: the tables of `Codes`, read from right to left.
+-- What a number of those tables means: the tables of `Codes`, read from right to left.
 use Rattle.std.specs.Prelude.{ℕ, ℤ, pos, negsuc, Bool, ◌==◌, if◌then◌else◌, Option, Some, None}
 use Rattle.bpf_parts.specs.declared.operation.Width.{Width}
 use Rattle.bpf_parts.specs.declared.operation.Width.TheVariants.{Bits32, Bits64}
@@ -26,7 +26,7 @@ use Rattle.bpf_parts.specs.declared.address.Address.TheVariants.{MapValueByIndex
 use Rattle.bpf_parts.specs.declared.callee.Callee.{Callee}
 use Rattle.bpf_parts.specs.declared.callee.Callee.TheVariants.{Helper, Local, ByTypeId}
 
--- the operation of a code, and the signed one of two divisions where that is asked
+-- the operation of a code; of two divisions with one code, the signed one if that is asked for
 abbrev pub alu_of : ℕ → Bool → Option AluOp
 alu_of code signed =
     if code == 0 then Some Add
@@ -43,13 +43,13 @@ alu_of code signed =
     else (if code == 12 then Some Arsh
     else None)))))))))))
 
--- the extension of so many bits to a width, from the offset of a sign-extending move
+-- the extension of `n` bits to a width, from the offset of a sign-extending move
 abbrev pub extension_from : Width → ℕ → Option Extension
 extension_from Bits32 n = if n == 8 then Some ByteTo32 else (if n == 16 then Some HalfTo32 else None)
 extension_from Bits64 n =
     if n == 8 then Some ByteTo64 else (if n == 16 then Some HalfTo64 else (if n == 32 then Some WordTo64 else None))
 
--- the extension of so many bits to a width
+-- the extension of this many bits to a width
 abbrev pub extension_of : Width → ℤ → Option Extension
 extension_of width (pos n) = extension_from width n
 extension_of width (negsuc n) = None
@@ -59,7 +59,7 @@ abbrev pub swap_of : Width → Bool → Option Swap
 swap_of Bits32 register = Some (if register then ToBig else ToLittle)
 swap_of Bits64 register = if register then None else Some Reverse
 
--- the byte swap of so many bits
+-- the byte swap of this many bits
 abbrev pub swap_bits_of : ℤ → Option SwapBits
 swap_bits_of (pos n) =
     if n == 16 then Some Swap16 else (if n == 32 then Some Swap32 else (if n == 64 then Some Swap64 else None))
@@ -112,7 +112,7 @@ wide_address subtype first second =
     else (if subtype == 6 then Some (MapValueByIndex first second)
     else None))))
 
--- whose function a call names, from its source field (section 4.3)
+-- the callee of a call, from its source field (section 4.3)
 abbrev pub callee_of : ℕ → Option Callee
 callee_of code =
     if code == 0 then Some Helper

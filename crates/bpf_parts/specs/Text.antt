@@ -37,7 +37,7 @@ register_text number = codes "r" ++ decimal number
 
 -- ---- names
 
--- an operation of 32 bits has the name of the one of 64 bits, and `32` behind it
+-- an operation of 32 bits has the name of the one of 64 bits, and `32` after it
 abbrev pub width_suffix : Width → List ℕ
 width_suffix Bits32 = codes "32"
 width_suffix Bits64 = []
@@ -87,13 +87,13 @@ swap_name ToLittle = codes "le"
 swap_name ToBig = codes "be"
 swap_name Reverse = codes "swap"
 
--- the width behind the name of a byte order
+-- the width after the name of a byte order
 abbrev pub swap_bits_name : SwapBits → List ℕ
 swap_bits_name Swap16 = codes "16"
 swap_bits_name Swap32 = codes "32"
 swap_bits_name Swap64 = codes "64"
 
--- the end of the name of a load: its size, with an `s` where the sign is extended
+-- the end of the name of a load: its size, with an `s` if the sign is extended
 abbrev pub load_suffix : LoadSize → List ℕ
 load_suffix LoadByte = codes "b"
 load_suffix LoadHalf = codes "h"
@@ -115,7 +115,7 @@ abbrev pub store_prefix : Operand → List ℕ
 store_prefix (FromRegister register) = codes "stx"
 store_prefix (Immediate value) = codes "st"
 
--- the name of a call, by whose function it names
+-- the name of a call, by its callee
 abbrev pub callee_name : Callee → List ℕ
 callee_name Helper = codes "call"
 callee_name Local = codes "calllocal"

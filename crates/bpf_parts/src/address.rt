@@ -4,8 +4,8 @@ ghost use Rattle.std.specs.Prelude.{◌≡◌, ◌<◌};
 ghost use Rattle.bpf_parts.specs.Codes.{address_subtype, address_first, address_second};
 ghost use Rattle.bpf_parts.specs.Kinds.{wide_address};
 
-/// What a two-slot load of another kind than a constant or a map's index names (RFC 9669, section
-/// 5.4), with its immediates: subtypes 1, 2, 3, 4 and 6.
+/// What a two-slot load names if it is not a constant or a map's index, with its immediates. These are the subtypes
+/// 1, 2, 3, 4 and 6 (RFC 9669, section 5.4).
 #[derive(Clone, Copy, Debug, PartialEq, Eq)]
 pub enum Address {
     MapByFile(i32),
@@ -43,7 +43,7 @@ impl Address {
         }
     }
 
-    /// The second immediate, 0 where the subtype has none.
+    /// The second immediate, or 0 if the subtype has none.
     pub fn second(self) -> i32
         ensures { result ≡ address_second self }
     {
@@ -53,8 +53,8 @@ impl Address {
         }
     }
 
-    /// The address of this subtype with these immediates. `None` where the subtype is none of an
-    /// address. A second immediate that the subtype does not use is left out.
+    /// The address of this subtype with these immediates, or `None` if the subtype is none of an address. A second
+    /// immediate that the subtype does not use is left out.
     pub fn from_parts(subtype: u8, first: i32, second: i32) -> Option<Address>
         ensures { result ≡ wide_address subtype first second }
     {

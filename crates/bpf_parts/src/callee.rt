@@ -4,8 +4,8 @@ ghost use Rattle.std.specs.Prelude.{◌≡◌, ◌<◌};
 ghost use Rattle.bpf_parts.specs.Codes.{callee_code};
 ghost use Rattle.bpf_parts.specs.Kinds.{callee_of};
 
-/// What a call calls: a helper by its number, a function of the program, or a helper by its BTF
-/// ID (RFC 9669, sections 4.3.1 and 4.3.2).
+/// The callee of a call (RFC 9669, sections 4.3.1 and 4.3.2). It is a helper by its number, a function of the
+/// program, or a helper by its BTF ID.
 #[derive(Clone, Copy, Debug, PartialEq, Eq)]
 pub enum Callee {
     Helper,
@@ -26,7 +26,7 @@ impl Callee {
         }
     }
 
-    /// The callee of this code, in the source register field. `None` above 2.
+    /// The callee of this code, in the source register field, or `None` for a code above 2.
     pub fn from_code(code: u8) -> Option<Callee>
         ensures { result ≡ callee_of code }
     {

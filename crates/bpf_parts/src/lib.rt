@@ -1,9 +1,8 @@
 //! The parts of an instruction of BPF, with their codes and their names (RFC 9669).
 //!
-//! Each part is a type. It has the number by which it stands in a field of a slot, and the text by which it
-//! stands in a line: `code` and `from_code`, `bits` and `from_bits`, `name` or `suffix`. The parts of an opcode
-//! that are numbers alone are the constants of [`opcode`], and the words of instructions that no part names are those
-//! of [`words`].
+//! Each part is a type. It has its number in a field of a slot, and its text in a line: `code` and `from_code`,
+//! `bits` and `from_bits`, `name` or `suffix`. The constants of [`opcode`] are the parts of an opcode that are only
+//! numbers. Those of [`words`] are the words of instructions that no part names.
 #![tactic(auto)]
 
 mod address;

@@ -8,7 +8,7 @@ ghost use Rattle.bpf_parts.specs.Sizes.{is_signed, load_bytes, size_bytes};
 use crate::opcode;
 use crate::register::Register;
 
-/// The memory operand of a load or store: the address `offset` bytes from where the base register points.
+/// The memory operand of a load or store: the address `offset` bytes from the one to which the base register points.
 #[derive(Clone, Copy, Debug, PartialEq, Eq)]
 pub struct MemoryOperand {
     pub base: Register,
@@ -51,7 +51,7 @@ impl Size {
         }
     }
 
-    /// The size of these mode and size bits. `None` where no store has them.
+    /// The size of these mode and size bits, or `None` if no store has them.
     pub fn from_code(code: u8) -> Option<Size>
         ensures { result ≡ size_of code }
     {
@@ -91,7 +91,7 @@ impl LoadSize {
         }
     }
 
-    /// Whether the sign of what is read is extended to 64 bits.
+    /// Whether the load extends the sign of what it reads to 64 bits.
     pub fn is_signed(self) -> bool
         ensures { result ≡ is_signed self }
     {
@@ -117,7 +117,7 @@ impl LoadSize {
         }
     }
 
-    /// The load of these mode and size bits. `None` where there is none.
+    /// The load of these mode and size bits, or `None` if no load has them.
     pub fn from_code(code: u8) -> Option<LoadSize>
         ensures { result ≡ load_size_of code }
     {

@@ -33,7 +33,7 @@ impl fmt::Display for Operand {
 }
 
 impl Operand {
-    /// What the name of a store of the operand begins with.
+    /// The beginning of the name of a store of the operand.
     pub fn store_prefix(self) -> &'static str
         ensures { result.now ≡ store_prefix self }
     {
@@ -116,7 +116,7 @@ impl fmt::Display for Condition {
 }
 
 impl Width {
-    /// What stands behind the name of an operation of this width: `32`, and nothing at 64 bits.
+    /// The end of the name of an operation of this width: `32`, and nothing at 64 bits.
     pub fn suffix(self) -> &'static str
         ensures { result.now ≡ width_suffix self }
     {
@@ -172,7 +172,7 @@ impl fmt::Display for Swap {
 }
 
 impl SwapBits {
-    /// The number of bits, which stands behind the name of the swap.
+    /// The number of bits, which comes after the name of the swap.
     pub fn name(self) -> &'static str
         ensures { result.now ≡ swap_bits_name self }
     {
@@ -193,7 +193,7 @@ impl fmt::Display for SwapBits {
 }
 
 impl LoadSize {
-    /// The letters of the size, which stand behind the name of the load.
+    /// The letters of the size, which come after the name of the load.
     pub fn suffix(self) -> &'static str
         ensures { result.now ≡ load_suffix self }
     {
@@ -218,7 +218,7 @@ impl fmt::Display for LoadSize {
 }
 
 impl Size {
-    /// The letters of the size, which stand behind the name of the store.
+    /// The letters of the size, which come after the name of the store.
     pub fn suffix(self) -> &'static str
         ensures { result.now ≡ store_suffix self }
     {

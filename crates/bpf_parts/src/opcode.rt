@@ -1,4 +1,4 @@
-//! The parts of an opcode (RFC 9669, section 3): a class, and above it source and code of arithmetic
+//! The parts of an opcode (RFC 9669, section 3). The lowest is a class. Above it are source and code of arithmetic
 //! and jumps, or size and mode of loads and stores.
 
 /// The class of loads that are no plain loads: here that of a 64-bit immediate.
@@ -31,7 +31,7 @@ pub const K: u8 = 0x00;
 /// The source of arithmetic and jumps is the source register (section 4).
 pub const X: u8 = 0x08;
 
-// The codes of arithmetic that stand for an instruction of their own; all others are those of `AluOp`.
+// The codes of arithmetic that are an instruction of their own. All others are those of `AluOp`.
 
 /// The code of a negation (section 4.1).
 pub const NEG: u8 = 8;

@@ -1,4 +1,4 @@
-//! What arithmetic and jumps do, and the codes of it (RFC 9669, section 4).
+//! What arithmetic and jumps do, and their codes (RFC 9669, section 4).
 
 ghost use Rattle.std.specs.Prelude.{◌≡◌, ◌+◌, ◌*◌, ◌<◌, ℤ, pos};
 ghost use Rattle.std.specs.Option.{SomeIff};
@@ -9,8 +9,8 @@ ghost use Rattle.bpf_parts.specs.Kinds.{alu_of, condition_of, extension_of, swap
 use crate::opcode;
 use crate::register::Register;
 
-/// The width of an operation. At 32 bits the upper half of the result is zero (classes ALU and
-/// JMP32), at 64 bits the whole register counts (classes ALU64 and JMP).
+/// The width of an operation. At 32 bits the upper half of the result is zero (classes ALU and JMP32). At 64 bits the
+/// whole register counts (classes ALU64 and JMP).
 #[derive(Clone, Copy, Debug, PartialEq, Eq)]
 pub enum Width {
     Bits32,
@@ -92,8 +92,8 @@ impl AluOp {
         }
     }
 
-    /// The operation of this code, and of the two divisions that have it the signed one where
-    /// `signed` says so. `None` where no operation with two operands has the code.
+    /// The operation of this code. If two divisions have it, `signed` says whether it is the signed one. It is `None`
+    /// if no operation with two operands has the code.
     pub fn from_code(code: u8, signed: bool) -> Option<AluOp>
         ensures { result ≡ alu_of code signed }
     {
@@ -115,8 +115,7 @@ impl AluOp {
     }
 }
 
-/// The second operand: a register, or an immediate, which is sign-extended at 64 bits (RFC 9669,
-/// section 4).
+/// The second operand: a register, or an immediate, which is sign-extended at 64 bits (RFC 9669, section 4).
 #[derive(Clone, Copy, Debug, PartialEq, Eq)]
 pub enum Operand {
     FromRegister(Register),
@@ -144,7 +143,7 @@ impl Operand {
         }
     }
 
-    /// The source register field: 0 for an immediate.
+    /// The source register field. It is 0 for an immediate.
     pub fn source_field(&self) -> u8
         ensures value { result ≡ source_field self.now }
         ensures small { result < 16 }
@@ -155,7 +154,7 @@ impl Operand {
         }
     }
 
-    /// The immediate field: 0 for a register.
+    /// The immediate field. It is 0 for a register.
     pub fn immediate_field(&self) -> i32
         ensures { result ≡ immediate_field self.now }
     {
@@ -166,7 +165,7 @@ impl Operand {
     }
 }
 
-/// What a sign-extending move takes, and to which width it extends (RFC 9669, section 4.1).
+/// The low bits that a sign-extending move takes, and the width to which it extends them (RFC 9669, section 4.1).
 #[derive(Clone, Copy, Debug, PartialEq, Eq)]
 pub enum Extension {
     ByteTo32,
@@ -187,7 +186,7 @@ impl Extension {
         }
     }
 
-    /// How many low bits of the source are extended: the offset field.
+    /// How many low bits of the source the move extends: the offset field.
     pub fn bits(self) -> i16
         ensures { result ≡ extension_bits self }
     {
@@ -198,7 +197,7 @@ impl Extension {
         }
     }
 
-    /// The extension of so many bits to this width. `None` where there is none.
+    /// The extension of `bits` bits to this width, or `None` if there is none.
     pub fn from_bits(width: Width, bits: i16) -> Option<Extension>
         ensures { result ≡ extension_of width bits }
     {
@@ -218,14 +217,14 @@ impl Extension {
     }
 }
 
-/// How bytes are put in order (RFC 9669, section 4.2).
+/// How a byte swap orders bytes (RFC 9669, section 4.2).
 #[derive(Clone, Copy, Debug, PartialEq, Eq)]
 pub enum Swap {
     /// From the machine's order to little-endian.
     ToLittle,
     /// From the machine's order to big-endian.
     ToBig,
-    /// Always the other way round.
+    /// Always the reverse order.
     Reverse,
 }
 
@@ -251,7 +250,7 @@ impl Swap {
         }
     }
 
-    /// The order of this class and source bit. `None` where no instruction has them.
+    /// The order of this class and source bit, or `None` if no instruction has them.
     pub fn from_parts(width: Width, register: bool) -> Option<Swap>
         ensures { result ≡ swap_of width register }
     {
@@ -266,7 +265,7 @@ impl Swap {
     }
 }
 
-/// How many low bits are put in order; those above are cleared.
+/// How many low bits a byte swap orders. It clears those above.
 #[derive(Clone, Copy, Debug, PartialEq, Eq)]
 pub enum SwapBits {
     Swap16,
@@ -286,7 +285,7 @@ impl SwapBits {
         }
     }
 
-    /// The width of so many bits. `None` for any number but 16, 32 and 64.
+    /// The width of `bits` bits, or `None` for any number except 16, 32 and 64.
     pub fn from_bits(bits: i32) -> Option<SwapBits>
         ensures { result ≡ swap_bits_of bits }
     {
@@ -299,8 +298,8 @@ impl SwapBits {
     }
 }
 
-/// What a conditional jump tests: whether the condition holds of `dst` and `src`, of their low halves
-/// at 32 bits.
+/// What a conditional jump tests: whether the condition holds of `dst` and `src`. At 32 bits it tests their low
+/// halves.
 #[derive(Clone, Copy, Debug, PartialEq, Eq)]
 pub struct Comparison {
     pub condition: Condition,
@@ -347,7 +346,7 @@ impl Condition {
         }
     }
 
-    /// The condition of this code. `None` where no conditional jump has it.
+    /// The condition of this code, or `None` if no conditional jump has it.
     pub fn from_code(code: u8) -> Option<Condition>
         ensures { result ≡ condition_of code }
     {

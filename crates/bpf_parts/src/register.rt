@@ -30,7 +30,7 @@ impl Model for Register {
 }
 
 impl Register {
-    /// The register of this number. `None` above 10.
+    /// The register of this number, or `None` for a number above 10.
     pub fn new(number: u8) -> Option<Register>
         ensures { SomeIff result (number ≤ 10) number }
     {

@@ -10,8 +10,8 @@ ghost use Rattle.machine.specs.Sizes.{AreSizes, IsInside, Maps, kind_of_map};
 
 use machine::{Helper, MapKind, MapSizes, Question};
 
-/// The cells that a program asks by its helpers. Each call appends itself, with the answer that it returns, to the
-/// calls so far; nothing else is known of the answers here, since others may ask too.
+/// The cells that a program asks by its helpers. Each call appends itself to the calls so far, with the answer that
+/// it returns. Nothing else is known of the answers here, since others may ask too.
 pub trait Counters {
     /// The calls so far, in order.
     ghost asked: { Self → List Call };
@@ -27,10 +27,10 @@ pub trait Counters {
         ensures sizes { result ≡ sizes self.now }
         ensures limits { AreSizes (sizes self.now) };
 
-    /// [`Helper::Count`]: what the cell holds. In a counter map it is how many tickets were drawn from it, modulo 2^64;
-    /// in a peak map the greatest number that was shown to it.
+    /// [`Helper::Count`]: what the cell holds. In a counter map it is how many tickets were drawn from the cell,
+    /// modulo 2^64. In a peak map it is the greatest number that was shown to the cell.
     ///
-    /// The map and the key have to be inside the sizes, which `MapSizes::contains` tests.
+    /// The map and the key must be inside the sizes, which `MapSizes::contains` tests.
     fn count(&mut self, map: u8, key: u16) -> u64
         requires { IsInside (sizes self.old) map key }
         ensures asked { asked self.new
@@ -38,11 +38,11 @@ pub trait Counters {
         ensures sizes { sizes self.new ≡ sizes self.old }
         ensures home { home self.new ≡ home self.old };
 
-    /// [`Helper::Ticket`]: draws a ticket from the cell, and answers its number, which is how many were drawn before
+    /// [`Helper::Ticket`]: draws a ticket from the cell, and answers its number. That is how many were drawn before
     /// it, modulo 2^64.
     ///
-    /// The map and the key have to be inside the sizes, which `MapSizes::contains` tests, and the map has to be a
-    /// counter map, which `MapSizes::kind` tells.
+    /// The map and the key must be inside the sizes, which `MapSizes::contains` tests. The map must be a counter map,
+    /// which `MapSizes::kind` says.
     fn ticket(&mut self, map: u8, key: u16) -> u64
         requires inside { IsInside (sizes self.old) map key }
         requires kind { kind_of_map (sizes self.old) map ≡ MapKind.Counter }
@@ -51,11 +51,11 @@ pub trait Counters {
         ensures sizes { sizes self.new ≡ sizes self.old }
         ensures home { home self.new ≡ home self.old };
 
-    /// [`Helper::Peak`]: shows the cell a number, which raises it to the greater of both, and answers what it holds
-    /// then.
+    /// [`Helper::Peak`]: shows the cell a number, which raises the cell to the greater of both. It answers what the
+    /// cell then holds.
     ///
-    /// The map and the key have to be inside the sizes, which `MapSizes::contains` tests, and the map has to be a peak
-    /// map, which `MapSizes::kind` tells.
+    /// The map and the key must be inside the sizes, which `MapSizes::contains` tests. The map must be a peak map,
+    /// which `MapSizes::kind` says.
     fn peak(&mut self, map: u8, key: u16, value: u64) -> u64
         requires inside { IsInside (sizes self.old) map key }
         requires kind { kind_of_map (sizes self.old) map ≡ MapKind.Peak }
@@ -65,7 +65,7 @@ pub trait Counters {
         ensures home { home self.new ≡ home self.old };
 }
 
-/// Puts a question to the cells, and gives their answer.
+/// Asks the cells a question, and gives their answer.
 #[inline(always)]
 pub(crate) fn ask<C: Counters>(counters: &mut C, asked: Question) -> u64
     requires { IsAnswerable (C.sizes counters.old) asked.helper asked.map asked.key asked.argument }

@@ -1,4 +1,4 @@
-//! The calls of a run. They exist in proofs alone: they have no bytes, and what is done with them does nothing.
+//! The calls of a run. They exist only in proofs: they have no bytes, and the functions on them do nothing.
 
 ghost use Rattle.std.specs.Prelude.{◌≡◌, ◌++◌, ◌∷◌, List, [], drop, length};
 ghost use base.Fml.{ftrue};
@@ -32,7 +32,7 @@ impl CallLog {
         CallLog {}
     }
 
-    /// These calls, and those by which `_after` is longer than `_before`.
+    /// These calls, and after them those that `_after` has and `_before` has not.
     pub fn joined(&self, _before: &CallLog, _after: &CallLog) -> CallLog
         ensures { result.calls
             ≡ self.now.calls ++ drop (length _before.now.calls) _after.now.calls }

@@ -1,4 +1,4 @@
-//! Cells that are not asked.
+//! Cells that a run does not ask.
 
 ghost use Rattle.std.specs.Prelude.{◌≡◌, ◌++◌, ◌∷◌, []};
 ghost use Rattle.machine.specs.Runs.{call};
@@ -9,7 +9,7 @@ use crate::log::CallLog;
 use bver::Accepted;
 use machine::{Call, Helper, MapSizes, Question};
 
-/// The cells of a run that stops at each question, and so asks none: they have the maps of its program, and answer 0.
+/// The cells of a run that stops at each question, and so asks none. They have the maps of its program, and answer 0.
 #[derive(Drop)]
 pub(crate) struct Nobody {
     sizes: MapSizes,

@@ -87,7 +87,7 @@ takes_less maps helper (Num a) (Map j) below h = absurd below
 takes_less maps helper (Ptr r a) (Map j) below h = absurd below
 takes_less maps helper (Map i) (Map j) below h = subst (λ (n : ℕ). AsksKind maps helper (Map n)) (sym below) h
 
--- who knows more may ask the same
+-- a state that knows more may ask the same
 may_less : (maps : Maps) (helper : Helper) (a b : StateValue) → IsBelow a b → MayAsk maps helper b → MayAsk maps helper a
 may_less maps helper a b below h = record {
   cell = cell_less maps (kind_at a 1) (kind_at b 1) (kind_at a 2) (kind_at b 2) (below.kinds 1) (below.kinds 2) h.cell;
@@ -125,7 +125,7 @@ permitted_less applies refines calls transitive spill maps table slot a b insn p
     )
     by_insn Exit h = number_less (kind_at a 0) (kind_at b 0) (below.kinds 0) h
 
--- ---- what is widened at a head stays below a table that stands for every pass
+-- ---- what is widened at a head stays below a table that holds for every pass
 
 open_less : (lowered : Bool) (before above : AbsKind) → IsOpen above → IsKindBelow before above → (IsTrue lowered → above ≡ Unset) → IsKindBelow (opened_kind lowered before) above
 open_less lowered before Unset is_open below low = by_kind lowered before
@@ -154,7 +154,7 @@ kind_less p l lowered place register before after above small head low below (op
     rw is (open_less (is_lowered lowered place register) before (kind_at above register) (head.others register other written) (below other) (low register small other written))
 kind_less p l lowered place register before after above small head low below (keeps other unwritten is) = rw is (below other)
 
--- the ranges of words: where the loop stores the table has whole ones, and else they are kept
+-- the ranges of words: if the loop stores, the table has whole ones, and else they are kept
 ranges_below : (p : Program) (l : Loop) (before after above : StateValue) → IsWhole after → (HasStore p l → AreAllWhole above.ranges) → AreRangesWithin before.ranges above.ranges → AreWidenedRanges p l before after → AreRangesWithin after.ranges above.ranges
 ranges_below p l before after above proper wide below (forgets stored is) = ranges_whole after.ranges above.ranges (words_of after proper) (wide stored)
 ranges_below p l before after above proper wide below (retains out is) = rw is below
@@ -177,7 +177,7 @@ widened_less p l lowered place before after above register_small p_before p_afte
   ranges = ranges_below p l before after above p_after wide below.ranges widened.ranges;
 }
 
--- a head that is entered outside its bound is in no such table
+-- a head that a run enters outside its bound is in no such table
 pub entry_refuted : (p : Program) (l : Loop) (a above : StateValue) → IsHead p l above → IsBelow a above → (IsWithinBound l a → ⊥) → ⊥
 entry_refuted p l a above head below outside =
     outside (subst (λ (k : AbsKind). IsKindBelow (kind_at a l.register) k) head.counter (below.kinds l.register))

@@ -1,4 +1,4 @@
--- What a table has from a slot on, and before it what covers all: a pass never comes back there.
+-- What a table has from a slot, and before it what covers all: a pass never comes back there.
 use Rattle.std.proofs.Common.{◌≡◌, ℕ, ◌+◌, ◌<◌, ◌≤◌, Bool, true, false, [], Option, None, Some, refl, arith}
 use Rattle.std.specs.Prelude.{IfSome, nat_lt, if◌then◌else◌}
 use Rattle.std.proofs.lemmas.Bool.Decides.{nat_tests}

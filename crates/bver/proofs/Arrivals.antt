@@ -1,4 +1,4 @@
--- Where a step of the machine leads: to a slot where the program lets a run go on.
+-- The slots to which a step of the machine leads: those at which the program lets a run go on.
 use Rattle.std.proofs.Common.{◌≡◌, ℕ, ◌+◌, inl, inr, ℤ, pos, negsuc, ◌+ℤ◌, Bool, true, false, Option, None, Some, refl, subst}
 use Rattle.std.specs.Prelude.{◌==◌, if◌then◌else◌}
 use Rattle.bpf.specs.Program.{Program}

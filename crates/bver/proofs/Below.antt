@@ -1,5 +1,5 @@
--- What a pass knows stays below every table that covers what comes to a slot and what its instruction leads to; so it
--- stays below what is closed, and what is told of a refusal refutes a table under which the program is justified.
+-- What a pass knows stays below every table that covers what comes to a slot and what its instruction leads to. So it
+-- stays below what is closed, and what a refusal gives refutes a table under which the program is justified.
 use Rattle.std.proofs.Common.{◌≡◌, ℕ, ◌+◌, ◌<◌, ◌≤◌, Bool, true, false, List, Option, None, Some, Result, Ok, Err, inl, inr, refl, sym, ap, subst, ◌∙◌, arith, ◌⊎◌}
 use Rattle.std.specs.Prelude.{IsTrue, IsSome, IfSome, slice_index_or}
 use Rattle.std.proofs.lemmas.Bool.{cases_lt, false≢true}
@@ -71,12 +71,12 @@ permitted_leads spill maps table slot a insn h = by_insn insn h
 
 -- ---- from one slot of a pass to the next
 
--- what the table knows is covered, and so is the running state where it stands
+-- what the table knows is covered, and so is the running state at its slot
 pub record StaysBelow (p : Program) (table : TableValue) (runs : Bool) (state : StateValue) (slot : ℕ) (above : ℕ → Option StateValue) : Type 0 where
   pub known : AreCovered (knowledge_in table) above
   pub running : IsTrue runs → (next : ℕ) → StandsAt p slot next → IsCovered state (above next)
 
--- the running state stands at one slot
+-- the running state is at one slot
 one_place : (p : Program) (slot a b : ℕ) → StandsAt p slot a → StandsAt p slot b → a ≡ b
 one_place p slot a b f g =
     elim (cases_lt a b) [
@@ -139,7 +139,7 @@ below_none p table state above known = record { known = known; running = λ on. 
 
 -- ---- the visit of an instruction: what comes to it, and what its flow does
 
--- where nothing is known
+-- if nothing is known
 pub least_nothing : (v : VisitValue) (lowered now : List Bool) (old new : TableValue) (was : Bool) (before after : StateValue) (insn : Insn) → visited_state was before new v.slot ≡ None → now ≡ lowered
     → IsWidenedIfAny v.program lowered v.slot (visited_state was before old v.slot) (visited_state was before new v.slot)
     → IsLeastOf (λ above. IsCoveredIfAny (visited_state was before new v.slot) (above v.slot)) old new
@@ -151,7 +151,7 @@ least_nothing v lowered now old new false before after insn none unlowered widen
   marks = λ place register small. inl (ap (λ (marks : List Bool). is_lowered marks place register) unlowered);
 }
 
--- what falls with a table falls with one that is the same before the slot
+-- what an edge lowers with a table, it lowers with one that is the same before the slot
 lowered_before : (p : Program) (slot : ℕ) (mid old : ℕ → Option StateValue) (edge : Option StateValue) (lowered now : List Bool) → ((k : ℕ) → k < slot → mid k ≡ old k) → AreLoweredBack p slot mid edge lowered now → AreLoweredBack p slot old edge lowered now
 lowered_before p slot mid old edge lowered now same marks place register small = by_mark edge (marks place register small)
   where
@@ -166,7 +166,7 @@ lowered_before p slot mid old edge lowered now same marks place register small =
           falls = subst (λ (o : Option StateValue). Falls (record { program = p; declared = h.declared; place = place }) o e register) (same h.declared.head (omega (arith, h.is.limits.ordered, h.back))) h.falls;
         })
 
--- where something is
+-- if something is known
 pub least_insn : (v : VisitValue) (lowered now : List Bool) (old mid new : TableValue) (was runs : Bool) (before here after : StateValue) (insn : Insn) → visited_state was before mid v.slot ≡ Some here
     → IsWidenedIfAny v.program lowered v.slot (visited_state was before old v.slot) (visited_state was before mid v.slot)
     → IsLeastOf (λ above. IsCoveredIfAny (visited_state was before mid v.slot) (above v.slot)) old mid
@@ -191,7 +191,7 @@ least_insn v lowered now old mid new was runs before here after insn known widen
     same : visited_state was before new v.slot ≡ visited_state was before mid v.slot
     same = by_runs was
 
--- what is refused with a table is with one that is the same before the slot
+-- a refusal with a table is one with a table that is the same before the slot
 fault_before : (v : VisitValue) (lowered : List Bool) (mid old : ℕ → Option StateValue) (a : StateValue) (insn : Insn) (refused : Refused) → ((k : ℕ) → k < v.slot → mid k ≡ old k) → IsFlowFault v lowered mid a insn refused → IsFlowFault v lowered old a insn refused
 fault_before v lowered mid old a insn refused same (refutes refuted) = refutes refuted
 fault_before v lowered mid old a insn refused same (returns uncovered) = returns (by_edge (jumping_state a insn) uncovered)
@@ -236,7 +236,7 @@ pub record Order : Type 0 where
   pub refines : RefineGrows
   pub calls : CallGrows
 
--- what stands at the head of a loop
+-- what holds at the head of a loop
 pub head_in : (p : Program) (comes stands : ℕ → Option StateValue) (l : Loop) (place : ℕ) → IsClosed p comes stands → IsDeclared p l place → IfSome (stands l.head) (IsHead p l)
 head_in p comes stands l place h declared = subst (λ (m : Loop). IfSome (stands m.head) (IsHead p m)) (declared.is l) (h.heads place l declared.inside)
 
@@ -244,12 +244,12 @@ words_in : (p : Program) (comes stands : ℕ → Option StateValue) (l : Loop) (
 words_in p comes stands l place h declared =
     subst (λ (m : Loop). IfSome (stands m.head) (λ a. HasStore p m → AreAllWhole a.ranges)) (declared.is l) (h.words place l declared.inside)
 
--- what comes there stands there but for the counter
+-- what comes to a head holds there, except for the counter
 pub opened_in : (p : Program) (comes stands : ℕ → Option StateValue) (l : Loop) (place : ℕ) (a : StateValue) → IsClosed p comes stands → IsDeclared p l place → IsCovered a (comes l.head) → IsCoveredBut l.register a (stands l.head)
 opened_in p comes stands l place a h declared covered =
     subst (λ (m : Loop). IsCovered a (comes m.head) → IsCoveredBut m.register a (stands m.head)) (declared.is l) (h.opened place l declared.inside a) covered
 
--- what comes to a slot stands there once it is widened
+-- what comes to a slot holds there after it is widened
 widened_covered : (p : Program) (comes stands : ℕ → Option StateValue) (lowered : List Bool) (slot : ℕ) (before after : Option StateValue) → IsClosed p comes stands → HasLowered p lowered stands → IfSome before IsWhole → IfSome after IsWhole → IsCoveredIfAny before (comes slot) → IsWidenedIfAny p lowered slot before after → IsCoveredIfAny after (stands slot)
 widened_covered p comes stands lowered slot before None h low old new covered widened = tt
 widened_covered p comes stands lowered slot None (Some a) h low old new covered widened = absurd widened
@@ -268,7 +268,7 @@ pub comes_whole : (runs : Bool) (state : StateValue) (table : TableValue) (slot 
 comes_whole false state table slot proper whole = whole slot
 comes_whole true state table slot proper whole = proper
 
--- what is covered by a table is by one that knows more
+-- what a table covers is covered by one that knows more
 pub below_wider : BelowIsTransitive → (p : Program) (table : TableValue) (runs : Bool) (state : StateValue) (slot : ℕ) (above wider : ℕ → Option StateValue) → AreCovered above wider → StaysBelow p table runs state slot above → StaysBelow p table runs state slot wider
 below_wider transitive p table runs state slot above wider more h = record {
   known = λ k. any_covered_more transitive (knowledge_in table k) (above k) (wider k) (h.known k) (more k);
@@ -281,7 +281,7 @@ comes_covered p table runs state slot insn comes begins plain below =
     subst (λ (o : Option StateValue). IsCoveredIfAny (visited_state runs state table slot) o) (ahead_from slot comes slot (omega arith))
     (comes_below p table runs state slot insn (ahead slot comes) begins plain below)
 
--- what comes there, widened, stands there
+-- what comes there holds there after it is widened
 pub here_covered : (v : VisitValue) (lowered : List Bool) (old new : TableValue) (was : Bool) (before : StateValue) (insn : Insn) (comes stands : ℕ → Option StateValue)
     → insn_at v.program v.slot ≡ Some insn → (IsTrue was → IsKept v.program v.slot → ⊥)
     → IsWhole before → AreWhole (knowledge_in old) → AreWhole (knowledge_in new)
@@ -293,7 +293,7 @@ here_covered v lowered old new was before insn comes stands begins plain proper 
     (comes_whole was before old v.slot proper whole) (comes_whole was before new v.slot proper new_whole)
     (comes_covered v.program old was before v.slot insn comes begins plain below) widened
 
--- what stands at the slot of an instruction is followed below what comes behind it
+-- what holds at the slot of an instruction is followed below what comes after it
 followed_ahead : Order → (p : Program) (comes stands : ℕ → Option StateValue) (slot : ℕ) (known : Option StateValue) (insn : Insn) → IsClosed p comes stands → insn_at p slot ≡ Some insn → IfSome known IsWhole → IsCoveredIfAny known (stands slot) → IsFollowedBelow (spill_of p.version) (ahead (slot + 1) comes) slot known insn
 followed_ahead order p comes stands slot None insn h begins whole covered = tt
 followed_ahead order p comes stands slot (Some a) insn h begins whole covered = (
@@ -314,7 +314,7 @@ closed_next order v lowered now old new was runs before after settled region ins
     (here_covered v lowered old new was before insn comes stands begins plain proper whole (visit.extended.whole whole) h low least.widened below))
     (below_wider order.transitive v.program old was before v.slot (ahead v.slot comes) (ahead (v.slot + 1) comes) (ahead_next order.reflexive v.slot comes h.whole) below)
 
--- ---- what is told
+-- ---- what a refusal gives
 
 -- an edge back that is refused
 abbrev pub IsRefusedBack : (v : VisitValue) (lowered : List Bool) (known : ℕ → Option StateValue) (insn : Insn) (before here edge : StateValue) → Type 0
@@ -326,7 +326,7 @@ abbrev pub HasToStay : (v : VisitValue) (lowered : List Bool) (old : TableValue)
 HasToStay v lowered old was before =
     (comes stands : ℕ → Option StateValue) → IsClosed v.program comes stands → StaysBelow v.program old was before v.slot (ahead v.slot comes) × HasLowered v.program lowered stands
 
--- what a visit is refused for is told with its slot, its code and what has to be known there, but for an edge back
+-- a refused visit gives its slot, its code and what must be known there, except at an edge back
 pub visit_told : (v : VisitValue) (lowered : List Bool) (old : TableValue) (was : Bool) (before : StateValue) (known : ℕ → Option StateValue) (insn : Insn) (told : StateValue) (refused : Refused)
     → insn_at v.program v.slot ≡ Some insn → (IsTrue was → IsKept v.program v.slot → ⊥)
     → IsWhole before → AreWhole (knowledge_in old)
@@ -373,7 +373,7 @@ visit_told v lowered old was before known insn told refused begins plain proper 
 
 -- ---- a table under which the program is justified
 
--- what is known of a state that the table covers is permitted by it
+-- a table permits what is known of a state that it covers
 permitted_there : Order → (p : Program) (maps : Maps) (table : ℕ → Option StateValue) (slot : ℕ) (a : StateValue) (insn : Insn) → Justifies p maps table → insn_at p slot ≡ Some insn → IsWhole a → IsCovered a (table slot) → IsPermitted (spill_of p.version) maps table slot a insn
 permitted_there order p maps table slot a insn h begins whole covered =
     by_there (table slot) (h.whole slot) covered (subst (λ (o : Option Insn). IsPermittedAt (spill_of p.version) maps table slot (table slot) o) begins (h.permitted slot))
@@ -398,7 +398,7 @@ justified_closed order p maps table h = record {
   leads = λ slot insn begins a whole covered. permitted_leads (spill_of p.version) maps table slot a insn (permitted_there order p maps table slot a insn h begins whole covered);
 }
 
--- what is told refutes it
+-- what a refusal gives refutes the table
 pub told_refutes : Order → (p : Program) (maps : Maps) (a : StateValue) (refused : Refused) (table : ℕ → Option StateValue) → TellsKnown p maps a refused → Justifies p maps table → ⊥
 told_refutes order p maps a refused table (of_insn t) h =
     t.refuted table (permitted_there order p maps table refused.slot a t.insn h t.begins t.whole (t.stands table table (justified_closed order p maps table h)))

@@ -1,4 +1,4 @@
--- Slot by slot of a pass: what is known in a loop behind its head says all that is known at the head of what the loop
+-- Slot by slot of a pass. What is known in a loop after its head says all that is known at the head of what the loop
 -- does not write.
 use Rattle.std.proofs.Common.{◌≡◌, ◌≢◌, ℕ, ◌+◌, ◌-◌, ◌<◌, ◌≤◌, ◌⊎◌, inl, inr, Bool, true, false, List, [], length, Option, None, Some, refl, sym, ap, subst, ◌∙◌, arith}
 use Rattle.std.specs.Prelude.{IsTrue, IsSome, IfSome, slice_index_or}
@@ -37,16 +37,16 @@ use Rattle.bver.proofs.Turns.{IsAround, Leaves, leads_around, leads_counted, lea
 abbrev pub nothing : ℕ → Option StateValue
 nothing k = None
 
--- ---- what stands in a loop
+-- ---- what holds in a loop
 
--- in the loop behind its head what is known says no less than its head, at which nothing is kept of what was lowered
+-- in the loop after its head, what is known says no less than its head; the head keeps nothing of what was lowered
 pub record IsTurning (p : Program) (l : Loop) (place : ℕ) (start : List Bool) (table : TableValue) (runs : Bool) (state : StateValue) (slot : ℕ) (h : StateValue) : Type 0 where
   pub head : IsHead p l h
   pub wide : HasStore p l → AreAllWhole h.ranges
   pub unset : (register : ℕ) → register ≤ 9 → register ≢ l.register → IsWrittenIn p l register → IsTrue (is_lowered start place register) → is_number (kind_at h register) ≡ false
   pub below : (around : ℕ → StateValue) → IsAround p l h around → StaysBelow p table runs state slot (ring l (λ k. Some (around k)))
 
--- the same where anything is known at the head, and else nothing is known there
+-- the same if anything is known at the head; else nothing is known in the loop
 abbrev pub IsTurningIfAny : Program → Loop → (place : ℕ) (start : List Bool) (table : TableValue) (runs : Bool) → StateValue → (slot : ℕ) → Option StateValue → Type 0
 IsTurningIfAny p l place start table runs state slot None = StaysBelow p table runs state slot (ring l nothing)
 IsTurningIfAny p l place start table runs state slot (Some h) = IsTurning p l place start table runs state slot h
@@ -71,7 +71,7 @@ round_of p l slot h a below = record {
   words = words_all a (below (λ k. marked []) (λ k b round. below_all b round.words));
 }
 
--- what comes to a slot behind the head
+-- what comes to a slot after the head
 pub comes_round : (p : Program) (l : Loop) (place : ℕ) (start : List Bool) (table : TableValue) (runs : Bool) (state : StateValue) (slot : ℕ) (h : StateValue) (insn : Insn) → insn_at p slot ≡ Some insn → (IsTrue runs → IsKept p slot → ⊥) → IsBehind l slot → IsTurning p l place start table runs state slot h → IfSome (visited_state runs state table slot) (IsRound p l slot h)
 comes_round p l place start table runs state slot h insn begins plain behind turning =
     by_state (visited_state runs state table slot) (λ around covers.
@@ -82,7 +82,7 @@ comes_round p l place start table runs state slot h insn begins plain behind tur
     by_state None below = tt
     by_state (Some a) below = round_of p l slot h a below
 
--- nothing comes there where nothing is known at the head
+-- if nothing is known at the head, nothing comes there
 pub comes_none : (p : Program) (l : Loop) (table : TableValue) (runs : Bool) (state : StateValue) (slot : ℕ) (insn : Insn) → insn_at p slot ≡ Some insn → (IsTrue runs → IsKept p slot → ⊥) → IsBehind l slot → StaysBelow p table runs state slot (ring l nothing) → visited_state runs state table slot ≡ None
 comes_none p l table runs state slot insn begins plain behind below =
     by_state (visited_state runs state table slot)
@@ -95,7 +95,7 @@ comes_none p l table runs state slot insn begins plain behind below =
 
 -- ---- widened at a head
 
--- a loop that has its head behind that of another, in it, lies inside
+-- a loop that has its head after that of another, in it, lies inside
 lies_inside : (l m : Loop) → IsNestedOrApart l m → l.head < l.back → m.head < m.back → IsBehind l m.head → IsInside m l
 lies_inside l m (inl (inl before)) l_order m_order behind = absurd (omega (arith, before, behind.1))
 lies_inside l m (inl (inr after)) l_order m_order behind = absurd (omega (arith, after, behind.0, m_order))
@@ -110,7 +110,7 @@ nested_in : (p : Program) (l m : Loop) (place : ℕ) → IsLoopFormed p l → Is
 nested_in p l m place formed declared other =
     subst (λ (n : Loop). n.head ≢ l.head → IsNestedOrApart l n) (declared.is m) (formed.others place m declared.inside) other
 
--- what is widened behind the head stays so
+-- what is widened after the head stays so
 pub widened_round : (p : Program) (l : Loop) (place : ℕ) (lowered : List Bool) (slot : ℕ) (h : StateValue) (came here : Option StateValue) → IsFormed p → IsDeclared p l place → IsBehind l slot → IfSome came IsWhole → IfSome here IsWhole → IsWidenedIfAny p lowered slot came here → IfSome came (IsRound p l slot h) → IfSome here (IsRound p l slot h)
 widened_round p l place lowered slot h None None form declared behind old new widened round = tt
 widened_round p l place lowered slot h None (Some a) form declared behind old new widened round = absurd widened
@@ -140,7 +140,7 @@ lowered_none p l lowered place register before after other written low (counts a
 lowered_none p l lowered place register before after other written low (opens o w is) = rw (is, low) (opened_none before)
 lowered_none p l lowered place register before after other written low (keeps o w is) = absurd (w written)
 
--- what was lowered is no number where it was widened
+-- what was lowered is no number after the head is widened
 widened_unset : (p : Program) (l : Loop) (place : ℕ) (lowered : List Bool) (register : ℕ) (came : Option StateValue) (h : StateValue) → IsProgram p → IsDeclared p l place → register ≤ 9 → register ≢ l.register → IsWrittenIn p l register → is_lowered lowered place register ≡ true → IsWidenedIfAny p lowered l.head came (Some h) → is_number (kind_at h register) ≡ false
 widened_unset p l place lowered register None h limits declared small other written low widened = absurd widened
 widened_unset p l place lowered register (Some b) h limits declared small other written low (stays none same) =
@@ -150,7 +150,7 @@ widened_unset p l place lowered register (Some b) h limits declared small other 
     let here : IsWidened p l lowered place b h = subst (λ (n : Loop). IsWidened p n lowered place b h) one.0 (subst (λ (i : ℕ). IsWidened p m lowered i b h) one.1 widened) in
     lowered_none p l lowered place register (kind_at b register) (kind_at h register) other written low (here.registers register small)
 
--- where the loop stores nothing is known of any word of the stack where it was widened
+-- if the loop stores, nothing is known of any word of the stack after the head is widened
 widened_wide : (p : Program) (l : Loop) (place : ℕ) (lowered : List Bool) (came : Option StateValue) (h : StateValue) → IsProgram p → IsDeclared p l place → IsWidenedIfAny p lowered l.head came (Some h) → HasStore p l → AreAllWhole h.ranges
 widened_wide p l place lowered None h limits declared widened stored = absurd widened
 widened_wide p l place lowered (Some b) h limits declared (stays none same) stored =
@@ -161,7 +161,7 @@ widened_wide p l place lowered (Some b) h limits declared (widens m also inner a
 
 -- ---- from one slot to the next
 
--- where nothing was known in the loop, what is known there may be anything
+-- if nothing was known in the loop, what is known there may be anything
 below_more : (p : Program) (l : Loop) (inner : ℕ → Option StateValue) (table : TableValue) (runs : Bool) (state : StateValue) (slot : ℕ) → StaysBelow p table runs state slot (ring l nothing) → StaysBelow p table runs state slot (ring l inner)
 below_more p l inner table runs state slot below = record {
   known = λ k. grown k (knowledge_in table k) (below.known k);
@@ -175,7 +175,7 @@ below_more p l inner table runs state slot below = record {
     grown k None was = tt
     grown k (Some a) was = ring_more (λ o. IsCovered a o) l inner k (λ none. none) was
 
--- the head of a loop is kept, so no running state stands there
+-- the head of a loop is kept, so no running state is there
 never_runs : (p : Program) (l : Loop) (place slot : ℕ) (was : Bool) → IsFormed p → IsDeclared p l place → l.head ≡ slot → (IsTrue was → IsKept p slot → ⊥) → was ≡ false
 never_runs p l place slot false form declared at plain = refl
 never_runs p l place slot true form declared at plain =

@@ -56,7 +56,7 @@ stores_at (Some insn) = by_test (is_store insn) refl
     by_test true is = inl is
     by_test false is = inr (λ stores. false≢true (sym is ∙ stores))
 
--- an instruction of the loop's first ones is so
+-- one of the loop's first `n` slots is so
 record IsFound (Q : Option Insn → Type 0) (p : Program) (l : Loop) (n : ℕ) : Type 0 where
   slot : ℕ
   above : l.head ≤ slot
@@ -156,7 +156,7 @@ back_below shrinks l a edge is = by_edges (refined_edges a NotEqual Bits64 l.reg
 
 -- ---- covered, or lowered
 
--- a loop writes r0 to r9 alone where its head knows a number
+-- if the head of a loop knows a number, the loop writes only r0 to r9
 written_small : (p : Program) (l : Loop) (h : StateValue) (register : ℕ) → IsFormed p → IsWhole h → IsWrittenIn p l register → IsTrue (is_number (kind_at h register)) → register ≤ 9
 written_small p l h register form whole written number =
     elim (cases_lt register 10) [

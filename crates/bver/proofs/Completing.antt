@@ -1,5 +1,6 @@
--- Slot by slot of a pass: below what is closed, at whose heads what was lowered holds nothing, what the pass knows stays,
--- and what it lowers holds nothing there either; no edge back is refused, and what is told of a refusal has to be known.
+-- Slot by slot of a pass that starts below what is closed. If what was lowered holds nothing at the heads of what is
+-- closed, what the pass knows stays below it. What the pass lowers holds nothing there either. No edge back is
+-- refused, and what a refusal gives must be known.
 use Rattle.std.proofs.Common.{◌≡◌, ◌≢◌, ℕ, zero, suc, ◌*◌, ◌+◌, ◌≤◌, ◌⊎◌, inl, inr, ℤ, pos, negsuc, Bool, true, false, List, [], ◌∷◌, ◌-◌, Option, None, Some, Result, Ok, Err, refl, sym, ap, subst, ◌∙◌, arith}
 use Rattle.std.specs.Prelude.{IfErr, IfSome, IsTrue, slice_index_or}
 use Rattle.std.proofs.lemmas.Bool.{false≢true}
@@ -74,11 +75,11 @@ pub record IsCompleting (p : Program) (start lowered : List Bool) (table : Table
 
 -- ---- what an edge back lowers
 
--- at a place one loop is declared
+-- one loop is declared at a place
 declared_once : (p : Program) (l m : Loop) (place : ℕ) → IsDeclared p l place → IsDeclared p m place → l ≡ m
 declared_once p l m place f g = sym (f.is l) ∙ g.is l
 
--- what is known along the jump comes to where it leads
+-- what is known along the jump comes to the slot to which it leads
 back_leads : (spill : Spill) (comes : ℕ → Option StateValue) (l : Loop) (a edge : StateValue) → l.head ≤ l.back → LeadsBelow spill comes l.back a (back_jump l) → jumping_state a (back_jump l) ≡ Some edge → IsCovered edge (comes l.head)
 back_leads spill comes l a edge ordered leads is =
     subst (λ (z : ℤ). IsCovered edge (knowledge_at comes z)) (to_head l.head l.back ordered) (by_edges (refined_edges a NotEqual Bits64 l.register (Immediate (pos 0))) leads is)
@@ -213,7 +214,7 @@ complete_next rules v p maps slot start lowered now old new was runs before afte
     by_insn (Some insn) begins visit least =
         complete_insn rules (record { program = p; maps = maps; slot = slot }) start lowered now old new was runs before after settled region insn limits form begins plain proper whole visit least h
 
--- ---- no visit is refused
+-- ---- no visit is refused at an edge back
 
 -- an edge back is covered, or lowers what was not lowered before
 back_refuted : Rules → (v : VisitValue) (start lowered : List Bool) (old : TableValue) (was : Bool) (before : StateValue) (insn : Insn)
@@ -242,7 +243,7 @@ back_refuted rules v start lowered old was before insn form begins plain whole h
         let behind : IsBehind u.declared v.slot = (omega (arith, u.is.limits.ordered, u.back), omega (arith, u.back)) in
         by_turn u behind (knowledge_in old u.declared.head) refl ((h.circles u.declared u.place u.is).within behind.0 behind.1)
 
--- what is told where the visit of a slot is refused
+-- what a refused visit of a slot gives
 pub complete_told : Rules → (v : VisitValue) (p : Program) (maps : Maps) (slot : ℕ) (start lowered : List Bool) (old : TableValue) (was : Bool) (before told : StateValue) (refused : Refused)
     → v ≡ record { program = p; maps = maps; slot = slot } → IsFormed p → (IsTrue was → IsKept p slot → ⊥)
     → IsWhole before → AreWhole (knowledge_in old)
@@ -274,7 +275,7 @@ lowers_nothing p lowered table none l place declared = by_there (table l.head)
     by_there None = tt
     by_there (Some d) = λ register small other written low. absurd (false≢true (sym (count_nothing lowered none (10 * place + register)) ∙ low))
 
--- what is told where a pass is refused, which is handed on
+-- what a refused pass gives, which the caller hands on
 pub told_on : {T : Type 0} (result : Result T Refused) (e : Refused) (Tells : Refused → Type 0) → result ≡ Err e → Tells e → IfErr result Tells
 told_on (Ok done) e Tells is tells = tt
 told_on (Err refused) e Tells is tells =

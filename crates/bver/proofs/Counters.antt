@@ -1,4 +1,4 @@
--- The counters of the loops that a path stands in: each is 1 to its bound, and is taken down before the back.
+-- The counters of the loops around a path: each is 1 to its bound, and the loop takes one from it before the back.
 use Rattle.std.proofs.Common.{◌≡◌, ◌≢◌, ℕ, zero, suc, ◌+◌, ◌-◌, ◌<◌, ◌≤◌, ◌⊎◌, inl, inr, ℤ, pos, negsuc, Bool, true, false, List, [], ◌∷◌, length, Option, Some, refl, sym, ap, subst, ◌∙◌, arith, eqb}
 use Rattle.std.specs.Prelude.{IsTrue, ◌==◌, if◌then◌else◌, slice_index_or, All, IfSome}
 use Rattle.std.proofs.lemmas.Bool.{false≢true, cases_lt}
@@ -63,9 +63,9 @@ values_at slots least (l ∷ ls) s (suc k) d h below =
     let rest = loop_in slots (l.head + 1) ls k d h.2 (omega arith) in
     rw (eqb_other l.head (slice_index_or ls k d).head (omega (arith, rest.0))) (values_at slots (l.head + 1) ls s k d h.2 (omega arith))
 
--- ---- a loop that is stood in
+-- ---- a loop around the slot
 
--- its counter is a number within the bound: 1 at least, but at the back, where it was taken down already
+-- its counter is a number within the bound; it is 1 at least, except at the back, after the loop took one from it
 pub record IsCounting (l : Loop) (s : State) : Type 0 where
   pub value : ℕ
   pub is : s.registers l.register ≡ Num value
@@ -84,7 +84,7 @@ taken_down : (n : ℕ) → 1 ≤ n → n ≤ 4096 → alu_words Add Bits64 n (wo
 taken_down zero low high = absurd (omega arith)
 taken_down (suc m) low high = omega arith
 
--- the next slot, and a register that is one less than it was
+-- the next slot, and a register that is one less than before
 abbrev IsDown : State → (register was : ℕ) → Outcome → Type 0
 IsDown s register was (Next t) = (t.slot ≡ s.slot + 1) × (m : ℕ) × (t.registers register ≡ Num m) × (m + 1 ≡ was)
 IsDown s register was (Ask question on) = ⊥

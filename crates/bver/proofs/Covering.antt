@@ -1,4 +1,4 @@
--- What is covered stays covered where more is.
+-- What is covered stays covered if more is known.
 use Rattle.std.proofs.Common.{ℕ, ◌+◌, Option, None, Some, Result, Ok, Err}
 use Rattle.bpf_insn.specs.declared.insn.Insn.{Insn}
 use Rattle.bpf_insn.specs.declared.insn.Insn.TheVariants.{Alu, Negate, MoveSigned, ByteSwap, Load, Store, Jump, Goto, Wide, LoadMap, LoadAddress, Call, Exit}
@@ -29,7 +29,7 @@ proceeds_more : BelowIsTransitive → (spill : Spill) (old new : ℕ → Option 
 proceeds_more transitive spill old new slot a insn grown h =
     result_covered_more transitive (after_insn spill a insn) (old (slot + slots_of insn)) (new (slot + slots_of insn)) h (grown (slot + slots_of insn))
 
--- what is permitted stays so where the table knows more
+-- what a table permits, it permits if it knows more
 permitted_more : BelowIsTransitive → (spill : Spill) (maps : Maps) (old new : ℕ → Option StateValue) (slot : ℕ) (a : StateValue) (insn : Insn) → AreCovered old new → IsPermitted spill maps old slot a insn → IsPermitted spill maps new slot a insn
 permitted_more transitive spill maps old new slot a (Alu op width dst src) grown h = proceeds_more transitive spill old new slot a (Alu op width dst src) grown h
 permitted_more transitive spill maps old new slot a (Negate width dst) grown h = proceeds_more transitive spill old new slot a (Negate width dst) grown h
@@ -53,7 +53,7 @@ permitted_at_more transitive spill maps old new slot None i grown h = tt
 permitted_at_more transitive spill maps old new slot (Some a) None grown h = absurd h
 permitted_at_more transitive spill maps old new slot (Some a) (Some insn) grown h = permitted_more transitive spill maps old new slot a insn grown h
 
--- ---- where an instruction leads
+-- ---- the slots to which an instruction leads
 
 result_leads_more : BelowIsTransitive → (r : Result StateValue Cause) (x y : Option StateValue) → GivesBelow r x → IsCoveredIfAny x y → GivesBelow r y
 result_leads_more transitive (Err cause) x y h g = tt
@@ -68,7 +68,7 @@ proceeds_lead_more : BelowIsTransitive → (spill : Spill) (old new : ℕ → Op
 proceeds_lead_more transitive spill old new slot a insn grown h =
     result_leads_more transitive (after_insn spill a insn) (old (slot + slots_of insn)) (new (slot + slots_of insn)) h (grown (slot + slots_of insn))
 
--- what is led to is covered where the table knows more
+-- what an instruction leads to is covered if the table knows more
 pub leads_more : BelowIsTransitive → (spill : Spill) (old new : ℕ → Option StateValue) (slot : ℕ) (a : StateValue) (insn : Insn) → AreCovered old new → LeadsBelow spill old slot a insn → LeadsBelow spill new slot a insn
 leads_more transitive spill old new slot a (Alu op width dst src) grown h = proceeds_lead_more transitive spill old new slot a (Alu op width dst src) grown h
 leads_more transitive spill old new slot a (Negate width dst) grown h = proceeds_lead_more transitive spill old new slot a (Negate width dst) grown h

@@ -14,14 +14,14 @@ use Rattle.bver_form.proofs.Kept.{lands_first}
 use Rattle.bver_form.proofs.Kept.{begins_inside}
 use Rattle.bver_form.proofs.Kept.{jumps_first}
 
--- ---- where jumps lead
+-- ---- the slots to which jumps lead
 
 pub lands_inside : (p : Program) (z : ℤ) (slot : ℕ) → first_slot p z ≡ Some slot → slot < length p.slots
 lands_inside p z slot is = begins_inside p slot (lands_first p z slot is)
 
 -- ---- the entries
 
--- something is known only where there is an entry
+-- something is known only if there is an entry
 pub known_entry : (t : TableValue) (slot : ℕ) → IsSome (knowledge_in t slot) → HasEntry t slot
 known_entry t slot some =
     elim (cases_lt (place_at t.places slot) (length t.entries)) [
@@ -44,6 +44,6 @@ kept_begins p slot limits kept =
       | inr target ↦ jumps_first p target.from slot (insn_at p target.from) target.jumps
     ]
 
--- where something is known an instruction begins
+-- if something is known, an instruction begins
 pub known_begins : (t : TableValue) (slot : ℕ) → IsProgram t.program → AreEntries t → IsSome (knowledge_in t slot) → IsSome (insn_at t.program slot)
 known_begins t slot limits h some = kept_begins t.program slot limits (h.only slot (known_entry t slot some))

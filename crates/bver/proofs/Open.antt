@@ -1,5 +1,5 @@
--- What is closed of every program that has its form: nothing is known of what comes and stands, but of the counter at the head of
--- a loop.
+-- What is closed of every program that has its form. Nothing is known of what comes and what holds, except of the
+-- counter at the head of a loop.
 use Rattle.std.proofs.Common.{◌≡◌, ◌≢◌, ◌<◌, ◌≤◌, ◌+◌, ℕ, zero, suc, Bool, true, false, List, [], ◌∷◌, Option, Some, ◌⊎◌, inl, inr, length, refl, sym, ap, subst, arith, ◌∙◌}
 use Rattle.std.specs.Prelude.{◌==◌, ◌^◌, if◌then◌else◌, replicate, slice_index_or, All, IfSome}
 use Rattle.std.proofs.lemmas.Bool.{false≢true}
@@ -60,7 +60,7 @@ words_below : (a : StateValue) → IsBelow a nothing → AreWords a.ranges
 unfolding nothing
 words_below a h w = subst (λ (r : Range). IsWithin (range_in a.ranges w) r) (replicated 64 w (whole_range Bits64)) (h.ranges w)
 
--- ---- what stands at heads
+-- ---- what holds at heads
 
 pub stands_at : List Loop → ℕ → StateValue
 stands_at [] slot = marked []

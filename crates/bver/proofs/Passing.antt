@@ -1,5 +1,5 @@
--- From one slot of a pass to the next: what is known at the slots that were visited, at those with entries, and where
--- the running state stands.
+-- From one slot of a pass to the next. It says what is known at the visited slots and at those with entries, and the
+-- slot of the running state.
 use Rattle.std.proofs.Common.{◌≡◌, ◌≢◌, ℕ, ◌+◌, ◌<◌, ◌≤◌, Bool, true, false, Option, None, Some, List, length, refl, sym, ap, subst, ◌∙◌, arith}
 use Rattle.std.specs.Prelude.{slice_set, IfSome, IsSome, IsTrue, nat_lt, if◌then◌else◌, ◌==◌}
 use Rattle.std.proofs.lemmas.Bool.{false≢true}
@@ -27,14 +27,14 @@ use Rattle.bver.proofs.Visiting.{Grows, extended_before, permitted_next, visited
 use Rattle.bver_pass.proofs.Extending.{extended_twice}
 use Rattle.bver_pass.proofs.Carried.{by_order, carried_any, carried_covers}
 
--- the running state stands at that slot: the next one from here on where an instruction begins, to which no jump leads
+-- the running state is at that slot: the next one from here at which an instruction begins; no jump leads to it
 pub record StandsAt (p : Program) (slot next : ℕ) : Type 0 where
   pub from : slot ≤ next
   pub begins : IsSome (insn_at p next)
   pub between : (k : ℕ) → slot ≤ k → k < next → insn_at p k ≡ None
   pub plain : IsKept p next → ⊥
 
--- the slots before this one were visited, and the table and the running state say what is known from here on
+-- the slots before this one were visited, and the table and the running state say what is known from here
 pub record IsPassing (p : Program) (maps : Maps) (table : TableValue) (runs : Bool) (state : StateValue) (regions : List (Option Region)) (settled : Type 0) (slot : ℕ) : Type 0 where
   pub known : ℕ → Option StateValue
   pub next : ℕ
@@ -48,7 +48,7 @@ pub record IsPassing (p : Program) (maps : Maps) (table : TableValue) (runs : Bo
 
 -- ---- by cases
 
--- what holds of the running state where a slot is visited with it, and else of what the table knows
+-- what holds of the running state if the slot is visited with it, and else of what the table knows
 visited_any : (P : Option StateValue → Type 0) (runs : Bool) (state : StateValue) (t : TableValue) (slot : ℕ) → (IsTrue runs → P (Some state)) → (runs ≡ false → P (knowledge_in t slot)) → P (visited_state runs state t slot)
 visited_any P false state t slot stands known = known refl
 visited_any P true state t slot stands known = stands refl
@@ -80,7 +80,7 @@ revised_any P before slot here after k earlier same later =
 
 -- ---- a visit
 
--- what the visit of the instruction at a slot tells, and where it stands
+-- what the visit of the instruction at a slot gives, and the slot of the running state
 pub record IsVisited (p : Program) (maps : Maps) (old new : TableValue) (was runs : Bool) (before after : StateValue) (settled : Type 0) (region : Option Region) (slot : ℕ) (insn : Insn) : Type 0 where
   pub limits : IsProgram p
   pub own : old.program ≡ p
@@ -90,7 +90,7 @@ pub record IsVisited (p : Program) (maps : Maps) (old new : TableValue) (was run
   pub before_plain : IsTrue was → IsKept p slot → ⊥
   pub visit : IsInsnVisit (record { program = p; maps = maps; slot = slot }) old new was runs before after settled region insn
 
--- the running state stands at the slot where an instruction begins
+-- if an instruction begins at the slot, the running state is there
 pub stands_here : (p : Program) (slot next : ℕ) (insn : Insn) → insn_at p slot ≡ Some insn → StandsAt p slot next → next ≡ slot
 stands_here p slot next insn begins h =
     by_order (next ≡ slot) slot next
@@ -301,7 +301,7 @@ passing_skip reflexive transitive p maps table runs state regions settled slot n
       whole = h.visited.entry.whole;
     }
 
--- where a running state stands, no jump leads
+-- no jump leads to the slot of a running state
 pub passing_plain : (p : Program) (maps : Maps) (table : TableValue) (runs : Bool) (state : StateValue) (regions : List (Option Region)) (settled : Type 0) (slot : ℕ) → IsProgram p → IsPassing p maps table runs state regions settled slot → IsTrue runs → IsKept p slot → ⊥
 passing_plain p maps table runs state regions settled slot limits h on kept =
     let was = h.stands on in

@@ -1,4 +1,4 @@
--- What covers all that a pass knows but in one loop, and where an instruction leads from there.
+-- What covers all that a pass knows except in one loop, and the slots to which an instruction leads from there.
 use Rattle.std.proofs.Common.{◌≡◌, ℕ, ◌+◌, ◌<◌, ◌≤◌, ◌⊎◌, inl, inr, ℤ, pos, negsuc, Bool, true, false, [], Option, None, Some, Result, Ok, Err, refl, arith}
 use Rattle.std.specs.Prelude.{IsSome, IfSome, IfOk, ◌&&◌, nat_lt, nat_le, if◌then◌else◌}
 use Rattle.std.proofs.lemmas.Bool.Decides.{nat_tests}
@@ -23,13 +23,13 @@ use Rattle.bver_pass.specs.Leading.{BranchesBelow, GivesBelow, LeadsBelow}
 use Rattle.bver_pass.specs.Visit.{HasNext, IsNext, VisitValue}
 use Rattle.bver.proofs.Rounds.{marked}
 
--- ---- what covers all but in the loop
+-- ---- what covers all except in the loop
 
--- the slot lies in the loop behind its head
+-- the slot lies in the loop after its head
 abbrev pub IsBehind : Loop → ℕ → Type 0
 IsBehind l k = (l.head < k) × (k ≤ l.back)
 
--- in the loop behind its head something else than the state that covers all
+-- in the loop after its head another state than the one that covers all
 pub ring : Loop → (inner : ℕ → Option StateValue) → ℕ → Option StateValue
 ring l inner k = if nat_lt l.head k && nat_le k l.back then inner k else Some (marked [])
 
@@ -58,7 +58,7 @@ ring_any P l inner k behind other = by_tests (nat_lt l.head k) refl (nat_le k l.
     by_tests true is false also = other
     by_tests false is u also = other
 
--- where nothing was known in the loop anything may be
+-- if nothing was known in the loop, anything may be
 pub ring_more : (P : Option StateValue → Type 0) (l : Loop) (inner : ℕ → Option StateValue) (k : ℕ) → (P None → ⊥) → P (ring l (λ i. None) k) → P (ring l inner k)
 unfolding ring
 ring_more P l inner k none was = by_tests (nat_lt l.head k) (nat_le k l.back) was
@@ -68,9 +68,9 @@ ring_more P l inner k none was = by_tests (nat_lt l.head k) (nat_le k l.back) wa
     by_tests true false was = was
     by_tests false u was = was
 
--- ---- where an instruction leads
+-- ---- the slots to which an instruction leads
 
--- what is known along each edge leaves what the instruction does not write, or says more
+-- what is known along each edge keeps what the instruction does not write, or says more
 pub leads_by : ApplyLeaves → CallLeaves → RefineShrinks → BelowIsReflexive → (v : VisitValue) (above : ℕ → Option StateValue) (a : StateValue) (insn : Insn) → IsFormed v.program → HasNext v insn → insn_at v.program v.slot ≡ Some insn
     → ((k : ℕ) (b : StateValue) → IsEdge v.program v.slot k → IsSome (insn_at v.program k) → IsLeftBy insn a b ⊎ IsBelow b a → IsCovered b (above k))
     → LeadsBelow (spill_of v.program.version) above v.slot a insn

@@ -22,7 +22,7 @@ use Rattle.bver.specs.Told.{IsBelowBut}
 use Rattle.bver_pass.specs.Heads.{is_number}
 use Rattle.bver_pass.specs.Justified.{HasStore, IsHead, IsOpen, IsStoreAt, IsWrittenBy, IsWrittenIn}
 
--- the values of a loop's counter at a slot of it: at the back it was taken down already
+-- the values of a loop's counter at a slot of it: at the back the loop took one from it
 abbrev pub counter_range : Loop → (slot : ℕ) → ℕ × ℕ
 counter_range l slot = if slot == l.back then (0, l.bound - 1) else (1, l.bound)
 
@@ -30,7 +30,7 @@ counter_range l slot = if slot == l.back then (0, l.bound - 1) else (1, l.bound)
 abbrev pub AreWords : List Range → Type 0
 AreWords ranges = AreRangesWithin ranges []
 
--- what is known at a slot of the loop says all that is known at its head, but of what the loop writes
+-- what is known at a slot of the loop says all that is known at its head, except of what the loop writes
 pub record IsRound (p : Program) (l : Loop) (slot : ℕ) (head a : StateValue) : Type 0 where
   pub unwritten : (register : ℕ) → (IsWrittenIn p l register → ⊥) → IsKindBelow (kind_at a register) (kind_at head register)
   pub counter : IsKindBelow (kind_at a l.register) (Num (counter_range l slot))
@@ -58,7 +58,7 @@ words_whole ranges whole k = rw (whole k) (record { above = omega arith; below =
 pub ranges_whole : (first second : List Range) → AreWords first → AreAllWhole second → AreRangesWithin first second
 ranges_whole first second words whole k = rw (whole k) (words k)
 
--- ---- one register alone
+-- ---- only one register
 
 pub unset_top : (k : AbsKind) → IsKindBelow k Unset
 unset_top Unset = tt
@@ -116,7 +116,7 @@ pub kind_alone_but : (r : ℕ) (k : AbsKind) (q : ℕ) → q ≢ r → kind_at (
 unfolding alone
 kind_alone_but r k q other = padded_but r k q other
 
--- what covers every state but in one register
+-- what covers every state except in one register
 pub but_alone : (a : StateValue) (r : ℕ) (k : AbsKind) → AreWords a.ranges → IsBelowBut r a (alone r k)
 unfolding alone
 but_alone a r k words = record {
@@ -184,7 +184,7 @@ round_less transitive p l slot head a b below h = record {
   words = ranges_less a.ranges b.ranges [] below.ranges h.words;
 }
 
--- an instruction of the loop that leaves what it does not write leaves what the head says, where it does not count
+-- an instruction of the loop that keeps what it does not write keeps what the head says, if it does not count
 pub round_left : (p : Program) (l : Loop) (slot next : ℕ) (head a b : StateValue) (insn : Insn) → IsTrue (holds l slot) → insn_at p slot ≡ Some insn → is_written insn l.register ≡ false → counter_range l next ≡ counter_range l slot → IsWhole a → IsLeftBy insn a b → IsRound p l slot head a → IsRound p l next head b
 round_left p l slot next head a b insn inside begins counter same whole left h = record {
   unwritten = λ register out.
@@ -211,7 +211,7 @@ round_left p l slot next head a b insn inside begins counter same whole left h =
     unwritten_by : (register : ℕ) → (IsWrittenIn p l register → ⊥) → is_written insn register ≡ false
     unwritten_by register out = by_test register (is_written insn register) refl out
 
--- what is known stays so at another slot with as many rounds to go
+-- what is known stays so at another slot with as many rounds left
 pub round_there : (p : Program) (l : Loop) (slot next : ℕ) (head a : StateValue) → counter_range l next ≡ counter_range l slot → IsRound p l slot head a → IsRound p l next head a
 round_there p l slot next head a same h =
     record { unwritten = h.unwritten; counter = rw same h.counter; marks = h.marks; ranges = h.ranges; words = h.words }
@@ -236,8 +236,8 @@ open_covers (Map i) (Num b) is_open proper number = absurd (no (number refl))
     no : false ≡ true → ⊥
     no is = cc
 
--- an edge back whose counter is within the bound again, and on which each number of the head is a number, is covered;
--- whether the loop writes a register is decided by `writes`, and whether it stores by `stores`
+-- An edge back is covered if its counter is within the bound again, and each number of the head is a number on it.
+-- `writes` decides whether the loop writes a register, and `stores` whether it stores.
 pub closes : (p : Program) (l : Loop) (head edge : StateValue) → IsWhole edge → IsHead p l head
     → ((register : ℕ) → (IsWrittenIn p l register → ⊥) → IsKindBelow (kind_at edge register) (kind_at head register))
     → IsKindBelow (kind_at edge l.register) (Num (1, l.bound)) → AreMarkedIn head.marks edge.marks

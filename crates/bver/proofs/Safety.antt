@@ -1,5 +1,5 @@
--- A justified program is safe: each step of a path takes what its instruction costs from what is left of the weight,
--- and where it stands the cost of one instruction is left.
+-- A justified program is safe: each step of a path takes what its instruction costs from what is left of the weight.
+-- At the slot of the path the cost of one instruction is left.
 use Rattle.std.proofs.Common.{◌≡◌, ◌≢◌, ℕ, ◌+◌, ◌<◌, ◌≤◌, Bool, true, false, List, length, Option, None, Some, refl, sym, ap, subst, ◌∙◌, arith}
 use Rattle.std.specs.Prelude.{◌&&◌, slice_index, slice_index_or, All, IfSome, IsSome}
 use Rattle.std.proofs.lemmas.Bool.{lt-ltb}
@@ -55,12 +55,12 @@ begun_at p maps h t at k d below same =
 
 -- ---- counting
 
--- after a path that cost so much, what is left is within the weight
+-- after a path that cost `spent`, what is left is within the weight
 record Counted (cost : Insn → ℕ) (p : Program) (spent : ℕ) (s : State) : Type 0 where
   pub counting : AreCounting p s
   pub within : spent + weight_left cost p (values_of p.loops s) s.slot ≤ weight_by cost p
 
--- an instruction begins where a path stands
+-- an instruction begins at the slot of a path
 begins_here : (spill : Spill) (maps : Maps) (table : ℕ → Option StateValue) (slot : ℕ) (a : StateValue) (o : Option Insn) → IsPermittedAt spill maps table slot (Some a) o → IsSome o
 begins_here spill maps table slot a None h = absurd h
 begins_here spill maps table slot a (Some insn) h = refl
@@ -91,7 +91,7 @@ counted_first laws cost p maps h port at = record {
         let high = begun_high l (s.registers l.register) (begun_at p maps h s at k d below (sym first)) in
         subst (λ (head : ℕ). values head ≤ l.bound) first (rw (values_at (length p.slots) 0 p.loops s k d h.limits.loops below) high)
 
--- an instruction that goes on leaves the registers that it does not write
+-- an instruction that goes on keeps the registers that it does not write
 left_by : (insn : Insn) (s t : State) (o : Outcome) → LeadsTo o t → AreLeftBy insn s o → (register : ℕ) → is_written insn register ≡ false → t.registers register ≡ s.registers register
 left_by insn s t o (at_once e) left = (subst (λ (w : Outcome). AreLeftBy insn s w) e left).registers
 left_by insn s t o (by_answer question on answer e is) left =
@@ -147,7 +147,7 @@ is_safe_for laws p maps h cost header port calls n s good low path =
 pub is_safe_for_costs : Laws → (p : Program) (maps : Maps) → IsJustified p maps → IsSafeForCosts p
 is_safe_for_costs laws p maps h = record { costs = is_safe_for laws p maps h }
 
--- ---- where each instruction costs one
+-- ---- if each instruction costs one
 
 abbrev one : Insn → ℕ
 one insn = 1

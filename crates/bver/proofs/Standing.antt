@@ -1,4 +1,4 @@
--- Every path of a justified program stands at a slot with a state that fits what is known there.
+-- Every path of a justified program is at a slot with a state that fits what is known there.
 use Rattle.std.proofs.Common.{◌≡◌, ℕ, ◌+◌, ◌^◌, ◌<◌, ℤ, pos, negsuc, Bool, true, false, List, Option, None, Some, Result, Ok, Err, refl, sym, subst}
 use Rattle.std.specs.Prelude.{IsTrue, IsSome, if◌then◌else◌}
 use Rattle.bpf.specs.Program.{Program}
@@ -57,7 +57,7 @@ pub record Laws : Type 0 where
   pub ones : WeightIsOfOnes
   pub entered : LoopsAreEntered
 
--- where a path stands
+-- a path is at a slot of which something is known that its state fits
 pub record Stands (table : ℕ → Option StateValue) (s : State) : Type 0 where
   pub known : StateValue
   pub is : table s.slot ≡ Some known
@@ -70,7 +70,7 @@ Continues table (Ask question on) = (answer : ℕ) → answer < 2 ^ 64 → Stand
 Continues table (Verdict v) = Unit {0}
 Continues table Trap = ⊥
 
--- a state that fits what is covered at its slot stands there
+-- a state that fits what is covered at its slot is there
 stands_by : BelowFits → (table : ℕ → Option StateValue) (t : State) (a : StateValue) (o : Option StateValue) → table t.slot ≡ o → Fits t a → IsCovered a o → Stands table t
 stands_by below table t a None is fits covered = absurd covered
 stands_by below table t a (Some b) is fits covered = record { known = b; is = is; fits = below t a b covered fits }
@@ -127,7 +127,7 @@ exits_with table (MapOf index) (Num range) fits number = absurd fits
 exits_with table v (Ptr region offsets) fits number = absurd number
 exits_with table v (Map index) fits number = absurd number
 
--- a helper's argument, where it has one
+-- a helper's argument, if it has one
 argument_from : (t : Bool) (v : Value) (k : AbsKind) → FitsKind v k → (IsTrue t → IsNumber k) → IsSome (if t then number v else Some 0)
 argument_from false v k fits has = refl
 argument_from true v k fits has = number_from v k fits (has refl)
@@ -159,7 +159,7 @@ asks_on below call maps table s a helper (MapOf own) (Number n) None (Map index)
 asks_on below call maps table s a helper (MapOf own) (Number n) (Some argument) (Map index) (Num range) is has cell some fits covered =
     λ answer low. arrives below table (answer_to s answer) (after_call a) (call s a answer low fits) covered
 
--- a helper's call, where it may be asked
+-- a helper's call, if it is permitted
 helper_on : BelowFits → CallFits → (maps : Maps) (table : ℕ → Option StateValue) (s : State) (a : StateValue) (called : Option Helper) → MayCall maps called a → Fits s a → IsCovered (after_call a) (table (s.slot + 1)) → Continues table (calls_helper s called)
 helper_on below call maps table s a None may fits covered = absurd may
 helper_on below call maps table s a (Some helper) may fits covered =
@@ -224,7 +224,7 @@ insn_known p formed slot (Some insn) is = flow_known p.version (flow_of insn) (f
 pub performs_here : StepPerforms → (p : Program) (maps : Maps) → IsJustified p maps → (header : Header) (s : State) → step p header s ≡ perform_at header s (insn_at p s.slot)
 performs_here performs p maps h header s = performs p header s (insn_known p h.formed s.slot (insn_at p s.slot) refl)
 
--- what is known where a path stands permits its instruction
+-- what is known at the slot of a path permits its instruction
 pub permitted_here : (p : Program) (maps : Maps) (h : IsJustified p maps) (s : State) (at : Stands h.table s) → IsPermittedAt (spill_of p.version) maps h.table s.slot (Some at.known) (insn_at p s.slot)
 permitted_here p maps h s at =
     subst (λ (k : Option StateValue). IsPermittedAt (spill_of p.version) maps h.table s.slot k (insn_at p s.slot)) at.is (h.permitted s.slot)
@@ -234,7 +234,7 @@ continues laws p maps h header s good at =
     rw (performs_here laws.performs p maps h header s)
     (continues_from laws p maps h header s at (insn_at p s.slot) good refl (permitted_here p maps h s at))
 
--- every path stands somewhere
+-- every path is at some slot
 begins_at : Laws → (p : Program) (maps : Maps) (h : IsJustified p maps) (port : ℕ) → port < 32 → Stands h.table (entry_state port)
 begins_at laws p maps h port low =
     arrives laws.below h.table (entry_state port) h.entered.known (laws.entry h.entered.known port h.entered.entry low) h.entered.covered

@@ -1,5 +1,5 @@
--- The visit of an instruction in a loop: what is known where it leads says all that the loop's head says of what the
--- loop does not write, and the counter is within the bound.
+-- The visit of an instruction in a loop. At the slots to which it leads, what is known says all that the loop's head
+-- says of what the loop does not write. The counter is within the bound.
 use Rattle.std.proofs.Common.{◌≡◌, ◌≢◌, ℕ, ◌+◌, ◌-◌, ◌<◌, ◌≤◌, ◌^◌, ◌⊎◌, inl, inr, Bool, true, false, List, [], Option, None, Some, refl, sym, subst, ◌∙◌, arith, get_or-set_same, get_or-set_other}
 use Rattle.std.specs.Prelude.{IsTrue, IsSome, IfSome, ◌==◌, if◌then◌else◌}
 use Rattle.std.proofs.lemmas.Bool.{cases_lt, false≢true}
@@ -36,7 +36,7 @@ use Rattle.bver.proofs.Rings.{leads_by, ring, ring_any, ring_behind}
 use Rattle.bver.proofs.Rounds.{AreWords, IsRound, below_all, counter_range, ranges_less, ranges_same, round_left, round_less, round_there, words_of}
 use Rattle.bver.proofs.Steps.{step_within}
 
--- what holds of what an instruction leaves
+-- what holds of the state after an instruction
 pub record Leaves : Type 0 where
   pub reflexive : BelowIsReflexive
   pub transitive : BelowIsTransitive
@@ -91,7 +91,7 @@ counter_written p m ordered formed = record {
     writes : IsTrue (is_written (step_down m) m.register)
     writes = grind (arith, nat_tests)
 
--- but none of a loop around it
+-- but it writes no counter of a loop around it
 counter_apart : (p : Program) (l m : Loop) → IsLoopFormed p l → IsLoopFormed p m → IsInside m l → IsWrittenIn p m l.register → ⊥
 counter_apart p l m outer inner inside w = by_place (cases_lt (w.slot + 1) l.back)
   where
@@ -114,13 +114,13 @@ kind_kept p m lowered place register before after other out (counts at is) = abs
 kind_kept p m lowered place register before after other out (opens o written is) = absurd (out written)
 kind_kept p m lowered place register before after other out (keeps o w is) = is
 
--- what an inner loop stores the loop around it does
+-- if an inner loop stores, so does the loop around it
 stored_inside : (p : Program) (l m : Loop) → IsInside m l → HasStore p m → HasStore p l
 stored_inside p l m inside s =
     let within = inside_of m s.slot s.inside in
     record { slot = s.slot; inside = holds_at l s.slot (omega (arith, inside.0, within.0)) (omega (arith, inside.1, within.1)); stores = s.stores }
 
--- the ranges of words are kept where the loop does not store
+-- if the loop does not store, the ranges of words are kept
 ranges_kept : (p : Program) (m : Loop) (before after head : StateValue) → (HasStore p m → ⊥) → AreWidenedRanges p m before after → AreRangesWithin before.ranges head.ranges → AreRangesWithin after.ranges head.ranges
 ranges_kept p m before after head out (forgets stored is) within = absurd (out stored)
 ranges_kept p m before after head out (retains o is) within = rw is within
@@ -159,18 +159,18 @@ round_widened p l m lowered place slot h before after ordered outer inner inside
   words = words_of after p_after;
 }
 
--- ---- where an instruction leads
+-- ---- the slots to which an instruction leads
 
--- what says, slot by slot of the loop, no more than the head says of what the loop does not write
+-- a table of the loop's slots that says no more than the head says of what the loop does not write
 abbrev pub IsAround : Program → Loop → (head : StateValue) → (around : ℕ → StateValue) → Type 0
 IsAround p l head around = (slot : ℕ) (b : StateValue) → IsRound p l slot head b → IsBelow b (around slot)
 
--- what a whole state becomes has ranges of words
+-- the state after an instruction in a whole state has ranges of words
 moved_words : (a b : StateValue) (insn : Insn) → IsWhole a → IsLeftBy insn a b ⊎ IsBelow b a → AreWords b.ranges
 moved_words a b insn whole (inl left) k = record { above = omega arith; below = omega (arith, (left.proper whole k).words) }
 moved_words a b insn whole (inr below) k = ranges_less b.ranges a.ranges [] below.ranges (words_of a whole) k
 
--- into a loop no instruction outside leads but to its head
+-- an instruction outside a loop leads to no slot of it except its head
 pub leads_outside : Leaves → (v : VisitValue) (l : Loop) (inner : ℕ → Option StateValue) (a : StateValue) (insn : Insn) → IsFormed v.program → HasNext v insn → insn_at v.program v.slot ≡ Some insn
     → ((next : ℕ) → IsEdge v.program v.slot next → IsSome (insn_at v.program next) → ComesIn l v.slot next) → holds l v.slot ≡ false
     → IsWhole a
@@ -182,7 +182,7 @@ leads_outside laws v l inner a insn form next begins comes outside whole =
     (λ behind. absurd (omega (arith, behind.0, (comes k edge some).to_head outside (holds_at l k (omega (arith, behind.0)) behind.1))))
     (below_all b (moved_words a b insn whole moves)))
 
--- in the loop, but for the instruction that counts and the jump back
+-- in the loop, except for the instruction that counts and the jump back
 pub leads_around : Leaves → (v : VisitValue) (l : Loop) (h a : StateValue) (around : ℕ → StateValue) (insn : Insn) → IsFormed v.program → HasNext v insn → insn_at v.program v.slot ≡ Some insn
     → ((next : ℕ) → IsEdge v.program v.slot next → IsSome (insn_at v.program next) → ComesIn l v.slot next)
     → IsLoopFormed v.program l → l.head ≤ v.slot → v.slot < l.back → v.slot + 1 ≢ l.back

@@ -24,13 +24,13 @@ use Rattle.bver_pass.proofs.Covering.{covered_more}
 
 -- ---- the table
 
--- a table that grew after a slot grew from it on
+-- a table that grew after a slot grew from it
 pub extended_before : (slot : ℕ) (old new : TableValue) → IsExtended (slot + 1) old new → IsExtended slot old new
 extended_before slot old new f = record { program = f.program; grown = f.grown; kept = λ k below. f.kept k (omega (arith, below)); whole = f.whole }
 
 -- ---- what is known, slot by slot
 
--- what is known grew from a slot on, where instructions begin
+-- what is known grew from a slot, at slots at which instructions begin
 pub record Grows (p : Program) (from : ℕ) (old new : ℕ → Option StateValue) : Type 0 where
   pub grown : IsGrown old new
   pub kept : (k : ℕ) → k < from → new k ≡ old k

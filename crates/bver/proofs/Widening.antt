@@ -40,7 +40,7 @@ unstored p l none h =
 pub kind_below-refl : BelowIsReflexive → (k : AbsKind) → IsKindBelow k k
 kind_below-refl reflexive k = (reflexive (record { kinds = k ∷ []; marks = []; ranges = [] })).kinds 0
 
--- ---- what is widened stands for every pass, and covers what was known
+-- ---- what is widened holds for every pass, and covers what was known
 
 open_kind : (lowered : Bool) (kind : AbsKind) → IsOpen (opened_kind lowered kind)
 open_kind lowered Unset = tt
@@ -94,7 +94,7 @@ frame_kept p slot (Some insn) is form writes =
     let clobbered = frame_clobbered (flow_of insn) in
     false≢true (sym (rw (named, clobbered) refl) ∙ writes)
 
--- where the loop stores, nothing is known of any place
+-- if the loop stores, nothing is known of any place
 pub wide_is : (p : Program) (l : Loop) (before after : StateValue) → HasStore p l → AreWidenedRanges p l before after → AreAllWhole after.ranges
 wide_is p l before after stored (forgets s is) = is
 wide_is p l before after stored (retains out is) = absurd (out stored)

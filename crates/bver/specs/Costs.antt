@@ -1,4 +1,4 @@
--- What a run costs, by a cost of each instruction: a time, or one for each instruction of a class.
+-- The cost of a run, by a cost of each instruction: a time, or one for each instruction of a class.
 use Rattle.std.specs.Prelude.{◌≤◌, ◌<◌, ◌+◌, ℕ, List}
 use Rattle.bpf.specs.Program.{Program, insn_at}
 use Rattle.bpf_insn.specs.declared.insn.Insn.{Insn}
@@ -10,7 +10,7 @@ use Rattle.bver_form.specs.Costs.{cost_here, weight_by}
 
 -- ---- the statement
 
--- what the instructions cost that were executed on a path, each as often as it was
+-- what the instructions that were executed on a path cost, each as often as it was executed
 abbrev pub cost_of_path : {program : Program} {header : Header} {port : ℕ} {calls : List Call} {n : ℕ} {s : State}
     → (cost : Insn → ℕ) → Path program header port calls n s → ℕ
 cost_of_path cost entry = 0
@@ -19,8 +19,8 @@ cost_of_path {program} cost (moves {s = s} path step) =
 cost_of_path {program} cost (answered {s = s} answer path step small) =
     cost_of_path cost path + cost_here cost (insn_at program s.slot)
 
--- For every header, port and list of calls: a path, with the instruction where it stands, costs no more than the
--- program's weight by that cost. So does a run, whose last instruction stands where its path ends.
+-- For every header, port and list of calls: a path with the instruction at its end costs at most the program's weight
+-- by that cost. So does a run, whose last instruction is at the end of its path.
 abbrev pub IsSafeFor : Program → (cost : Insn → ℕ) → Type 0
 IsSafeFor program cost =
     (header : Header) (port : ℕ) (calls : List Call) (n : ℕ) (s : State) → IsHeader header → port < 32

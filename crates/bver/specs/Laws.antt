@@ -1,4 +1,4 @@
--- What being justified is worth.
+-- What holds of justified programs.
 use Rattle.std.specs.Prelude.{ℕ, List, Option}
 use Rattle.bpf.specs.Program.{IsProgram, Program}
 use Rattle.machine.specs.declared.regions.Region.{Region}
@@ -26,13 +26,13 @@ JudgedIsResolved =
     (program : Program) (maps : Maps) (regions : List (Option Region)) → IsJudged program maps regions
     → IsResolved program regions
 
--- a program of which such a state is told is not justified
+-- a program that such a state refutes is not justified
 abbrev pub ToldIsUnjustified : Type 0
 ToldIsUnjustified =
     (program : Program) (maps : Maps) (a : StateValue) (refused : Refused) → TellsKnown program maps a refused
     → IsJustified program maps → ⊥
 
--- of a program that has its form something is closed: so what has to be assumed of it says something
+-- something is closed of each program that has its form: so what must be assumed of it says something
 abbrev pub SomethingIsClosed : Type 0
 SomethingIsClosed =
     (program : Program) → IsProgram program → IsFormed program

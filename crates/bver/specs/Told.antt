@@ -1,4 +1,4 @@
--- What is told of a program that is refused for what values may do wrong: what was known at the slot of the refusal.
+-- What a refusal gives if values may do wrong: what was known at the slot of the refusal.
 use Rattle.std.specs.Prelude.{◌≡◌, ◌≢◌, ℕ, Bool, List, Option, Some, None, All, IfSome}
 use Rattle.bpf.specs.Program.{Program}
 use Rattle.bpf_insn.specs.declared.insn.Insn.{Insn}
@@ -17,23 +17,23 @@ use Rattle.bver_pass.specs.Justified.{HasStore, IsCovered, IsEntered, IsHead}
 use Rattle.bver_pass.specs.Leading.{EntersOutside, LeadsBelow}
 use Rattle.bver_pass.specs.Unjustified.{IsRefuted}
 
--- ---- what has to be assumed
+-- ---- what must be assumed
 
--- the first says all that the second says, but of one register
+-- the first says all that the second says, except of one register
 pub record IsBelowBut (register : ℕ) (a b : StateValue) : Type 0 where
   pub kinds : (other : ℕ) → other ≢ register → IsKindBelow (kind_at a other) (kind_at b other)
   pub marks : AreMarkedIn b.marks a.marks
   pub ranges : AreRangesWithin a.ranges b.ranges
 
--- whoever knows this knows all that the slot's state says, but of one register
+-- whoever knows this knows all that the slot's state says, except of one register
 abbrev pub IsCoveredBut : (register : ℕ) → StateValue → (there : Option StateValue) → Type 0
 IsCoveredBut register a None = ⊥
 IsCoveredBut register a (Some b) = IsBelowBut register a b
 
--- what comes to the slots of a program, and what stands there when their instructions begin, is closed: the entry
--- comes; what comes stands, at the head of a loop with its counter from 1 to the bound and as it is for every pass; and
--- to where an instruction leads from any state that stands, what it leaves comes. Nothing is asked where the instruction
--- is refused, nor of a counter that comes to a head
+-- What comes to the slots of a program (`comes`), and what holds at them when their instructions begin (`stands`), is
+-- closed. The entry comes. What comes also holds. At the head of a loop it holds with the counter from 1 to the
+-- bound, and as it is for every pass. If an instruction leads from a state that holds to a slot, what it leaves comes
+-- there. Nothing is required of an instruction that is refused, nor of a counter that comes to a head.
 pub record IsClosed (p : Program) (comes stands : ℕ → Option StateValue) : Type 0 where
   pub entered : IsEntered (comes 0)
   pub whole : (slot : ℕ) → IfSome (comes slot) IsWhole
@@ -47,12 +47,12 @@ pub record IsClosed (p : Program) (comes stands : ℕ → Option StateValue) : T
       → (a : StateValue) → IsWhole a → IsCovered a (stands slot)
       → LeadsBelow (spill_of p.version) comes slot a insn
 
--- the state says no less than what comes to the slot, whatever is closed: so all that the state allows has to be
--- assumed to come there
+-- The state says no less than what comes to the slot, whatever is closed. So all that the state allows must be
+-- assumed to come there.
 abbrev pub HasToCome : Program → (slot : ℕ) → StateValue → Type 0
 HasToCome p slot a = (comes stands : ℕ → Option StateValue) → IsClosed p comes stands → IsCovered a (comes slot)
 
--- the same of what stands there
+-- the same of what holds there
 abbrev pub HasToStand : Program → (slot : ℕ) → StateValue → Type 0
 HasToStand p slot a = (comes stands : ℕ → Option StateValue) → IsClosed p comes stands → IsCovered a (stands slot)
 
@@ -60,10 +60,10 @@ HasToStand p slot a = (comes stands : ℕ → Option StateValue) → IsClosed p 
 abbrev pub HasToLower : Program → (lowered : List Bool) → Type 0
 HasToLower p lowered = (comes stands : ℕ → Option StateValue) → IsClosed p comes stands → HasLowered p lowered stands
 
--- ---- what is told
+-- ---- what a refusal gives
 
--- the state has to stand at an instruction, which no table permits with it, and the code is that of the first of its
--- tests that fails with it
+-- The state must hold at an instruction, and no table permits the instruction with it. The code is that of the first
+-- of its tests that fails with it.
 pub record IsToldOfInsn (p : Program) (maps : Maps) (a : StateValue) (refused : Refused) : Type 0 where
   pub insn : Insn
   pub begins : insn_at p refused.slot ≡ Some insn
@@ -72,7 +72,7 @@ pub record IsToldOfInsn (p : Program) (maps : Maps) (a : StateValue) (refused : 
   pub code : fault_of (spill_of p.version) maps a insn ≡ Some refused.code
   pub refuted : IsRefuted (spill_of p.version) maps refused.slot a insn
 
--- the state has to come to the head of a declared loop, and a run may come there with its counter outside the bound
+-- the state must come to the head of a declared loop, and a run may come there with its counter outside the bound
 pub record IsToldOfHead (p : Program) (a : StateValue) (refused : Refused) : Type 0 where
   pub code : refused.code ≡ LoopEntry
   pub comes : HasToCome p refused.slot a

@@ -1,4 +1,4 @@
-//! What being justified is worth. Each function does nothing: its contract is the law.
+//! What holds of justified programs. Each function does nothing: its contract is the law.
 
 ghost use Rattle.bver.specs.Laws.{JudgedIsResolved, JustifiedIsSafe, JustifiedIsSafeForCosts, SomethingIsClosed, ToldIsUnjustified};
 
@@ -9,8 +9,8 @@ use absdom::{
 use bver_form::loops_are_counted;
 use machine::{steps_leave, steps_perform};
 
-/// A law and no work: a justified program is safe, no run of it costs more than its weight, whatever each instruction
-/// costs, and its regions are those of its accesses.
+/// A law and no work: a justified program is safe, and its regions are those of its accesses. No run of it costs more
+/// than its weight, whatever each instruction costs.
 pub fn justified_programs()
     ensures safe { JustifiedIsSafe }
     ensures costs { JustifiedIsSafeForCosts }
@@ -26,7 +26,7 @@ pub fn justified_programs()
     loops_are_counted();
 }
 
-/// A law and no work: a program of which a state is told that refutes it is not justified.
+/// A law and no work: if a refusal gives a state that refutes a program, the program is not justified.
 pub(crate) fn told_programs()
     ensures { ToldIsUnjustified }
 {
@@ -37,8 +37,8 @@ pub(crate) fn told_programs()
     forgets_all();
 }
 
-/// A law and no work: of a program that has its form something is closed. So what is told of a refusal (`TellsKnown`) has to be
-/// assumed of something.
+/// A law and no work: something is closed of each program that has its form. So what a refusal gives (`TellsKnown`)
+/// must be assumed of something.
 pub fn something_is_closed()
     ensures { SomethingIsClosed }
 {

@@ -1,9 +1,8 @@
 //! The verifier: which programs may judge (RFC 9669 leaves verification to the implementation).
 //!
-//! [`verify`] accepts a program that has its form (`bver_form`) and that passes over its slots find
-//! right, with what is known at each slot ([`absdom::State`]). The definitions are in `specs/`:
-//! `Justified` says when a program may judge, `Resolved` what the regions of its accesses are worth, and
-//! `Laws` that a justified program is safe.
+//! [`verify`] accepts a program that has its form (`bver_form`) and that passes over its slots find right, with what
+//! is known at each slot ([`absdom::State`]). The definitions are in `specs/`: `Justified` says when a program may
+//! judge, `Resolved` what the regions of its accesses mean, and `Laws` that a justified program is safe.
 #![tactic(auto)]
 
 mod accepted;

@@ -25,7 +25,7 @@ use bver_form::{Lowered, Refused, loops_are_counted};
 use bver_pass::{Body, Table, Visit, Written, accessed_region, flow};
 use machine::MapSizes;
 
-/// Widens what is known at a head, where the loop is entered within its bound.
+/// Widens what is known at a head, if a run enters the loop within its bound.
 fn widen_head(
     visit: &Visit,
     body: &Body<'_>,
@@ -49,7 +49,7 @@ fn widen_head(
     }
 }
 
-/// At the head of a loop, widens what is known there to what stands for every pass.
+/// At the head of a loop, widens what is known there to what holds in every pass.
 fn enter(
     visit: &Visit,
     table: &mut Table<'_>,
@@ -84,8 +84,8 @@ fn enter(
     }
 }
 
-/// Comes to a slot: with the running state, if one stands there, else with what is known at the slot, which is
-/// written to the state. Tells whether anything is known.
+/// Comes to a slot. If the running state is there, it takes that. Else it writes what is known at the slot to the
+/// state. The result is whether anything is known.
 fn arrive(
     visit: &Visit,
     table: &mut Table<'_>,
@@ -129,9 +129,9 @@ fn arrive(
     Ok(true)
 }
 
-/// Visits the instruction at a slot. One at which nothing is known is skipped, since no run comes there. The
-/// state is the running one where `runs` says so, before and after. The result is the region that the
-/// instruction accesses.
+/// Visits the instruction at a slot. If nothing is known there, it skips the instruction, since no run comes there.
+/// Before and after, the state is the running one if `runs` says so. The result is the region that the instruction
+/// accesses.
 fn visit_insn(
     visit: &Visit,
     table: &mut Table<'_>,
@@ -171,7 +171,7 @@ fn visit_insn(
     Ok(region)
 }
 
-/// Visits a slot. A second slot is passed by.
+/// Visits a slot. It does nothing at a second slot.
 fn visit_slot(
     visit: &Visit,
     table: &mut Table<'_>,
@@ -202,13 +202,13 @@ fn visit_slot(
     }
 }
 
-/// Passes over the slots of a program by rising slot, from a table that covers the entry. It is lent what each loop
-/// writes. It writes the region that each slot accesses. The program is judged where nothing more was lowered. The state
-/// is any one before; where the program is refused it is what was known at the slot of the refusal.
+/// Passes over the slots of a program by rising slot, from a table that covers the entry. The caller lends what each
+/// loop writes. The pass writes the region that each slot accesses. If it lowered nothing more, the program is
+/// judged. The state may be any before. If the program is refused, it is what was known at the slot of the refusal.
 ///
 /// # Errors
 ///
-/// The first refusal that is met, with its slot.
+/// The first refusal of the pass, with its slot.
 pub(crate) fn pass(
     table: &mut Table<'_>,
     lowered: &mut Lowered,

@@ -17,7 +17,7 @@ use Rattle.bver_form.proofs.Entering.{comes_in, goes_back_to}
 
 -- ---- the loops of a program that has its form lie so
 
--- of two loops the later one, by head, is nested in the other or behind it
+-- of two loops, the later one, by head, is nested in the other or after it
 follows : (l m : Loop) → l.head < m.head → m.head < m.back → IsNestedOrApart l m → (l.back < m.head) ⊎ (m.back < l.back)
 follows l m rising ordered (inl (inl before)) = inl before
 follows l m rising ordered (inl (inr behind)) = absurd (omega arith)

@@ -1,4 +1,4 @@
--- How many are lowered.
+-- How many registers are lowered.
 use Rattle.std.proofs.Common.{◌≡◌, ℕ, zero, suc, ◌+◌, ◌<◌, ◌≤◌, Bool, true, false, List, [], ◌∷◌, length, refl, ap, arith}
 use Rattle.std.specs.Prelude.{slice_index_or, slice_set, replicate}
 use Rattle.bver_form.specs.Lowered.{count_of}
@@ -10,7 +10,7 @@ count_below [] = omega arith
 count_below (true ∷ xs) = omega (arith, count_below xs)
 count_below (false ∷ xs) = omega (arith, count_below xs)
 
--- of those that are not lowered none is
+-- if none is lowered, the count is 0
 pub count_none : (n : ℕ) → count_of (replicate n false) ≡ 0
 unfolding count_of
 count_none zero = refl

@@ -1,4 +1,4 @@
--- Who comes into a declared loop, and where a jump backward leads.
+-- The steps into a declared loop, and the slot to which a jump backward leads.
 use Rattle.std.proofs.Common.{◌≡◌, inl, inr, ℕ, suc, ◌+◌, ◌-◌, ◌<◌, ◌≤◌, ℤ, pos, negsuc, true, false, Option, None, Some, List, [], ◌∷◌, refl, sym, subst, ap, ◌∙◌, arith}
 use Rattle.std.specs.Prelude.{IfSome, IsSome, is_some, ◌+ℤ◌, ◌==◌, ◌&&◌}
 use Rattle.std.specs.List.{list_any}

@@ -1,5 +1,5 @@
--- The first fault of a program's form: a program that has one has not its form, and has no other. It is a refusal of the
--- form, at a slot of the program.
+-- The first fault of a program's form. A program that has one does not have its form, and has no other. It is a
+-- refusal of the form, at a slot of the program.
 use Rattle.std.proofs.Common.{◌≡◌, ◌≢◌, ◌⊎◌, inl, inr, ℕ, ◌-◌, ◌<◌, ℤ, pos, negsuc, Bool, true, false, length, Option, Some, None, refl, sym, subst, ap, ◌∙◌, arith}
 use Rattle.std.specs.Prelude.{All, IfSome, IsSome, is_some, nat_lt, ◌||◌, ◌==◌, if◌then◌else◌, slice_index_or}
 use Rattle.std.proofs.lemmas.Bool.{cases_lt, or_left, or_right, lt-ltb}
@@ -28,7 +28,7 @@ use Rattle.bver_form.proofs.Fitting.{loop_at}
 use Rattle.bver_form.proofs.Kept.{begins_inside}
 use Rattle.lemmas.proofs.Cases.{by_eq}
 
--- ---- what may stand at its slot has no fault there
+-- ---- an instruction that is allowed at its slot has no fault there
 
 call_none : (version : Version) (callee : Callee) (number : ℤ) → IsSupportedCall version callee number → call_fault version callee number ≡ None
 call_none version callees.Helper number h = rw h refl

@@ -21,7 +21,7 @@ loop_at p k d h below = each_loop (length p.slots) 0 p.loops k d h.loops below
 pub small_loop : (p : Program) (k : ℕ) (d : Loop) → IsProgram p → k < length p.loops → IsLoop MAX_SLOTS (slice_index_or p.loops k d)
 small_loop p k d h below = wider (length p.slots) (slice_index_or p.loops k d) (loop_at p k d h below) h.slots.1
 
--- an element is the same whatever stands in for those past the end
+-- an element is the same whatever the value for those past the end
 same_item : (xs : List Loop) (k : ℕ) (d m : Loop) → k < length xs → slice_index_or xs k d ≡ slice_index_or xs k m
 same_item [] k d m below = absurd (omega arith)
 same_item (x ∷ xs) zero d m below = refl

@@ -10,9 +10,9 @@ use Rattle.bpf_insn.specs.declared.insn.Insn.{Insn}
 use Rattle.bver_form.specs.Jumps.{first_slot, jump_distance, target}
 use Rattle.bver_form.specs.Targets.{AreKept, IsKept, IsMarked, IsNumbered, IsNumbering, NumbersSlot, JumpsTo, landing_by, landing_from, no_place, place_at}
 
--- ---- where jumps lead
+-- ---- the slots to which jumps lead
 
--- where a jump lands an instruction begins
+-- a jump leads to a slot at which an instruction begins
 pub lands_first : (p : Program) (z : ℤ) (slot : ℕ) → first_slot p z ≡ Some slot → IsSome (insn_at p slot)
 lands_first p (pos k) slot is = by_begin (is_some (insn_at p k)) refl is
   where
@@ -21,7 +21,7 @@ lands_first p (pos k) slot is = by_begin (is_some (insn_at p k)) refl is
     by_begin false begins same = absurd cc
 lands_first p (negsuc n) slot is = absurd cc
 
--- a jump leads to where an instruction begins
+-- a jump from a slot leads to a slot at which an instruction begins
 pub jumps_first : (p : Program) (from slot : ℕ) (o : Option Insn) → landing_from p from o ≡ Some slot → IsSome (insn_at p slot)
 jumps_first p from slot None is = absurd cc
 jumps_first p from slot (Some insn) is = by_distance (jump_distance insn) is

@@ -24,7 +24,7 @@ not_before l k a = by_test (λ t. t ≡ false) (holds l k) (λ e. let b = low l 
 pub not_behind : (l : Loop) (k : ℕ) → l.back < k → holds l k ≡ false
 not_behind l k a = by_test (λ t. t ≡ false) (holds l k) (λ e. let b = high l k e in absurd (omega arith)) (λ _. refl)
 
--- where a slot lies
+-- the place of a slot: before, in or after a loop
 pub data IsPlace (l : Loop) (k : ℕ) : Type 0 where
   before : k < l.head → IsPlace l k
   within : l.head ≤ k → k ≤ l.back → IsPlace l k
@@ -106,7 +106,7 @@ tail_all P l ls h = λ k d b. h (suc k) d (omega (arith, b))
 pub head_all : (P : Loop → Type 0) (l : Loop) (ls : List Loop) → All P (l ∷ ls) → P l
 head_all P l ls h = h 0 l (omega arith)
 
--- loops by rising head from `least` on, each nested in an earlier one or behind it
+-- loops by rising head from `least`, each nested in an earlier one or after it
 abbrev pub AreLaid : (least : ℕ) → List Loop → Type 0
 AreLaid least [] = Unit {0}
 AreLaid least (l ∷ ls) = (least ≤ l.head) × (l.head < l.back) × (1 ≤ l.bound) × All (λ m. (l.back < m.head) ⊎ (m.back < l.back)) ls × AreLaid (l.head + 1) ls
@@ -120,7 +120,7 @@ left_ahead (l ∷ ls) least h v i k a = by_test (λ t. holds l i ≡ t → execu
     (λ _ e. let low = h.0 in rw (left_out l ls v i k e, times_out l ls i e) (left_ahead ls (l.head + 1) h.4 v i k (omega arith)))
     refl
 
--- one is left of the instruction where a run stands
+-- one is left of the instruction at the run's slot
 pub left_here : (ls : List Loop) (v : ℕ → ℕ) (k : ℕ) → 1 ≤ executions_left ls v k k
 unfolding executions_left
 left_here [] v k = by_le (λ t. 1 ≤ (if t then 1 else 0)) k k (λ _. omega arith) (λ a. absurd (omega arith))

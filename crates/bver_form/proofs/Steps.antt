@@ -8,16 +8,16 @@ use Rattle.bver_form.specs.Loops.{ComesIn, IsCounted, further_passes, holds, exe
 use Rattle.bver_form.proofs.Left.{low, high, held, not_before, before, within, behind, place, outside, left_out, left_before, left_behind, left_within, further_back, further_else, more_times, rounds, tail_all, head_all, AreLaid, left_ahead, left_here}
 use Rattle.lemmas.proofs.Cases.{by_test, by_le}
 
--- one is taken from the instruction at the slot, and nothing has to be from the others
+-- one is taken from the instruction at the slot, and nothing need be taken from the others
 abbrev pub IsTaken : (i k e : ℕ) → Type 0
 IsTaken i k e = (e ≡ 0) ⊎ ((e ≡ 1) × (i ≡ k))
 
--- nothing has to be taken from an instruction elsewhere
+-- nothing need be taken from an instruction elsewhere
 nothing : (i k e : ℕ) → IsTaken i k e → i ≢ k → e ≡ 0
 nothing i k e (inl none) d = none
 nothing i k e (inr one) d = absurd (d one.1)
 
--- what is taken is there
+-- what is taken is at most what is left
 there : (ls : List Loop) (v : ℕ → ℕ) (i k e : ℕ) → IsTaken i k e → e ≤ executions_left ls v i k
 there ls v i k e (inl none) = omega arith
 there ls v i k e (inr one) = let here = left_here ls v k in let is = one.0 in subst (λ j. e ≤ executions_left ls v j k) (sym one.1) (omega arith)
@@ -177,7 +177,7 @@ module _ (v w : ℕ → ℕ) (i k next e : ℕ) where
         | inr other ↦ let stays = counted.stays here ahead other in omega arith
       ])
 
-  -- the back jump of a later loop, which is nested in the first or behind it
+  -- the back jump of a later loop, which is nested in the first or after it
   outer : (l : Loop) (ls : List Loop) (least : ℕ) → AreLaid least (l ∷ ls) → IsCounted l k next (v l.head) (w l.head) → IsTaken i k e → l.head < next → next ≤ k → (l.back < next) ⊎ (k < l.back) → executions_left ls w i next + e ≤ executions_left ls v i k → executions_left (l ∷ ls) w i next + e ≤ executions_left (l ∷ ls) v i k
   outer l ls least laid counted taken after backward where_ others =
       by_test (λ t. holds l i ≡ t → executions_left (l ∷ ls) w i next + e ≤ executions_left (l ∷ ls) v i k) (holds l i)

@@ -8,22 +8,22 @@ use Rattle.bver_form.specs.Costs.{cost_here, weight_by_from}
 use Rattle.bver_form.specs.Loops.{executions_left, weight_left_from}
 use Rattle.bver_form.proofs.Left.{left_here, more_times, rounds}
 
--- who is executed once more has cost so much more
+-- one execution more costs one cost more
 once_more : (a b c : ℕ) → a + 1 ≤ b → a * c + c ≤ b * c
 once_more a b c h = rounds a b c c h (omega arith)
 
--- who is executed costs at least once
+-- an instruction that is executed costs at least once its cost
 at_least_once : (a c : ℕ) → 1 ≤ a → c ≤ a * c
 at_least_once a c h = omega (arith, rounds 0 a c c (omega arith) (omega arith))
 
 module _ (cost : Insn → ℕ) (ls : List Loop) (v : ℕ → ℕ) where
-  -- where no more is left of each instruction than all rounds, no more is left than the weight
+  -- if no more is left of each instruction than all rounds, no more is left than the weight
   pub sum_weighs : (slot i : ℕ) (xs : List (Option Insn)) → ((j : ℕ) → executions_left ls v j slot ≤ times_at ls j) → weight_left_from cost ls v slot i xs ≤ weight_by_from cost ls i xs
   unfolding weight_left_from weight_by_from
   sum_weighs slot i [] each = omega arith
   sum_weighs slot i (x ∷ xs) each = omega (arith, more_times (executions_left ls v i slot) (times_at ls i) (cost_here cost x) (each i), sum_weighs slot (i + 1) xs each)
 
-  -- what the instruction costs that begins at the slot is left
+  -- the cost of the instruction that begins at the slot is left
   pub sum_here : (slot i j : ℕ) (xs : List (Option Insn)) → slot ≡ i + j → cost_here cost (slice_index_or xs j None) ≤ weight_left_from cost ls v slot i xs
   unfolding weight_left_from
   sum_here slot i j [] at = omega arith
@@ -44,7 +44,7 @@ module _ (cost : Insn → ℕ) (ls : List Loop) (v w : ℕ → ℕ) (slot next :
   sum_falls i [] each = omega arith
   sum_falls i (x ∷ xs) each = omega (arith, part_falls i x (each i), sum_falls (i + 1) xs each)
 
-  -- where nothing is added to an instruction, and one execution is taken from the one at the slot, its cost is taken
+  -- if nothing is added to any instruction, and one execution is taken from the one at the slot, its cost is taken
   pub sum_takes : (i j : ℕ) (xs : List (Option Insn)) → slot ≡ i + j → ((j : ℕ) → executions_left ls w j next ≤ executions_left ls v j slot) → executions_left ls w slot next + 1 ≤ executions_left ls v slot slot → weight_left_from cost ls w next i xs + cost_here cost (slice_index_or xs j None) ≤ weight_left_from cost ls v slot i xs
   unfolding weight_left_from
   sum_takes i j [] at each here = omega arith
@@ -54,7 +54,7 @@ module _ (cost : Insn → ℕ) (ls : List Loop) (v w : ℕ → ℕ) (slot next :
       omega (arith, once_more (executions_left ls w i next) (executions_left ls v i slot) (cost_here cost x) first, sum_falls (i + 1) xs each)
   sum_takes i (suc j) (x ∷ xs) at each here = omega (arith, part_falls i x (each i), sum_takes (i + 1) j xs (omega arith) each here)
 
--- where each instruction costs one, the weight is the sum of the rounds
+-- if each instruction costs one, the weight is the sum of the rounds
 pub ones : (ls : List Loop) (i : ℕ) (xs : List (Option Insn)) → weight_by_from (λ insn. 1) ls i xs ≡ weight_from ls i xs
 unfolding weight_by_from weight_from
 ones ls i [] = refl

@@ -1,4 +1,4 @@
--- What is told of slots, and the tests of loops by it.
+-- The facts of slots, and the tests of loops by them.
 use Rattle.std.proofs.Common.{◌≡◌, ◌≢◌, ℕ, ◌+◌, ◌*◌, ◌^◌, ◌%◌, ◌<◌, ◌≤◌, Bool, true, false, Option, Some, None, List, length, inl, inr, eqb, refl, sym, ap, subst, ◌∙◌, arith, get_or-set_same, get_or-set_other}
 use Rattle.std.specs.Prelude.{◌==◌, ◌||◌, IsTrue, IfSome, slice_index_or, slice_set}
 use Rattle.std.proofs.lemmas.Bool.{cases_lt, false≢true}
@@ -23,7 +23,7 @@ from_eqb m n same = grind (arith, nat_tests, same)
 pub has_none : (register : ℕ) → is_bit 0 register ≡ false
 has_none register = ap (λ x. x == 1) (bit_at-zero register)
 
--- the bit of a register stands for it alone
+-- the bit of a register is that of no other
 has_named : (named register : ℕ) → named ≤ 10 → is_bit (1 * 2 ^ named % 2 ^ 16) register ≡ (named == register)
 has_named named register low =
     ap (λ m. is_bit m register) (one_shl named 16 (omega arith)) ∙ by_same (eqb named register) refl
@@ -36,7 +36,7 @@ has_named named register low =
         let apart : register ≢ named = grind (arith, nat_tests, e) in
         ap (λ x. x == 1) (bit_at-pow_other named register apart) ∙ sym e
 
--- no other register stands beside it
+-- with that bit there is no other register
 pub has_only : (named register : ℕ) → named ≤ 10 → is_bit (1 * 2 ^ named % 2 ^ 16) register ≡ (named == register || false)
 has_only named register low = has_named named register low ∙ by_test (named == register)
   where
@@ -46,7 +46,7 @@ has_only named register low = has_named named register low ∙ by_test (named ==
 
 -- ---- the facts of slots
 
--- the facts of the slots before one stand at their places
+-- the facts of the slots before one are at their places
 abbrev pub AreToldBefore : Program → List SlotFacts → (slot : ℕ) → Type 0
 AreToldBefore p facts slot =
     (k : ℕ) (any : SlotFacts) → k < slot → AreFactsOf (insn_at p k) (slice_index_or facts k any)
@@ -69,7 +69,7 @@ told_next p facts slot at told same inside before here =
 
 -- ---- a loop's register
 
--- of slots outside a loop nothing is asked
+-- nothing is required of slots outside a loop
 leaves_outside : (p : Program) (l : Loop) (slot : ℕ) → holds l slot ≡ false → LeavesCounterAt p l slot
 leaves_outside p l slot outside = by_insn (insn_at p slot)
   where
@@ -77,7 +77,7 @@ leaves_outside p l slot outside = by_insn (insn_at p slot)
     by_insn None = tt
     by_insn (Some insn) = λ inside. absurd (false≢true (sym outside ∙ inside))
 
--- the slots of a loop before one leave its register
+-- the slots of a loop before one do not write its register
 abbrev pub LeaveBefore : Program → Loop → (slot : ℕ) → Type 0
 LeaveBefore p l slot = (k : ℕ) → k < slot → LeavesCounterAt p l k
 

@@ -54,7 +54,7 @@ refusal_of_code code =
     else (if code == 18 then Some MapKind
     else None)))))))))))))))))
 
--- the refusals for the form of a program. The others are for its values, and for want of memory
+-- the refusals for the form of a program. The others are for its values, and for refused memory
 abbrev pub IsFormCode : Refusal → Type 0
 IsFormCode Target = Unit {0}
 IsFormCode BackJump = Unit {0}

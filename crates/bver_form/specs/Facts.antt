@@ -1,4 +1,4 @@
--- What is told once of each slot, for the tests of loops.
+-- The facts of each slot that the tests of loops need, found once.
 use Rattle.std.specs.Prelude.{◌≡◌, ◌≤◌, ◌<◌, ℕ, ℤ, Bool, false, if◌then◌else◌, List, length, slice_index_or}
 use Rattle.std.specs.Prelude.{Option, None, Some}
 use Rattle.bpf.specs.Program.{Program, insn_at}
@@ -24,18 +24,18 @@ abbrev pub distance_at : Option Insn → Option ℤ
 distance_at None = None
 distance_at (Some insn) = jump_distance insn
 
--- how far a jump is told to go, if one is
+-- the distance of a jump by the facts, if there is one
 abbrev pub told_distance : SlotFacts → Option ℤ
 told_distance facts = if facts.jumps then Some facts.distance else None
 
--- the facts are those of the instruction that begins at a slot, if one does: what it writes, r0 as the lowest bit,
--- whether it stores, and how far it jumps
+-- The facts are those of the instruction that begins at a slot, if one does. They say what it writes, r0 as the
+-- lowest bit, whether it stores, and how far it jumps.
 pub record AreFactsOf (insn : Option Insn) (facts : SlotFacts) : Type 0 where
   pub registers : (register : ℕ) → register ≤ 10 → is_bit facts.registers register ≡ writes_at insn register
   pub stores : facts.stores ≡ stores_at insn
   pub jump : told_distance facts ≡ distance_at insn
 
--- each slot's facts stand at its place
+-- each slot's facts are at its place
 abbrev pub AreFacts : Program → List SlotFacts → Type 0
 AreFacts p facts =
     (slot : ℕ) (any : SlotFacts) → slot < length p.slots → AreFactsOf (insn_at p slot) (slice_index_or facts slot any)

@@ -1,6 +1,6 @@
--- The loops that a program declares (a choice of this project): which form they have, and how many instructions
--- a run may still take. A loop (head, back, bound, register) counts its register down to zero: slot `back - 1` takes
--- one from it, and slot `back` goes back to `head` while it is not zero.
+-- The loops that a program declares (a choice of this project): which form they have, and how many instructions a run
+-- may still take. A loop (head, back, bound, register) counts its register down to zero. Slot `back - 1` takes one
+-- from it. Slot `back` goes back to `head` while the register is not zero.
 use Rattle.std.specs.Prelude.{◌≡◌, ◌≢◌, ◌≤◌, ◌<◌, ◌⊎◌, ℕ, ◌+◌, ◌-◌, ◌*◌, ℤ, pos, negsuc, Bool, false, ◌&&◌, ◌==◌}
 use Rattle.std.specs.Prelude.{nat_le, nat_lt, if◌then◌else◌, List, [], ◌∷◌, Option, Some, IfSome, IsTrue, All}
 use Rattle.bpf.specs.declared.loops.Loop.{Loop}
@@ -27,13 +27,13 @@ use Rattle.bver_form.specs.Jumps.{jump_distance, target}
 abbrev pub holds : Loop → ℕ → Bool
 holds l slot = nat_le l.head slot && nat_le slot l.back
 
--- what ends the loop: to its head, if its register is not zero (`jne r, 0`, all 64 bits)
+-- the instruction that ends the loop: a jump to its head, if its register is not zero (`jne r, 0`, all 64 bits)
 abbrev pub back_jump : Loop → Insn
 back_jump l =
     Jump (record { condition = NotEqual; width = Bits64; dst = l.register; src = Immediate (pos 0) })
     (negsuc (l.back - l.head))
 
--- what counts: one is taken from its register (`add r, -1`, all 64 bits)
+-- the instruction that counts: it takes one from the loop's register (`add r, -1`, all 64 bits)
 abbrev pub step_down : Loop → Insn
 step_down l = Alu Add Bits64 l.register (Immediate (negsuc 0))
 
@@ -45,18 +45,18 @@ IsBackJump p l = insn_at p l.back ≡ Some (back_jump l)
 abbrev pub IsStep : Program → Loop → Type 0
 IsStep p l = insn_at p (l.back - 1) ≡ Some (step_down l)
 
--- an instruction at the slot of the loop leaves its register, unless it is the one that counts; a call writes r0 to
+-- an instruction at the slot of the loop does not write its register, except the one that counts; a call writes r0 to
 -- r5
 abbrev pub LeavesCounterAt : Program → Loop → (slot : ℕ) → Type 0
 LeavesCounterAt p l slot =
     IfSome (insn_at p slot) (λ insn. IsTrue (holds l slot) → slot + 1 ≢ l.back → is_written insn l.register ≡ false)
 
--- no slot of the loop but the one before its back writes its register
+-- no slot of the loop, except the one before its back, writes its register
 abbrev pub LeavesCounter : Program → Loop → Type 0
 LeavesCounter p l = (slot : ℕ) → LeavesCounterAt p l slot
 
--- a jump from the slot to that place does not lead to the loop's back, and leads into the loop from outside at its
--- head alone
+-- A jump from the slot to that place does not lead to the loop's back. If it leads into the loop from outside, it
+-- leads to its head.
 abbrev pub EntersAtHead : Loop → (slot : ℕ) → ℤ → Type 0
 EntersAtHead l slot (pos next) = (next ≢ l.back) × (IsTrue (holds l next) → IsTrue (holds l slot) ⊎ (next ≡ l.head))
 EntersAtHead l slot (negsuc n) = Unit {0}
@@ -67,7 +67,7 @@ EntersAtHeadFrom p l slot =
     IfSome (insn_at p slot)
     (λ insn. IfSome (jump_distance insn) (λ distance. EntersAtHead l slot (target slot distance)))
 
--- no jump of the program leads to the loop's back, and none from outside into it but to its head
+-- no jump of the program leads to the loop's back, and none from outside into it, except to its head
 abbrev pub IsEnteredAtHead : Program → Loop → Type 0
 IsEnteredAtHead p l = (slot : ℕ) → EntersAtHeadFrom p l slot
 
@@ -83,7 +83,7 @@ IsInside l m = (m.head < l.head) × (l.back < m.back)
 abbrev pub IsNestedOrApart : Loop → Loop → Type 0
 IsNestedOrApart l m = (IsBefore l m ⊎ IsBefore m l) ⊎ (IsInside l m ⊎ IsInside m l)
 
--- the loop is so with every declared loop of another head (heads rise strictly, so there is one loop a head)
+-- the loop is so with every declared loop of another head (heads rise strictly, so each head has one loop)
 abbrev pub IsAmongOthers : Program → Loop → Type 0
 IsAmongOthers p l = All (λ m. m.head ≢ l.head → IsNestedOrApart l m) p.loops
 
@@ -103,13 +103,13 @@ pub record IsLoopFormed (p : Program) (l : Loop) : Type 0 where
 abbrev pub EntersAllAtHeadFrom : Program → (slot : ℕ) → Type 0
 EntersAllAtHeadFrom p slot = All (λ l. EntersAtHeadFrom p l slot) p.loops
 
--- each declared loop is entered at its head alone
+-- runs enter each declared loop only at its head
 abbrev pub AreEnteredAtHead : Program → Type 0
 AreEnteredAtHead p = (slot : ℕ) → EntersAllAtHeadFrom p slot
 
--- ---- where a run goes on
+-- ---- the slots at which a run goes on
 
--- where a run of an instruction may go on, by its flow, from the slot; `after` is the slot after its own
+-- the slots at which a run of an instruction may go on from the slot, by its flow; `after` is the slot after its own
 abbrev pub GoesTo : Flow → (slot after next : ℕ) → Type 0
 GoesTo GoesOn slot after next = next ≡ after
 GoesTo (Branches distance) slot after next = (next ≡ after) ⊎ (target slot distance ≡ pos next)
@@ -126,13 +126,13 @@ pub record IsEdge (p : Program) (slot next : ℕ) : Type 0 where
 
 -- ---- how much is left
 
--- how often the loop's body is still passed after this pass, when a run stands in it at the slot with that value of
--- its counter, which was taken down already at the back
+-- How often a run in the loop, at the slot with that value of its counter, still passes the loop's body after this
+-- pass. At the back the loop took one from the counter.
 abbrev pub further_passes : Loop → (value slot : ℕ) → ℕ
 further_passes l value slot = if slot == l.back then value else value - 1
 
--- how often the instruction at slot `i` may still be executed when a run stands at slot `slot`, and each loop's
--- counter has the value of its head
+-- how often a run at slot `slot` may still execute the instruction at slot `i`, if each loop's counter has the value
+-- of its head
 unfoldable pub executions_left : List Loop → (values : ℕ → ℕ) → (i slot : ℕ) → ℕ
 executions_left [] values i slot = if nat_le slot i then 1 else 0
 executions_left (l ∷ ls) values i slot =
@@ -142,7 +142,7 @@ executions_left (l ∷ ls) values i slot =
     else further_passes l (values l.head) slot * times_at ls i + executions_left ls values i slot))
     else executions_left ls values i slot
 
--- the sum of what that costs over the slots from one on
+-- the sum of what that costs over the slots from one
 unfoldable pub weight_left_from : (cost : Insn → ℕ) → List Loop → (values : ℕ → ℕ) → (slot i : ℕ)
     → List (Option Insn) → ℕ
 weight_left_from cost loops values slot i [] = 0
@@ -150,12 +150,13 @@ weight_left_from cost loops values slot i (x ∷ xs) =
     executions_left loops values i slot * cost_here cost x
     + weight_left_from cost loops values slot (i + 1) xs
 
--- what the instructions may still cost that a run takes which stands at the slot with these values of the counters
+-- what the instructions of a run may still cost, if it is at the slot with these values of the counters
 abbrev pub weight_left : (cost : Insn → ℕ) → Program → (values : ℕ → ℕ) → (slot : ℕ) → ℕ
 weight_left cost p values slot = weight_left_from cost p.loops values slot 0 p.slots
 
--- what a step from the slot to the next does to the counter of a loop, whose value was and is then: in the loop it is
--- taken down before the back alone, at the head it is within the bound, and on the way back it is not zero
+-- What a step from the slot to the next does to the counter of a loop, from the value `was` to `is`. In the loop,
+-- only the slot before the back takes one from it. At the head it is within the bound. On the way back it is not
+-- zero.
 pub record IsCounted (l : Loop) (slot next was is : ℕ) : Type 0 where
   pub stays : IsTrue (holds l slot) → IsTrue (holds l next) → slot + 1 ≢ l.back → is ≡ was
   pub steps : IsTrue (holds l slot) → IsTrue (holds l next) → slot + 1 ≡ l.back → is + 1 ≡ was
@@ -166,7 +167,7 @@ pub record IsCounted (l : Loop) (slot next was is : ℕ) : Type 0 where
 abbrev pub AreCounted : Program → (slot next : ℕ) → (values after : ℕ → ℕ) → Type 0
 AreCounted p slot next values after = All (λ l. IsCounted l slot next (values l.head) (after l.head)) p.loops
 
--- who comes from outside into a loop comes to its head, and who comes to its back stood at the slot before
+-- a step from outside into a loop comes to its head, and a step to its back comes from the slot before
 pub record ComesIn (l : Loop) (slot next : ℕ) : Type 0 where
   pub to_head : holds l slot ≡ false → IsTrue (holds l next) → next ≡ l.head
   pub to_back : next ≡ l.back → slot + 1 ≡ l.back

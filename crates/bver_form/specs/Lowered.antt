@@ -1,4 +1,5 @@
--- Marks of registers, loop by loop: which ones the verifier lowered, since nothing is known of them at the loop's head.
+-- Marks of registers, loop by loop: which ones the verifier lowered, since nothing is known of them at the loop's
+-- head.
 use Rattle.std.specs.Prelude.{◌≡◌, ℕ, ◌+◌, ◌*◌, ◌≤◌, Bool, true, false, List, [], ◌∷◌, length, slice_index_or}
 
 -- whether the register was lowered for the loop, by its place among the declared ones: r0 to r9, loop by loop

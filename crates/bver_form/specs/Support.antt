@@ -1,5 +1,5 @@
--- What an instruction may be, wherever it stands (a choice of this project, since RFC 9669 leaves verification to the
--- implementation).
+-- Which instructions there may be, whatever their slot (a choice of this project, since RFC 9669 leaves verification
+-- to the implementation).
 use Rattle.std.specs.Prelude.{◌≢◌, ℕ, ℤ, ◌==◌, if◌then◌else◌, Option, None, Some, IfSome, IsTrue}
 use Rattle.bpf.specs.declared.version.Version.{Version}
 use Rattle.bpf_insn.specs.Flow.{flow_of, written_register}
@@ -23,7 +23,7 @@ IsSupportedCall version callees.Helper number = IsTrue (knows_helper version (he
 IsSupportedCall version Local number = ⊥
 IsSupportedCall version ByTypeId number = ⊥
 
--- what goes on so is supported
+-- an instruction of this flow is supported
 abbrev pub IsSupportedFlow : Version → Flow → Type 0
 IsSupportedFlow version GoesOn = Unit {0}
 IsSupportedFlow version (Branches distance) = Unit {0}
@@ -32,7 +32,7 @@ IsSupportedFlow version (Calls callee number) = IsSupportedCall version callee n
 IsSupportedFlow version Ends = Unit {0}
 IsSupportedFlow version Unsupported = ⊥
 
--- the instruction is supported: it loads no address (RFC 9669, section 5.4), and calls helpers of the version alone
+-- the instruction is supported: it loads no address (RFC 9669, section 5.4), and calls only helpers of the version
 abbrev pub IsSupported : Version → Insn → Type 0
 IsSupported version insn = IsSupportedFlow version (flow_of insn)
 
@@ -48,7 +48,7 @@ call_fault version callees.Helper number = if knows_helper version (helper_of nu
 call_fault version Local number = Some refusals.Unsupported
 call_fault version ByTypeId number = Some refusals.Unsupported
 
--- the refusal of what goes on so, if it is not supported
+-- the refusal of an instruction of this flow, if it is not supported
 abbrev pub support_fault : Version → Flow → Option Refusal
 support_fault version GoesOn = None
 support_fault version (Branches distance) = None
@@ -57,7 +57,7 @@ support_fault version (Calls callee number) = call_fault version callee number
 support_fault version Ends = None
 support_fault version Unsupported = Some refusals.Unsupported
 
--- the refusal of what writes this register, if one
+-- the refusal of an instruction that writes this register, if there is one
 abbrev pub frame_fault : Option ℕ → Option Refusal
 frame_fault None = None
 frame_fault (Some register) = if register == 10 then Some FrameWrite else None

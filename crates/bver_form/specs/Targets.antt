@@ -5,14 +5,14 @@ use Rattle.bpf.specs.Program.{Program, insn_at}
 use Rattle.bpf_insn.specs.declared.insn.Insn.{Insn}
 use Rattle.bver_form.specs.Jumps.{first_slot, jump_distance, target}
 
--- ---- where jumps lead
+-- ---- the slots to which jumps lead
 
--- where a jump by so many slots leads from the slot, if there is one
+-- the slot to which a jump by this distance leads from the slot, if there is one
 abbrev pub landing_by : Program → (slot : ℕ) → Option ℤ → Option ℕ
 landing_by p slot None = None
 landing_by p slot (Some distance) = first_slot p (target slot distance)
 
--- where the instruction jumps that begins at the slot, if one does and jumps
+-- the slot to which the instruction jumps that begins at the slot, if one does and jumps
 abbrev pub landing_from : Program → (slot : ℕ) → Option Insn → Option ℕ
 landing_from p slot None = None
 landing_from p slot (Some insn) = landing_by p slot (jump_distance insn)
@@ -61,7 +61,7 @@ pub record NumbersSlot (places : List ℕ) (place : ℕ) : Type 0 where
   pub slot : ℕ
   pub is : place_at places slot ≡ place
 
--- the marked slots are numbered from 0 on, by rising slot, and no other; there are so many
+-- the marked slots are numbered from 0, by rising slot, and no other; `count` is how many there are
 pub record IsNumbered (marks : List Bool) (places : List ℕ) (count : ℕ) : Type 0 where
   pub size : length places ≡ length marks
   pub all : (slot : ℕ) → IsMarked marks slot → place_at places slot < count

@@ -1,4 +1,4 @@
-//! How a program ends, and what it weighs.
+//! How a program ends, and its weight.
 
 ghost use Rattle.std.specs.Prelude.{◌≡◌, ◌≤◌, ◌-◌, MatchResult, length};
 ghost use Rattle.bpf.specs.Weight.{weight_of};
@@ -19,7 +19,7 @@ fn falls_off(slot: u16) -> Refused
     }
 }
 
-/// Tests that the last instruction is an exit. One of two slots is none.
+/// Tests that the last instruction is an exit. An instruction of two slots is none.
 pub(crate) fn check_end(image: &Image) -> Result<(), Refused>
     ensures { MatchResult result (λ _. IsEnded image.now) (IsEndFault image.now) }
 {

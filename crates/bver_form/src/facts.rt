@@ -1,4 +1,4 @@
-//! What the tests of loops ask of a slot again and again, told once.
+//! The facts of a slot that the tests of loops need again and again, found once.
 
 ghost use Rattle.std.specs.Prelude.{◌≡◌, ◌≤◌, ◌||◌, ℕ, Some, None, true, false};
 ghost use Rattle.bpf.specs.Program.{insn_at};
@@ -9,18 +9,18 @@ ghost use Rattle.bver_form.specs.Facts.{AreFacts, AreFactsOf, told_distance};
 use bpf::{Image, MAX_SLOTS};
 use bpf_insn::{Callee, Flow, Insn, Register};
 
-/// The slots of a program, at most.
+/// The most slots of a program.
 pub const SLOTS: usize = MAX_SLOTS as usize;
 
-/// What the instruction does that begins at a slot: which registers it writes, whether it stores, and how far it jumps.
-/// It does none of these where none begins.
+/// What the instruction that begins at a slot does: which registers it writes, whether it stores, and how far it
+/// jumps. If none begins there, it does none of these.
 #[derive(Clone, Copy, Debug)]
 pub struct SlotFacts {
     /// The registers as bits, that of r0 the lowest.
     registers: u16,
     stores: bool,
     jumps: bool,
-    /// In slots from the next instruction. 0 where it does not jump.
+    /// In slots from the next instruction. It is 0 if the instruction does not jump.
     distance: i32,
 }
 
@@ -72,7 +72,7 @@ impl SlotFacts {
         }
     }
 
-    /// Those of a jump by so many slots from the next one.
+    /// Those of a jump by this many slots from the next one.
     #[tactic(auto, using(crate::proofs::Told::has_none))]
     fn jumping(distance: i32) -> SlotFacts
         ensures registers { (register : ℕ) → is_bit result.registers register ≡ false }
@@ -134,7 +134,7 @@ impl SlotFacts {
         }
     }
 
-    /// The registers that are written, as bits: that of r0 is the lowest.
+    /// The registers that the instruction writes, as bits: that of r0 is the lowest.
     pub fn registers(&self) -> u16
         ensures { result ≡ self.now.registers }
     {
@@ -148,14 +148,14 @@ impl SlotFacts {
         self.stores
     }
 
-    /// Whether the register is written.
+    /// Whether the instruction writes the register.
     pub(crate) fn writes(&self, register: Register) -> bool
         ensures { result ≡ is_bit self.now.registers register }
     {
         self.registers >> register.number() & 1 == 1
     }
 
-    /// How far it is to where the instruction jumps, if it does: in slots from the next one.
+    /// The distance of the instruction's jump, if it jumps: in slots from the next one.
     pub(crate) fn distance(&self) -> Option<i32>
         ensures { result ≡ told_distance self.now }
     {

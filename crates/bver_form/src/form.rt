@@ -14,7 +14,7 @@ use crate::support::{check_call, check_written};
 use bpf::Image;
 use bpf_insn::Insn;
 
-/// Tests that the instruction may stand at the slot.
+/// Tests that the instruction is allowed at the slot.
 fn check_insn(image: &Image, slot: u16, insn: &Insn) -> Result<(), Refusal>
     ensures allowed { OnOk result (IsAllowed image.now slot insn.now) }
     ensures fault { Tells result (insn_fault image.now slot insn.now) }
@@ -35,7 +35,7 @@ fn check_insn(image: &Image, slot: u16, insn: &Insn) -> Result<(), Refusal>
     }
 }
 
-/// Tests that the instruction that begins at the slot, if one does, may stand there.
+/// Tests that the instruction that begins at the slot, if one does, is allowed there.
 fn check_slot(image: &Image, slot: u16) -> Result<(), Refusal>
     ensures { MatchResult result (λ _. IsAllowedAt image.now slot (insn_at image.now slot))
         (IsFaultAt image.now slot (insn_at image.now slot)) }
@@ -46,7 +46,7 @@ fn check_slot(image: &Image, slot: u16) -> Result<(), Refusal>
     }
 }
 
-/// Tests that each instruction may stand where it does. The first that may not is refused.
+/// Tests that each instruction is allowed at its slot, and refuses the first that is not.
 fn check_slots(image: &Image) -> Result<(), Refused>
     ensures { MatchResult result (λ _. AreAllowed image.now) (IsInsnFault image.now) }
 {
@@ -56,7 +56,7 @@ fn check_slots(image: &Image) -> Result<(), Refused>
     Ok(())
 }
 
-/// Tests that each declared loop has its form. The facts of slots are told only where there is a loop.
+/// Tests that each declared loop has its form. It needs the facts of slots only if there is a loop.
 fn check_declared(image: &Image) -> Result<(), Refused>
     ensures { MatchResult result (λ _. All (IsLoopFormed image.now) image.now.loops)
         (IsLoopFault image.now) }
@@ -73,10 +73,13 @@ fn check_declared(image: &Image) -> Result<(), Refused>
 ///
 /// # Errors
 ///
-/// The first that is met. By rising slot, for the instruction at the slot: `Unsupported`, `Helper` where the number
-/// that is called is that of no helper which the version of the format has, `FrameWrite`, `Target`, `BackJump`. Then
-/// `FallOff` at the last instruction, `LoopShape` at the back of the first declared loop, by rising head, that has
-/// not its form, and `Budget` at slot 0.
+/// The first refusal in this order.
+///
+/// 1. By rising slot, for the instruction at the slot: `Unsupported`, `Helper`, `FrameWrite`, `Target`, `BackJump`.
+///    `Helper` says that the number of a call is that of no helper of the format's version.
+/// 2. `FallOff` at the last instruction.
+/// 3. `LoopShape` at the back of the first declared loop, by rising head, that does not have its form.
+/// 4. `Budget` at slot 0.
 pub fn check(image: &Image) -> Result<(), Refused>
     ensures formed { OnOk result (IsFormed image.now) }
 
@@ -89,9 +92,9 @@ pub fn check(image: &Image) -> Result<(), Refused>
     check_budget(image)
 }
 
-/// Tests the form of a program as [`check`] does, and writes the facts of its slots to an array that may hold any before.
-/// Of a program that is refused, they are any. Who goes on with a program that has loops reads them, and asks for no
-/// instruction again.
+/// Tests the form of a program as [`check`] does, and writes the facts of its slots to an array that may hold any
+/// before. If the program is refused, the facts may be any. A caller that goes on with a program that has loops reads
+/// them, and looks at no instruction again.
 ///
 /// # Errors
 ///

@@ -1,4 +1,4 @@
-//! Where an instruction jumps, and whether it may (RFC 9669, section 4.3).
+//! The slot to which an instruction jumps, and whether it may (RFC 9669, section 4.3).
 
 ghost use Rattle.std.specs.Prelude.{◌≡◌, OnOk, Some};
 ghost use Rattle.bver_form.specs.Form.{Tells, jump_fault};
@@ -7,15 +7,15 @@ ghost use Rattle.bver_form.specs.Jumps.{IsJump, first_slot, is_loop_back, target
 use crate::refusal::Refusal;
 use bpf::Image;
 
-/// Where a jump at the slot by so many slots leads, counted from the first slot.
+/// The place to which a jump at the slot by this distance in slots leads, counted from the first slot.
 pub(crate) fn target(slot: u16, distance: i32) -> i64
     ensures { result ≡ target slot distance }
 {
     i64::from(slot) + 1 + i64::from(distance)
 }
 
-/// The slot to which a jump leads from the slot by a distance in slots from the next one. `None` where
-/// no instruction begins there: outside the code, or at a second slot.
+/// The slot to which a jump leads from the slot by a distance in slots from the next one. It is `None` if no
+/// instruction begins there: outside the code, or at a second slot.
 pub fn landing(image: &Image, slot: u16, distance: i32) -> Option<u16>
     ensures { result ≡ first_slot image.now (target slot distance) }
 {
@@ -41,8 +41,8 @@ fn is_loop_back(image: &Image, slot: u16, head: u16) -> bool
         .any(|declared| declared.back == slot && declared.head == head)
 }
 
-/// Tests that a jump by so many slots leads to where an instruction begins, and not backward, but at the
-/// back of a declared loop to its head.
+/// Tests that a jump by this distance leads to a slot at which an instruction begins. It must not go backward, except
+/// at the back of a declared loop to its head.
 pub(crate) fn check_landing(image: &Image, slot: u16, distance: i32) -> Result<(), Refusal>
     ensures jump { OnOk result (IsJump image.now slot distance) }
     ensures fault { Tells result (jump_fault image.now slot (Some distance)) }

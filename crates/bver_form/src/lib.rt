@@ -1,6 +1,6 @@
-//! The form of a program that can be verified: which instructions stand where, before anything is
-//! said of the values that they work on. With it stands what a verifier of values has to keep count of in such a
-//! program: the slots to which it jumps, and registers of its loops.
+//! The form of a program that can be verified: which instructions are allowed at which slots. It says nothing of the
+//! values that they work on. Here is also what a verifier of values must keep count of: the slots to which a program
+//! jumps, and the registers of its loops.
 #![tactic(auto)]
 
 mod ending;

@@ -66,7 +66,7 @@ fn check_step(image: &Image, declared: &Loop) -> bool
     image.insn(declared.back - 1) == Some(step_down(declared))
 }
 
-/// Whether the instruction at the slot leaves the loop's register, if it has to.
+/// Whether the instruction at the slot does not write the loop's register, if it must not.
 fn leaves_counter(facts: &SlotFacts, declared: &Loop, slot: u16) -> bool
     requires { IsLoop MAX_SLOTS declared.now }
     ensures { (p : Program) → AreFactsOf (insn_at p slot) facts.now
@@ -92,8 +92,8 @@ fn check_counter(facts: &[SlotFacts; SLOTS], declared: &Loop) -> bool
     true
 }
 
-/// Whether a jump from the slot to that place, counted from the first slot, does not lead to the loop's
-/// back, and leads into it from outside at its head alone.
+/// Whether a jump from the slot to that place, counted from the first slot, does not lead to the loop's back. If it
+/// leads into the loop from outside, it must lead to its head.
 fn enters_at_head(declared: &Loop, slot: u16, landing: i64) -> bool
     ensures { IsTrue result ↔ EntersAtHead declared.now slot landing }
 {
@@ -102,7 +102,7 @@ fn enters_at_head(declared: &Loop, slot: u16, landing: i64) -> bool
         && (landing <= i64::from(declared.head) || back < landing || holds(declared, slot))
 }
 
-/// The same of the instruction at the slot, where it jumps.
+/// The same of the instruction at the slot, if it jumps.
 fn enters_at_head_from(facts: &SlotFacts, declared: &Loop, slot: u16) -> bool
     ensures { (p : Program) → AreFactsOf (insn_at p slot) facts.now
         → IsTrue result ↔ EntersAtHeadFrom p declared.now slot }
@@ -126,7 +126,7 @@ fn check_entry(image: &Image, facts: &[SlotFacts; SLOTS], declared: &Loop) -> bo
     true
 }
 
-/// Whether the instruction at the slot enters each declared loop so, where it jumps.
+/// Whether the instruction at the slot enters each declared loop so, if it jumps.
 fn enters_each_at_head(image: &Image, facts: &SlotFacts, slot: u16) -> bool
     requires { AreFactsOf (insn_at image.now slot) facts.now }
     ensures { IsTrue result ↔ EntersAllAtHeadFrom image.now slot }
@@ -139,7 +139,7 @@ fn enters_each_at_head(image: &Image, facts: &SlotFacts, slot: u16) -> bool
     true
 }
 
-/// The same. The loops are asked only where the instruction jumps.
+/// The same. It looks at the loops only if the instruction jumps.
 fn enters_all_at_head(image: &Image, facts: &SlotFacts, slot: u16) -> bool
     requires { AreFactsOf (insn_at image.now slot) facts.now }
     ensures { IsTrue result ↔ EntersAllAtHeadFrom image.now slot }
@@ -150,8 +150,8 @@ fn enters_all_at_head(image: &Image, facts: &SlotFacts, slot: u16) -> bool
     }
 }
 
-/// Whether no jump leads to the back of a declared loop, and none from outside into one but to its head: one walk
-/// over the slots for all loops.
+/// Whether no jump leads to the back of a declared loop, and none from outside into one, except to its head. It is
+/// one walk over the slots for all loops.
 fn check_entries(image: &Image, facts: &[SlotFacts; SLOTS]) -> bool
     requires { AreFacts image.now facts.now }
     ensures { IsTrue result ↔ AreEnteredAtHead image.now }
@@ -174,7 +174,7 @@ fn are_nested_or_apart(declared: &Loop, other: &Loop) -> bool
         || (declared.head < other.head && other.back < declared.back)
 }
 
-/// Whether the loop is so with every declared loop of another head.
+/// Whether the loop is nested so or apart with every declared loop of another head.
 fn check_others(image: &Image, declared: &Loop) -> bool
     ensures { IsTrue result ↔ IsAmongOthers image.now declared.now }
 {
@@ -186,7 +186,7 @@ fn check_others(image: &Image, declared: &Loop) -> bool
     true
 }
 
-/// Whether the declared loop has its form. Where it is known that it is entered at its head, that is not tested.
+/// Whether the declared loop has its form. If it is known that runs enter it at its head, that is not tested.
 fn is_loop_formed(
     image: &Image,
     facts: &[SlotFacts; SLOTS],
@@ -217,8 +217,8 @@ fn unformed(declared: &Loop) -> Refused
     }
 }
 
-/// Tests that each declared loop has its form, by the facts of its slots. The first that has not, by rising head, is
-/// refused. Only where a jump enters one elsewhere than at its head it is asked which one.
+/// Tests that each declared loop has its form, by the facts of its slots. It refuses the first that does not, by
+/// rising head. Only if a jump enters one at another slot than its head, it looks for that one.
 pub(crate) fn check_loops(image: &Image, facts: &[SlotFacts; SLOTS]) -> Result<(), Refused>
     requires { AreFacts image.now facts.now }
     ensures { MatchResult result (λ _. All (IsLoopFormed image.now) image.now.loops)

@@ -9,7 +9,7 @@ use std::marker::Model;
 /// How many registers can be lowered for a loop: r0 to r9.
 const LOWERABLE: usize = 10;
 
-/// How many registers can be lowered for the eight loops that a program declares at most.
+/// The most registers that can be lowered, for the eight loops that a program may declare.
 const PAIRS: usize = 8 * LOWERABLE;
 
 /// The registers that were lowered for each loop that a program declares: at its head nothing is known of them.
@@ -68,7 +68,7 @@ impl Lowered {
         ensures more { IsMore self.old self.new }
         ensures marked { IsTrue (is_lowered self.new place register) }
 
-        // No other mark changes, and none does where the count stays.
+        // No other mark changes, and if the count stays, none does.
         ensures others { (k r : ℕ) → r ≤ 9 → (k ≡ place → r ≢ register)
             → is_lowered self.new k r ≡ is_lowered self.old k r }
         ensures settled { IsSettled self.old self.new → self.new ≡ self.old }

@@ -126,16 +126,16 @@ pub enum Refusal {
     /// A store may be to a header region.
     #[error("a store may be to a header region")]
     HeaderWrite,
-    /// The frame pointer r10 is written.
+    /// The program writes the frame pointer r10.
     #[error("the frame pointer is written")]
     FrameWrite,
-    /// A pointer may be moved too far, or by a number of unknown sign.
+    /// A pointer may move too far, or by a number of unknown sign.
     #[error("a pointer may be moved too far")]
     PointerRange,
     /// A map does not exist, or a key may lie outside its map.
     #[error("a map does not exist, or a key may lie outside it")]
     MapKey,
-    /// A call is to a number that is that of no helper, or of one that the version of the format has not.
+    /// A call is to a number that is that of no helper, or of one that the version of the format does not have.
     #[error("a call is to an unknown helper")]
     Helper,
     /// The last instruction is no exit.
@@ -150,7 +150,7 @@ pub enum Refusal {
     /// Memory was refused.
     #[error("no memory")]
     Memory,
-    /// A helper is asked of a map of the other kind.
+    /// The program asks a helper of a map of the other kind.
     #[error("a helper is asked of a map of the other kind")]
     MapKind,
 }
@@ -183,7 +183,7 @@ impl Refusal {
         }
     }
 
-    /// The refusal of a number, as [`Refusal::code`] gives it. `None` where no refusal has it.
+    /// The refusal of a number, as [`Refusal::code`] gives it, or `None` if no refusal has it.
     pub fn from_code(code: u8) -> Option<Refusal>
         ensures value { result ≡ refusal_of_code code }
         ensures number { IfSome result (λ refusal. refusal_code refusal ≡ code) }
@@ -211,7 +211,7 @@ impl Refusal {
         }
     }
 
-    /// What to say of the refusal beside its name: when it comes, and what to do, in lines of at most 114 columns.
+    /// What to say of the refusal beside its name: when it comes, and what to do. The lines have at most 114 columns.
     pub fn advice(self) -> &'static str {
         match self {
             Refusal::Target => TARGET,
@@ -236,8 +236,7 @@ impl Refusal {
     }
 }
 
-/// The refusal of a program, and the slot at which it was met. The slot is 0 where the refusal is of
-/// the whole.
+/// The refusal of a program, and its slot. The slot is 0 if the refusal is of the whole.
 #[derive(Clone, Copy, Debug, PartialEq, Eq, Error)]
 #[error("{code} at slot {slot}")]
 pub struct Refused {

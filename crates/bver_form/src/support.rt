@@ -1,4 +1,4 @@
-//! What an instruction may be, wherever it stands.
+//! Which instructions there may be, whatever their slot.
 
 ghost use Rattle.std.specs.Prelude.{◌≡◌, ◌≢◌, OnOk, Some};
 ghost use Rattle.machine.specs.Helpers.{helper_of};

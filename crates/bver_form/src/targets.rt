@@ -41,7 +41,11 @@ fn mark(kept: &mut Vec<bool>, image: &Image, slot: u16)
     }
 }
 
-/// So many slots, of which none is marked. Memory is asked for once.
+/// This many slots, none of them marked. The call asks for memory once.
+///
+/// # Errors
+///
+/// Memory is refused.
 fn unmarked(alloc: Global, slots: u16) -> Result<Vec<bool>, AllocError>
     ensures size { IfOk result (λ kept. length kept.items ≡ slots) }
     ensures none { IfOk result (λ kept. (k : ℕ) → slice_index_or kept.items k false ≡ false) }
@@ -49,8 +53,8 @@ fn unmarked(alloc: Global, slots: u16) -> Result<Vec<bool>, AllocError>
     vec![in alloc; false; usize::from(slots)]
 }
 
-/// Marks for each slot of a program: those of slot 0, and of each slot to which the program jumps, are true. Memory
-/// is asked for once.
+/// Marks for each slot of a program: those of slot 0, and of each slot to which the program jumps, are true. The call
+/// asks for memory once.
 ///
 /// # Errors
 ///
@@ -82,9 +86,9 @@ fn number_slot(kept: &Vec<bool>, places: &mut Vec<u16>, slot: usize, count: u16)
     count
 }
 
-/// Numbers the slots that are marked from 0 on, by rising slot, and tells how many there are. Any other slot stays
-/// without a number. There are at most 512 marks, as [`kept_slots`] gives them, as many places as marks, and each
-/// place is [`NOWHERE`].
+/// Numbers the marked slots from 0, by rising slot, and returns how many there are. Any other slot stays without a
+/// number. The condition is that there are at most 512 marks, as [`kept_slots`] gives them, and as many places as
+/// marks. Each place must be [`NOWHERE`].
 pub fn number_slots(kept: &Vec<bool>, places: &mut Vec<u16>) -> u16
     requires size { length places.old.items ≡ length kept.now.items }
     requires few { length kept.now.items ≤ MAX_SLOTS }

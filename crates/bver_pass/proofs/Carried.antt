@@ -20,11 +20,11 @@ by_order P k slot below same beyond =
       | inr past ↦ elim (cases_lt slot k) [ inl after ↦ beyond after | inr at ↦ same (omega (arith, past, at)) ]
     ]
 
--- the running state where it stands
+-- the running state, at its slot
 pub carried_here : (t : TableValue) (next : ℕ) (state : StateValue) (k : ℕ) → k ≡ next → knowledge_beside t true next state k ≡ Some state
 carried_here t next state k same = grind (arith, nat_tests, same)
 
--- what holds of the running state where it stands, and else of what the table knows
+-- what holds of the running state at its slot, and else of what the table knows
 pub carried_any : (P : Option StateValue → Type 0) (t : TableValue) (runs : Bool) (next : ℕ) (state : StateValue) (k : ℕ) → (IsTrue runs → k ≡ next → P (Some state)) → ((IsTrue runs → k ≢ next) → P (knowledge_in t k)) → P (knowledge_beside t runs next state k)
 carried_any P t false next state k stands known = known (λ on. absurd (false≢true on))
 carried_any P t true next state k stands known =
@@ -41,7 +41,7 @@ carried_any P t true next state k stands known =
 
 -- ---- the table beside the running state
 
--- what the table knows is covered, since it knows nothing where the running state stands
+-- what the table knows is covered, since it knows nothing at the slot of the running state
 pub carried_covers : BelowIsReflexive → (t : TableValue) (runs : Bool) (next : ℕ) (state : StateValue) → AreEntries t → (IsTrue runs → IsKept t.program next → ⊥) → AreCovered (knowledge_in t) (knowledge_beside t runs next state)
 carried_covers reflexive t runs next state entries plain k =
     carried_any (λ o. IsCoveredIfAny (knowledge_in t k) o) t runs next state k

@@ -1,4 +1,4 @@
--- What is covered stays covered where more is.
+-- What is covered stays covered if more is known.
 use Rattle.std.proofs.Common.{ℕ, ℤ, pos, negsuc, Option, None, Some}
 use Rattle.absdom.specs.State.{StateValue}
 use Rattle.absdom.specs.Laws.{BelowIsReflexive, BelowIsTransitive}

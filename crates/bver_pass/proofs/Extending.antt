@@ -1,4 +1,4 @@
--- A table that was changed at later slots alone.
+-- A table that changed only at later slots.
 use Rattle.std.proofs.Common.{◌≡◌, ◌≢◌, ℕ, ◌≤◌, ◌∙◌, arith}
 use Rattle.absdom.specs.Laws.{BelowIsTransitive}
 use Rattle.bver_pass.specs.Visit.{AreWhole, IsGrown, IsExtended}
@@ -16,7 +16,7 @@ extended_twice transitive from old mid new f g = record {
   whole = λ whole. g.whole (f.whole whole);
 }
 
--- a table in which a slot from there on is the only one that changed
+-- a table in which only one slot changed, from there on
 pub changed_at : (from slot : ℕ) (old new : TableValue) → from ≤ slot → new.program ≡ old.program → IsGrown (knowledge_in old) (knowledge_in new) → ((k : ℕ) → k ≢ slot → knowledge_in new k ≡ knowledge_in old k) → (AreWhole (knowledge_in old) → AreWhole (knowledge_in new)) → IsExtended from old new
 changed_at from slot old new above program grown others whole = record {
   program = program;

@@ -22,9 +22,9 @@ use Rattle.bver_pass.proofs.Covering.{covers_itself}
 use Rattle.bver_pass.proofs.Loops.{loop_in}
 use Rattle.bver_form.proofs.Entering.{to_head}
 
--- ---- where jumps lead
+-- ---- the slots to which jumps lead
 
--- where a jump leads is kept
+-- a slot to which a jump leads is kept
 pub kept_by : (p : Program) (from landing : ℕ) (z : ℤ) → landing_from p from (insn_at p from) ≡ first_slot p z → first_slot p z ≡ Some landing → IsKept p landing
 kept_by p from landing z leads is = inr (record { from = from; jumps = leads ∙ is })
 
@@ -61,7 +61,7 @@ apart_places t a b h below under apart same =
       ]
     ]
 
--- what is known where an entry was written, and elsewhere
+-- what is known at the slot whose entry was written, and elsewhere
 pub known_there : (t : TableValue) (slot : ℕ) (new : Option StateValue) → HasEntry t slot → slice_index_or (slice_set t.entries (place_at t.places slot) new) (place_at t.places slot) None ≡ new
 known_there t slot new has = get_or-set_same t.entries (place_at t.places slot) new None has
 
@@ -96,7 +96,7 @@ set_elsewhere t slot place k new h is apart =
     let found = entry_is t slot place is in
     subst (λ (i : ℕ). slice_index_or (slice_set t.entries i new) (place_at t.places k) None ≡ knowledge_in t k) (sym found.0) (known_elsewhere t slot k new h found.1 apart)
 
--- what is known grows where an entry that was found is written with what covers it
+-- what is known grows if an entry that was found is written with what covers it
 pub set_grown : BelowIsReflexive → (t : TableValue) (slot place : ℕ) (new : Option StateValue) → AreEntries t → Some place ≡ entry_of t slot → IsCoveredIfAny (knowledge_in t slot) new → (k : ℕ) → IsCoveredIfAny (knowledge_in t k) (slice_index_or (slice_set t.entries place new) (place_at t.places k) None)
 set_grown reflexive t slot place new h is covers k =
     elim (cases_eq k slot) [
@@ -106,7 +106,7 @@ set_grown reflexive t slot place new h is covers k =
       | inr apart ↦ subst (λ (o : Option StateValue). IsCoveredIfAny (knowledge_in t k) o) (sym (set_elsewhere t slot place k new h is apart)) (covers_itself reflexive (knowledge_in t k))
     ]
 
--- a place that was found is inside, so what stands there needs no default
+-- a place that was found is inside, so the element there needs no default
 pub found_there : (t : TableValue) (slot place : ℕ) (old : Option StateValue) → Some place ≡ entry_of t slot → old ≡ slice_index_or t.entries place old → slice_index_or t.entries place None ≡ old
 found_there t slot place old is there =
     let found = entry_is t slot place is in
@@ -128,7 +128,7 @@ set_whole t slot place new h is whole was k =
       | inr apart ↦ subst (λ (o : Option StateValue). IfSome o IsWhole) (sym (set_elsewhere t slot place k new h is apart)) (was k)
     ]
 
--- nothing is known where there is no entry
+-- if there is no entry, nothing is known
 pub known_nowhere : (t : TableValue) (slot : ℕ) → (HasEntry t slot → ⊥) → knowledge_in t slot ≡ None
 known_nowhere t slot none =
     elim (cases_lt (place_at t.places slot) (length t.entries)) [

@@ -28,7 +28,7 @@ least_at old new slot state least others above grown covered k = by_place (cases
 pub least_same : (followed : (ℕ → Option StateValue) → Type 0) (old new : TableValue) → new ≡ old → IsLeastOf followed old new
 least_same followed old new same above grown covered = subst (λ (t : TableValue). HasGrown (knowledge_in t) above) (sym same) grown
 
--- a state that goes on: joined where the slot has an entry, else the running one
+-- a state that goes on: if the slot has an entry, it is joined there, else it is the running one
 pub least_next : (old new : TableValue) (runs : Bool) (next : ℕ) (state : StateValue) → (IsFalse runs → IsLeast (knowledge_in old next) state (knowledge_in new next)) → (IsTrue runs → new ≡ old) → ((k : ℕ) → k ≢ next → knowledge_in new k ≡ knowledge_in old k) → IsLeastOf (λ above. IsCovered state (above next)) old new
 least_next old new true next state least same others = least_same (λ above. IsCovered state (above next)) old new (same refl)
 least_next old new false next state least same others = least_at old new next state (least refl) others

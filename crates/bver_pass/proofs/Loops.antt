@@ -1,4 +1,4 @@
--- Where a declared loop lies, and which slots it holds.
+-- The place of a declared loop, and the slots that it holds.
 use Rattle.std.proofs.Common.{◌≡◌, ℕ, zero, suc, ◌+◌, ◌<◌, ◌≤◌, true, List, [], ◌∷◌, length, arith}
 use Rattle.std.specs.Prelude.{IsTrue, slice_index_or}
 use Rattle.std.proofs.lemmas.Bool.Decides.{nat_tests}
@@ -6,7 +6,7 @@ use Rattle.bpf.specs.declared.loops.Loop.{Loop}
 use Rattle.bpf.specs.Program.{AreLoops, IsLoop}
 use Rattle.bver_form.specs.Loops.{holds}
 
--- a declared loop is one, and its head is not below the least
+-- a declared loop has the form of a loop, and its head is not below the least
 pub loop_in : (slots least : ℕ) (ls : List Loop) (k : ℕ) (d : Loop) → AreLoops slots least ls → k < length ls → (least ≤ (slice_index_or ls k d).head) × IsLoop slots (slice_index_or ls k d)
 loop_in slots least [] k d h below = absurd (omega arith)
 loop_in slots least (l ∷ ls) zero d h below = (h.0, h.1)

@@ -9,7 +9,7 @@ use Rattle.bver_pass.specs.Heads.{AreLowered, BodyValue, Falls, IsDeclared}
 use Rattle.bver_pass.specs.Justified.{IsCovered}
 use Rattle.bver_pass.specs.Leading.{AreLoweredBack, IsLoweredBack, IsUncovered}
 
--- the register that falls is
+-- a register that falls is lowered
 pub lowered_one : (b : BodyValue) (head : Option StateValue) (edge : StateValue) (register : ℕ) (old new : List Bool) → Falls b head edge register → IsTrue (is_lowered new b.place register) → ((k r : ℕ) → r ≤ 9 → (k ≡ b.place → r ≢ register) → is_lowered new k r ≡ is_lowered old k r) → IsMore old new → (IsSettled old new → new ≡ old) → AreLowered b head edge (λ r. r ≡ register) old new
 lowered_one b head edge register old new falls marked others more settled = record {
   fallen = λ r one falling. subst (λ (q : ℕ). IsTrue (is_lowered new b.place q)) (sym one) marked;

@@ -109,7 +109,7 @@ so_far_all p l slot w end so = record {
 
 -- ---- what each loop writes
 
--- what each declared loop before a place writes stands at its place
+-- what each declared loop before a place writes is at its place
 pub record AreWrittenBelow (p : Program) (written : List Written) (place : ℕ) : Type 0 where
   pub count : length written ≡ 8
   pub each : (l : Loop) (k : ℕ) → k < place → IsDeclared p l k → (d : Written) → IsWrittenByLoop p l (slice_index_or written k d)
@@ -140,7 +140,7 @@ written_all p written place all so = record {
   each = λ l k declared d. so.each l k (omega (arith, all, declared.inside)) declared d;
 }
 
--- of one place there is one loop
+-- one place has one loop
 pub one_loop : (p : Program) (l m : Loop) (place : ℕ) (w : Written) → IsDeclared p l place → IsDeclared p m place → IsWrittenByLoop p m w → IsWrittenByLoop p l w
 one_loop p l m place w first second is =
     let same : m ≡ l = sym (second.is l) ∙ first.is l in

@@ -1,4 +1,4 @@
--- What a straight instruction leads to, and where it is refused.
+-- The slot to which a straight instruction leads, and why it is refused.
 use Rattle.std.proofs.Common.{◌≡◌, ℕ, ◌+◌, Bool, List, Option, Some, Result, Ok, Err, refl}
 use Rattle.std.specs.Prelude.{IsErr, IfOk, IfErr}
 use Rattle.bpf_insn.specs.declared.insn.Insn.{Insn}
@@ -23,7 +23,7 @@ use Rattle.bver_pass.specs.Visit.{IsLeastNext, VisitValue}
 
 -- ---- what is permitted leads below the table
 
--- an instruction that goes on leads where its result goes
+-- an instruction that goes on leads to the slot to which its result goes
 pub leads_on : (spill : Spill) (above : ℕ → Option StateValue) (slot : ℕ) (a : StateValue) (insn : Insn) → flow_of insn ≡ GoesOn → LeadsBelow spill above slot a insn → GivesBelow (after_insn spill a insn) (above (slot + slots_of insn))
 leads_on spill above slot a (Alu op width dst src) goes h = h
 leads_on spill above slot a (Negate width dst) goes h = h
@@ -45,7 +45,7 @@ pub straight_least : (spill : Spill) (r : Result Bool Refused) (slot : ℕ) (a :
 straight_least spill (Ok runs) slot a insn old new state goes least = λ above grown followed. least above grown (leads_on spill above slot a insn goes followed)
 straight_least spill (Err refused) slot a insn old new state goes least = tt
 
--- an instruction that goes on is refuted where it is refused
+-- an instruction that goes on is refuted if it is refused
 result_refuted : (r : Result StateValue Cause) (there : Option StateValue) → IsErr r → IsResultCovered r there → ⊥
 result_refuted (Err cause) there fails h = h
 result_refuted (Ok a) there fails h = absurd cc
@@ -68,7 +68,7 @@ refuted_on spill maps slot a insn goes fails table h = by_insn insn goes fails h
     by_insn (Call callee number) goes fails h = absurd cc
     by_insn Exit goes fails h = absurd cc
 
--- it is refused for the cause by which it leaves nothing
+-- it is refused for the cause for which it has no result
 fault_on : (spill : Spill) (maps : Maps) (a : StateValue) (insn : Insn) (code : Refusal) → flow_of insn ≡ GoesOn → fault_in (after_insn spill a insn) ≡ Some code → fault_of spill maps a insn ≡ Some code
 fault_on spill maps a (Alu op width dst src) code goes fails = fails
 fault_on spill maps a (Negate width dst) code goes fails = fails

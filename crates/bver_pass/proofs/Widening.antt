@@ -29,7 +29,7 @@ widening_none p l lowered place before now kinds marks ranges = record {
   ranges = ranges;
 }
 
--- what changes registers alone leaves the ranges
+-- a change only of registers keeps the ranges
 ranges_stay : (p : Program) (l : Loop) (before now next : StateValue) → next.ranges ≡ now.ranges → AreWidenedRanges p l before now → AreWidenedRanges p l before next
 ranges_stay p l before now next same (forgets stored is) = forgets stored (subst AreAllWhole (sym same) is)
 ranges_stay p l before now next same (retains out is) = retains out (same ∙ is)
@@ -65,13 +65,13 @@ widening_all p l lowered place before now widening = record {
   ranges = widening.ranges;
 }
 
--- an element does not depend on what stands for the others
+-- an element does not depend on the default for the others
 pub any_default : (xs : List Loop) (k : ℕ) (d e : Loop) → k < length xs → slice_index_or xs k d ≡ slice_index_or xs k e
 any_default [] k d e below = absurd (omega arith)
 any_default (x ∷ xs) zero d e below = refl
 any_default (x ∷ xs) (suc k) d e below = any_default xs k d e (omega arith)
 
--- of the loops below a place none is so
+-- none of the loops below a place is so
 abbrev pub NoneBefore : (Loop → Type 0) → Program → ℕ → Type 0
 NoneBefore P p n = (k : ℕ) (d : Loop) → k < n → P (slice_index_or p.loops k d) → ⊥
 
@@ -84,7 +84,7 @@ none_next P p l n none declared is_not k d below so =
           is_not (subst P (declared.is d) (subst (λ (i : ℕ). P (slice_index_or p.loops i d)) (sym here) so))
     ]
 
--- where no loop has the back and the head, none is found
+-- if no loop has the back and the head, none is found
 none_back : (slot head : ℕ) (ls : List Loop) → ((k : ℕ) (d : Loop) → k < length ls → (slice_index_or ls k d).back ≡ slot × (slice_index_or ls k d).head ≡ head → ⊥) → list_any (λ l. l.back == slot && l.head == head) ls ≡ false
 none_back slot head [] none = refl
 none_back slot head (l ∷ ls) none =

@@ -1,4 +1,4 @@
--- The refusals that stand for what an instruction may do wrong.
+-- The refusals for what an instruction may do wrong.
 use Rattle.absdom.specs.declared.cause.Cause.{Cause}
 use Rattle.absdom.specs.declared.cause.Cause.TheVariants as causes
 use Rattle.bver_form.specs.declared.refusal.Refusal.{Refusal}

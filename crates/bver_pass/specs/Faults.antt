@@ -1,5 +1,5 @@
--- Why an instruction is refused with what is known at its slot: the first of its tests that fails, in the order of its
--- operands (a choice of this project).
+-- Why an instruction is refused with what is known at its slot. The reason is the first of its tests that fails, in
+-- the order of its operands (a choice of this project).
 use Rattle.std.specs.Prelude.{◌≡◌, ℕ, nat_lt, if◌then◌else◌, Option, Some, None, Result, Ok, Err, MatchResult}
 use Rattle.std.specs.Prelude.{slice_index}
 use Rattle.bpf_insn.specs.declared.insn.Insn.{Insn}
@@ -26,18 +26,18 @@ abbrev pub fault_in : {T : Type 0} → Result T Cause → Option Refusal
 fault_in (Ok done) = None
 fault_in (Err cause) = Some (refusal_of cause)
 
--- a helper's argument is no number, where it takes one
+-- a helper's argument is no number, if it takes one
 abbrev pub argument_fault : Helper → AbsKind → Option Refusal
 argument_fault helper kind = if takes_argument helper then fault_in (number_of kind) else None
 
--- a map has not all keys up to the last, or the helper may not be asked of its kind
+-- a map does not have all keys up to the last, or the helper may not be asked of its kind
 abbrev pub cell_fault : Maps → Helper → (map last : ℕ) → Option Refusal
 cell_fault maps helper map last =
     if nat_lt last (slice_index maps.cells map)
     then (if takes_kind helper (kind_of_map maps map) then None else Some refusals.MapKind)
     else Some refusals.MapKey
 
--- what is asked with is no map, no number or no argument, in this order, or there is no such cell
+-- r1 is no map, r2 no number, or the argument no number, in this order, or there is no such cell
 abbrev pub question_fault : Maps → Helper → (map : Result ℕ Cause) → (keys : Result (ℕ × ℕ) Cause)
     → (argument : Option Refusal) → Option Refusal
 question_fault maps helper (Err cause) keys argument = Some (refusal_of cause)
@@ -71,6 +71,6 @@ fault_of spill maps a (LoadAddress dst address) = Some refusals.Unsupported
 fault_of spill maps a (Call callee number) = calling_fault maps (helper_of number) a
 fault_of spill maps a Exit = fault_in (number_of (kind_at a 0))
 
--- a test is passed where there is no fault, and else refuses for that
+-- a test is passed if there is no fault, and else it refuses for the fault
 abbrev pub TellsFault : {T : Type 0} → Result T Refused → Option Refusal → Type 0
 TellsFault result fault = MatchResult result (λ _. fault ≡ None) (λ refused. fault ≡ Some refused.code)

@@ -1,4 +1,4 @@
--- What the verifier makes of what is known at the head of a loop, so that it stands for every pass.
+-- What the verifier makes of what is known at the head of a loop, so that it holds in every pass.
 use Rattle.std.specs.Prelude.{◌≡◌, ◌≢◌, ◌≤◌, ◌<◌, ◌⊎◌, ℕ, Bool, true, false, if◌then◌else◌, List, length}
 use Rattle.std.specs.Prelude.{slice_index_or, All, Option, Some, None, IsTrue, IfSome}
 use Rattle.bpf.specs.declared.header.TheConstants.{MAX_SLOTS}
@@ -30,15 +30,16 @@ pub record IsDeclared (p : Program) (l : Loop) (place : ℕ) : Type 0 where
   pub few : place < 8
   pub limits : IsLoop MAX_SLOTS l
 
--- of a number that the loop writes any number is kept, and nothing where it was lowered; nothing of any other kind
+-- of a number that the loop writes, any number is kept, or nothing if it was lowered; of any other kind nothing is
+-- kept
 abbrev pub opened_kind : (lowered : Bool) → AbsKind → AbsKind
 opened_kind lowered Unset = Unset
 opened_kind lowered (Num range) = if lowered then Unset else Num (whole_range Bits64)
 opened_kind lowered (Ptr region offsets) = Unset
 opened_kind lowered (Map index) = Unset
 
--- how a register is widened at the head of a loop, the one at that place: its counter to 1 to the bound, one that the
--- loop writes is opened, and any other is kept
+-- How a register is widened at the head of the loop at that place. Its counter becomes 1 to the bound, one that the
+-- loop writes is opened, and any other is kept.
 pub data IsWidenedKind (p : Program) (l : Loop) (lowered : List Bool) (place register : ℕ) (before after : AbsKind) :
     Type 0 where
   counts : register ≡ l.register → after ≡ Num (1, l.bound) → IsWidenedKind p l lowered place register before after
@@ -47,8 +48,8 @@ pub data IsWidenedKind (p : Program) (l : Loop) (lowered : List Bool) (place reg
   keeps : register ≢ l.register → (IsWrittenIn p l register → ⊥) → after ≡ before
       → IsWidenedKind p l lowered place register before after
 
--- how the ranges of the stack's words are widened at the head of a loop: where the loop stores nothing is known of any
--- word, and else they are kept
+-- How the ranges of the stack's words are widened at the head of a loop. If the loop stores, nothing is known of any
+-- word, and else they are kept.
 pub data AreWidenedRanges (p : Program) (l : Loop) (before after : StateValue) : Type 0 where
   forgets : HasStore p l → AreAllWhole after.ranges → AreWidenedRanges p l before after
   retains : (HasStore p l → ⊥) → after.ranges ≡ before.ranges → AreWidenedRanges p l before after
@@ -77,7 +78,7 @@ AreUnset p l lowered place a =
     (register : ℕ) → register ≤ 9 → register ≢ l.register → IsWrittenIn p l register
     → IsTrue (is_lowered lowered place register) → kind_at a register ≡ Unset
 
--- what was lowered holds nothing at the heads, where the table has a state there
+-- what was lowered holds nothing at the heads, if the table has a state there
 abbrev pub HasLowered : Program → (lowered : List Bool) → (table : ℕ → Option StateValue) → Type 0
 HasLowered p lowered table =
     (l : Loop) (place : ℕ) → IsDeclared p l place → IfSome (table l.head) (AreUnset p l lowered place)
@@ -94,15 +95,14 @@ abbrev pub is_number_at : Option StateValue → (register : ℕ) → Bool
 is_number_at None register = false
 is_number_at (Some a) register = is_number (kind_at a register)
 
--- an edge back to the head lowers the register there: the loop writes it, and it is a number at the head and none
--- on the edge
+-- an edge back to the head lowers the register there: the loop writes it, and it is a number only at the head
 pub record Falls (b : BodyValue) (head : Option StateValue) (edge : StateValue) (register : ℕ) : Type 0 where
   pub head_number : IsTrue (is_number_at head register)
   pub edge_number : is_number (kind_at edge register) ≡ false
   pub written : IsWrittenIn b.program b.declared register
 
--- the marks after an edge back lowered those of these registers that fall: no other changes, and none does where the
--- count of them stays
+-- the marks after an edge back: it lowered those of these registers that fall; no other mark changes, and if their
+-- count stays, none does
 pub record AreLowered (b : BodyValue) (head : Option StateValue) (edge : StateValue) (among : ℕ → Type 0)
     (old new : List Bool) : Type 0 where
   pub fallen : (register : ℕ) → among register → Falls b head edge register → IsTrue (is_lowered new b.place register)
@@ -116,6 +116,6 @@ pub record IsClosingFault (l : Loop) (refused : Refused) : Type 0 where
   pub code : refused.code ≡ LoopEntry
   pub slot : refused.slot ≡ l.head
 
--- at the head of each loop that has it at the slot, what is known stands for every pass
+-- at the head of each loop that has it at the slot, what is known holds in every pass
 abbrev pub AreHeadsAt : Program → (slot : ℕ) → Option StateValue → Type 0
 AreHeadsAt p slot known = All (λ l. l.head ≡ slot → IfSome known (IsHead p l)) p.loops

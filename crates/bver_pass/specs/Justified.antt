@@ -1,6 +1,6 @@
--- When a program may judge (a choice of this project, since RFC 9669 leaves verification to the
--- implementation): it has its form, and there is a table of what is known at its slots under which no
--- instruction can go wrong.
+-- When a program may judge. It has its form, and there is a table of what is known at its slots with which no
+-- instruction can go wrong. This is a choice of this project, since RFC 9669 leaves verification to the
+-- implementation.
 use Rattle.std.specs.Prelude.{◌≡◌, ◌≢◌, ◌<◌, ℕ, ◌+◌, ℤ, pos, negsuc, List, Option, Some, None, Result, Ok, Err}
 use Rattle.std.specs.Prelude.{IsTrue, IfSome, All, slice_index, slice_index_or}
 use Rattle.bpf.specs.declared.loops.Loop.{Loop}
@@ -35,19 +35,19 @@ use Rattle.bver_form.specs.Form.{IsFormed}
 use Rattle.bver_form.specs.Jumps.{target}
 use Rattle.bver_form.specs.Loops.{holds}
 
--- ---- what is known along an edge, and where it leads
+-- ---- what is known along an edge, and the slot to which it leads
 
 -- whoever knows this knows all that the slot's state says, so a run may go there with it
 abbrev pub IsCovered : StateValue → (there : Option StateValue) → Type 0
 IsCovered a None = ⊥
 IsCovered a (Some b) = IsBelow a b
 
--- the same, where there is anything to cover: nothing is known on an edge that no run takes
+-- the same, if there is anything to cover: nothing is known on an edge that no run takes
 abbrev pub IsCoveredIfAny : Option StateValue → (there : Option StateValue) → Type 0
 IsCoveredIfAny None there = Unit {0}
 IsCoveredIfAny (Some a) there = IsCovered a there
 
--- an instruction is not refused, and what it leaves is covered where it goes on
+-- an instruction is not refused, and what it leaves is covered at the slot at which it goes on
 abbrev pub IsResultCovered : Result StateValue Cause → (there : Option StateValue) → Type 0
 IsResultCovered (Err cause) there = ⊥
 IsResultCovered (Ok a) there = IsCovered a there
@@ -62,7 +62,7 @@ abbrev pub edges_of_comparison : StateValue → Comparison → Result Edges Caus
 edges_of_comparison a comparison =
     refined_edges a comparison.condition comparison.width comparison.dst comparison.src
 
--- what is known at a place of the code; nothing is before it
+-- what is known at a place of the code; nothing is known before it
 abbrev pub knowledge_at : (table : ℕ → Option StateValue) → ℤ → Option StateValue
 knowledge_at table (pos slot) = table slot
 knowledge_at table (negsuc n) = None
@@ -80,7 +80,7 @@ IsNumber (Num range) = Unit {0}
 IsNumber (Ptr region offsets) = ⊥
 IsNumber (Map index) = ⊥
 
--- a helper is asked for a cell: of a map, with a number that is below the map's size, whichever of its range it is
+-- a helper is asked for a cell of a map: the key is a number whose whole range is below the map's size
 abbrev pub AsksCell : (maps : Maps) → (map key : AbsKind) → Type 0
 AsksCell maps Unset key = ⊥
 AsksCell maps (Num range) key = ⊥
@@ -90,7 +90,7 @@ AsksCell maps (Map map) (Num range) = range.1 < slice_index maps.cells map
 AsksCell maps (Map map) (Ptr region offsets) = ⊥
 AsksCell maps (Map map) (Map index) = ⊥
 
--- a helper has its argument: where it takes one, a number
+-- a helper has its argument: a number, if it takes one
 abbrev pub HasArgument : Helper → AbsKind → Type 0
 HasArgument helper kind = IsTrue (takes_argument helper) → IsNumber kind
 
@@ -111,13 +111,13 @@ pub record IsQuestion (maps : Maps) (helper : Helper) (map key argument : AbsKin
 abbrev pub MayAsk : (maps : Maps) → Helper → StateValue → Type 0
 MayAsk maps helper a = IsQuestion maps helper (kind_at a 1) (kind_at a 2) (kind_at a 3)
 
--- what is called is a helper, and it may be asked
+-- the callee is a helper, and it may be asked
 abbrev pub MayCall : (maps : Maps) → Option Helper → StateValue → Type 0
 MayCall maps None a = ⊥
 MayCall maps (Some helper) a = MayAsk maps helper a
 
--- with what is known at its slot an instruction cannot go wrong, and on every edge that a run may take
--- what it leaves is covered: a map that is loaded exists, a helper may be asked, and EXIT has a number for its answer
+-- With what is known at its slot an instruction cannot go wrong. On every edge that a run may take, what it leaves is
+-- covered. A map that is loaded exists, a helper may be asked, and EXIT has a number for its answer.
 abbrev pub IsPermitted : Spill → (maps : Maps) (table : ℕ → Option StateValue) (slot : ℕ) → StateValue → Insn → Type 0
 IsPermitted spill maps table slot a (Alu op width dst src) = Proceeds spill table slot a (Alu op width dst src)
 IsPermitted spill maps table slot a (Negate width dst) = Proceeds spill table slot a (Negate width dst)
@@ -138,7 +138,8 @@ IsPermitted spill maps table slot a (Call callee number) =
     MayCall maps (helper_of number) a × IsCovered (after_call a) (table (slot + 1))
 IsPermitted spill maps table slot a Exit = IsNumber (kind_at a 0)
 
--- the same at a slot: a table has states only where instructions begin, and where it has none no run comes
+-- The same at a slot. A table has states only at slots at which instructions begin. If it has none at a slot, no run
+-- comes there.
 abbrev pub IsPermittedAt : Spill → (maps : Maps) (table : ℕ → Option StateValue) (slot : ℕ) → Option StateValue
     → Option Insn → Type 0
 IsPermittedAt spill maps table slot None insn = Unit {0}
@@ -175,16 +176,16 @@ pub record HasStore (p : Program) (l : Loop) : Type 0 where
   pub inside : IsTrue (holds l slot)
   pub stores : IsStoreAt (insn_at p slot)
 
--- nothing is known of a register but, at most, that it holds a number
+-- nothing is known of a register, except at most that it holds a number
 abbrev pub IsOpen : AbsKind → Type 0
 IsOpen Unset = Unit {0}
 IsOpen (Num range) = range ≡ whole_range Bits64
 IsOpen (Ptr region offsets) = ⊥
 IsOpen (Map index) = ⊥
 
--- what is known at the head of a loop, which stands for every pass: its counter is 1 to its bound, each other
--- register that the loop writes is open, and where the loop stores nothing is known of any word of the stack. The
--- last is asked in version 2 alone: in version 1 no range of a word is ever read.
+-- What is known at the head of a loop, which holds in every pass. Its counter is 1 to its bound, and each other
+-- register that the loop writes is open. If the loop stores, nothing is known of any word of the stack. The last is
+-- required only in version 2: in version 1 no range of a word is ever read.
 pub record IsHead (p : Program) (l : Loop) (a : StateValue) : Type 0 where
   pub counter : kind_at a l.register ≡ Num (1, l.bound)
   pub others : (register : ℕ) → register ≢ l.register → IsWrittenIn p l register → IsOpen (kind_at a register)
@@ -192,10 +193,10 @@ pub record IsHead (p : Program) (l : Loop) (a : StateValue) : Type 0 where
 
 -- ---- justified
 
--- the program has its form, and there is a table of whole states that covers the entry, permits the
--- instruction at each of them, and at the head of each loop, where it has a state, stands for every pass.
--- For a program of version 1 the ranges of words are never read: where there is such a table, there is one in
--- which nothing is known of any word of the stack.
+-- the program has its form, and there is a table of whole states. The table covers the entry, and permits the
+-- instruction at each of its states. If it has a state at the head of a loop, that state holds in every pass. For a
+-- program of version 1 the ranges of words are never read. So if there is such a table, there is one in which nothing
+-- is known of any word of the stack.
 pub record IsJustified (program : Program) (maps : Maps) : Type 0 where
   pub limits : IsProgram program
   pub formed : IsFormed program
@@ -224,7 +225,7 @@ region_of a (Some base) = pointed_region (kind_at a base)
 abbrev pub accessed_region : StateValue → Insn → Option Region
 accessed_region a insn = region_of a (accessed_base insn)
 
--- the region that is accessed at a slot; none where no run comes
+-- the region that is accessed at a slot; none if no run comes there
 abbrev pub region_at : Option StateValue → Option Insn → Option Region
 region_at None insn = None
 region_at (Some a) None = None
@@ -232,7 +233,7 @@ region_at (Some a) (Some insn) = accessed_region a insn
 
 -- ---- an accepted program
 
--- the program, the sizes of the maps that it was accepted for, and the region that each slot accesses
+-- the program, the sizes of the maps for which it was accepted, and the region that each slot accesses
 pub record AcceptedValue : Type 0 where
   pub program : Program
   pub sizes : Maps

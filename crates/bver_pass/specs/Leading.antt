@@ -1,4 +1,4 @@
--- Where an instruction leads, with what is known at its slot, and why its visit is refused.
+-- The slots to which an instruction leads, with what is known at its slot, and why its visit is refused.
 use Rattle.std.specs.Prelude.{◌≡◌, ◌≢◌, ℕ, ◌+◌, Bool, List, Option, Some, None, Result, Ok, Err, All, IfSome, ◌≤◌}
 use Rattle.std.specs.Prelude.{◌⊎◌, IsTrue}
 use Rattle.bpf.specs.declared.loops.Loop.{Loop}
@@ -25,28 +25,28 @@ use Rattle.bver_pass.specs.Table.{TableValue, knowledge_in}
 use Rattle.bver_pass.specs.Unjustified.{IsRefuted}
 use Rattle.bver_pass.specs.Visit.{IsLeastNext, VisitValue, visited_state}
 
--- ---- where it leads
+-- ---- the slots to which it leads
 
 -- what the instruction at the slot leaves, or the cause for which it is refused
 abbrev pub outcome_at : VisitValue → StateValue → Insn → Result StateValue Cause
 outcome_at v a insn = after_insn (spill_of v.program.version) a insn
 
--- what an instruction leaves, where it is not refused, is covered where it goes on
+-- what an instruction leaves, if it is not refused, is covered at the slot at which it goes on
 abbrev pub GivesBelow : Result StateValue Cause → (there : Option StateValue) → Type 0
 GivesBelow (Err cause) there = Unit {0}
 GivesBelow (Ok a) there = IsCovered a there
 
--- each edge of a comparison that a run may take, where it is not refused, is covered
+-- each edge of a comparison that a run may take, if it is not refused, is covered
 abbrev pub BranchesBelow : Result Edges Cause → (taken next : Option StateValue) → Type 0
 BranchesBelow (Err cause) taken next = Unit {0}
 BranchesBelow (Ok edges) taken next = IsCoveredIfAny edges.taken taken × IsCoveredIfAny edges.not_taken next
 
--- an instruction that goes on to the next one leaves what is covered there, where it is not refused
+-- an instruction that goes on to the next one leaves what is covered there, if it is not refused
 abbrev pub ProceedsBelow : Spill → (above : ℕ → Option StateValue) (slot : ℕ) → StateValue → Insn → Type 0
 ProceedsBelow spill above slot a insn = GivesBelow (after_insn spill a insn) (above (slot + slots_of insn))
 
--- on every edge that a run may take, what an instruction leaves is covered: as if it were permitted, but where it is
--- refused nothing is asked
+-- On every edge that a run may take, what an instruction leaves is covered, as if it were permitted. Nothing is
+-- required of one that is refused.
 abbrev pub LeadsBelow : Spill → (above : ℕ → Option StateValue) (slot : ℕ) → StateValue → Insn → Type 0
 LeadsBelow spill above slot a (Alu op width dst src) = ProceedsBelow spill above slot a (Alu op width dst src)
 LeadsBelow spill above slot a (Negate width dst) = ProceedsBelow spill above slot a (Negate width dst)
@@ -64,12 +64,12 @@ LeadsBelow spill above slot a (LoadAddress dst address) = Unit {0}
 LeadsBelow spill above slot a (Call callee number) = IsCovered (after_call a) (above (slot + 1))
 LeadsBelow spill above slot a Exit = Unit {0}
 
--- what is known on the edge of a comparison on which it holds, where a run may take it
+-- what is known on the edge of a comparison on which it holds, if a run may take it
 abbrev pub taken_state : Result Edges Cause → Option StateValue
 taken_state (Err cause) = None
 taken_state (Ok edges) = edges.taken
 
--- what is known along the jump of an instruction, where a run may take it
+-- what is known along the jump of an instruction, if a run may take it
 abbrev pub jumping_state : StateValue → Insn → Option StateValue
 jumping_state a (Alu op width dst src) = None
 jumping_state a (Negate width dst) = None
@@ -85,15 +85,14 @@ jumping_state a (LoadAddress dst address) = None
 jumping_state a (Call callee number) = None
 jumping_state a Exit = None
 
--- the same at a slot, where anything is known there
+-- the same at a slot, if anything is known there
 abbrev pub jumping_if_any : Option StateValue → Insn → Option StateValue
 jumping_if_any None insn = None
 jumping_if_any (Some a) insn = jumping_state a insn
 
 -- ---- the edge back
 
--- the slot is the back of the loop that is declared at the place, and the register falls on the edge from there to its
--- head
+-- the slot is the back of the loop that is declared at the place; the register falls on the edge to its head
 pub record IsLoweredBack (p : Program) (slot : ℕ) (known : ℕ → Option StateValue) (edge : StateValue)
     (place register : ℕ) : Type 0 where
   pub declared : Loop
@@ -115,8 +114,8 @@ AreLoweredBack p slot known edge old new =
     → (is_lowered new place register ≡ is_lowered old place register)
     ⊎ IsLoweredBackIfAny p slot known edge place register
 
--- an edge from the slot goes back to the head of a declared loop, where it is not covered, and each register that falls
--- on it was lowered before
+-- An edge from the slot goes back to the head of a declared loop and is not covered there. Each register that falls
+-- on it was lowered before.
 pub record IsUncovered (p : Program) (slot : ℕ) (lowered : List Bool) (known : ℕ → Option StateValue)
     (edge : StateValue) : Type 0 where
   pub declared : Loop
@@ -137,7 +136,8 @@ IsUncoveredIfAny p slot lowered known (Some edge) = IsUncovered p slot lowered k
 
 -- ---- why it is refused
 
--- no table permits the instruction with what is known at its slot, and the refusal there is for its first test that fails
+-- no table permits the instruction with what is known at its slot, and the refusal there is for its first test that
+-- fails
 pub record IsRefutedFor (v : VisitValue) (a : StateValue) (insn : Insn) (refused : Refused) : Type 0 where
   pub slot : refused.slot ≡ v.slot
   pub code : fault_of (spill_of v.program.version) v.maps a insn ≡ Some refused.code
@@ -158,7 +158,7 @@ pub record EntersOutside (p : Program) (slot : ℕ) (a : StateValue) : Type 0 wh
   pub head : declared.head ≡ slot
   pub outside : IsWithinBound declared a → ⊥
 
--- what comes to the slot is refused there for that, and told as it came
+-- what comes to the slot is refused there for that, and the refusal gives it as it came
 pub record IsHeadFault (v : VisitValue) (before told : StateValue) (refused : Refused) : Type 0 where
   pub slot : refused.slot ≡ v.slot
   pub code : refused.code ≡ LoopEntry
@@ -178,21 +178,20 @@ pub data IsWidenedAt (p : Program) (lowered : List Bool) (slot : ℕ) (before af
       → IsWidenedAt p lowered slot before after
   stays : All (λ l. l.head ≢ slot) p.loops → after ≡ before → IsWidenedAt p lowered slot before after
 
--- the same where anything comes there
+-- the same if anything comes there
 abbrev pub IsWidenedIfAny : Program → (lowered : List Bool) (slot : ℕ) → (before after : Option StateValue) → Type 0
 IsWidenedIfAny p lowered slot None None = Unit {0}
 IsWidenedIfAny p lowered slot None (Some after) = ⊥
 IsWidenedIfAny p lowered slot (Some before) None = ⊥
 IsWidenedIfAny p lowered slot (Some before) (Some after) = IsWidenedAt p lowered slot before after
 
--- where anything is known at the slot, it is covered there, and so is what the instruction leads to
+-- if anything is known at the slot, it is covered there, and so is what the instruction leads to
 abbrev pub IsFollowedBelow : Spill → (above : ℕ → Option StateValue) (slot : ℕ) → Option StateValue → Insn → Type 0
 IsFollowedBelow spill above slot known insn =
     IfSome known (λ a. IsCovered a (above slot) × LeadsBelow spill above slot a insn)
 
--- after the visit of the instruction at the slot no more is known than what came there, widened, and what it
--- leads to, and
--- no more is lowered than falls on its edge back
+-- After the visit of the instruction at the slot, no more is known than what came there, widened, and what it leads
+-- to. No more is lowered than falls on its edge back.
 pub record IsLeastVisit (v : VisitValue) (lowered now : List Bool) (old new : TableValue) (was runs : Bool)
     (before after : StateValue) (insn : Insn) : Type 0 where
   pub widened : IsWidenedIfAny v.program lowered v.slot (visited_state was before old v.slot)
@@ -203,15 +202,15 @@ pub record IsLeastVisit (v : VisitValue) (lowered now : List Bool) (old new : Ta
   pub marks : AreLoweredBack v.program v.slot (knowledge_in old)
       (jumping_if_any (visited_state was before new v.slot) insn) lowered now
 
--- the same at a second slot, where nothing is lowered
+-- the same at a second slot, at which nothing is lowered
 abbrev pub IsLeastVisitIfAny : (v : VisitValue) (lowered now : List Bool) (old new : TableValue) (was runs : Bool)
     (before after : StateValue) → Option Insn → Type 0
 IsLeastVisitIfAny v lowered now old new was runs before after None = now ≡ lowered
 IsLeastVisitIfAny v lowered now old new was runs before after (Some insn) =
     IsLeastVisit v lowered now old new was runs before after insn
 
--- what comes to the slot is refused there: at the head of a loop, or with the instruction. What is told is what came to
--- the head, or what was known at the instruction
+-- what comes to the slot is refused there: at the head of a loop, or with the instruction. The refusal gives what
+-- came to the head, or what was known at the instruction
 pub data IsVisitFault (v : VisitValue) (lowered : List Bool) (known : ℕ → Option StateValue) (before : StateValue)
     (insn : Insn) (told : StateValue) (refused : Refused) : Type 0 where
   enters : IsHeadFault v before told refused → IsVisitFault v lowered known before insn told refused

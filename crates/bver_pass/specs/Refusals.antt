@@ -28,13 +28,12 @@ IsValueRefusal refusals.Unsupported = ⊥
 IsValueRefusal refusals.Memory = ⊥
 IsValueRefusal refusals.MapKind = Unit {0}
 
--- a refusal for what values may do wrong, at a slot where an instruction begins
+-- a refusal for what values may do wrong, at a slot at which an instruction begins
 pub record IsValueFault (p : Program) (refused : Refused) : Type 0 where
   pub code : IsValueRefusal refused.code
   pub begins : IsSome (insn_at p refused.slot)
 
--- why a program is refused: the first fault of its form; or, where it has its form, what values may do wrong, or want
--- of memory
+-- why a program is refused: the first fault of its form; if it has its form, a fault of values, or refused memory
 pub data IsRefusal (p : Program) (refused : Refused) : Type 0 where
   of_form : IsFormFault p refused → IsRefusal p refused
   of_values : IsFormed p → IsValueFault p refused → IsRefusal p refused

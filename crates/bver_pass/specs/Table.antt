@@ -1,4 +1,4 @@
--- The verifier's table: what is known at slot 0 and at the slots to which the program jumps, and nowhere else.
+-- The verifier's table: what is known at slot 0 and at the slots to which the program jumps, and at no other.
 use Rattle.std.specs.Prelude.{◌≡◌, ◌<◌, ℕ, Bool, ◌&&◌, ◌==◌, nat_lt, if◌then◌else◌, List, length, slice_index_or}
 use Rattle.std.specs.Prelude.{Option, Some, None}
 use Rattle.bpf.specs.Program.{Program}
@@ -31,10 +31,10 @@ pub record AreEntries (t : TableValue) : Type 0 where
   pub used : (place : ℕ) → place < length t.entries → NumbersSlot t.places place
   pub rising : (a b : ℕ) → a < b → HasEntry t a → HasEntry t b → place_at t.places a < place_at t.places b
 
--- what is known at a slot, where a running state may stand at the next one
+-- what is known at a slot, if a running state may be at the next one
 abbrev pub knowledge_beside : TableValue → (runs : Bool) (next : ℕ) → StateValue → (slot : ℕ) → Option StateValue
 knowledge_beside t runs next state slot = if runs && slot == next then Some state else knowledge_in t slot
 
--- what is known at the next slot, where a running state may stand
+-- what is known at the next slot, if a running state may be there
 abbrev pub knowledge_next : TableValue → (runs : Bool) (next : ℕ) → StateValue → Option StateValue
 knowledge_next t runs next state = knowledge_beside t runs next state next

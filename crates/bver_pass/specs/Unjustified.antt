@@ -1,4 +1,4 @@
--- What a refusal of the verifier is worth: that there is no table under which the program is justified.
+-- What a refusal of the verifier means: that there is no table under which the program is justified.
 use Rattle.std.specs.Prelude.{◌≢◌, ℕ, Option, All, IfSome}
 use Rattle.bpf.specs.Program.{Program}
 use Rattle.bpf_insn.specs.declared.insn.Insn.{Insn}
@@ -12,9 +12,9 @@ use Rattle.bver_form.specs.declared.refusal.Refusal.TheVariants.{Memory}
 use Rattle.bver_form.specs.declared.refusal.Refused.{Refused}
 use Rattle.bver_pass.specs.Justified.{HasStore, IsEntered, IsHead, IsJustified, IsPermitted, IsPermittedAt}
 
--- a program that has its form is justified by the table: it consists of whole states, covers the entry, permits the
--- instruction at each of them, and at the head of each loop, where it has a state, stands for every pass; where the
--- loop stores nothing is known there of any word of the stack, in either version
+-- a program that has its form is justified by the table. The table consists of whole states, covers the entry, and
+-- permits the instruction at each of its states. If it has a state at the head of a loop, that state holds in every
+-- pass. If the loop stores, nothing is known there of any word of the stack, in either version.
 pub record Justifies (p : Program) (maps : Maps) (table : ℕ → Option StateValue) : Type 0 where
   pub entered : IsEntered (table 0)
   pub whole : (slot : ℕ) → IfSome (table slot) IsWhole
@@ -26,6 +26,6 @@ pub record Justifies (p : Program) (maps : Maps) (table : ℕ → Option StateVa
 abbrev pub IsRefuted : Spill → (maps : Maps) (slot : ℕ) → StateValue → Insn → Type 0
 IsRefuted spill maps slot a insn = (table : ℕ → Option StateValue) → IsPermitted spill maps table slot a insn → ⊥
 
--- a refusal, but for one for want of memory, tells that the program is not justified
+-- a refusal, except for refused memory, says that the program is not justified
 abbrev pub TellsUnjustified : Program → Maps → Refused → Type 0
 TellsUnjustified p maps refused = refused.code ≢ Memory → IsJustified p maps → ⊥

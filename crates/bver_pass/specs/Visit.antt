@@ -24,29 +24,29 @@ use Rattle.bver_form.specs.Targets.{IsPlain, landing_from}
 
 -- ---- what is known at each slot
 
--- all that was known is covered by what is known now
+-- all that was known before is covered by what is known after
 abbrev pub IsGrown : (old new : ℕ → Option StateValue) → Type 0
 IsGrown old new = (slot : ℕ) → IsCoveredIfAny (old slot) (new slot)
 
--- no more is known at a slot than was, and than is known along an edge to it: what covers both covers it
+-- no more is known at a slot than before, and than is known along an edge to it: what covers both covers it
 abbrev pub IsLeast : (old : Option StateValue) → StateValue → (new : Option StateValue) → Type 0
 IsLeast old edge new =
     (above : StateValue) → IsCoveredIfAny old (Some above) → IsBelow edge above → IsCoveredIfAny new (Some above)
 
--- no more is known in a table than was, and than what was followed to there: what covers both covers it
+-- no more is known in a table than before, and than what was followed to there: what covers both covers it
 abbrev pub IsLeastOf : (followed : (ℕ → Option StateValue) → Type 0) (old new : TableValue) → Type 0
 IsLeastOf followed old new =
     (above : ℕ → Option StateValue) → IsGrown (knowledge_in old) above → followed above
     → IsGrown (knowledge_in new) above
 
--- the same, and of the running state, where one stands at the next slot
+-- the same, and of the running state, if it is at the next slot
 abbrev pub IsLeastNext : (followed : (ℕ → Option StateValue) → Type 0) (old new : TableValue) (runs : Bool) (next : ℕ)
     → StateValue → Type 0
 IsLeastNext followed old new runs next state =
     (above : ℕ → Option StateValue) → IsGrown (knowledge_in old) above → followed above
     → IsGrown (knowledge_in new) above × (IsTrue runs → IsCovered state (above next))
 
--- something is known only where an instruction begins
+-- something is known only at slots at which an instruction begins
 abbrev pub IsPlaced : Program → (known : ℕ → Option StateValue) → Type 0
 IsPlaced p known = (slot : ℕ) → IsSome (known slot) → IsSome (insn_at p slot)
 
@@ -54,14 +54,14 @@ IsPlaced p known = (slot : ℕ) → IsSome (known slot) → IsSome (insn_at p sl
 abbrev pub AreWhole : (known : ℕ → Option StateValue) → Type 0
 AreWhole known = (slot : ℕ) → IfSome (known slot) IsWhole
 
--- the table grew from this slot on alone
+-- the table grew only from this slot on
 pub record IsExtended (from : ℕ) (old new : TableValue) : Type 0 where
   pub program : new.program ≡ old.program
   pub grown : IsGrown (knowledge_in old) (knowledge_in new)
   pub kept : (k : ℕ) → k < from → knowledge_in new k ≡ knowledge_in old k
   pub whole : AreWhole (knowledge_in old) → AreWhole (knowledge_in new)
 
--- a slot of the program, after this one, where an instruction begins. A program has at most so many slots
+-- a slot of the program, after this one, at which an instruction begins. It is below the most slots of a program
 pub record IsLater (p : Program) (slot later : ℕ) : Type 0 where
   pub after : slot < later
   pub inside : later < length p.slots
@@ -80,36 +80,36 @@ pub record VisitValue : Type 0 where
 abbrev pub IsTableOf : VisitValue → TableValue → Type 0
 IsTableOf v table = table.program ≡ v.program
 
--- what is known where a jump by so many slots leads
+-- what is known at the slot to which a jump by this distance leads
 abbrev pub knowledge_at_target : VisitValue → (distance : ℤ) → (known : ℕ → Option StateValue) → Option StateValue
 knowledge_at_target v distance known = knowledge_at known (target v.slot distance)
 
--- the edges of a comparison were followed: what they lead to is known where it jumps to, and at the next slot, where
--- the state stands if it runs on
+-- The edges of a comparison were followed. What they lead to is known at the slot to which it jumps, and at the next
+-- slot. If the state runs on, it is at the next slot.
 abbrev pub AreFollowed : VisitValue → (distance : ℤ) → Result Edges Cause → TableValue → StateValue → (runs : Bool)
     → Type 0
 AreFollowed v distance edges table state runs =
     AreEdgesCovered edges (knowledge_at_target v distance (knowledge_beside table runs (v.slot + 1) state))
     (knowledge_next table runs (v.slot + 1) state)
 
--- the slot is plain where the running state stands there
+-- if the running state is at the slot, the slot is plain
 abbrev pub GoesOnPlain : Program → (slot : ℕ) → (runs : Bool) → Type 0
 GoesOnPlain p slot runs = IsTrue runs → IsPlain p slot
 
--- the instruction at the slot leads there by a jump of so many slots
+-- the instruction at the slot leads there by a jump of this distance
 abbrev pub LeadsBy : VisitValue → (distance : ℤ) → Type 0
 LeadsBy v distance =
     landing_from v.program v.slot (insn_at v.program v.slot) ≡ first_slot v.program (target v.slot distance)
 
--- the table grew after the slot alone
+-- the table grew only after the slot
 abbrev pub IsExtendedAfter : VisitValue → (old new : TableValue) → Type 0
 IsExtendedAfter v old new = IsExtended (v.slot + 1) old new
 
--- the next instruction begins so many slots further
+-- the next instruction begins this many slots further
 abbrev pub IsNext : VisitValue → (slots : ℕ) → Type 0
 IsNext v slots = IsLater v.program v.slot (v.slot + slots)
 
--- where a run may go on at the next instruction, there is one, so many slots further
+-- if a run may go on at the next instruction, there is one, this many slots further
 abbrev pub HasNextBy : VisitValue → (slots : ℕ) → Flow → Type 0
 HasNextBy v slots GoesOn = IsNext v slots
 HasNextBy v slots (Branches distance) = IsNext v slots
@@ -122,12 +122,13 @@ HasNextBy v slots Unsupported = Unit {0}
 abbrev pub HasNext : VisitValue → Insn → Type 0
 HasNext v insn = HasNextBy v (slots_of insn) (flow_of insn)
 
--- what is known where an instruction is visited: the running state, if one stands there, else what the table knows
+-- what is known when an instruction is visited: the running state, if it is there, else what the table knows
 abbrev pub visited_state : (runs : Bool) → StateValue → TableValue → (slot : ℕ) → Option StateValue
 visited_state runs state table slot = if runs then Some state else knowledge_in table slot
 
--- the visit of an instruction at the slot, from one running state to the next, where one stands: it is permitted where
--- nothing was lowered, its region is the one that it accesses, and what is known at a head stands for every pass
+-- The visit of an instruction at the slot, from one running state to the next, if there is one. If nothing was
+-- lowered, the instruction is permitted. Its region is the one that it accesses, and what is known at a head holds in
+-- every pass.
 pub record IsInsnVisit (v : VisitValue) (old new : TableValue) (was runs : Bool) (before after : StateValue)
     (settled : Type 0) (region : Option Region) (insn : Insn) : Type 0 where
   pub permitted : settled
@@ -139,7 +140,7 @@ pub record IsInsnVisit (v : VisitValue) (old new : TableValue) (was runs : Bool)
   pub plain : IsTrue runs → IsPlain v.program (v.slot + slots_of insn)
   pub extended : IsExtended v.slot old new
 
--- the same at a second slot, which is left as it is
+-- the same at a second slot, which stays as it is
 pub record IsPassedBy (old new : TableValue) (was runs : Bool) (before after : StateValue) (region : Option Region) :
     Type 0 where
   pub same_table : new ≡ old
@@ -156,7 +157,7 @@ IsVisit v old new was runs before after settled region (Some insn) =
 
 -- ---- the pass
 
--- what is known at entry is covered at slot 0, and nothing is known that no instruction begins with
+-- what is known at entry is covered at slot 0, and something is known only at slots at which an instruction begins
 pub record AreEntered (p : Program) (known : ℕ → Option StateValue) : Type 0 where
   pub entered : IsEntered (known 0)
   pub placed : IsPlaced p known
@@ -166,11 +167,11 @@ pub record AreEntered (p : Program) (known : ℕ → Option StateValue) : Type 0
 abbrev pub IsLeastEntry : (known : ℕ → Option StateValue) → Type 0
 IsLeastEntry known = (above : ℕ → Option StateValue) → IsEntered (above 0) → IsGrown known above
 
--- at each head before the slot, what is known stands for every pass
+-- at each head before the slot, what is known holds in every pass
 abbrev pub AreHeadsBefore : Program → (known : ℕ → Option StateValue) → (slot : ℕ) → Type 0
 AreHeadsBefore p known slot = All (λ l. l.head < slot → IfSome (known l.head) (IsHead p l)) p.loops
 
--- the slots before this one were visited: what they access, and what stands at their heads
+-- the slots before this one were visited: what they access, and what holds at their heads
 pub record AreVisited (p : Program) (known : ℕ → Option StateValue) (regions : List (Option Region)) (slot : ℕ) : Type 0
   where
     pub entry : AreEntered p known

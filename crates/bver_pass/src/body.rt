@@ -1,4 +1,4 @@
-//! A loop that a program declares, with what stands at its head for every pass.
+//! A loop that a program declares, with what holds at its head in every pass.
 
 ghost use Rattle.std.specs.Prelude.{◌≡◌, ◌≢◌, ◌≤◌, ◌<◌, ◌↔◌, ℕ, IfErr, IsTrue, OnErr, OnOk, MatchResult, false, length};
 ghost use Rattle.absdom.specs.State.{kind_at};
@@ -135,7 +135,7 @@ impl<'a> Body<'a> {
         register.number() == self.declared.register.number() || self.writes(register)
     }
 
-    /// Widens a register. One that stays as it is is not written.
+    /// Widens a register. If the register stays as it is, the function does not write it.
     fn widen_one(&self, lowered: &Lowered, state: &mut State, register: Register)
         requires { register ≤ 9 }
         ensures widened { IsWidenedKind self.now.program self.now.declared lowered.now
@@ -165,13 +165,13 @@ impl<'a> Body<'a> {
         }
     }
 
-    /// Widens what is known at the head to what stands for every pass: the counter is 1 to the bound, of
-    /// each other register that the loop writes any number is known, and nothing where it was lowered or is
-    /// no number; where the loop stores, nothing is known of any word of the stack.
+    /// Widens what is known at the head to what holds in every pass. The counter is 1 to the bound. Of each other
+    /// register that the loop writes, any number is known. Nothing is known of it if it was lowered or is no number.
+    /// If the loop stores, nothing is known of any word of the stack.
     ///
     /// # Errors
     ///
-    /// `LoopEntry` where a run may come there with a counter outside its bound, or with none.
+    /// `LoopEntry`: a run may come there with a counter outside its bound, or with none.
     pub fn widen(&self, lowered: &Lowered, state: &mut State) -> Result<(), Refusal>
         ensures widened { OnOk result
             (IsWidened self.now.program self.now.declared lowered.now self.now.place
@@ -188,8 +188,7 @@ impl<'a> Body<'a> {
         Ok(())
     }
 
-    /// Whether the register is lowered by an edge back to the head: the loop writes it, and it is a number at
-    /// the head and none on the edge.
+    /// Whether an edge back to the head lowers the register: the loop writes it, and it is a number only at the head.
     fn falls(&self, table: &Table<'_>, edge: &State, register: Register) -> bool
         requires { self.now.declared.head < length table.now.program.slots }
         ensures { IsTrue result ↔ Falls self.now
@@ -230,7 +229,7 @@ impl<'a> Body<'a> {
     ///
     /// # Errors
     ///
-    /// `LoopEntry` at the head where it is neither.
+    /// `LoopEntry` at the head: it neither lowers a register nor is covered.
     pub fn close(
         &self,
         table: &Table<'_>,

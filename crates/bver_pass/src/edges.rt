@@ -1,4 +1,4 @@
-//! What an instruction does to the table: the edges that it follows, and why it is refused.
+//! What an instruction does to the table: the edges that it follows, and the reason for its refusal.
 
 ghost use Rattle.std.specs.Prelude.{◌≡◌, ◌≤◌, ◌+◌, ◌⊎◌, IfErr, IfOk, IsErr, IsSome, IsTrue, MatchResult, OnErr, OnOk, Ok, Some, false};
 ghost use Rattle.bpf_insn.specs.Spelling.{slots_of};
@@ -43,7 +43,7 @@ fn refusal_of(cause: Cause) -> Refusal
     }
 }
 
-/// Follows a jump by so many slots: forward, or back to the head of a loop.
+/// Follows a jump by this distance in slots: forward, or back to the head of a loop.
 fn jump(
     visit: &Visit,
     table: &mut Table<'_>,
@@ -87,8 +87,8 @@ fn jump(
     }
 }
 
-/// Follows the edge of a comparison on which it holds, if a run may take it. What is known there is made in the
-/// spare state.
+/// Follows the edge of a comparison on which it holds, if a run may take it. The spare state gets what is known
+/// there.
 fn follow_taken(
     visit: &Visit,
     table: &mut Table<'_>,
@@ -134,7 +134,7 @@ fn follow_taken(
     }
 }
 
-/// Goes on to the next instruction, so many slots further. Tells whether the state is the running one there.
+/// Goes on to the next instruction, `slots` slots further. The result is whether the state is the running one there.
 fn go_on(visit: &Visit, table: &mut Table<'_>, state: &State, slots: u16) -> bool
     requires table { IsTableOf visit.now table.old }
     requires next { IsNext visit.now slots }
@@ -149,7 +149,7 @@ fn go_on(visit: &Visit, table: &mut Table<'_>, state: &State, slots: u16) -> boo
     table.go_on(visit.slot() + slots, state)
 }
 
-/// Follows the other edge of a comparison, if a run may take it. Tells whether the state is the running one
+/// Follows the other edge of a comparison, if a run may take it. The result is whether the state is the running one
 /// there.
 fn follow_not_taken(
     visit: &Visit,
@@ -180,7 +180,7 @@ fn follow_not_taken(
     }
 }
 
-/// Follows the edges of a comparison. Tells whether the state is the running one at the next instruction.
+/// Follows the edges of a comparison. The result is whether the state is the running one at the next instruction.
 fn branch(
     visit: &Visit,
     table: &mut Table<'_>,
@@ -236,7 +236,7 @@ fn branch(
     Ok(runs)
 }
 
-/// Follows both edges of a comparison. Tells whether the state is the running one at the next instruction.
+/// Follows both edges of a comparison. The result is whether the state is the running one at the next instruction.
 fn compare(
     visit: &Visit,
     table: &mut Table<'_>,
@@ -301,7 +301,7 @@ fn compare(
     }
 }
 
-/// An instruction that goes on to the next one. Tells whether the state is the running one there.
+/// An instruction that goes on to the next one. The result is whether the state is the running one there.
 fn straight(
     visit: &Visit,
     table: &mut Table<'_>,
@@ -350,7 +350,7 @@ fn check_map(visit: &Visit, index: i32) -> Result<(), Refused>
     Ok(())
 }
 
-/// The number in a register, where an instruction wants one.
+/// The number in a register, if an instruction wants one there.
 fn number_in(visit: &Visit, state: &State, register: u8) -> Result<Range, Refused>
     requires begins { IsSome (insn_at visit.now.program visit.now.slot) }
     requires register { register ≤ 10 }
@@ -400,7 +400,7 @@ fn asked_map(visit: &Visit, state: &State) -> Result<u8, Refused>
     }
 }
 
-/// Tests that r3 is a number, where the helper takes it as its argument.
+/// Tests that r3 is a number, if the helper takes it as its argument.
 fn check_argument(visit: &Visit, state: &State, helper: Helper) -> Result<(), Refused>
     requires begins { IsSome (insn_at visit.now.program visit.now.slot) }
     ensures argument { MatchResult result (λ _. HasArgument helper (kind_at state.now 3))
@@ -416,7 +416,7 @@ fn check_argument(visit: &Visit, state: &State, helper: Helper) -> Result<(), Re
     Ok(())
 }
 
-/// Tests that a helper may be asked: r1 is a map of its kind, r2 a key of it, and r3 its argument. The kind is tested
+/// Tests that a helper may be asked: r1 is a map of its kind, r2 a key of it, and r3 its argument. It tests the kind
 /// last.
 fn check_asked(visit: &Visit, state: &State, helper: Helper) -> Result<(), Refused>
     requires begins { IsSome (insn_at visit.now.program visit.now.slot) }
@@ -455,7 +455,7 @@ fn check_called(visit: &Visit, state: &State, number: i32) -> Result<(), Refused
     }
 }
 
-/// A helper's call, which goes on with any answer. Tells whether the state is the running one at the next
+/// A helper's call, which goes on with any answer. The result is whether the state is the running one at the next
 /// instruction.
 fn call(
     visit: &Visit,
@@ -514,17 +514,18 @@ pub fn accessed_region(state: &State, insn: &Insn) -> Option<Region>
     }
 }
 
-/// Tests an instruction with what is known at its slot, and follows the edges that a run may take from
-/// there. The state is changed to what is known at the next instruction, and stays the running one there
-/// where the result is true. An edge back to the head of a loop may lower registers there; the instruction
-/// is permitted where none was lowered. The spare state is for what is known on an edge of a comparison, and is any
-/// state before and after.
+/// Tests an instruction with what is known at its slot, and follows the edges that a run may take from there. The
+/// state changes to what is known at the next instruction. If the result is true, it stays the running one there. An
+/// edge back to the head of a loop may lower registers there. If it lowered none, the instruction is permitted. The
+/// spare state is for what is known on an edge of a comparison, and may be any before and after.
 ///
 /// # Errors
 ///
-/// The first of `Unset` and `KindMismatch`, the destination before the source and r1 before r2 before r3,
-/// `PointerRange`, `HeaderWrite`, `OutOfRegion`, `UnsetStack`, `MapKey` and `MapKind`; or `LoopEntry` at a head that an edge back
-/// to it neither lowers nor finds covered. The state is then as it was.
+/// The state is then as before.
+///
+/// - The first of `Unset` and `KindMismatch`, `PointerRange`, `HeaderWrite`, `OutOfRegion`, `UnsetStack`, `MapKey`
+///   and `MapKind`. The destination comes before the source, and r1 before r2 before r3.
+/// - `LoopEntry` at a head: an edge back to it lowers no register there and is not covered.
 pub fn flow(
     visit: &Visit,
     table: &mut Table<'_>,

@@ -26,7 +26,7 @@ pub fn is_number(kind: AbsKind) -> bool
     }
 }
 
-/// What is known at a slot, if anything is. Where nothing is, the state stands for nothing.
+/// What is known at a slot, if anything is. If nothing is, the state has no meaning.
 #[derive(Clone, Drop)]
 struct Known {
     is_known: bool,
@@ -100,7 +100,7 @@ impl Known {
         self.is_known && is_number(self.state.kind(register))
     }
 
-    /// Writes what is known to the state, and tells whether anything is.
+    /// Writes what is known to the state. The result is whether anything is known.
     fn read(&self, state: &mut State) -> bool
         ensures { self.now ≡ (if result then Some state.new else None) }
     {
@@ -111,8 +111,8 @@ impl Known {
     }
 }
 
-/// What is known at slot 0 and at each slot to which the program jumps, by rising slot. There is no entry for
-/// any other slot. Nothing is known where no edge leads that was followed.
+/// What is known at slot 0 and at each slot to which the program jumps, by rising slot. There is no entry for any
+/// other slot. Nothing is known at a slot to which no edge was followed.
 #[derive(Drop)]
 pub struct Table<'a> {
     image: &'a Image,
@@ -132,7 +132,11 @@ impl<'a> Model for Table<'a> {
 }
 
 impl<'a> Table<'a> {
-    /// The table of a program at which nothing is known. Memory is asked for three times.
+    /// The table of a program at which nothing is known. The call asks for memory three times.
+    ///
+    /// # Errors
+    ///
+    /// Memory is refused.
     pub fn new(alloc: Global, image: &'a Image) -> Result<Table<'a>, AllocError>
         ensures program { IfOk result (λ table. table.program ≡ image.now) }
         ensures nothing { IfOk result (λ table. (slot : ℕ) → knowledge_in table slot ≡ None) }
@@ -170,7 +174,7 @@ impl<'a> Table<'a> {
         }
     }
 
-    /// Writes what is known at a slot to the state, and tells whether anything is.
+    /// Writes what is known at a slot to the state. The result is whether anything is known.
     pub fn read(&self, slot: u16, state: &mut State) -> bool
         requires { slot < length self.now.program.slots }
         ensures known { knowledge_in self.now slot ≡ (if result then Some state.new else None) }
@@ -181,7 +185,7 @@ impl<'a> Table<'a> {
         }
     }
 
-    /// Follows a jump to a slot: what is known there is from now on the least that covers the state too.
+    /// Follows a jump to a slot: what is known there becomes the least that also covers the state.
     pub fn follow(&mut self, slot: u16, state: &State)
         requires inside { slot < length self.old.program.slots }
         requires kept { IsKept self.old.program slot }
@@ -201,8 +205,8 @@ impl<'a> Table<'a> {
         }
     }
 
-    /// Goes on to the next slot: the state stays the running one there, and the result is true. Where the
-    /// slot is one to which the program jumps, the state is joined into its entry, and the result is false.
+    /// Goes on to the next slot: the state stays the running one there, and the result is true. If the program jumps
+    /// to the slot, the state is joined into its entry, and the result is false.
     pub fn go_on(&mut self, slot: u16, state: &State) -> bool
         requires inside { slot < length self.old.program.slots }
         ensures program { self.new.program ≡ self.old.program }

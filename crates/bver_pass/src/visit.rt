@@ -1,4 +1,4 @@
-//! A slot that is visited.
+//! A slot during its visit.
 
 ghost use Rattle.std.specs.Prelude.{◌≡◌, ◌≢◌, IfSome, IsSome, None, All, false, length, nat_lt, slice_index};
 ghost use Rattle.bpf.specs.Program.{IsProgram};
@@ -22,7 +22,7 @@ use bver_form::{Refusal, Refused};
 use machine::{Helper, MapKind, MapSizes};
 use std::marker::Model;
 
-/// A slot of a program that has its form, which is verified for a node with these maps; with what each loop of the
+/// A slot of a program that has its form, which is verified for a node with these maps. It has what each loop of the
 /// program writes.
 #[derive(Drop)]
 pub struct Visit<'a> {
@@ -81,7 +81,7 @@ impl<'a> Visit<'a> {
         Spill::of_version(self.image.version())
     }
 
-    /// The instruction that begins there. `None` at a second slot.
+    /// The instruction that begins there, or `None` at a second slot.
     pub fn insn(&self) -> Option<Insn>
         ensures insn { result ≡ insn_at self.now.program self.now.slot }
         ensures program { IsProgram self.now.program }
@@ -90,8 +90,8 @@ impl<'a> Visit<'a> {
         self.image.insn(self.slot)
     }
 
-    /// The slot to which a jump leads by a distance in slots from the next one. `None` where no instruction
-    /// begins there.
+    /// The slot to which a jump leads by a distance in slots from the next one. It is `None` if no instruction begins
+    /// there.
     pub fn landing(&self, distance: i32) -> Option<u16>
         ensures slot { result ≡ first_slot self.now.program (target self.now.slot distance) }
         ensures begins { IfSome result (λ landing. IsSome (insn_at self.now.program landing)) }
@@ -155,7 +155,7 @@ impl<'a> Visit<'a> {
         let _ = self.slot();
     }
 
-    /// The declared loop whose back is the slot, and its head that one.
+    /// The declared loop that has its back at the slot and this head.
     pub fn closed(&self, head: u16) -> Option<Body<'a>>
         ensures some { IfSome result
             (λ b. (b.program ≡ self.now.program) × (b.declared.head ≡ head)) }

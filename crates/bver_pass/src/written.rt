@@ -22,7 +22,7 @@ pub struct Written {
 }
 
 impl Written {
-    /// Nothing is written.
+    /// The instructions write nothing.
     fn nothing() -> Written
         ensures registers { (register : ℕ) → has_register result.registers register ≡ false }
         ensures stores { result.stores ≡ false }
@@ -33,7 +33,7 @@ impl Written {
         }
     }
 
-    /// Whether the register is written.
+    /// Whether the instructions write the register.
     pub fn contains(self, register: Register) -> bool
         ensures { result ≡ has_register self.registers register }
     {
@@ -47,7 +47,7 @@ impl Written {
         self.stores
     }
 
-    /// What is written, with what the instruction of a slot writes, if one begins there.
+    /// What the instructions write, with what the instruction of a slot writes, if one begins there.
     #[tactic(auto, using(crate::proofs::Masks::has_either))]
     fn with_slot(self, facts: &SlotFacts) -> Written
         ensures registers { (insn : Option Insn) → AreFactsOf insn facts.now
@@ -86,7 +86,7 @@ impl Written {
         Written::by_loop(facts, &image.loops()[place])
     }
 
-    /// What the loops of a program write that declares none.
+    /// What the loops of a program without loops write.
     pub fn by_none() -> [Written; MAX_LOOPS]
         ensures size { length result ≡ 8 }
         ensures none { (p : Program) → length p.loops ≡ 0 → AreWrittenByLoops p result }
@@ -94,7 +94,8 @@ impl Written {
         [Written::nothing(); MAX_LOOPS]
     }
 
-    /// What the instructions of each loop write that a program declares, by its place. It is lent the facts of the slots.
+    /// What the instructions of each loop that a program declares write, by its place. The caller lends the facts of
+    /// the slots.
     pub fn by_loops(image: &Image, facts: &[SlotFacts; SLOTS]) -> [Written; MAX_LOOPS]
         requires { AreFacts image.now facts.now }
         ensures { AreWrittenByLoops image.now result }

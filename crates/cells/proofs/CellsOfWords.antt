@@ -20,7 +20,7 @@ use Rattle.cells.specs.Logs.{word_of, cell_of, kind_at, answer_of, draws_ticket,
 use Rattle.cells.specs.Counting.{IsCounted, IsPeak, IsAnswered}
 use Rattle.cells.specs.Seats.{CellSeatValue, CellsValue, IsOf, AreOf, IsSeatOf, calls, calls_back, cells_with}
 
--- the word of a cell, by the sizes of the maps alone
+-- the word of a cell, by only the sizes of the maps
 abbrev word_in : (sizes : List ℕ) → (map key : ℕ) → ℕ
 word_in sizes map key = sum (take map sizes) + key
 
@@ -28,7 +28,7 @@ word_in sizes map key = sum (take map sizes) + key
 pub word_inside : (maps : Maps) (m key : ℕ) → IsInside maps m key → word_of maps m key < sum maps.cells
 word_inside maps m key h = let below = h.key_exists in let more = sum_by_more_le (λ (x : ℕ). x) maps.cells m 0 h.map_exists in omega arith
 
--- where the first map has its words, and where the others have theirs
+-- the words of the first map, and those of the others
 cell_of_first : (size : ℕ) (sizes : List ℕ) (word : ℕ) → word < size → cell_of (size ∷ sizes) word ≡ (0, word)
 cell_of_first size sizes word below =
     ap (λ (b : Bool). cond b (0, word) (suc (cell_of sizes (word - size)).0, (cell_of sizes (word - size)).1)) (lt-ltb word size below)
@@ -92,7 +92,7 @@ asked maps m key kind helper argument answer before after h d =
     ap (calls_of maps) d.answers ∙ map-append (call_of maps) before (answer_of helper (word_of maps m key) argument d.exact answer ∷ [])
     ∙ ap (λ (c : ℕ × ℕ). calls_of maps before ++ call (question helper c.0 c.1 argument) answer ∷ []) (cell_there maps m key h)
 
--- an answer is of the word of a cell where its call asked the cell
+-- an answer is of the word of a cell if its call asked the cell
 answers_there : (maps : Maps) (m key : ℕ) (d : Answer) → d.word < sum maps.cells → (cell_of maps.cells d.word).0 ≡ m → (cell_of maps.cells d.word).1 ≡ key → d.word ≡ word_of maps m key
 answers_there maps m key d below first second =
     let c = cell_of maps.cells d.word in
@@ -108,7 +108,7 @@ cell_is maps m key h d below =
     let back : d.word ≡ word → (c.0 ≡ m) × (c.1 ≡ key) = λ e. let same : c ≡ (m, key) = ap (cell_of maps.cells) e ∙ cell_there maps m key h in (ap (λ (x : ℕ × ℕ). x.0) same, ap (λ (x : ℕ × ℕ). x.1) same) in
     same_from_decides _ _ (Decides-like ((c.0 == m) && (c.1 == key)) there back both) (Decides-eqb d.word word)
 
--- an answer is a ticket of the word where its call drew a ticket of the cell
+-- an answer is a ticket of the word if its call drew a ticket of the cell
 asks_is : (maps : Maps) (m key : ℕ) → IsInside maps m key → (d : Answer) → d.word < sum maps.cells → asks_ticket m key (call_of maps d) ≡ is_ticket (word_of maps m key) d
 asks_is maps m key h d below = ap (λ (b : Bool). draws_ticket d.helper && b) (cell_is maps m key h d below)
 
@@ -137,7 +137,7 @@ fits word n d small behind wraps is =
     let more : d.exact + 1 ≤ n = subst (λ (b : Bool). d.exact + cond b 1 0 ≤ n) helps least in
     wraps here ∙ mod-eq_of_lt (omega arith)
 
--- where the numbers fit, the answers of the calls are the numbers of the tickets
+-- if the numbers fit, the answers of the calls are the numbers of the tickets
 same_tickets : (maps : Maps) (m key n : ℕ) → IsInside maps m key → kind_at maps (word_of maps m key) ≡ Counter → n < 2 ^ 64 → (ds : List Answer) → AreOf maps ds → All (IsBehind (word_of maps m key) n) ds
     → tickets_of m key (calls_of maps ds) ≡ tickets (word_of maps m key) ds
 same_tickets maps m key n h kind small [] are behind = refl
@@ -200,6 +200,6 @@ told_peak maps m key value ds h are peak = record {
   reached = λ p. let r = peak.reached p in let e = raises_alike maps m key value h ds are in omega arith;
 }
 
--- the calls of the cells where a seat came back
+-- the calls of the cells after a seat came back
 pub calls_joined : (it new : CellsValue) (s : CellSeatValue) → IsSeatOf it s → new ≡ cells_with it s → calls_back new ≡ calls_back it ++ calls s
 calls_joined it new s of is = ap calls_back is ∙ rw (of.sizes) (map-append _ it.answers s.answers)

@@ -13,7 +13,7 @@ use Rattle.cells.specs.declared.logs.Answer.{Answer}
 use Rattle.cells.specs.Logs.{answer_of, draws_ticket, tickets, is_ticket, IsBehind}
 use Rattle.cells.specs.Counting.{IsCounted}
 
--- how often the number stands in the list
+-- how often the number is in the list
 abbrev times : ℕ → List ℕ → ℕ
 times number numbers = count_by (λ k. k == number) numbers
 
@@ -30,7 +30,7 @@ times_pick : (b : Bool) (d : Answer) (number : ℕ) (ds : List Answer)
 times_pick true d number ds = sum_by-cons (λ (k : ℕ). cond (k == number) 1 0) d.exact (map (λ (d : Answer). d.exact) ds)
 times_pick false d number ds = omega arith
 
--- a number stands among the tickets as often as in the answers
+-- a number is among the tickets as often as in the answers
 pub times_tickets : (word number : ℕ) (ds : List Answer) → times number (tickets word ds) ≡ count_by (is_numbered word number) ds
 times_tickets word number [] = refl
 times_tickets word number (d ∷ ds) =
@@ -67,7 +67,7 @@ tickets_same : (word : ℕ) (ds : List Answer) (d : Answer) → is_ticket word d
 tickets_same word ds d other =
     tickets_push word ds d ∙ ap (λ (b : Bool). tickets word ds ++ map (λ (d : Answer). d.exact) (cond b (d ∷ []) [])) other ∙ append-nil (tickets word ds)
 
--- where the tickets stay as they were, so does the count
+-- if the tickets stay as they were, so does the count
 counted_same : (word value : ℕ) (ds : List Answer) (d : Answer) → tickets word (ds ++ d ∷ []) ≡ tickets word ds
     → IsBehind word (length (tickets word ds)) d → IsCounted word value ds → IsCounted word value (ds ++ d ∷ [])
 counted_same word value ds d same new h =

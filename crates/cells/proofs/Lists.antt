@@ -37,7 +37,7 @@ pub answers_snoc : (logs : List SeatLog) (maps : Maps) (parts : ℕ) → all_ans
 answers_snoc [] maps parts = refl
 answers_snoc (h ∷ hs) maps parts = ap (λ (l : List Answer). h.answers ++ l) (answers_snoc hs maps parts)
 
--- where no log has parts, and those without parts have no answers, there are no answers
+-- if no log has parts, and those without parts have no answers, there are no answers
 pub no_answers : (logs : List SeatLog) → sum_by (λ (h : SeatLog). h.parts) logs ≡ 0
     → ((seat : ℕ) (h : SeatLog) → get_elem? logs seat ≡ some h → h.parts ≡ 0 → h.answers ≡ []) → all_answers logs ≡ []
 no_answers [] none idle = refl

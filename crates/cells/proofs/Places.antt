@@ -1,4 +1,4 @@
--- The steps of a seat that stands in a table of the cells.
+-- The steps of a seat that is in a table of the cells.
 use Rattle.std.proofs.Common.{◌≡◌, ℕ, ◌+◌, ◌-◌, ◌%◌, ◌^◌, ◌<◌, List, [], ◌++◌, max, refl, sym, ap, ◌∙◌, subst, arith}
 use Rattle.std.specs.Prelude.{sum}
 use Rattle.std.proofs.lemmas.List.Elements.{All-append, All-push}
@@ -91,7 +91,7 @@ module _ (maps about : Maps) (z : TableId) (place : Place) (h : IsPlaced maps ab
       → (place.table_id ≡ z) × (0 < z.words) × Splits (IsTable about) place.id place.me.0 (seat_log place.me.0.maps (place.me.0.parts - 1) place.me.0.answers) (seat_log place.me.0.maps 1 [])
   splits_at fresh part = (h.home, (let more = h.words in omega arith), splits about place.id place.me.0 fresh part)
 
-  -- a seat that was answered stands where it stood
+  -- a seat that was answered is where it was
   pub placed_after : (helper : Helper) (argument answer : ℕ) (s : Step (Unit {0})) (after : Place) → s.word < sum maps.cells → after.table_id ≡ place.table_id → LogsAnswer helper argument answer s place.me after.me → IsPlaced maps about z after
   placed_after helper argument answer s after below home a =
       let d = has_answered (kind_at place.me.0.maps s.word) helper s.word argument place.me.0.answers answer after.me.0.answers a.answered in record {
@@ -105,7 +105,7 @@ module _ (maps about : Maps) (z : TableId) (place : Place) (h : IsPlaced maps ab
             (All-push (IsOf maps) place.me.0.answers (answer_of helper s.word argument d.exact answer) h.answers (below, λ is. d.wraps (ap (λ (k : Maps). kind_at k s.word) h.log ∙ is)));
       }
 
-  -- a seat that another was joined to stands where it stood
+  -- a seat that another was joined to is where it was
   pub placed_joined : (after : Place) (answers : List Answer) → after.table_id ≡ place.table_id → after.me.1 ≡ place.me.1 → after.me.0.maps ≡ place.me.0.maps → after.me.0.answers ≡ place.me.0.answers ++ answers → AreOf maps answers → IsPlaced maps about z after
   placed_joined after answers home slots same joined others = record {
     limits = h.limits;

@@ -88,15 +88,15 @@ answers_more maps s seat v word value d h at part inside here new =
           (words_after (kind_at maps) s word value d inside here new h.cells k below);
     }
 
--- one answer more of a word of that kind: the word goes on as the rule says, and so do the answers of whoever asked,
--- of which all is so that is so of all answers
+-- One answer more of a word of that kind. The word goes on as the rule says, and so do the answers of whoever asked.
+-- What is so of all answers is so of these.
 record Goes (kind : MapKind) (helper : Helper) (word argument answer after : ℕ) (ds : List Answer) : Type 1 where
   exact : ℕ
   word_goes : IsWordOf kind word after (ds ++ answer_of helper word argument exact answer ∷ [])
   answers_go : (mine : List Answer) → ((P : Answer → Type 0) → All P ds → All P mine)
       → IsAnswered kind helper word argument mine answer (mine ++ answer_of helper word argument exact answer ∷ [])
 
--- a step that answers a call of a word, where each word of its kind goes on so
+-- a step that answers a call of a word, if each word of its kind goes on so
 goes_on : (more answer : ℕ → ℕ) (helper : Helper) (argument first slots seat word : ℕ) (me : Me (Unit {0}) SeatLog) → 0 < me.0.parts → word < sum me.0.maps.cells
     → ((found : ℕ) (ds : List Answer) → IsWordOf (kind_at me.0.maps word) word found ds → Goes (kind_at me.0.maps word) helper word argument (answer found) (more found) ds)
     → Allows (IsTable me.0.maps) slots seat me word more (λ found after. LogsAnswer helper argument (answer found) (step slots word first 0 none) me after)
@@ -177,7 +177,7 @@ whole logs seat v at parts idle all f =
     let nothing : sum_by f (all_answers others) ≡ 0 = ap (sum_by f) empty in
     let e = sum_answers_set f logs seat v zero_log at in omega arith
 
--- a look at a word, of which something is told that is so of all answers
+-- a look at a word, which reports something that is so of all answers
 looks : (maps : Maps) (slots seat word : ℕ) (me : Me (Unit {0}) SeatLog) (told : ℕ → Me (Unit {0}) SeatLog → Type 0) → word < sum maps.cells
     → ((s : Table) → IsTable maps s → get_elem? s.views seat ≡ some me.0 → IsWordOf (kind_at maps word) word (slice_index s.words word) (all_answers s.views) → told (slice_index s.words word) me)
     → Allows (IsTable maps) slots seat me word (λ n. n) told

@@ -1,4 +1,4 @@
--- The rule of the words, and what the steps on them tell.
+-- The rule of the words, and what the steps on them report.
 use Rattle.std.specs.Prelude.{ℕ, ◌≡◌, ◌+◌, ◌%◌, ◌^◌, ◌≤◌, ◌<◌, List, [], ◌∷◌, ◌++◌, All, length, sum, sum_by}
 use Rattle.std.specs.Prelude.{count_by, max, slice_index}
 use mathlib.Core.Option.{some}
@@ -26,14 +26,14 @@ abbrev pub all_answers : List SeatLog → List Answer
 all_answers [] = []
 all_answers (log ∷ logs) = log.answers ++ all_answers logs
 
--- the tickets among the answers are numbered from 0, each number once; the word is how many there are, modulo
--- 2^64; and no answer knew of more
+-- The tickets among the answers are numbered from 0, each number once. The word is how many there are, modulo 2^64. No
+-- answer knew of more.
 pub record IsCounted (word value : ℕ) (answers : List Answer) : Type 0 where
   pub counts : value ≡ length (tickets word answers) % 2 ^ 64
   pub each_once : AreNumbersBelow (length (tickets word answers)) (tickets word answers)
   pub behind : All (IsBehind word (length (tickets word answers))) answers
 
--- the word is the greatest argument of the answers of its cell, 0 where there is none; and no answer was told more
+-- The word is the greatest argument of the answers of its cell, or 0 if there is none. No answer was more.
 pub record IsPeak (word value : ℕ) (answers : List Answer) : Type 0 where
   pub under : All (IsUnder word value) answers
   pub reached : 0 < value → 0 < count_by (is_raise word value) answers
@@ -43,9 +43,9 @@ abbrev pub IsWordOf : MapKind → (word value : ℕ) → List Answer → Type 0
 IsWordOf Counter word value answers = IsCounted word value answers
 IsWordOf Peak word value answers = IsPeak word value answers
 
--- the rule: each word of a counter map counts the tickets of its cell, and each word of a peak map is the peak of
--- its cell. There is one word more than there are cells. The logs have 256 parts together, and a log without
--- parts has no answers.
+-- The rule. Each word of a counter map counts the tickets of its cell. Each word of a peak map is the peak of its cell.
+-- There is one word more than there are cells. The logs have 256 parts together, and a log without parts has no
+-- answers.
 pub record IsTable (maps : Maps) (table : State (Unit {0}) SeatLog) : Type 0 where
   pub words : length table.words ≡ sum maps.cells + 1
   pub parts : sum_by (λ log. log.parts) table.views ≡ 256
@@ -53,8 +53,8 @@ pub record IsTable (maps : Maps) (table : State (Unit {0}) SeatLog) : Type 0 whe
   pub cells : (word : ℕ) → word < length table.words
       → IsWordOf (kind_at maps word) word (slice_index table.words word) (all_answers table.views)
 
--- one answer more of a word of a counter map, which knew of all tickets of which those before it knew. How many tickets
--- it knew of is some number here; once every seat came back it is bound by the rule of the words
+-- One answer more of a word of a counter map, which knew of all tickets of which those before it knew. How many tickets
+-- it knew of is some number here. After every seat came back, the rule of the words binds it.
 pub record IsCountAnswered (helper : Helper) (word argument : ℕ) (before : List Answer) (answer : ℕ)
     (after : List Answer) : Type 0
   where
@@ -63,8 +63,8 @@ pub record IsCountAnswered (helper : Helper) (word argument : ℕ) (before : Lis
     pub rising : All (IsBehind word exact) before
     pub answers : after ≡ before ++ answer_of helper word argument exact answer ∷ []
 
--- one answer more of a word of a peak map: it answers at least its argument, and at least what the answers before it
--- raised the word to and were told
+-- One answer more of a word of a peak map. It answers at least its argument, and at least what the answers before it
+-- raised the word to and answered.
 pub record IsPeakAnswered (helper : Helper) (word argument : ℕ) (before : List Answer) (answer : ℕ)
     (after : List Answer) : Type 0
   where
@@ -98,14 +98,14 @@ Answers helper s before found after = LogsAnswer helper 0 found s before after
 abbrev pub Raises : Step (Unit {0}) → Me (Unit {0}) SeatLog → (found : ℕ) → Me (Unit {0}) SeatLog → Type 0
 Raises s before found after = LogsAnswer helpers.Peak s.first (max found s.first) s before after
 
--- a step that logs nothing, and tells whoever has all parts how many tickets were drawn
+-- a step that logs nothing, and reports to whoever has all parts how many tickets were drawn
 pub record Tells (s : Step (Unit {0})) (before : Me (Unit {0}) SeatLog) (found : ℕ) (after : Me (Unit {0}) SeatLog) :
     Type 0
   where
     pub same : after ≡ before
     pub counted : before.0.parts ≡ 256 → IsCounted s.word found before.0.answers
 
--- a step that logs nothing, and tells whoever has all parts what the word was raised to
+-- a step that logs nothing, and reports to whoever has all parts what the word was raised to
 pub record TellsPeak (s : Step (Unit {0})) (before : Me (Unit {0}) SeatLog) (found : ℕ) (after : Me (Unit {0}) SeatLog)
     : Type
     0 where

@@ -1,4 +1,4 @@
--- What seats log: the answers of `count`, of `ticket` and of `peak`, and what each was told.
+-- What seats log: the answers of `count`, of `ticket` and of `peak`, each with its call.
 use Rattle.std.specs.Prelude.{ℕ, suc, ◌+◌, ◌-◌, ◌≤◌, ◌≡◌, ◌==◌, ◌&&◌, ◌<◌, All, Bool, true, false, List, [], ◌∷◌}
 use Rattle.std.specs.Prelude.{map, filter, sum, take, count_by, cond, nat_lt}
 use Rattle.machine.specs.Sizes.{Maps, kind_of_map}
@@ -46,11 +46,11 @@ draws_ticket helpers.Count = false
 draws_ticket helpers.Ticket = true
 draws_ticket helpers.Peak = false
 
--- how many tickets are drawn from a cell at least, once the answer is given: a ticket is one more
+-- how many tickets are drawn from a cell at least, after the answer is given: a ticket is one more
 abbrev pub tickets_after : Answer → ℕ
 tickets_after a = a.exact + cond (draws_ticket a.helper) 1 0
 
--- an answer of that cell knew of no more tickets than so many
+-- an answer of that cell knew of no more tickets than that many
 abbrev pub IsBehind : (word drawn : ℕ) → Answer → Type 0
 IsBehind word drawn a = a.word ≡ word → tickets_after a ≤ drawn
 
@@ -70,13 +70,13 @@ asks_ticket map key c = draws_ticket c.question.helper && ((c.question.map == ma
 abbrev pub tickets_of : (map key : ℕ) → List Call → List ℕ
 tickets_of m key calls = map (λ c. c.answer) (filter (asks_ticket m key) calls)
 
--- each number below n stands in the list once, and no other number stands there
+-- each number below n is in the list once, and no other number is there
 abbrev pub AreNumbersBelow : (n : ℕ) → List ℕ → Type 0
 AreNumbersBelow n numbers = (number : ℕ) → count_by (λ k. k == number) numbers ≡ cond (nat_lt number n) 1 0
 
 -- ---- cells of peak maps
 
--- an answer of that cell raised it to no more than so much, and was told no more
+-- an answer of that cell raised it to no more than that value, and was no more
 abbrev pub IsUnder : (word value : ℕ) → Answer → Type 0
 IsUnder word value a = a.word ≡ word → (a.argument ≤ value) × (a.told ≤ value)
 
@@ -84,7 +84,7 @@ IsUnder word value a = a.word ≡ word → (a.argument ≤ value) × (a.told ≤
 abbrev pub is_raise : (word value : ℕ) → Answer → Bool
 is_raise word value a = (a.word == word) && (a.argument == value)
 
--- a call that asked that cell raised it to no more than so much, and was told no more
+-- a call that asked that cell raised it to no more than that value, and its answer was no more
 abbrev pub IsCallUnder : (map key value : ℕ) → Call → Type 0
 IsCallUnder map key value c =
     (c.question.map ≡ map) → (c.question.key ≡ key) → (c.question.argument ≤ value) × (c.answer ≤ value)
@@ -94,8 +94,8 @@ abbrev pub asks_raise : (map key value : ℕ) → Call → Bool
 asks_raise map key value c =
     ((c.question.map == map) && (c.question.key == key)) && (c.question.argument == value)
 
--- the number is the greatest argument of the calls that asked a cell, 0 where there is none, and no call of the
--- cell was told more
+-- The number is the greatest argument of the calls that asked a cell, or 0 if there is none. No call of the cell had a
+-- greater answer.
 pub record IsGreatest (map key value : ℕ) (calls : List Call) : Type 0 where
   pub under : All (IsCallUnder map key value) calls
   pub reached : 0 < value → 0 < count_by (asks_raise map key value) calls

@@ -24,15 +24,15 @@ pub record CellSeatValue : Type 0 where
 abbrev pub seat : Maps → Gv → List Answer → CellSeatValue
 seat sizes home answers = record { sizes = sizes; home = home; answers = answers }
 
--- the cells: the maps, the name of their table, how many of the 256 parts are not with seats, and
--- the answers of the seats that came back
+-- The cells: the maps, the name of their table, and the answers of the seats that came back. They also have how many of
+-- the 256 parts are not with seats.
 pub record CellsValue : Type 0 where
   pub sizes : Maps
   pub home : Gv
   pub parts : ℕ
   pub answers : List Answer
 
--- the cells of that table, for those maps, with so many parts and those answers
+-- the cells of that table, for those maps, with that many parts and those answers
 abbrev pub cells : Maps → Gv → ℕ → List Answer → CellsValue
 cells sizes home parts answers = record { sizes = sizes; home = home; parts = parts; answers = answers }
 
@@ -61,7 +61,7 @@ pub record Asks (helper : Helper) (map key argument : ℕ) (before : CellSeatVal
         answer
         after.answers
 
--- the cells where that seat came back
+-- the cells after that seat came back
 abbrev pub cells_with : CellsValue → CellSeatValue → CellsValue
 cells_with it s = cells it.sizes it.home (it.parts + 1) (it.answers ++ s.answers)
 
@@ -69,25 +69,24 @@ cells_with it s = cells it.sizes it.home (it.parts + 1) (it.answers ++ s.answers
 abbrev pub calls_back : CellsValue → List Call
 calls_back it = calls_of it.sizes it.answers
 
--- the tickets of a cell that came back are the numbers below n, each once, where fewer than 2^64 came back
+-- if fewer than 2^64 tickets of a cell came back, they are the numbers below n, each once
 abbrev pub AreNumbered : CellsValue → (map key n : ℕ) → Type 0
 AreNumbered it map key n =
     let tickets = tickets_of map key (calls_back it) in length tickets < 2 ^ 64 → AreNumbersBelow n tickets
 
--- the number is the greatest argument of the calls that came back and asked a cell, 0 where there is none
+-- the number is the greatest argument of the calls that came back and asked a cell, or 0 if there is none
 abbrev pub IsHighest : CellsValue → (map key n : ℕ) → Type 0
 IsHighest it map key n = IsGreatest map key n (calls_back it)
 
--- the answer is of one of these cells, and what it told is its number modulo 2^64, where the cell counts
+-- The answer is of one of these cells. If the cell counts, the answer is its number modulo 2^64.
 abbrev pub IsOf : Maps → Answer → Type 0
 IsOf maps a = (a.word < sum maps.cells) × (kind_at maps a.word ≡ Counter → a.told ≡ a.exact % 2 ^ 64)
 
--- each answer is of one of the cells, and what it told is its number modulo 2^64, where the cell counts
+-- Each answer is of one of the cells. If the cell counts, the answer is its number modulo 2^64.
 abbrev pub AreOf : Maps → List Answer → Type 0
 AreOf maps answers = All (IsOf maps) answers
 
--- the place stands in a table of these cells, which has one word more; it has no slots, and its answers are of
--- these cells
+-- The place is in a table of these cells, which has one word more. It has no slots, and its answers are of these cells.
 pub record IsPlaced (maps about : Maps) (table : TableId) (place : Seat (Unit {0}) SeatLog) : Type 0 where
   pub limits : AreSizes maps
   pub key : about ≡ maps

@@ -19,7 +19,7 @@ use std::alloc::{AllocError, Global};
 use std::marker::Model;
 use std::sync::Arc;
 
-/// The most words that cells have, and one.
+/// The most words that cells have, and one more.
 const MOST: usize = 257;
 
 /// All cells of a node, with what came back of its seats.
@@ -42,7 +42,7 @@ impl Model for Cells {
     ghost invariant = { λ s. IsPlaced s.sizes (arc_value s.words).shared.key (arc_value s.words).shared.table_id s.rest };
 }
 
-/// So many words of 0.
+/// That many words of 0.
 fn zeros() -> [u64; MOST]
     ensures { result ≡ replicate 257 0 }
 {
@@ -87,11 +87,11 @@ fn new_seat(
 }
 
 impl Cells {
-    /// The cells of these maps, each 0, and so many seats. No more memory is asked for afterwards.
+    /// The cells of these maps, each 0, and that many seats. No more memory is asked for afterwards.
     ///
     /// # Errors
     ///
-    /// `AllocError` where memory was refused.
+    /// `AllocError` if memory was refused.
     pub fn new(
         alloc: Global,
         sizes: &MapSizes,
@@ -116,7 +116,7 @@ impl Cells {
         Ok((cells, places))
     }
 
-    /// Takes back a seat of these cells, with what it was told.
+    /// Takes back a seat of these cells, with the answers that it was given.
     #[tactic(auto, using(crate::proofs::CellsOfWords::calls_joined))]
     pub fn take_back(&mut self, seat: CellSeat)
         requires { IsSeatOf self.old seat }
@@ -127,11 +127,11 @@ impl Cells {
         self.words.shared.join_seat::<Parts>(&mut self.rest, place);
     }
 
-    /// How many tickets were drawn from a cell of a counter map, modulo 2^64: one load of its word, by whoever
-    /// takes the cells apart. It is no call of a program, and no seat's.
+    /// How many tickets were drawn from a cell of a counter map, modulo 2^64: one load of its word, by whoever takes
+    /// the cells apart. It is no call of a program, and no seat's.
     ///
-    /// The map and the key have to be inside the sizes, which `MapSizes::contains` tests; `MapSizes::kind` tells
-    /// the map's kind.
+    /// The map and the key must be inside the sizes, which `MapSizes::contains` tests. `MapSizes::kind` gives the map's
+    /// kind.
     pub fn drawn(&mut self, map: u8, key: u16) -> u64
         requires inside { IsInside self.old.sizes map key }
         requires kind { kind_of_map self.old.sizes map ≡ Counter }
@@ -144,11 +144,11 @@ impl Cells {
         self.words.shared.load::<Totals>(&mut self.rest, word)
     }
 
-    /// What a cell of a peak map was raised to, 0 where it never was: one load of its word, by whoever takes the
+    /// What a cell of a peak map was raised to, or 0 if it never was. It is one load of its word, by whoever takes the
     /// cells apart. It is no call of a program, and no seat's.
     ///
-    /// The map and the key have to be inside the sizes, which `MapSizes::contains` tests; `MapSizes::kind` tells
-    /// the map's kind.
+    /// The map and the key must be inside the sizes, which `MapSizes::contains` tests. `MapSizes::kind` gives the map's
+    /// kind.
     pub fn highest(&mut self, map: u8, key: u16) -> u64
         requires inside { IsInside self.old.sizes map key }
         requires kind { kind_of_map self.old.sizes map ≡ Peak }

@@ -1,4 +1,4 @@
-//! What a seat knows of the cells. It exists in proofs alone.
+//! What a seat knows of the cells. It exists only in proofs.
 
 use machine::{Helper, MapSizes};
 use std::collections::LinkedList;
@@ -9,11 +9,11 @@ pub struct Answer {
     pub helper: Helper,
     /// The word of the cell.
     pub word: u16,
-    /// What the cell was raised to at least: 0 but for [`Helper::Peak`].
+    /// What the cell was raised to at least. It is 0 except for [`Helper::Peak`].
     pub argument: u64,
-    /// How many tickets had been drawn from the cell; of a peak map's cell, what was told.
+    /// How many tickets had been drawn from the cell. For a peak map's cell it is the answer.
     pub exact: u64,
-    /// What was told: that number modulo 2^64.
+    /// The answer: that number modulo 2^64.
     pub told: u64,
 }
 

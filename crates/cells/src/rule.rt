@@ -1,4 +1,4 @@
-//! The rule of the words, and what the steps on them tell.
+//! The rule of the words, and what the steps on them report.
 
 use crate::logs::SeatLog;
 use atomic_table::{Join, Play, Split, Table, TableRule};
@@ -49,7 +49,7 @@ impl Play<(), SeatLog> for Peaks {
     ghost then = { Raises };
 }
 
-/// A step that tells how many tickets were drawn.
+/// A step that reports how many tickets were drawn.
 pub(crate) struct Totals;
 
 impl Play<(), SeatLog> for Totals {
@@ -58,7 +58,7 @@ impl Play<(), SeatLog> for Totals {
     ghost then = { Tells };
 }
 
-/// A step that tells what a word was raised to.
+/// A step that reports what a word was raised to.
 pub(crate) struct Heights;
 
 impl Play<(), SeatLog> for Heights {

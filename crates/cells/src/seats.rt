@@ -19,8 +19,8 @@ use std::sync::Arc;
 /// A seat, by which a thread counts and raises. Contracts see it as the maps, the name of its table, and the answers
 /// that it was given.
 ///
-/// A seat that is dropped takes along what is known of its tickets: their numbers are simply missing among
-/// those of the others. What it raised stays in the words.
+/// If a seat is dropped, what is known of its tickets goes with it: their numbers are missing among those of the
+/// others. What it raised stays in the words.
 #[derive(Drop)]
 pub struct CellSeat {
     pub(crate) sizes: MapSizes,
@@ -64,7 +64,7 @@ impl CellSeat {
             .fetch_add::<Tickets>(&mut self.place, word, 1)
     }
 
-    /// One `fetch_max` of the word of a cell. It tells what the word was before it.
+    /// One `fetch_max` of the word of a cell. It gives what the word was before.
     fn fetch_max(&mut self, map: u8, key: u16, value: u64) -> u64
         requires inside { IsInside self.old.sizes map key }
         requires kind { kind_of_map self.old.sizes map ≡ Peak }

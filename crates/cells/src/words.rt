@@ -6,7 +6,7 @@ ghost use Rattle.cells.specs.Logs.{word_of};
 
 use machine::MapSizes;
 
-/// How many cells the maps have before this one, or all maps where it is the number of maps.
+/// How many cells the maps have before this one, or all maps if it is the number of maps.
 pub(crate) fn first_word(sizes: &MapSizes, map: u8) -> usize
     requires { map ≤ length sizes.now.cells }
     ensures word { result ≡ sum (take map sizes.now.cells) }

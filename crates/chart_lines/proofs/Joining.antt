@@ -1,18 +1,16 @@
 -- Rows that hold at more ports, and rows more.
-use Rattle.std.proofs.Common.{◌≡◌, ◌≢◌, ◌∙◌, ◌<◌, ◌≤◌, ◌+◌, ◌++◌, inl, inr, ◌∷◌, [], ℕ, suc, List, Option, Some, None, ap, arith, length, refl, subst, sym, take}
+use Rattle.std.proofs.Common.{◌≡◌, ◌≢◌, ◌∙◌, ◌<◌, ◌≤◌, ◌+◌, ◌++◌, inl, inr, ◌∷◌, [], ℕ, suc, List, Option, ap, arith, length, refl, subst, sym, take, drop, zero}
 use Rattle.std.specs.Prelude.{All, Bool, MatchBool, MatchOption, false, get_or, slice_set, true}
-use Rattle.std.proofs.lemmas.List.{take_all, take_more}
-use Rattle.std.proofs.lemmas.List.Elements.{All-more}
+use Rattle.std.proofs.lemmas.List.{take-append-drop, take_all, take_more}
+use Rattle.std.proofs.lemmas.List.Elements.{All-append, All-more}
 use Rattle.differences.specs.declared.courses.Step.{Step}
-use Rattle.regions.specs.declared.regions.Region.{Region}
 use Rattle.policy_table.specs.declared.rules.Quota.{Quota}
 use Rattle.policy_table.specs.declared.rules.Rule.{Rule}
 use Rattle.policy_table.specs.declared.rules.RuleKind.{RuleKind}
 use Rattle.rmap.specs.declared.verdict.Verdict.{Verdict}
 use Rattle.chart_lines.specs.Rows.{AddsRow, EndSame, RowValue, SaysAt, WantSame, ToldValue, row_of, told}
-use Rattle.chart_lines.specs.declared.rows.Change.{Change}
 
--- rows of which this is known where a row that says it was looked for
+-- what is known of rows after the search for one that says it
 abbrev pub IsPlaced : ToldValue → List RowValue → Option ℕ → Type 0
 IsPlaced said rows found =
     MatchOption found (All (λ (row : RowValue). row.told ≢ said) rows) (λ place. (place < length rows) × ((d : RowValue) → (get_or rows place d).told ≡ said))
@@ -30,11 +28,34 @@ joined ports said slice before after place same found is =
       is = λ d. is d ∙ ap (λ (t : ToldValue). slice_set before place (row_of ((get_or before place d).ports ++ ports) t)) (there.1 d);
     })
 
--- a row more was put behind all
+-- one row more was put after all
 pub added : (ports : List ℕ) (said : ToldValue) (slice before after : List RowValue) → slice ≡ before → All (λ (row : RowValue). row.told ≢ said) slice
     → after ≡ before ++ row_of ports said ∷ [] → AddsRow ports said before after
 added ports said slice before after same apart is =
     inr (subst (λ (rows : List RowValue). All (λ (row : RowValue). row.told ≢ said) rows) same apart, is)
+
+-- the row of that place, of the first `from`, got the ports
+pub joined_first : (ports : List ℕ) (said : ToldValue) (from : ℕ) (slice before after : List RowValue) (place : ℕ) → slice ≡ take from before → from ≤ length before → (place < length slice) × ((d : RowValue) → (get_or slice place d).told ≡ said)
+    → ((d : RowValue) → after ≡ slice_set before place (row_of ((get_or before place d).ports ++ ports) (get_or before place d).told)) → AddsRow ports said before after
+joined_first ports said from slice before after place cut within found is =
+    let here : (place < length (take from before)) × ((d : RowValue) → (get_or (take from before) place d).told ≡ said) =
+    subst (λ (rows : List RowValue). (place < length rows) × ((d : RowValue) → (get_or rows place d).told ≡ said)) cut found in
+    let there : (place < length before) × ((d : RowValue) → (get_or before place d).told ≡ said) = first_at from before place said here in
+    joined ports said before before after place refl there is
+  where
+    first_at : (n : ℕ) (rows : List RowValue) (place : ℕ) (said : ToldValue) → (place < length (take n rows)) × ((d : RowValue) → (get_or (take n rows) place d).told ≡ said) → (place < length rows) × ((d : RowValue) → (get_or rows place d).told ≡ said)
+    first_at zero rows place said h = absurd (omega (arith, h.0))
+    first_at (suc n) [] place said h = absurd (omega (arith, h.0))
+    first_at (suc n) (row ∷ rows) zero said h = (omega arith, λ d. h.1 d)
+    first_at (suc n) (row ∷ rows) (suc place) said h = let rest = first_at n rows place said (omega (arith, h.0), h.1) in (omega (arith, rest.0), rest.1)
+
+-- none of the first rows says it, and none of the others
+pub added_first : (ports : List ℕ) (said : ToldValue) (from : ℕ) (slice before after : List RowValue) → slice ≡ take from before → All (λ (row : RowValue). row.told ≢ said) slice → All (λ (row : RowValue). row.told ≢ said) (drop from before)
+    → after ≡ before ++ row_of ports said ∷ [] → AddsRow ports said before after
+added_first ports said from slice before after cut apart others is =
+    let first : All (λ (row : RowValue). row.told ≢ said) (take from before) = subst (λ (rows : List RowValue). All (λ (row : RowValue). row.told ≢ said) rows) cut apart in
+    let whole : All (λ (row : RowValue). row.told ≢ said) before = subst (λ (rows : List RowValue). All (λ (row : RowValue). row.told ≢ said) rows) (take-append-drop from before) (All-append (λ (row : RowValue). row.told ≢ said) (take from before) (drop from before) first others) in
+    added ports said before before after refl whole is
 
 -- ---- what rows say
 

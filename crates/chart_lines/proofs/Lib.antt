@@ -3,3 +3,5 @@ mod Limits
 mod Somewhere
 mod Telling
 mod WitnessPoints
+mod Apart
+mod Behind

@@ -16,12 +16,12 @@ use Rattle.regions.specs.declared.points.Point.{Point}
 pub limited : (rules : List Rule) → All FitsFields rules → All HasLimit rules
 limited rules fit = All-weaker FitsFields HasLimit (λ rule fits. fits.quota) rules fit
 
--- what is asked behind a rule
+-- what is asked after a rule
 behind : (quota : Option Quota) (rest : List Step) → All HasStepLimit rest → All HasStepLimit (steps_behind quota rest)
 behind None rest limits = All-nil HasStepLimit
 behind (Some quota) rest limits = limits
 
--- a rule that is asked, where it holds
+-- a rule, which is asked if it holds
 asked : (holds : Bool) (step : Step) (more rest : List Step) → HasStepLimit step → All HasStepLimit more → All HasStepLimit rest
     → All HasStepLimit (if holds then step ∷ more else rest)
 asked true step more rest own limits others = All-cons HasStepLimit step more own limits

@@ -1,4 +1,4 @@
--- What is so at some port, or at none.
+-- Facts that hold at some port, or at none.
 use Rattle.std.proofs.Common.{◌≡◌, ◌<◌, ◌≤◌, ◌+◌, ℕ, List, [], ◌∷◌, arith, length, subst, sym, take}
 use Rattle.std.specs.Prelude.{All, Bool, MatchBool, false, get_or, true}
 use Rattle.std.proofs.lemmas.List.{take_all}

@@ -1,4 +1,4 @@
--- One place more that is told.
+-- One place more that is reported.
 use Rattle.std.proofs.Common.{◌≡◌, inl, ◌<◌, ◌+◌, ℕ, suc, List, [], true, length, subst, take, arith, false}
 use Rattle.std.specs.Prelude.{get_or}
 use Rattle.charts.specs.Lines.{IsComparison, IsMap, has_point}
@@ -17,7 +17,7 @@ use Rattle.chart_lines.specs.Witnesses.{IsWitness}
 own_point : (lines : List Line) (place : ℕ) (line : Line) (p : Point) → ((other : Line) → get_or lines place other ≡ line) → IsWitness lines place p → has_point (take place lines) line p ≡ true
 own_point lines place line p own witness = subst (λ (l : Line). has_point (take place lines) l p ≡ true) (own line) (witness.lies line)
 
--- a place that was told behind those before
+-- a place that was reported after those before
 pub tells_more : {T : Type 0} (tells : ℕ → T → T → Type 0) (place : ℕ) (first before after : T) → TellsFirst tells place first before
     → tells place before after → TellsFirst tells (place + 1) first after
 tells_more tells place first before after told more =

@@ -13,7 +13,7 @@ first_of_both : (s t : Bool) → (s && t) ≡ true → s ≡ true
 first_of_both true t e = refl
 first_of_both false t e = absurd (cc)
 
--- both cannot be, where one is said not to be
+-- two that are not true together are not both true
 not_both : (s t : Bool) → (s && t) ≡ false → s ≡ true → t ≡ true → ⊥
 not_both true true e h k = absurd (cc)
 not_both true false e h k = absurd (cc)
@@ -26,14 +26,14 @@ found_witness lines place within p found = record {
   lies = λ d. first_of_both _ (lies_in within p) (found.lies d);
 }
 
--- where none was found among all points, there is none
+-- if none was found among all points, there is none
 pub no_witness : (lines : List Line) (place : ℕ) (all : Region) → ((p : Point) → HasCommand p → lies_in all p ≡ true)
     → HasNoPointIn lines place all → HasNoCommand lines place
 no_witness lines place all whole none p witness =
     let d : Line = record { region = all; rest = false; point = p } in
     not_both _ (lies_in all p) (none d p witness.command) (witness.lies d) (whole p witness.command)
 
--- what was found among all points
+-- the result of the search among all points
 pub witness_or_none : (lines : List Line) (place : ℕ) (all : Region) (found : Option Point) → ((p : Point) → HasCommand p → lies_in all p ≡ true)
     → MatchOption found (HasNoPointIn lines place all) (IsPointIn lines place all) → MatchOption found (HasNoCommand lines place) (IsWitness lines place)
 witness_or_none lines place all None whole none = no_witness lines place all whole none

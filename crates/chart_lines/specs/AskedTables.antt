@@ -1,4 +1,4 @@
--- What a table asks at a port.
+-- The rules that a table asks at a port.
 use Rattle.std.specs.Prelude.{ℕ, List}
 use Rattle.policy_table.specs.Policies.{PolicyValue}
 use Rattle.policy_table.specs.PortTables.{lines_at}

@@ -17,24 +17,24 @@ use Rattle.chart_lines.specs.Telling.{TellsFirst}
 use Rattle.chart_lines.specs.Witnesses.{HasNoCommand, IsWitness}
 use Rattle.chart_lines.specs.declared.rows.Change.{Change}
 
--- how a new table differs at a point: by this sign; and so often a command has to come
+-- how a new table differs at a point: with this sign, and how often a command must come
 abbrev pub change_of : Sign → Repeats → Point → Change
 change_of sign repeats p = record { sign = sign; repeats = repeats; point = p }
 
--- what is said of a line of a comparison: its words, what each table asks at a point, and how the new one differs there
+-- a line of a comparison as a row says it: its words, what each table asks at a point, and how the new one differs
 abbrev pub difference_told : (old new : AskedValue) → Line → Point → Sign → Repeats → ToldValue
 difference_told old new line p sign repeats =
     told line.region line.rest (on_lines old.lines (steps_at old.rules p)) (on_lines new.lines (steps_at new.rules p))
     (Some (change_of sign repeats p))
 
--- so it is said, with the sign of the rules that are asked there. Of how often a command has to come nothing is said
+-- a row says it so, with the sign of the rules that are asked there. How often a command must come is left open
 pub record IsDifferenceAt (old new : AskedValue) (line : Line) (p : Point) (said : ToldValue) : Type 0 where
   pub sign : Sign
   pub is_sign : IsSign sign (rules_of (steps_at old.rules p)) (rules_of (steps_at new.rules p))
   pub repeats : Repeats
   pub is : said ≡ difference_told old new line p sign repeats
 
--- the line of a place was told of these ports, with one of its points, and what two tables ask there; it is plain
+-- the line of a place was reported for these ports, with one of its points, and what two tables ask there; it is plain
 pub record TellsPoint (ports : List ℕ) (old new : AskedValue) (lines : List Line) (place : ℕ) (before after : List RowValue) : Type 0 where
   pub line : Line
   pub own : (d : Line) → get_or lines place d ≡ line
@@ -45,25 +45,25 @@ pub record TellsPoint (ports : List ℕ) (old new : AskedValue) (lines : List Li
   pub is_difference : IsDifferenceAt old new line point said
   pub row : AddsRow ports said before after
 
--- the line of a place was told, or no command has a point of it
+-- the line of a place was reported, or no command has a point of it
 abbrev pub TellsLine : (ports : List ℕ) → (old new : AskedValue) → List Line → (place : ℕ) → (before after : List RowValue) → Type 0
 TellsLine ports old new lines place before after =
     TellsPoint ports old new lines place before after ⊎ (HasNoCommand lines place × (after ≡ before))
 
--- each line of a comparison of two tables was told that some command has, in its order
+-- each line of a comparison of two tables that some command has was reported, in its order
 pub record TellsLines (asked : Region) (ports : List ℕ) (old new : AskedValue) (before after : List RowValue) : Type 0 where
   pub chart : List Line
   pub is_comparison : IsComparison asked old.rules new.rules chart
   pub told : TellsFirst (TellsLine ports old new chart) (length chart) before after
 
--- so it is of each port of which a chart is made, of so many ports, with those for which the chart stands
+-- so it is for each of this many ports that has a chart, with the ports for which that chart holds
 abbrev pub TellsPorts : (asked : Region) → (old new : PolicyValue) → (count : ℕ) → (before after : List RowValue) → Type 0
 TellsPorts asked old new count before after =
     TellsFirst (AtPort (λ port. is_named_by old new port)
     (λ port. TellsLines asked (ports_for (λ own. is_named_by old new own) port) (asked_at old port) (asked_at new port))) count before after
 
--- the rows of a comparison of two tables for the points of a region, at one port, or at each: each line of one that some command has;
--- what is so at several ports once, with these ports
+-- the rows of a comparison of two tables for the points of a region, at one port, or at each. Each line of one that
+-- some command has is in a row. The same at several ports is one row, with these ports
 abbrev pub AreDifferenceRows : (asked : Region) → (port : Option ℕ) → (old new : PolicyValue) → List RowValue → Type 0
 AreDifferenceRows asked None old new rows = TellsPorts asked old new 32 [] rows
 AreDifferenceRows asked (Some port) old new rows =

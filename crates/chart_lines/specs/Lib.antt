@@ -6,3 +6,4 @@ pub mod Ports
 pub mod Rows
 pub mod Telling
 pub mod Witnesses
+pub mod Begun

@@ -18,7 +18,7 @@ use Rattle.chart_lines.specs.declared.never.Reason.TheVariants.{NoTicket, Drawn,
 
 -- ---- a rule at the ports at which it is asked
 
--- the place of the first number that is this one, where the first of all has that place
+-- the place of the first number that is this one, if the first of all has that place
 abbrev pub place_from : (place : ℕ) → (line : ℕ) → List ℕ → Option ℕ
 place_from place line [] = None
 place_from place line (own ∷ lines) = if own == line then Some place else place_from (suc place) line lines
@@ -37,8 +37,11 @@ abbrev pub AnyPlace : (holds : ℕ → Type 0) → Option ℕ → Type 0
 AnyPlace holds None = Unit {0}
 AnyPlace holds (Some place) = holds place
 
--- at a port the rule of a line is asked, and decides on some command; or it is the first without quota before it that holds
--- wherever; or the rule of that line is, where it holds; or the rule of that line is asked where it holds
+-- this holds of the rule of a line at a port:
+-- - `Matching`: it decides on some command
+-- - `Asked`: it is asked at some point
+-- - `Stopped stop`: it holds at some point at which the rule of line `stop` is the first without quota
+-- - `Met other`: it holds at some point at which the rule of line `other` is asked
 abbrev pub IsFate : Fate → AskedValue → (line : ℕ) → Type 0
 IsFate Matching at line = SomePlace (Matches at.rules) (place_of line at.lines)
 IsFate Asked at line = SomePlace (λ place. Meet place false place at.rules) (place_of line at.lines)
@@ -56,7 +59,7 @@ IsNoFate (Stopped stop) at line =
 IsNoFate (Met other) at line =
     AnyPlace (λ place. AnyPlace (λ asked. NeverMeet asked false place at.rules) (place_of other at.lines)) (place_of line at.lines)
 
--- the tables of the ports of which charts are made, of so many ports
+-- the tables of those of this many ports that have charts
 abbrev pub AreTables : PolicyValue → (count : ℕ) → (tables : List AskedValue) → Type 0
 AreTables policy count tables =
     TellsFirst (AtPort (λ port. is_named port policy.rules) (λ port before after. after ≡ before ++ asked_at policy port ∷ [])) count [] tables
@@ -72,7 +75,7 @@ pub record IsSomewhere (fate : Fate) (tables : List AskedValue) (line : ℕ) : T
   pub there : place < length tables
   pub is : (d : AskedValue) → IsFate fate (get_or tables place d) line
 
--- at none of them it is
+-- at none of them it is so
 abbrev pub IsNowhere : Fate → (tables : List AskedValue) → (line : ℕ) → Type 0
 IsNowhere fate tables line = All (λ at. IsNoFate fate at line) tables
 
@@ -84,7 +87,7 @@ AddsStop tables line stop before after =
     (IsSomewhere (Stopped stop) tables line × (after ≡ before ++ stop ∷ []))
     ⊎ (IsNowhere (Stopped stop) tables line × (after ≡ before))
 
--- so it is of the line of a rule of a place
+-- the same for the line of the rule of a place
 pub record AddsStopAt (tables : List AskedValue) (line : ℕ) (rules : List PortRule) (place : ℕ) (before after : List ℕ) : Type 0 where
   pub rule : PortRule
   pub own : (d : PortRule) → get_or rules place d ≡ rule
@@ -106,7 +109,7 @@ abbrev pub IsDraw : (tables : List AskedValue) → (rule draw : PortRule) → Ty
 IsDraw tables rule draw =
     (share_cell draw.rule.quota rule.rule.quota ≡ true) × IsSomewhere (Met draw.line) tables rule.line
 
--- it does so at none
+-- it does so at no such point
 abbrev pub IsNoDraw : (tables : List AskedValue) → (rule draw : PortRule) → Type 0
 IsNoDraw tables rule draw =
     (share_cell draw.rule.quota rule.rule.quota ≡ false) ⊎ IsNowhere (Met draw.line) tables rule.line
@@ -116,14 +119,16 @@ abbrev pub AddsDraw : (tables : List AskedValue) → (rule draw : PortRule) → 
 AddsDraw tables rule draw before after =
     (IsDraw tables rule draw × (after ≡ before ++ draw.line ∷ [])) ⊎ (IsNoDraw tables rule draw × (after ≡ before))
 
--- so it is of the line of a rule of a place
+-- the same for the line of the rule of a place
 pub record AddsDrawAt (tables : List AskedValue) (rule : PortRule) (rules : List PortRule) (place : ℕ) (before after : List ℕ) : Type 0 where
   pub draw : PortRule
   pub own : (d : PortRule) → get_or rules place d ≡ draw
   pub adds : AddsDraw tables rule draw before after
 
--- why a rule that never matches does not: it is asked, and its limit is 0, or these rules before it draw of its cell and leave no
--- ticket; or it is never asked, and these rules before it are first without quota where it holds
+-- why a rule never matches:
+-- - it is asked, and its limit is 0
+-- - it is asked, and these rules before it draw of its cell and leave no ticket
+-- - it is never asked, and these rules before it are first without quota where it holds
 abbrev pub IsReason : (tables : List AskedValue) → (before : List PortRule) → PortRule → Reason → Type 0
 IsReason tables before rule NoTicket = IsSomewhere Asked tables rule.line × (has_no_ticket rule.rule.quota ≡ true)
 IsReason tables before rule (Drawn lines) =
@@ -139,13 +144,13 @@ pub record Notes (tables : List AskedValue) (rules : List PortRule) (place : ℕ
   pub is_reason : IsReason tables (take place rules) rule reason
   pub note : after ≡ before ++ record { line = rule.line; reason = reason } ∷ []
 
--- nothing was noted of the rule of a place, which matches at some port; or that it never does
+-- the rule of a place matches at some port, and nothing was noted of it; or it was noted that it never does
 pub record IsNotedAt (tables : List AskedValue) (rules : List PortRule) (place : ℕ) (before after : List Note) : Type 0 where
   pub rule : PortRule
   pub own : (d : PortRule) → get_or rules place d ≡ rule
   pub noted : (IsSomewhere Matching tables rule.line × (after ≡ before)) ⊎ Notes tables rules place rule before after
 
--- of each rule of a table it was noted if it matches at no port
+-- each rule of a table that matches at no port was noted
 pub record AreNotes (policy : PolicyValue) (notes : List Note) : Type 0 where
   pub tables : List AskedValue
   pub are_tables : AreTables policy 32 tables

@@ -1,4 +1,4 @@
--- The ports of which charts are made, and those for which each chart stands.
+-- The ports of which charts are made, and those for which each chart holds.
 use Rattle.std.specs.Prelude.{◌≡◌, ◌⊎◌, ◌==◌, ◌&&◌, ◌||◌, ℕ, zero, suc, Bool, true, false, not, if◌then◌else◌, List, [], ◌∷◌, ◌++◌}
 use Rattle.policy_table.specs.Policies.{PolicyValue}
 use Rattle.policy_table.specs.PortTables.{is_named}
@@ -23,7 +23,7 @@ abbrev pub wanted_below : (wanted : ℕ → Bool) → ℕ → List ℕ
 wanted_below wanted zero = []
 wanted_below wanted (suc n) = wanted_below wanted n ++ one_if (wanted n) n
 
--- where these ports are named
+-- if these ports are named
 module _ (named : (port : ℕ) → Bool) where
   -- whether each port below that one is named
   abbrev pub are_named : (port : ℕ) → Bool
@@ -34,15 +34,15 @@ module _ (named : (port : ℕ) → Bool) where
   abbrev pub is_charted : (port : ℕ) → Bool
   is_charted port = named port || are_named port
 
-  -- whether what is charted of a port is so at another: at itself, and of one that is not named at all such ports
+  -- whether the chart of a port holds at another: at itself, and, if the port is not named, at all such ports
   abbrev pub stands_for : (own port : ℕ) → Bool
   stands_for own port = if named port then own == port else not (named own)
 
-  -- the ports, of 32, at which it is so
+  -- the ports, of 32, at which it holds
   unfoldable pub ports_for : (own : ℕ) → List ℕ
   ports_for own = wanted_below (λ port. stands_for own port) 32
 
--- of a port of which a chart is made this holds, and of any other nothing changes
+-- if a chart of the port is made, this holds; if not, nothing changes
 abbrev pub AtPort : {T : Type 0} → (named : (port : ℕ) → Bool) → (tells : (port : ℕ) → (before after : T) → Type 0) → (port : ℕ)
     → (before after : T) → Type 0
 AtPort {T} named tells port before after =

@@ -1,4 +1,4 @@
--- The rows of charts as values: what says the same at several ports is one row.
+-- The rows of charts as values: if lines of several ports say the same, they are one row.
 use Rattle.std.specs.Prelude.{◌≡◌, ◌≢◌, ◌⊎◌, ◌<◌, ◌-◌, ℕ, Bool, MatchBool, List, [], ◌∷◌, ◌++◌, All, Option, Some, None, get_or, length, map, slice_index_or, slice_set}
 use Rattle.regions.specs.Points.{HasCommand}
 use Rattle.regions.specs.declared.regions.Region.{Region}
@@ -6,8 +6,8 @@ use Rattle.policy_table.specs.declared.rules.Rule.{Rule}
 use Rattle.differences.specs.declared.courses.Step.{Step}
 use Rattle.chart_lines.specs.declared.rows.Change.{Change}
 
--- what a row says: the words of a line, whether it has the rest, which rules a table asks, by their lines, and in a comparison those
--- of the new table, and how it differs
+-- what a row says: the words of a line, whether it has the rest, and which rules a table asks, by their lines. In a
+-- comparison it also says those of the new table, and how it differs
 pub record ToldValue : Type 0 where
   pub region : Region
   pub rest : Bool
@@ -48,7 +48,7 @@ pub record RowValue : Type 0 where
 abbrev pub row_of : (ports : List ℕ) → ToldValue → RowValue
 row_of ports said = record { ports = ports; told = said }
 
--- the line of the rule of this number, from 1, where rules stand in these lines; 0 where none is
+-- the line of the rule of this number, from 1, if rules are in these lines; 0 if there is none
 abbrev pub line_of : (lines : List ℕ) → (number : ℕ) → ℕ
 line_of lines number = slice_index_or lines (number - 1) 0
 
@@ -72,7 +72,7 @@ pub record Joins (ports : List ℕ) (said : ToldValue) (before after : List RowV
   pub same : (d : RowValue) → (get_or before place d).told ≡ said
   pub is : (d : RowValue) → after ≡ slice_set before place (row_of ((get_or before place d).ports ++ ports) said)
 
--- this was said at these ports: by the row that says it, or by one row more where none does
+-- a row says this at these ports: the one that said it before, or one row more if none did
 abbrev pub AddsRow : (ports : List ℕ) → ToldValue → (before after : List RowValue) → Type 0
 AddsRow ports said before after =
     Joins ports said before after

@@ -1,8 +1,8 @@
 -- The points of the line of a place.
-use Rattle.std.specs.Prelude.{◌≡◌, ℕ, true, List, get_or, take}
+use Rattle.std.specs.Prelude.{◌≡◌, ℕ, All, false, true, List, get_or, take}
 use Rattle.regions.specs.Points.{HasCommand}
 use Rattle.regions.specs.declared.points.Point.{Point}
-use Rattle.charts.specs.Lines.{has_point}
+use Rattle.charts.specs.Lines.{has_point, have_same_words}
 use Rattle.charts.specs.declared.lines.Line.{Line}
 
 -- the line of that place, from 0 on, has the point, and some command does
@@ -13,3 +13,8 @@ pub record IsWitness (lines : List Line) (place : ℕ) (p : Point) : Type 0 wher
 -- no command has a point of the line of that place
 abbrev pub HasNoCommand : List Line → (place : ℕ) → Type 0
 HasNoCommand lines place = (p : Point) → IsWitness lines place p → ⊥
+
+-- the first `count` lines have other words than that of a place
+abbrev pub AreOthers : List Line → (place : ℕ) → (count : ℕ) → Type 0
+AreOthers lines place count =
+    (d : Line) → All (λ (other : Line). have_same_words other.region (get_or lines place d).region ≡ false) (take count lines)

@@ -1,4 +1,4 @@
-//! What a table asks at a port.
+//! The rules that a table asks at a port.
 
 ghost use Rattle.std.specs.Prelude.{◌≡◌, All, IfOk};
 ghost use Rattle.charts.specs.Alike.{HasLimit};
@@ -25,7 +25,11 @@ impl Model for Asked {
 }
 
 impl Asked {
-    /// What a table asks at a port.
+    /// The rules that a table asks at a port.
+    ///
+    /// # Errors
+    ///
+    /// Only if memory is refused.
     pub fn at(alloc: Global, policy: &Policy, port: u8) -> Result<Asked, AllocError>
         ensures { IfOk result (λ at. at ≡ asked_at policy.now port) }
     {

@@ -4,6 +4,7 @@ ghost use Rattle.std.specs.Prelude.{◌≡◌, ◌<◌, ◌∷◌, [], IfOk, OnO
 ghost use Rattle.charts.specs.Lines.{IsComparison};
 ghost use Rattle.regions.specs.Points.{HasCommand};
 ghost use Rattle.chart_lines.specs.AskedTables.{asked_at};
+ghost use Rattle.chart_lines.specs.Begun.{HasTold};
 ghost use Rattle.chart_lines.specs.Compared.{AreDifferenceRows, IsDifferenceAt, TellsLine, TellsLines, TellsPorts};
 ghost use Rattle.chart_lines.specs.Ports.{AtPort, is_named_by, ports_for};
 ghost use Rattle.chart_lines.specs.Telling.{TellsFirst};
@@ -14,12 +15,13 @@ use crate::ports::{PORTS, Tables};
 use crate::rows::{Change, Row, Told, add_row, on_lines};
 use crate::witnesses::{line_at, witness};
 use charts::{Line, charts_are_read};
-use differences::{course, repeats_of, sign_of};
+use differences::{course, joined, repeats_of, sign_of};
 use policy_table::Policy;
 use regions::{Point, Region};
 use std::alloc::{AllocError, Global};
 
-/// What two tables ask at a port, the lines of their comparison, and where the point of a line is looked for first.
+/// The rules that two tables ask at a port, the lines of their comparison, and where the point of a line is looked for
+/// first.
 #[derive(Clone, Copy)]
 struct Comparison<'a> {
     asked: &'a Region,
@@ -29,7 +31,7 @@ struct Comparison<'a> {
     preferred: &'a [Region],
 }
 
-/// What is said of a line: its words, what each table asks at a point, and how the new one differs there.
+/// A line as a row says it: its words, what each table asks at a point, and how the new one differs there.
 #[tactic(auto, using(crate::proofs::Limits::steps_limited))]
 fn difference_told(
     alloc: Global,
@@ -55,16 +57,19 @@ fn difference_told(
     Ok(Told::of_two(line, one, other, change))
 }
 
-/// Adds the line of a place, of these ports; nothing, where it has no command.
+/// Adds the line of a place, for these ports, or nothing if it has no command. The lines of the places before were
+/// added after the first `from` rows.
 fn add_line(
     rows: &mut Vec<Row>,
     alloc: Global,
     ports: &[u8],
     comparison: Comparison<'_>,
     place: usize,
+    from: usize,
 ) -> Result<(), AllocError>
     requires place { place < length comparison.chart.now }
     requires comparison { IsComparison comparison.asked.now comparison.old.now.rules comparison.new.now.rules comparison.chart.now }
+    requires told { HasTold (TellsLine ports.now comparison.old.now comparison.new.now comparison.chart.now) place from rows.old.items }
     ensures { OnOk result (TellsLine ports.now comparison.entry.old.now comparison.entry.new.now
         comparison.entry.chart.now place rows.old.items rows.new.items) }
 {
@@ -74,7 +79,7 @@ fn add_line(
     };
     let line = line_at(comparison.chart, place);
     let told = difference_told(alloc, comparison, &line, &point)?;
-    add_row(rows, alloc, ports, told)
+    add_row(rows, alloc, ports, told, from)
 }
 
 /// Adds each line.
@@ -90,8 +95,9 @@ fn add_chart(
         comparison.entry.chart.now) (length comparison.entry.chart.now)
         rows.old.items rows.new.items) }
 {
+    let from = rows.as_slice().len();
     for place in 0..comparison.chart.len() {
-        add_line(rows, alloc, ports, comparison, place)?;
+        add_line(rows, alloc, ports, comparison, place, from)?;
     }
     Ok(())
 }
@@ -108,7 +114,8 @@ fn add_lines(
 ) -> Result<(), AllocError>
     ensures { OnOk result (TellsLines asked.now ports.now old.now new.now rows.old.items rows.new.items) }
 {
-    let chart = comparison_of(alloc, asked, old.rules(), new.rules())?;
+    let lines = comparison_of(alloc, asked, old.rules(), new.rules())?;
+    let chart = joined(alloc, asked, old.rules(), new.rules(), lines)?;
     let comparison = Comparison {
         asked,
         old,
@@ -179,12 +186,13 @@ fn rows_at(
     Ok(rows)
 }
 
-/// The rows of a comparison of two tables for the points of a region, at one port or at each: each command that they decide differently
-/// is in one row at each port, and no other in any. The point of a row is looked for in the preferred regions first, in their order.
+/// The rows of a comparison of two tables for the points of a region, at one port or at each. Each command that they
+/// decide differently is in one row at each port, and no other is in any. The point of a row is looked for in the
+/// preferred regions first, in their order.
 ///
 /// # Errors
 ///
-/// Only where memory was refused.
+/// Only if memory is refused.
 pub fn difference_rows(
     alloc: Global,
     asked: &Region,

@@ -1,22 +1,22 @@
-//! The lines of a map and of a comparison: what is told of the values of fields, gathered in sets.
+//! The lines of a map and of a comparison: values of fields with the same report, gathered in sets.
 
 ghost use Rattle.std.specs.Prelude.{IfOk};
 ghost use Rattle.charts.specs.Lines.{IsComparison, IsMap};
 
 use crate::boxes::address_parts;
 use crate::parts::{Part, Tables};
-use charts::{Line, comparison_cells, is_comparison, is_map, map_cells};
+use charts::{FIELDS, Line, comparison_cells, is_in_pieces, map_cells};
 use policy_table::{Rule, has_kind};
 use regions::{ByteSet, Kinds, Point, Region};
 use rmap::Kind;
 use std::alloc::{AllocError, Global};
 
-/// Whether two parts tell the same of the same points.
+/// Whether two parts report the same for the same points.
 fn is_same(one: &Part, other: &Part) -> bool {
     one.region == other.region && one.rest == other.rest && one.label == other.label
 }
 
-/// Whether parts tell the same of the same points, in the same order.
+/// Whether parts report the same for the same points, in the same order.
 fn are_same(ones: &[Part], others: &[Part]) -> bool {
     if ones.len() != others.len() {
         return false;
@@ -29,7 +29,7 @@ fn are_same(ones: &[Part], others: &[Part]) -> bool {
     true
 }
 
-/// The points whose fields but for addresses are each one of either set.
+/// The points whose fields except addresses are each one of either set.
 fn joined(one: &Region, other: &Region) -> Region {
     Region {
         kinds: Kinds {
@@ -45,7 +45,7 @@ fn joined(one: &Region, other: &Region) -> Region {
     }
 }
 
-/// The points whose fields but for addresses are each one of both sets.
+/// The points whose fields except addresses are each one of both sets.
 fn narrowed(one: &Region, other: &Region) -> Region {
     Region {
         kinds: Kinds {
@@ -61,14 +61,14 @@ fn narrowed(one: &Region, other: &Region) -> Region {
     }
 }
 
-/// Values of a field, and what is told of the points that have one of them.
+/// Values of a field, and the parts for the points that have one of them.
 #[derive(Debug, Drop)]
 struct Group {
     words: Region,
     parts: Vec<Part>,
 }
 
-/// Adds values of which these parts are told: to those of which the same is told, or behind all.
+/// Adds values that have these parts: to the group with the same parts, or after all groups.
 fn add(groups: &mut Vec<Group>, words: &Region, parts: Vec<Part>) -> Result<(), AllocError> {
     for group in groups.iter_mut() {
         if are_same(group.parts.as_slice(), parts.as_slice()) {
@@ -105,7 +105,7 @@ enum Field {
 }
 
 impl Field {
-    /// What a rule wants of the field.
+    /// The value of the field that a rule wants.
     fn wanted(self, rule: &Rule) -> Option<u8> {
         match self {
             Field::Key => rule.key,
@@ -189,7 +189,7 @@ fn values(
     Ok(values)
 }
 
-/// What is told of the points with the kind, and the fields before these, of one; these rules agree with them.
+/// The parts for the points with the kind of one point, and with its fields before these. These rules agree with them.
 fn field_parts(
     alloc: Global,
     tables: &Tables<'_>,
@@ -240,7 +240,7 @@ fn kind_words(kind: Kind) -> Region {
     words
 }
 
-/// What is told of all points.
+/// The parts for all points.
 fn all_parts(alloc: Global, tables: &Tables<'_>) -> Result<Vec<Part>, AllocError> {
     let mut groups: Vec<Group> = Vec::new(alloc);
     for kind in [Kind::Read, Kind::Write, Kind::Rmw] {
@@ -263,7 +263,7 @@ fn all_parts(alloc: Global, tables: &Tables<'_>) -> Result<Vec<Part>, AllocError
     parts_of(alloc, groups.as_slice())
 }
 
-/// The points of both regions, with no first address behind all last ones, and no last one before all first ones.
+/// The points of both regions, with no first address after all last ones, and no last one before all first ones.
 fn within(region: &Region, asked: &Region) -> Region {
     let mut own = region.both(asked);
     own.first = own.first.below(own.last.end);
@@ -271,7 +271,7 @@ fn within(region: &Region, asked: &Region) -> Region {
     own
 }
 
-/// The lines of the parts of which something is told.
+/// The lines of the parts that are reported.
 fn lines(alloc: Global, tables: &Tables<'_>) -> Result<Vec<Line>, AllocError> {
     let mut lines = Vec::new(alloc);
     for part in &all_parts(alloc, tables)? {
@@ -286,14 +286,15 @@ fn lines(alloc: Global, tables: &Tables<'_>) -> Result<Vec<Line>, AllocError> {
     Ok(lines)
 }
 
-/// The lines of a map of a table for the points of a region: what it decides, each of them that a command has in one line alone.
+/// The lines of a map of a table for the points of a region: what it decides. Each point of them that a command has is
+/// in only one line.
 ///
-/// Addresses of which the same is told are gathered in boxes, bytes and kinds in sets; the addresses that have the most boxes
-/// are told as the rest of the others.
+/// Addresses with the same report are gathered in boxes, bytes and kinds in sets. The addresses that have the most
+/// boxes are reported as the rest of the others.
 ///
 /// # Errors
 ///
-/// Only where memory was refused.
+/// Only if memory is refused.
 pub fn map_of(alloc: Global, asked: &Region, rules: &[Rule]) -> Result<Vec<Line>, AllocError>
     ensures { IfOk result (λ lines. IsMap asked.now rules.now lines.items) }
 {
@@ -307,18 +308,20 @@ pub fn map_of(alloc: Global, asked: &Region, rules: &[Rule]) -> Result<Vec<Line>
             all,
         },
     )?;
-    if is_map(asked, rules, lines.as_slice()) {
+    if is_in_pieces(asked, all, rules, &[], lines.as_slice(), FIELDS) {
         return Ok(lines);
     }
     map_cells(alloc, asked, rules)
 }
 
-/// The lines of a comparison of two tables for the points of a region: where they decide differently, each such point that a command
-/// has in one line alone, and no other in any. They are gathered as those of [`map_of`], and what is alike is the rest that is not told.
+/// The lines of a comparison of two tables for the points of a region: where they decide differently. Each such point
+/// that a command has is in only one line, and no other is in any.
+///
+/// They are gathered as those of [`map_of`]. The points that both decide alike are the rest, which is not reported.
 ///
 /// # Errors
 ///
-/// Only where memory was refused.
+/// Only if memory is refused.
 pub fn comparison_of(
     alloc: Global,
     asked: &Region,
@@ -337,7 +340,7 @@ pub fn comparison_of(
             all,
         },
     )?;
-    if is_comparison(asked, old, new, lines.as_slice()) {
+    if is_in_pieces(asked, all, old, new, lines.as_slice(), FIELDS) {
         return Ok(lines);
     }
     comparison_cells(alloc, asked, old, new)

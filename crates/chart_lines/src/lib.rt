@@ -1,8 +1,8 @@
 //! Charts of policy tables.
 //!
-//! [`map_rows`] tells what a table decides at each port, [`difference_rows`] where two tables differ, and [`never_matching`] which
-//! rules match nowhere. The lines of a chart are few ([`map_of`], [`comparison_of`]): addresses are gathered in boxes, and bytes and
-//! kinds for which the same is told in sets.
+//! [`map_rows`] says what a table decides at each port, [`difference_rows`] where two tables differ, and
+//! [`never_matching`] which rules match nowhere. The lines of a chart are few ([`map_of`], [`comparison_of`]):
+//! addresses are gathered in boxes, and bytes and kinds with the same report in sets.
 #![tactic(auto)]
 
 mod asked;

@@ -4,6 +4,7 @@ ghost use Rattle.std.specs.Prelude.{◌≡◌, ◌<◌, ◌∷◌, [], IfOk, OnO
 ghost use Rattle.charts.specs.Lines.{IsMap};
 ghost use Rattle.policy_table.specs.PortTables.{is_named};
 ghost use Rattle.chart_lines.specs.AskedTables.{asked_at};
+ghost use Rattle.chart_lines.specs.Begun.{HasTold};
 ghost use Rattle.chart_lines.specs.Mapped.{AreMapRows, TellsLine, TellsLines, TellsPorts, map_told};
 ghost use Rattle.chart_lines.specs.Ports.{AtPort, ports_for};
 ghost use Rattle.chart_lines.specs.Telling.{TellsFirst};
@@ -19,7 +20,7 @@ use policy_table::Policy;
 use regions::{Point, Region};
 use std::alloc::{AllocError, Global};
 
-/// What is said of a line: its words, and what the table asks at a point.
+/// A line as a row says it: its words, and what the table asks at a point.
 fn map_told(alloc: Global, at: &Asked, line: &Line, point: &Point) -> Result<Told, AllocError>
     ensures { IfOk result (λ said. said ≡ map_told at.now line.now point.now) }
 {
@@ -28,7 +29,8 @@ fn map_told(alloc: Global, at: &Asked, line: &Line, point: &Point) -> Result<Tol
     Ok(Told::of_map(alloc, line, course))
 }
 
-/// Adds the line of a place, of these ports; nothing, where it has no command.
+/// Adds the line of a place, for these ports, or nothing if it has no command. The lines of the places before were
+/// added after the first `from` rows.
 fn add_line(
     rows: &mut Vec<Row>,
     alloc: Global,
@@ -37,9 +39,11 @@ fn add_line(
     asked: &Region,
     chart: &[Line],
     place: usize,
+    from: usize,
 ) -> Result<(), AllocError>
     requires place { place < length chart.now }
     requires map { IsMap asked.now at.now.rules chart.now }
+    requires told { HasTold (TellsLine ports.now at.now chart.now) place from rows.old.items }
     ensures { OnOk result
         (TellsLine ports.now at.now chart.now place rows.old.items rows.new.items) }
 {
@@ -49,7 +53,7 @@ fn add_line(
     };
     let line = line_at(chart, place);
     let told = map_told(alloc, at, &line, &point)?;
-    add_row(rows, alloc, ports, told)
+    add_row(rows, alloc, ports, told, from)
 }
 
 /// Adds each line of a chart.
@@ -65,8 +69,9 @@ fn add_chart(
     ensures { OnOk result (TellsFirst (TellsLine ports.now at.now chart.now) (length chart.now)
         rows.old.items rows.new.items) }
 {
+    let from = rows.as_slice().len();
     for place in 0..chart.len() {
-        add_line(rows, alloc, ports, at, asked, chart, place)?;
+        add_line(rows, alloc, ports, at, asked, chart, place, from)?;
     }
     Ok(())
 }
@@ -128,12 +133,12 @@ fn rows_at(alloc: Global, asked: &Region, port: u8, policy: &Policy) -> Result<V
     Ok(rows)
 }
 
-/// The rows of a map of a table for the points of a region, at one port or at each: what it decides, each of their commands in one row at
-/// each port.
+/// The rows of a map of a table for the points of a region, at one port or at each: what it decides. Each of their
+/// commands is in one row at each port.
 ///
 /// # Errors
 ///
-/// Only where memory was refused.
+/// Only if memory is refused.
 pub fn map_rows(
     alloc: Global,
     asked: &Region,

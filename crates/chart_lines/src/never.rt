@@ -14,7 +14,7 @@ use charts::{is_asked, is_asked_where, is_of_one_cell, is_stopped_by, never_matc
 use policy_table::{Policy, PortRule, Quota};
 use std::alloc::{AllocError, Global};
 
-/// What may be so of a rule at a port.
+/// A fact that may hold of a rule at a port.
 #[derive(Clone, Copy, Debug)]
 pub(crate) enum Fate {
     /// It decides on some command.
@@ -34,12 +34,12 @@ pub enum Reason {
     NoTicket,
     /// It is asked, and draws before it leave no ticket below its limit: these rules, by their lines, draw of its cell where it holds.
     Drawn(Vec<usize>),
-    /// It is never asked: these rules, by their lines, are first without quota where it holds. Where there is none no command has
-    /// its words.
+    /// It is never asked: these rules, by their lines, are first without quota where it holds. If there is none, no
+    /// command has its words.
     Before(Vec<usize>),
 }
 
-/// A rule that never matches, at whatever port.
+/// A rule that never matches, at any port.
 #[derive(Debug, Drop)]
 pub struct Note {
     /// Its line.
@@ -60,7 +60,7 @@ fn place_of(lines: &[usize], line: usize) -> Option<usize>
     None
 }
 
-/// Whether it is so of the rule of a line at a port.
+/// Whether a fact holds of the rule of a line at a port.
 fn is_fate(at: &Asked, fate: Fate, line: usize) -> bool
     ensures { MatchBool result (IsFate fate at.now line) (IsNoFate fate at.now line) }
 {
@@ -110,7 +110,7 @@ fn is_somewhere(tables: &[Asked], fate: Fate, line: usize) -> bool
     false
 }
 
-/// Adds the line of a rule, if the rule is the first without quota somewhere where that of a line holds.
+/// Adds the line of a rule, if the rule is the first without quota at some point at which that of a line holds.
 fn add_stop(
     stops: &mut Vec<usize>,
     tables: &[Asked],
@@ -189,7 +189,7 @@ fn share_cell(one: Option<Quota>, other: Option<Quota>) -> bool
     }
 }
 
-/// Whether a rule draws of the cell of another somewhere where that holds.
+/// Whether a rule draws of the cell of another at some point at which that holds.
 fn is_draw(tables: &[Asked], rule: &PortRule, draw: &PortRule) -> bool
     ensures { MatchBool result (IsDraw tables.now rule.now draw.now)
         (IsNoDraw tables.now rule.now draw.now) }
@@ -198,7 +198,7 @@ fn is_draw(tables: &[Asked], rule: &PortRule, draw: &PortRule) -> bool
         && is_somewhere(tables, Fate::Met(draw.line), rule.line)
 }
 
-/// Adds the line of a rule, if it draws of the cell of another somewhere where that holds.
+/// Adds the line of a rule, if it draws of the cell of another at some point at which that holds.
 fn add_draw(
     draws: &mut Vec<usize>,
     tables: &[Asked],
@@ -247,7 +247,7 @@ fn draws_of(
     Ok(draws)
 }
 
-/// Why a rule never matches, behind these rules.
+/// Why a rule never matches, after these rules.
 fn reason_of(
     alloc: Global,
     tables: &[Asked],
@@ -305,7 +305,7 @@ fn add_table(
     Ok(())
 }
 
-/// What a table asks at the ports of which charts are made.
+/// The rules that a table asks at the ports of which charts are made.
 fn tables_of(alloc: Global, policy: &Policy) -> Result<Vec<Asked>, AllocError>
     ensures { IfOk result (λ tables. AreTables policy.now 32 tables.items) }
 {
@@ -332,7 +332,7 @@ fn notes_of(alloc: Global, tables: &[Asked], rules: &[PortRule]) -> Result<Vec<N
 ///
 /// # Errors
 ///
-/// Only where memory was refused.
+/// Only if memory is refused.
 pub fn never_matching(alloc: Global, policy: &Policy) -> Result<Vec<Note>, AllocError>
     ensures { IfOk result (λ notes. AreNotes policy.now notes.items) }
 {

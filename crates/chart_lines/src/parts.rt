@@ -1,4 +1,4 @@
-//! What is told of a point, and parts of a chart.
+//! The label of a point, and parts of a chart.
 
 ghost use Rattle.std.specs.Prelude.{◌≡◌, false};
 ghost use Rattle.charts.specs.Points.{AreAlike};
@@ -7,16 +7,31 @@ use charts::{alike, holds_at};
 use policy_table::Rule;
 use regions::{Point, Region};
 
-/// What is told of a point: the rules that the tables ask there, a bit for each by its place; or nothing.
+/// The report on a point: the rules that the tables ask there, or nothing. Each rule has a bit by its place, which is
+/// enough for a table that fits into an image.
 #[derive(Clone, Copy, Debug, PartialEq, Eq)]
 pub(crate) struct Label {
-    /// Whether something is told.
+    /// Whether the point is reported.
     pub(crate) told: bool,
-    old: u64,
-    new: u64,
+    old: u128,
+    new: u128,
 }
 
-/// Two tables, the points that are asked, and whether each of them is told, or those at which the tables differ.
+impl Label {
+    /// That nothing is reported.
+    fn nothing() -> Label
+        ensures { result.told ≡ false }
+    {
+        Label {
+            told: false,
+            old: 0,
+            new: 0,
+        }
+    }
+}
+
+/// Two tables, the points that are asked, and whether each of them is reported, or only those at which the tables
+/// differ.
 #[derive(Clone, Copy)]
 pub(crate) struct Tables<'a> {
     pub(crate) asked: &'a Region,
@@ -26,9 +41,9 @@ pub(crate) struct Tables<'a> {
 }
 
 /// The rules that a table asks at a point, up to the first without quota: a bit for each by its place.
-fn asked_bits(rules: &[Rule], point: &Point) -> u64 {
-    let mut bits = 0;
-    let mut bit = 1;
+fn asked_bits(rules: &[Rule], point: &Point) -> u128 {
+    let mut bits: u128 = 0;
+    let mut bit: u128 = 1;
     for rule in rules {
         if holds_at(rule, point) {
             bits |= bit;
@@ -42,16 +57,12 @@ fn asked_bits(rules: &[Rule], point: &Point) -> u64 {
 }
 
 impl Tables<'_> {
-    /// What is told of a point.
+    /// The label of a point.
     pub(crate) fn label(&self, point: &Point) -> Label
         ensures { result.told ≡ false → AreAlike self.now.old.now self.now.new.now point.now }
     {
         if !self.all && alike(self.old, self.new, point) {
-            return Label {
-                told: false,
-                old: 0,
-                new: 0,
-            };
+            return Label::nothing();
         }
         Label {
             told: true,
@@ -59,16 +70,24 @@ impl Tables<'_> {
             new: asked_bits(self.new, point),
         }
     }
+
+    /// The same, if there is a point.
+    pub(crate) fn label_of(&self, point: Option<Point>) -> Label {
+        match point {
+            Some(point) => self.label(&point),
+            None => Label::nothing(),
+        }
+    }
 }
 
-/// What is told of some points.
+/// The report on some points.
 #[derive(Clone, Copy, Debug)]
 pub(crate) struct Part {
     /// The points, or those of which it has the rest.
     pub(crate) region: Region,
-    /// Whether it has but the points that lie in none of the parts before.
+    /// Whether it has only the points that lie in none of the parts before.
     pub(crate) rest: bool,
-    /// What is told of them.
+    /// Their label.
     pub(crate) label: Label,
     /// One of them.
     pub(crate) point: Point,

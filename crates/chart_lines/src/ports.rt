@@ -47,7 +47,7 @@ impl Tables<'_> {
         self.name_port(port) || self.name_below(port)
     }
 
-    /// Whether what is charted of a port is so at another: at itself, and of one that no rule names at all such ports.
+    /// Whether the chart of a port holds at another: at itself, and, if no rule names the port, at all such ports.
     fn stand_for(self, own: u8, port: u8) -> bool
         ensures { result ≡ stands_for (λ own. names_port self.entry own) own port }
     {
@@ -57,7 +57,7 @@ impl Tables<'_> {
             !self.name_port(own)
         }
     }
-    /// The ports at which it is so.
+    /// The ports at which the chart of a port holds.
     pub(crate) fn ports_for(self, alloc: Global, own: u8) -> Result<Vec<u8>, AllocError>
         ensures { IfOk result (λ ports. ports.items
             ≡ ports_for (λ p. names_port self.entry p) own) }

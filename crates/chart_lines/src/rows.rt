@@ -1,8 +1,9 @@
-//! The rows of charts: what says the same at several ports is one row.
+//! The rows of charts: if lines of several ports say the same, they are one row.
 
-ghost use Rattle.std.specs.Prelude.{◌≡◌, ◌≢◌, ◌<◌, ◌++◌, ◌∷◌, [], All, IfOk, IfSome, MatchBool, MatchOption, None, OnOk, Some, get_or, length, slice_set};
+ghost use Rattle.std.specs.Prelude.{◌≡◌, ◌≢◌, ◌≤◌, ◌<◌, ◌++◌, ◌∷◌, [], All, IfOk, IfSome, MatchBool, MatchOption, None, OnOk, Some, get_or, length, slice_set, take};
 ghost use Rattle.regions.specs.Points.{HasCommand};
 ghost use Rattle.differences.specs.declared.courses.Step.{Step};
+ghost use Rattle.chart_lines.specs.Begun.{SayOther};
 ghost use Rattle.chart_lines.specs.Rows.{AddsRow, EndSame, RowValue, SaysAt, WantSame, line_of, on_line, on_lines, row_of, told};
 
 use charts::Line;
@@ -17,9 +18,9 @@ use std::marker::Model;
 pub struct Change {
     /// In which commands pass.
     pub sign: Sign,
-    /// How often a command has to come until its verdict is another.
+    /// How often a command must come until its verdict is another.
     pub repeats: Repeats,
-    /// What the rules look at of one of the commands.
+    /// The part of one of the commands that the rules look at.
     pub point: Point,
 }
 
@@ -44,7 +45,7 @@ impl Model for Told {
 }
 
 impl Told {
-    /// What a row of a map says: the words of a line, and the rules that the table asks, by their lines.
+    /// The content of a row of a map: the words of a line, and the rules that the table asks, by their lines.
     pub(crate) fn of_map(alloc: Global, line: &Line, course: Vec<Step>) -> Told
         ensures { result ≡ told line.now.region line.now.rest course.items [] None }
     {
@@ -57,7 +58,8 @@ impl Told {
         }
     }
 
-    /// What a row of a comparison says: the words of a line, the rules that each table asks, and how the new one differs.
+    /// The content of a row of a comparison: the words of a line, the rules that each table asks, and how the new one
+    /// differs.
     pub(crate) fn of_two(line: &Line, course: Vec<Step>, new: Vec<Step>, change: Change) -> Told
         requires { HasCommand change.point }
         ensures { result ≡ told line.now.region line.now.rest course.items new.items (Some change) }
@@ -227,7 +229,7 @@ impl Row {
         self.ports.as_slice()
     }
 
-    /// What is so at each of them.
+    /// What the row says.
     pub fn told(&self) -> &Told
         ensures { result.now ≡ self.now.told }
     {
@@ -235,7 +237,7 @@ impl Row {
     }
 }
 
-/// The line of the rule of this number, from 1, where rules stand in these lines; 0 where none is.
+/// The line of the rule of this number, from 1, if rules are in these lines; 0 if there is none.
 fn line_of(lines: &[usize], number: usize) -> usize
     ensures { result ≡ line_of lines.now number }
 {
@@ -317,16 +319,27 @@ fn push_row(rows: &mut Vec<Row>, alloc: Global, ports: &[u8], told: Told) -> Res
     Ok(())
 }
 
-/// Adds what is said at these ports: to the row that says it, or in one row more where none does.
+/// The first `count` rows.
+fn first_rows(rows: &[Row], count: usize) -> &[Row]
+    requires { count ≤ length rows.now }
+    ensures { result.now ≡ take count rows.now }
+{
+    &rows[..count]
+}
+
+/// Adds what a row says at these ports: to the row that says it, or in one row more if none does. From a number on no
+/// row says it, so that the rows of one chart are not compared with each other.
 pub(crate) fn add_row(
     rows: &mut Vec<Row>,
     alloc: Global,
     ports: &[u8],
     told: Told,
+    from: usize,
 ) -> Result<(), AllocError>
+    requires { SayOther told from rows.old.items }
     ensures { OnOk result (AddsRow ports.now told rows.old.items rows.new.items) }
 {
-    match place_of(rows.as_slice(), &told) {
+    match place_of(first_rows(rows.as_slice(), from), &told) {
         Some(place) => join(rows, place, ports),
         None => push_row(rows, alloc, ports, told),
     }

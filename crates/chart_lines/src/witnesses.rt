@@ -1,8 +1,10 @@
 //! The point of a line that a row shows.
 
-ghost use Rattle.std.specs.Prelude.{◌≡◌, ◌<◌, MatchOption, get_or, length};
+ghost use Rattle.std.specs.Prelude.{◌≡◌, ◌≤◌, ◌<◌, MatchOption, get_or, length};
+ghost use Rattle.charts.specs.Lines.{have_same_words};
+ghost use Rattle.charts.specs.Rests.{HasNoPointIn, IsPointIn};
 ghost use Rattle.charts.specs.declared.lines.Line.{Line};
-ghost use Rattle.chart_lines.specs.Witnesses.{HasNoCommand, IsWitness};
+ghost use Rattle.chart_lines.specs.Witnesses.{AreOthers, HasNoCommand, IsWitness};
 
 use charts::{Line, point_in};
 use regions::{Point, Region};
@@ -15,13 +17,50 @@ pub(crate) fn line_at(lines: &[Line], place: usize) -> Line
     lines[place]
 }
 
+/// Whether two regions have the same words, except those of addresses.
+fn have_same_words(one: &Region, other: &Region) -> bool
+    ensures { result ≡ have_same_words one.now other.now }
+{
+    one.kinds.is(other.kinds)
+        && (one.keys.is(&other.keys)
+            && (one.initiators.is(&other.initiators) && one.extended.is(&other.extended)))
+}
+
+/// The place of the first line that has the words of that of a place.
+fn first_like(lines: &[Line], place: usize) -> usize
+    requires { place < length lines.now }
+    ensures few { result ≤ place }
+    ensures others { AreOthers lines.now place result }
+{
+    for number in 0..place {
+        if have_same_words(&lines[number].region, &lines[place].region) {
+            return number;
+        }
+    }
+    place
+}
+
+/// A point of a region that the line of a place has, and some command: no line with other words takes one from it.
+fn point_of(lines: &[Line], place: usize, within: &Region) -> Option<Point>
+    requires { place < length lines.now }
+    ensures { MatchOption result (HasNoPointIn lines.now place within.now)
+        (IsPointIn lines.now place within.now) }
+{
+    if !lines[place].rest {
+        return point_in(lines, place, within);
+    }
+    let start = first_like(lines, place);
+    let (_others, behind) = lines.split_at(start);
+    point_in(behind, place - start, within)
+}
+
 /// A point of the line of that place that a command has, if there is one.
 pub(crate) fn some_point(lines: &[Line], place: usize) -> Option<Point>
     requires { place < length lines.now }
     ensures { MatchOption result (HasNoCommand lines.now place) (IsWitness lines.now place) }
 {
     let whole = Region::whole();
-    point_in(lines, place, &whole)
+    point_of(lines, place, &whole)
 }
 
 /// The same: one of the first of these regions that has one, if any of them has.
@@ -31,7 +70,7 @@ pub(crate) fn witness(lines: &[Line], place: usize, preferred: &[Region]) -> Opt
     ensures { MatchOption result (HasNoCommand lines.now place) (IsWitness lines.now place) }
 {
     for within in preferred {
-        if let Some(point) = point_in(lines, place, within) {
+        if let Some(point) = point_of(lines, place, within) {
             return Some(point);
         }
     }

@@ -25,11 +25,11 @@ lines_at before (cell ∷ cells) p =
     kept true left rest found e = ap (λ (ls : List Line). line_of cell ∷ ls) e
     kept false left rest found e = e
 
--- what is told is settled by the rules
+-- the rules settle what is reported
 pub untold_settled : (asked : Region) (all : Bool) (old new : List Rule) → IsSettledBy (told_tests asked old new) (λ p. is_told asked all old new p ≡ false)
 untold_settled asked all old new p q _ _ same untold = sym (told_alike asked all old new p q same) ∙ untold
 
--- the lines of the cells of which something is told are a chart
+-- the lines of the reported cells are a chart
 pub chart_of : (asked : Region) (all : Bool) (old new : List Rule) (cells : List Cell)
     → AreCellsOf (told_tests asked old new) (λ p. is_told asked all old new p ≡ false) (λ p. is_told asked all old new p ≡ true) cells → IsChart asked all old new (map line_of cells)
 chart_of asked all old new cells are p has = by_cells (are p has)

@@ -21,9 +21,9 @@ use Rattle.charts.proofs.Least.{ahead, ahead_words, drawn_first, drawn_rest, dra
 use Rattle.charts.proofs.RuleShapes.{alike_of}
 use Rattle.charts.proofs.Sameness.{HoldsAlike, same_decision}
 
--- ---- one rule and those behind it
+-- ---- one rule and those after it
 
--- the least tickets behind a rule, where it holds
+-- the least tickets after a rule, if it holds
 abbrev IsLeastNext : (t : Bool) → Option Quota → (least next : ℕ → ℕ → ℕ) → Type 0
 IsLeastNext t quota least next = (map cell : ℕ) → next map cell ≡ (if t then raised quota map cell (least map cell) else least map cell)
 
@@ -34,11 +34,11 @@ least_next_of passed rule p map cell = by_test (holds_at rule p)
     by_test true = least_more 0 passed rule map cell
     by_test false = ap (λ (rs : List Rule). least_from 0 rs map cell) (append-nil passed)
 
--- a decision by a rule that may hold, and by those behind it
+-- a decision by a rule that may hold, and by those after it
 abbrev run_by : (t : Bool) → Option Quota → (code : ℕ) → (rest : (ℕ → ℕ) → List Call × ℕ) → (ℕ → ℕ) → List Call × ℕ
 run_by t quota code rest told = if t then ruled quota code told (rest (λ k. told (suc k))) else rest told
 
--- the rule by which it is
+-- the rule that decides
 abbrev decider_by : (t : Bool) → Option Quota → (n : ℕ) → (rest : (ℕ → ℕ) → Option ℕ) → (ℕ → ℕ) → Option ℕ
 decider_by t quota n rest told = if t then by_quota quota n told (rest (λ k. told (suc k))) else rest told
 
@@ -53,7 +53,7 @@ not_below a b h = grind (arith, nat_tests)
 
 -- ---- the rule may decide
 
--- for some tickets that are not below the least it does
+-- it decides for some tickets that are not below the least
 record DecidesFrom (least : ℕ → ℕ → ℕ) (run : (ℕ → ℕ) → List Call × ℕ) (decider : (ℕ → ℕ) → Option ℕ) (place : ℕ) : Type 0 where
   told : ℕ → ℕ
   words : AreWords told
@@ -103,7 +103,7 @@ module _ (least next : ℕ → ℕ → ℕ) (n code place bound : ℕ) (rest : (
           by_cell true c f = let there = least_there least q map cell c in omega (arith, there, f)
           by_cell false c f = omega (arith, f)
 
--- a bound of the least, behind a rule
+-- a bound of the least, after a rule
 bound_next : (t : Bool) (quota : Option Quota) (least next : ℕ → ℕ → ℕ) (bound : ℕ) → IsLeastNext t quota least next → IsLimited quota → 2147483647 ≤ bound → ((map cell : ℕ) → least map cell ≤ bound) → (map cell : ℕ) → next map cell ≤ suc bound
 bound_next false quota least next bound is limited limits below map cell = omega (arith, is map cell, below map cell)
 bound_next true None least next bound is limited limits below map cell = omega (arith, is map cell, below map cell)
@@ -137,7 +137,7 @@ other_place a b apart e = apart (inside a b e)
     inside : (a b : ℕ) → Some a ≡ Some b → a ≡ b
     inside a b e = cc (e)
 
--- a rule that decides stands at its place or behind
+-- the rule that decides is at its place or after it
 least_by : (t : Bool) (quota : Option Quota) (n m : ℕ) (told : ℕ → ℕ) (a b : Option ℕ) → (a ≡ Some m → n ≤ m) → (b ≡ Some m → n ≤ m) → (if t then by_quota quota n told a else b) ≡ Some m → n ≤ m
 least_by false quota n m told a b f g e = g e
 least_by true None n m told a b f g e = let same : n ≡ m = cc (e) in omega (arith, same)
@@ -204,7 +204,7 @@ decides_not (suc places) passed (rule ∷ rules) p n m is e told run h =
     (λ none t there. decides_not places (passed ++ held p (rule ∷ [])) rules p (suc n) m (omega (arith, is)) none t there)
     (holds_at rule p) rule.quota (least_next_of passed rule p) e run h
 
--- the answer of the test, turned
+-- the answer of the test, negated
 pub never_by_test : (t : Bool) (rules : List Rule) (place : ℕ) (p : Point) → t ≡ may_decide [] place rules p → MatchBool (not t) (NeverDecides rules place p) (DecidesWithinLimits rules place p)
 never_by_test true rules place p e = λ limited.
     let d = decides_so place [] rules p 0 2147483647 limited.limits (omega arith) (λ map cell. omega arith) (omega (arith, limited.few)) (sym e) in

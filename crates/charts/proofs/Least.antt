@@ -60,7 +60,7 @@ after_of least q t call from below = by_cell (is_of q call.question.map call.que
     by_cell true e = let same = cell_of q call.question.map call.question.key e in let lt : t < call.answer = below same.0 same.1 in omega (arith, lt)
     by_cell false e = from
 
--- ---- one draw and those behind it
+-- ---- one draw and those after it
 
 pub told_first : (least : ℕ → ℕ → ℕ) (q : Quota) (t : ℕ) (calls : List Call) → least q.map q.cell ≤ t → AreTicketsFrom (after least q t) calls → AreTicketsFrom least (draw q t ∷ calls)
 told_first least q t calls le rest = record {
@@ -90,13 +90,13 @@ from_start least calls none tickets = record { from = λ k d lt. low (get_or cal
     low : (call : Call) → IsFrom least call
     low call = omega (arith, none call.question.map call.question.key)
 
--- ---- the least behind rules
+-- ---- the least after rules
 
 pub least_more : (least : ℕ) (rules : List Rule) (rule : Rule) (map cell : ℕ) → least_from least (rules ++ rule ∷ []) map cell ≡ raised rule.quota map cell (least_from least rules map cell)
 least_more least [] rule map cell = refl
 least_more least (other ∷ rules) rule map cell = least_more (raised other.quota map cell least) rules rule map cell
 
--- behind a rule with a quota
+-- after a rule with a quota
 pub least_next : (least : ℕ) (rules : List Rule) (rule : Rule) (q : Quota) (map cell : ℕ) → rule.quota ≡ Some q → least_from least (rules ++ rule ∷ []) map cell ≡ (if is_of q map cell then suc (max (least_from least rules map cell) q.limit) else least_from least rules map cell)
 least_next least rules rule q map cell e =
     least_more least rules rule map cell ∙ ap (λ (o : Option Quota). raised o map cell (least_from least rules map cell)) e
@@ -121,14 +121,14 @@ module _ (olds news : List Rule) (rule other : Rule) (q p : Quota) (e : rule.quo
       ≡ max (if is_of q map cell then suc (max (least_from 0 olds map cell) q.limit) else least_from 0 olds map cell) (if is_of p map cell then suc (max (least_from 0 news map cell) p.limit) else least_from 0 news map cell)
   both_next = rw (least_next 0 olds rule q map cell e, least_next 0 news other p map cell f) refl
 
-  -- the least behind a ticket that is below neither limit is not above what it leaves
+  -- the least after a ticket that is below neither limit is not above what it leaves
   pub both_below : (t : ℕ) → least_of olds news q.map q.cell ≤ t → q.limit ≤ t → p.limit ≤ t → least_of (olds ++ rule ∷ []) (news ++ other ∷ []) map cell ≤ after (least_of olds news) q t map cell
   both_below t le one two =
       subst (λ (n : ℕ). n ≤ after (least_of olds news) q t map cell) (sym both_next)
       (lower_by (is_of q map cell) (is_of p map cell) (least_from 0 olds map cell) (least_from 0 news map cell) q.limit p.limit t (same_cell q p map cell same_map same_key)
       (λ h. let there = least_there (least_of olds news) q map cell h in omega (arith, there, le)) one two)
 
-  -- and that behind the least such ticket is not below it
+  -- and that after the least such ticket is not below it
   pub both_above : after (least_of olds news) q (max (least_of olds news q.map q.cell) (max q.limit p.limit)) map cell ≤ least_of (olds ++ rule ∷ []) (news ++ other ∷ []) map cell
   both_above =
       subst (λ (n : ℕ). after (least_of olds news) q (max (least_of olds news q.map q.cell) (max q.limit p.limit)) map cell ≤ n) (sym both_next)
@@ -137,7 +137,7 @@ module _ (olds news : List Rule) (rule other : Rule) (q p : Quota) (e : rule.quo
 
 -- ---- tickets that rise
 
--- from a number on, each one more, as far as words go
+-- from a number on, each is one more, up to the greatest number of 64 bits
 abbrev pub rising : (from : ℕ) → ℕ → ℕ
 rising from k = min (from + k) 18446744073709551615
 
@@ -147,7 +147,7 @@ rising_words from k = omega arith
 pub rising_is : (from n : ℕ) → from + n < 2 ^ 64 → (k : ℕ) → k < n → rising from k ≡ from + k
 rising_is from n fits k lt = omega (arith, fits, lt)
 
--- a ticket, and others behind it
+-- a ticket, and others after it
 abbrev pub ahead : ℕ → (ℕ → ℕ) → ℕ → ℕ
 ahead ticket rest zero = ticket
 ahead ticket rest (suc k) = rest k
@@ -156,7 +156,7 @@ pub ahead_words : (ticket : ℕ) (rest : ℕ → ℕ) → ticket < 2 ^ 64 → Ar
 ahead_words ticket rest h words zero = h
 ahead_words ticket rest h words (suc k) = words k
 
--- a bound of the least is one more behind a ticket of it
+-- after a ticket of it, a bound of the least is one more
 pub bound_after : (least : ℕ → ℕ → ℕ) (q : Quota) (t bound : ℕ) → t ≤ bound → ((map cell : ℕ) → least map cell ≤ bound) → (map cell : ℕ) → after least q t map cell ≤ suc bound
 bound_after least q t bound le below map cell = by_cell (is_of q map cell)
   where
@@ -169,7 +169,7 @@ abbrev pub either : Bool → (one other : List Call × ℕ) → List Call × ℕ
 either t one other = if t then one else other
 
 module _ (least : ℕ → ℕ → ℕ) (quota : Quota) (code : ℕ) (told : ℕ → ℕ) (rest : List Call × ℕ) where
-  -- a draw with what is behind it is told so
+  -- a draw and what comes after it get such tickets
   pub drawn_told : least quota.map quota.cell ≤ told 0 → (nat_lt (told 0) quota.limit ≡ false → AreTicketsFrom (after least quota (told 0)) rest.0) → AreTicketsFrom least (ruled (Some quota) code told rest).0
   drawn_told le behind = by_test (nat_lt (told 0) quota.limit) behind
     where
@@ -189,7 +189,7 @@ module _ (least : ℕ → ℕ → ℕ) (quota : Quota) (code : ℕ) (told : ℕ 
       rest_from least quota (told 0) rest.0
       (subst (λ (b : Bool). AreTicketsFrom least (either b (draw quota (told 0) ∷ [], code) (draw quota (told 0) ∷ rest.0, rest.1)).0) e h)
 
--- rules are told tickets that rise from a bound of the least on
+-- rules get tickets that rise from a bound of the least on
 pub rising_told : (rules : List Rule) (bound : ℕ) (least : ℕ → ℕ → ℕ) (told : ℕ → ℕ) → ((k : ℕ) → k < length rules → told k ≡ bound + k) → ((map cell : ℕ) → least map cell ≤ bound) → AreTicketsFrom least (said rules told).0
 rising_told [] bound least told rises below = none_told least
 rising_told (rule ∷ rules) bound least told rises below =
@@ -207,7 +207,7 @@ rising_told (rule ∷ rules) bound least told rises below =
         drawn_told least q (verdict_number rule.verdict) told (said rules (λ k. told (suc k))) (omega (arith, first, below q.map q.cell))
         (λ e. behind (after least q (told 0)) (bound_after least q (told 0) bound (omega (arith, first)) below))
 
--- a ticket, and such tickets behind it
+-- a ticket, and such tickets after it
 pub ahead_told : (least : ℕ → ℕ → ℕ) (q : Quota) (code : ℕ) (rules : List Rule) (t bound : ℕ) → least q.map q.cell ≤ t → t ≤ bound → ((map cell : ℕ) → least map cell ≤ bound) → suc bound + length rules < 2 ^ 64
     → AreTicketsFrom least (ruled (Some q) code (ahead t (rising (suc bound))) (said rules (rising (suc bound)))).0
 ahead_told least q code rules t bound le fits below few =

@@ -14,3 +14,5 @@ pub mod Meeting
 pub mod Resting
 pub mod Plainness
 pub mod Mistelling
+mod Stopping
+mod Joining

@@ -16,7 +16,7 @@ length_joined : {A : Type 0} (xs ys : List A) → length (xs ++ ys) ≡ length x
 length_joined [] ys = omega arith
 length_joined (x ∷ xs) ys = omega (arith, length_joined xs ys)
 
--- a test has the same number where more tests stand behind
+-- a test has the same number if more tests come after it
 pub widened : (xs ys : List (Point → Bool)) (number : ℕ) (region : Region) → IsShapeAt xs number region → IsShapeAt (xs ++ ys) number region
 widened xs ys number region at = record {
   there = omega (arith, at.there, length_joined xs ys);
@@ -50,7 +50,7 @@ later_shape x xs (suc number) (Some region) lt at =
     let own : IsShapeAt xs number region = subst (λ (n : ℕ). IsShapeAt xs n region) behind at in
     record { there = omega (arith, own.there); same = own.same }
 
--- behind the rules of both tables stand the lines
+-- the lines come after the rules of both tables
 pub line_shape_at : (old new : List Rule) (lines : List Line) (number : ℕ) (d : Line) → length (old ++ new) ≤ number → number - length old - length new < length lines
     → IsShapeAt (tests_of (old ++ new) ++ map (λ line. lies_in line.region) lines) number (get_or lines (number - length old - length new) d).region
 line_shape_at old new lines number d behind lt =

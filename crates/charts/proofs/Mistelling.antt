@@ -1,4 +1,4 @@
--- Why a point is not told rightly.
+-- Why a point is not reported rightly.
 use Rattle.std.proofs.Common.{◌≡◌, Bool, true, false, not, List, [], ◌∷◌, length, get_or, ap, sym, arith, ◌∙◌}
 use Rattle.std.specs.Prelude.{MatchBool}
 use Rattle.policy_table.specs.declared.rules.Rule.{Rule}
@@ -17,7 +17,7 @@ none_told true old new lines p none = λ right.
     omega (arith, count)
 none_told false old new lines p none = none
 
--- it lies in a line, and is not told
+-- it lies in a line, and is none to report
 pub one_wrong : (told : Bool) (old new : List Rule) (lines : List Line) (p : Point) (line : Line) (rest : List Line) → told ≡ false → lines_of [] lines p ≡ line ∷ rest
     → IsToldWrongly told old new lines p
 one_wrong true old new lines p line rest e one = absurd (cc)

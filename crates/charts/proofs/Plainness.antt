@@ -75,7 +75,7 @@ charts_are_read = record {
 
 -- ---- a line that has a point of a command
 
--- what stands before the line of a place among those in which a point lies
+-- the lines before that of a place, among those in which a point lies
 abbrev Split : List Line → Point → (n : ℕ) → Type 0
 Split lines p n = (front : List Line) × (lines_of [] lines p ≡ front ++ lines_of (take n lines) (drop n lines) p)
 
@@ -128,7 +128,7 @@ address_on stretch address fits from_ before =
     let lt : address < stretch.end = grind (arith, nat_tests) in
     omega (arith, le, lt, fits)
 
--- both stretches have an address, where a point of a command lies in the region
+-- if a point of a command lies in the region, both stretches have an address
 first_has : (region : Region) (p : Point) → HasCommand p → meets_last 4 region p ≡ true → HasAddress region.first
 first_has region p has e =
     address_on region.first p.first (omega (arith, has.span.order, has.span.fits)) (first_of_both (meets side.FirstFrom region p) (meets_last 3 region p) e)

@@ -5,7 +5,7 @@ use Rattle.std.proofs.Math.Seq.{get_or-append_right}
 use Rattle.std.proofs.lemmas.List.{get_or_append_left}
 use Rattle.std.proofs.lemmas.List.Elements.{All-head, All-tail}
 use Rattle.regions.specs.Points.{HasCommand}
-use Rattle.regions.specs.Questions.{AreTestedAlike, HoldsOn, IsFound, IsSettledBy, IsShapeAt}
+use Rattle.regions.specs.Questions.{AreTestedAlike, HoldsOn, HoldsWhere, IsFound, IsSettledBy, IsShapeAt}
 use Rattle.regions.specs.Regions.{IsBare, IsIn, lies_in}
 use Rattle.regions.specs.declared.points.Point.{Point}
 use Rattle.regions.specs.declared.regions.Region.{Region}
@@ -106,12 +106,12 @@ module _ (lines : List Line) (place : ℕ) (within both : Region) (own : Line) (
   at : (d : Line) (p : Point) → is_point_in lines place within d p ≡ (has_point (take place lines) (get_or lines place own) p && lies_in within p)
   at d p = ap (λ (line : Line). has_point (take place lines) line p && lies_in within p) (same_line lines place d own there)
 
-  -- of a line that is told by itself
+  -- a point of a line that does not have the rest
   pub plain_point : (o : Option Point) → (get_or lines place own).rest ≡ false → MatchOption o (IsBare both) (IsIn both) → MatchOption o (HasNoPointIn lines place within) (IsPointIn lines place within)
   plain_point None e bare = λ d p has. at d p ∙ has_all (take place lines) (get_or lines place own) within both p e (is p has) ∙ bare p has
   plain_point (Some p) e in_ = record { command = in_.0; lies = λ d. at d p ∙ has_all (take place lines) (get_or lines place own) within both p e (is p in_.0) ∙ in_.1 }
 
-  -- of one that has the rest
+  -- a point of one that has it
   pub rest_point : (o : Option Point) → (get_or lines place own).rest ≡ true
       → MatchOption o (HoldsOn (λ p. is_left_in (take place lines) (get_or lines place own) both p ≡ false) both) (IsFound (λ p. is_left_in (take place lines) (get_or lines place own) both p ≡ true))
       → MatchOption o (HasNoPointIn lines place within) (IsPointIn lines place within)
@@ -121,3 +121,28 @@ module _ (lines : List Line) (place : ℕ) (within both : Region) (own : Line) (
       by_lies p has true f = none p has f
       by_lies p has false f = ap (λ (t : Bool). t && is_left (take place lines) (get_or lines place own) p) f
   rest_point (Some p) e found = record { command = found.command; lies = λ d. at d p ∙ has_rest (take place lines) (get_or lines place own) within both p e (is p found.command) ∙ found.answer }
+
+-- ---- a point that a line before has is not left
+
+no_more : (t : Bool) → (t && false) ≡ false
+no_more true = refl
+no_more false = refl
+
+taken_gone : (before : List Line) (line : Line) (n : ℕ) (d : Line) (p : Point) → n < length before
+    → (have_same_words (get_or before n d).region line.region && lies_in (get_or before n d).region p) ≡ true → is_left before line p ≡ false
+taken_gone [] line n d p there takes = absurd (omega arith)
+taken_gone (other ∷ others) line zero d p there takes = ap (λ (t : Bool). not t && is_left others line p) takes
+taken_gone (other ∷ others) line (suc n) d p there takes =
+    ap (λ (t : Bool). not (have_same_words other.region line.region && lies_in other.region p) && t) (taken_gone others line n d p (omega arith) takes)
+    ∙ no_more (not (have_same_words other.region line.region && lies_in other.region p))
+
+first_line : (before : List Line) (n : ℕ) → n < length before → Line
+first_line [] n there = absurd (omega arith)
+first_line (line ∷ lines) n there = line
+
+pub rest_passed : (before : List Line) (line : Line) (region : Region) (n : ℕ) → n < length before → HoldsWhere (rest_tests before line region) (λ p. is_left_in before line region p ≡ false) n
+rest_passed before line region n there t p has within passes =
+    let d = first_line before n there in
+    let at = ap (λ (f : Point → Bool). f p) (get_or_append_left (taking before line) (lies_in region ∷ []) t n (omega (arith, there, length_taking before line))) in
+    ap (λ (b : Bool). lies_in region p && b) (taken_gone before line n d p there (sym (taking_at before line n d t p there) ∙ sym at ∙ passes))
+    ∙ no_more (lies_in region p)

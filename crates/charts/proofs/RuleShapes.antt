@@ -68,7 +68,7 @@ pub length_tests : (rules : List Rule) → length (tests_of rules) ≡ length ru
 length_tests [] = refl
 length_tests (rule ∷ rules) = ap suc (length_tests rules)
 
-tests_at : (rules : List Rule) (n : ℕ) (d : Rule) (t : Point → Bool) (p : Point) → n < length rules → get_or (tests_of rules) n t p ≡ holds_at (get_or rules n d) p
+pub tests_at : (rules : List Rule) (n : ℕ) (d : Rule) (t : Point → Bool) (p : Point) → n < length rules → get_or (tests_of rules) n t p ≡ holds_at (get_or rules n d) p
 tests_at [] n d t p lt = absurd (omega arith)
 tests_at (rule ∷ rules) zero d t p lt = refl
 tests_at (rule ∷ rules) (suc n) d t p lt = tests_at rules n d t p (omega arith)
@@ -103,7 +103,7 @@ rule_shape_at rules number d region there is = record {
   same = λ t p has. is p has ∙ sym (tests_at rules number d t p there);
 }
 
--- where all rules hold alike, the tables decide alike at both points
+-- if all rules hold alike, the tables decide alike at both points
 pub settled : (asked : Region) (old new : List Rule) → IsSettledBy (told_tests asked old new) (λ p. lies_in asked p ≡ true → AreAlike old new p)
 settled asked old new p q _ _ same alike = λ lies.
     let rules = All-tail (AreTestedAlike p q) (lies_in asked) (tests_of (old ++ new)) same in

@@ -102,7 +102,7 @@ lie_alike (line ∷ lines) p q same =
     All-cons (LieAlike p q) line lines (All-head (AreTestedAlike p q) (lies_in line.region) (map (λ line. lies_in line.region) lines) same)
     (lie_alike lines p q (All-tail (AreTestedAlike p q) (lies_in line.region) (map (λ line. lies_in line.region) lines) same))
 
--- a point is told where another is at which the rules hold alike
+-- a point is reported just if another is at which the rules hold alike
 pub told_alike : (asked : Region) (all : Bool) (old new : List Rule) (p q : Point) → All (AreTestedAlike p q) (told_tests asked old new) → is_told asked all old new q ≡ is_told asked all old new p
 told_alike asked all old new p q same =
     let rules = All-tail (AreTestedAlike p q) (lies_in asked) (tests_of (old ++ new)) same in

@@ -18,7 +18,7 @@ use Rattle.policy_table.specs.declared.rules.Quota.{Quota}
 use Rattle.policy_table.specs.declared.rules.Rule.{Rule}
 use Rattle.charts.proofs.Least.{ahead, ahead_told, ahead_words, both_above, both_below, cell_of, drawn_first, drawn_rest, drawn_told, from_start, least_next, none_told, rising, rising_is, rising_told, rising_words, same_number, weaker}
 
--- it ends so, it matches with this draw, it goes on behind this draw
+-- it ends so, it matches with this draw, it goes on after this draw
 abbrev ends : ℕ → List Call × ℕ
 ends code = ([], code)
 
@@ -59,7 +59,7 @@ chosen_draws false a b n h k = k
 ruled_draws : (quota : Quota) (code : ℕ) (told : ℕ → ℕ) (rest : List Call × ℕ) → 1 ≤ length (ruled (Some quota) code told rest).0
 ruled_draws quota code told rest = chosen_draws (nat_lt (told 0) quota.limit) (draw quota (told 0) ∷ [], code) (draw quota (told 0) ∷ rest.0, rest.1) 1 (omega arith) (omega arith)
 
--- where nothing is drawn, it stops with its verdict
+-- if nothing is drawn, it stops with its verdict
 undrawn_rule : (quota : Option Quota) (code : ℕ) (told : ℕ → ℕ) (rest : List Call × ℕ) → length (ruled quota code told rest).0 ≡ 0 → stops_with (stop_of quota code) (ruled quota code told rest).1 ≡ true
 undrawn_rule None code told rest e = grind (arith, nat_tests)
 undrawn_rule (Some quota) code told rest e = absurd (omega (arith, ruled_draws quota code told rest))
@@ -106,7 +106,7 @@ same_draw q p answer e f = rw (e, f) refl
 
 -- ---- sound
 
--- one of two runs is told tickets that are not below the least
+-- one of two runs gets tickets that are not below the least
 abbrev IsOneTold : (least : ℕ → ℕ → ℕ) → (one other : List Call) → Type 0
 IsOneTold least one other = AreTicketsFrom least one ⊎ AreTicketsFrom least other
 
@@ -168,7 +168,7 @@ module _ (olds news : List Rule) (rule other : Rule) (q p : Quota) (v w : ℕ) (
       (λ s t. stops rules w on (same.second_alone (omega (arith, le, not_below_limit (told 0) q.limit s, below_limit (told 0) p.limit t))))
       (λ s t. rest on (rest_told s t h))
 
--- the tests of two lists that hold behind others, and what they mean
+-- the tests of two lists that hold after others, and what they mean
 abbrev IsSound : (olds news old new : List Rule) → Type 0
 IsSound olds news old new = alike_behind olds news old new ≡ true → (told : ℕ → ℕ) → IsOneTold (least_of olds news) (said old told).0 (said new told).0 → said old told ≡ said new told
 
@@ -252,7 +252,7 @@ test_lt a b h = lt-ltb a b h
 test_le : (a b : ℕ) → b ≤ a → nat_lt a b ≡ false
 test_le a b h = le-ltb a b h
 
--- it matches alone, and the other goes on: not the same where the other does not end so
+-- only this one matches, and the other goes on: they are not the same if the other does not end so
 alone : (d c : Call) (v w : ℕ) (others : List Rule) (told : ℕ → ℕ) → stops_with (stop others) v ≡ false → ¬ (matches d v ≡ goes c (said others told))
 alone d c v w others told no_stop e =
     let none : length (said others told).0 ≡ 0 = omega (arith, ap (λ (x : List Call × ℕ). length x.0) e) in
@@ -268,7 +268,7 @@ record DifferFrom (least : ℕ → ℕ → ℕ) (old new : (ℕ → ℕ) → Lis
   new_told : AreTicketsFrom least (new told).0
   differ : ¬ (old told ≡ new told)
 
--- a rule with what is behind it
+-- a rule with what comes after it
 abbrev with_rest : Option Quota → (code : ℕ) → List Rule → (ℕ → ℕ) → List Call × ℕ
 with_rest quota code rules told = ruled quota code told (said rules (λ k. told (suc k)))
 
@@ -282,7 +282,7 @@ module _ (least : ℕ → ℕ → ℕ) (q : Quota) (v : ℕ) (p : Quota) (w : �
   abbrev BothDiffer : Type 0
   BothDiffer = DifferFrom least (with_rest (Some q) v rules) (with_rest (Some p) w others)
 
-  -- they differ for a ticket, and such behind it as rise
+  -- they differ for a ticket, and rising tickets after it
   differ_by : (t : ℕ) → least q.map q.cell ≤ t → least p.map p.cell ≤ t → t ≤ bound
       → ¬ (with_rest (Some q) v rules (ahead t (rising (suc bound))) ≡ with_rest (Some p) w others (ahead t (rising (suc bound)))) → BothDiffer
   differ_by t one two fits differ = record {
@@ -333,7 +333,7 @@ module _ (least : ℕ → ℕ → ℕ) (q : Quota) (v : ℕ) (p : Quota) (w : �
       (λ e. alone (draw p t) (draw q t) w v rules (rising (suc bound)) no_stop
       (sym (drawn_match (nat_lt t p.limit) (draw p t) w (said others (rising (suc bound))) (test_lt t p.limit lt)) ∙ sym e ∙ drawn_on (nat_lt t q.limit) (draw q t) v (said rules (rising (suc bound))) (test_le t q.limit (omega arith))))
 
--- what differs behind two draws of one cell that do not match
+-- what differs after two draws of one cell that do not match
 rest_differs : (olds news : List Rule) (rule other : Rule) (q : Quota) (v : ℕ) (p : Quota) (w : ℕ) (rules others : List Rule) (bound : ℕ) → IsBound bound (least_of olds news) rules others → rule.quota ≡ Some q → other.quota ≡ Some p
     → is_of q p.map p.cell ≡ true → q.limit ≤ 2147483647 → p.limit ≤ 2147483647 → DifferFrom (least_of (olds ++ rule ∷ []) (news ++ other ∷ [])) (said rules) (said others)
     → DifferFrom (least_of olds news) (with_rest (Some q) v rules) (with_rest (Some p) w others)
@@ -452,13 +452,13 @@ drawn_differs least q v rules code bound below fits = record {
   differ = draws_differ q v code (ahead bound (rising (suc bound))) (said rules (rising (suc bound)));
 }
 
--- what the tests of two lists that do not hold behind others mean
+-- what the tests of two lists that do not hold after others mean
 abbrev IsComplete : (olds news old new : List Rule) → Type 0
 IsComplete olds news old new =
     (bound : ℕ) → 2147483647 ≤ bound → ((map cell : ℕ) → least_of olds news map cell ≤ bound) → bound + (length old + length new) < 2 ^ 64
     → All HasLimit old → All HasLimit new → alike_behind olds news old new ≡ false → DifferFrom (least_of olds news) (said old) (said new)
 
--- the least behind two rules with limits is one more at most
+-- the least after two rules with limits is at most one more
 bound_next : (olds news : List Rule) (rule other : Rule) (q p : Quota) (bound : ℕ) → rule.quota ≡ Some q → other.quota ≡ Some p → q.limit ≤ 2147483647 → p.limit ≤ 2147483647 → 2147483647 ≤ bound
     → ((map cell : ℕ) → least_of olds news map cell ≤ bound) → (map cell : ℕ) → least_of (olds ++ rule ∷ []) (news ++ other ∷ []) map cell ≤ suc bound
 bound_next olds news rule other q p bound e f fq fp limits below map cell =
@@ -569,7 +569,7 @@ held_here p rules i d lt one =
     ap (λ (rs : List Rule). held p rs) (drop-cons rules i d lt) ∙ here_first (holds_at (get_or rules i d) p) (get_or rules i d) (held p (drop (suc i) rules)) one
     ∙ ap (λ (k : ℕ). get_or rules i d ∷ held p (drop k rules)) (sym (add-one i))
 
--- those that hold of one list behind another
+-- the rules that hold, of one list after another
 pub held_append : (p : Point) (rules others : List Rule) → held p (rules ++ others) ≡ held p rules ++ held p others
 held_append p [] others = refl
 held_append p (rule ∷ rules) others = by_test (holds_at rule p) (held_append p rules others)
@@ -578,7 +578,7 @@ held_append p (rule ∷ rules) others = by_test (holds_at rule p) (held_append p
     by_test true e = ap (λ (rs : List Rule). rule ∷ rs) e
     by_test false e = e
 
--- those that hold of one rule more
+-- the rules that hold, with one rule more
 pub held_more : (p : Point) (rules : List Rule) (i : ℕ) (d : Rule) → i < length rules → held p (take (i + 1) rules) ≡ held p (take i rules) ++ held p (get_or rules i d ∷ [])
 held_more p rules i d lt = ap (λ (rs : List Rule). held p rs) (take_more rules i d lt) ∙ held_append p (take i rules) (get_or rules i d ∷ [])
 

@@ -15,7 +15,7 @@ opened n i d rules p lt =
     ap (λ (rs : List Rule). course_from n rs p) (drop-cons rules i d lt)
     ∙ ap (λ (k : ℕ). if holds_at (get_or rules i d) p then n ∷ goes_on (get_or rules i d).quota (course_from (suc n) (drop k rules) p) else course_from (suc n) (drop k rules) p) (sym (add-one i))
 
--- where a rule holds alike at both points, and the courses behind it are the same, so are those before it
+-- if a rule holds alike at both points, and the courses after it are the same, so are those from it on
 pub course_more : (n i : ℕ) (d : Rule) (rules : List Rule) (p q : Point) → i < length rules → holds_at (get_or rules i d) p ≡ holds_at (get_or rules i d) q
     → course_from (suc n) (drop (i + 1) rules) p ≡ course_from (suc n) (drop (i + 1) rules) q → course_from n (drop i rules) p ≡ course_from n (drop i rules) q
 course_more n i d rules p q lt same rest =
@@ -26,7 +26,7 @@ course_more n i d rules p q lt same rest =
     kept : (t u : Bool) (a b : List ℕ) → t ≡ u → a ≡ b → (if t then n ∷ goes_on (get_or rules i d).quota a else a) ≡ (if u then n ∷ goes_on (get_or rules i d).quota b else b)
     kept t u a b e f = rw (e, f) refl
 
--- behind a rule without quota that holds at both nothing is asked
+-- after a rule without quota that holds at both, nothing is asked
 pub course_ends : (n i : ℕ) (d : Rule) (rules : List Rule) (p q : Point) → i < length rules → holds_at (get_or rules i d) p ≡ true → holds_at (get_or rules i d) q ≡ true → (get_or rules i d).quota ≡ None
     → course_from n (drop i rules) p ≡ course_from n (drop i rules) q
 course_ends n i d rules p q lt one other none =
@@ -51,7 +51,7 @@ begins_later k n (rule ∷ rules) p rest lt e =
         omega (arith, lt, first)
     step false a later same = later same
 
--- where a rule holds at one of two points alone, the courses from it on differ
+-- if a rule holds at only one of two points, the courses from it on differ
 pub course_apart : (n i : ℕ) (d : Rule) (rules : List Rule) (p q : Point) → i < length rules
     → (holds_at (get_or rules i d) p ≡ holds_at (get_or rules i d) q → ⊥)
     → course_from n (drop i rules) p ≡ course_from n (drop i rules) q
@@ -68,7 +68,8 @@ course_apart n i d rules p q lt differ same =
     split false true apart e = begins_later (suc n) n (drop (i + 1) rules) p _ (omega arith) e
     split false false apart e = apart refl
 
--- where a rule holds alike at both points, and lets what is behind it be asked, the courses behind it are the same if those from it on are
+-- a rule holds alike at both points, and lets the rules after it be asked. If the courses from it on are the same, so
+-- are those after it
 pub course_back : (n i : ℕ) (d : Rule) (rules : List Rule) (p q : Point) → i < length rules → holds_at (get_or rules i d) p ≡ holds_at (get_or rules i d) q
     → (holds_at (get_or rules i d) p && is_none (get_or rules i d).quota) ≡ false
     → course_from n (drop i rules) p ≡ course_from n (drop i rules) q
@@ -83,7 +84,7 @@ course_back n i d rules p q lt same on e =
     kept false true o a b f g h = absurd (true≢false (sym f))
     kept false false o a b f g h = h
 
--- the courses from a rule on are the same just where the whole courses are
+-- the courses from a rule on are the same just if the whole courses are
 pub record GoOnAlike (rules : List Rule) (number : ℕ) (p q : Point) : Type 0 where
   pub forth : course_from (suc number) (drop number rules) p ≡ course_from (suc number) (drop number rules) q → course rules p ≡ course rules q
   pub back : course rules p ≡ course rules q → course_from (suc number) (drop number rules) p ≡ course_from (suc number) (drop number rules) q

@@ -38,7 +38,7 @@ instruction_fits Write = omega arith
 instruction_fits Rmw = omega arith
 instruction_fits Unused = omega arith
 
--- a kind that lies so far is used, and its data fit
+-- a kind that has such a distance is used, and its data fit
 pub is_used_kind : (kind : Kind) (d : ℕ) → is_distance kind d ≡ true → is_used kind ≡ true
 is_used_kind Read d e = refl
 is_used_kind Write d e = refl

@@ -37,9 +37,9 @@ abbrev pub stops_with : Option ℕ → (code : ℕ) → Bool
 stops_with None code = false
 stops_with (Some own) code = own == code
 
--- whether two draws with their verdicts, before what stops (or not) without a draw, are the same step, where the ticket is not
--- below the least: of one cell; with the same verdict where both may match; and where one alone may match, the other ends so
--- without a further draw
+-- whether two draws with their verdicts are the same step, if the ticket is not below the least. They must be of one
+-- cell, and have the same verdict if both may match. If one may match without the other, the rules after the other must
+-- end with the verdict of the one, without a draw
 abbrev pub same_steps : (least : ℕ) (q : Quota) (v : ℕ) (p : Quota) (w : ℕ) (behind_q behind_p : Option ℕ) → Bool
 same_steps least q v p w behind_q behind_p =
     is_of q p.map p.cell && ((nat_le q.limit least || (nat_le p.limit least || v == w))
@@ -50,14 +50,14 @@ abbrev pub after_both : (least : ℕ) (q : Quota) (v : ℕ) (behind : Option ℕ
 after_both least q v behind rest None w behind_other = false
 after_both least q v behind rest (Some p) w behind_other = same_steps least q v p w behind behind_other && rest
 
--- whether a rule that holds, of this quota and verdict, and what is behind it decide as other rules do
+-- whether a rule that holds, of this quota and verdict, and what comes after it decide as other rules do
 abbrev pub after_first : (least : (map cell : ℕ) → ℕ) → Option Quota → (v : ℕ) → (behind : Option ℕ) → (rest : (other : Rule) → List Rule → Bool) → List Rule → Bool
 after_first least None v behind rest others = stops_with (stop others) v
 after_first least (Some q) v behind rest [] = false
 after_first least (Some q) v behind rest (other ∷ others) =
     after_both (least q.map q.cell) q v behind (rest other others) other.quota (verdict_number other.verdict) (stop others)
 
--- whether two lists of rules that hold decide alike, behind those that hold, drew of the same cells and did not match
+-- whether two lists of rules that hold decide alike, after rules that hold, drew of the same cells and did not match
 abbrev pub alike_behind : (olds news : List Rule) → (old new : List Rule) → Bool
 alike_behind olds news [] others = stops_with (stop others) (verdict_number NotAuthorised)
 alike_behind olds news (rule ∷ rules) others =
@@ -90,7 +90,7 @@ abbrev pub AreSaidAlike : (old new : List Rule) → Type 0
 AreSaidAlike old new =
     (told : ℕ → ℕ) → AreTicketsOfOne (said old told).0 (said new told).0 → said old told ≡ said new told
 
--- the test is exact: where it holds the draws and the verdict are the same whatever the tickets are, and else not
+-- the test is exact: if it holds, the draws and the verdict are the same whatever the tickets are, and else not
 abbrev pub AlikeIsExact : Type 0
 AlikeIsExact =
     (old new : List Rule) → AreLimited old → AreLimited new
@@ -100,13 +100,13 @@ AlikeIsExact =
 abbrev pub HeldDecide : Type 0
 HeldDecide = (rules : List Rule) (p : Point) (told : ℕ → ℕ) → decision_at rules p told ≡ said (held p rules) told
 
--- the first rule from so many on that holds at a point, and how many rules are told up to it
+-- the first rule after this many that holds at a point, and how many rules there are up to it, itself counted
 pub record IsNext (p : Point) (rules : List Rule) (from : ℕ) (next : NextRule) : Type 0 where
   pub counted : next.behind ≤ length rules
   pub later : from < next.behind
   pub first : held p (drop from rules) ≡ next.rule ∷ held p (drop next.behind rules)
   pub passed : held p (take next.behind rules) ≡ held p (take from rules) ++ next.rule ∷ []
 
--- they decide differently at the point, where the limits are such as a table has
+-- if the limits are such as a table has, they decide differently at the point
 abbrev pub DifferWithinLimits : (old new : List Rule) → Point → Type 0
 DifferWithinLimits old new p = AreLimited old → AreLimited new → Differ old new p

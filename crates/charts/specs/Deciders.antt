@@ -1,5 +1,5 @@
 -- By which rule a table decides at a point.
-use Rattle.std.specs.Prelude.{◌≡◌, ◌&&◌, ◌||◌, ◌++◌, ℕ, zero, suc, Bool, false, true, not, nat_lt, if◌then◌else◌, List, [], ◌∷◌, Option, Some, None}
+use Rattle.std.specs.Prelude.{◌≡◌, ◌<◌, get_or, length, ◌&&◌, ◌||◌, ◌++◌, ℕ, zero, suc, Bool, false, true, not, nat_lt, if◌then◌else◌, List, [], ◌∷◌, Option, Some, None}
 use Rattle.policy_table.specs.Meaning.{AreWords}
 use Rattle.policy_table.specs.declared.rules.Quota.{Quota}
 use Rattle.policy_table.specs.declared.rules.Rule.{Rule}
@@ -14,7 +14,7 @@ abbrev pub by_quota : Option Quota → (place : ℕ) → (told : ℕ → ℕ) �
 by_quota None place told rest = Some place
 by_quota (Some quota) place told rest = if nat_lt (told 0) quota.limit then Some place else rest
 
--- the place of the rule that decides, where the first has this one; `told` are the answers in order
+-- the place of the rule that decides, if the first has this one; `told` are the answers in order
 abbrev pub decider_from : (place : ℕ) → List Rule → Point → (told : ℕ → ℕ) → Option ℕ
 decider_from place [] p told = None
 decider_from place (rule ∷ rules) p told =
@@ -29,23 +29,23 @@ pub record Decides (rules : List Rule) (place : ℕ) (p : Point) : Type 0 where
   pub tickets : AreTickets (decision_at rules p told).0
   pub decider : decider_from 0 rules p told ≡ Some place
 
--- for none it does
+-- it decides for no tickets
 abbrev pub NeverDecides : List Rule → (place : ℕ) → Point → Type 0
 NeverDecides rules place p =
     (told : ℕ → ℕ) → AreTickets (decision_at rules p told).0 → ¬ (decider_from 0 rules p told ≡ Some place)
 
--- whether a rule that holds may let the rules behind it decide
+-- whether a rule that holds may let the rules after it decide
 abbrev pub lets_pass : Option Quota → Bool
 lets_pass None = false
 lets_pass (Some quota) = true
 
--- whether a rule that holds may decide itself, behind rules that hold and did not match: some ticket of its cell that they leave
--- is below its limit
+-- whether a rule that holds may decide, after rules that hold and did not match: they leave some ticket of its cell
+-- below its limit
 abbrev pub has_room : Option Quota → (passed : List Rule) → Bool
 has_room None passed = true
 has_room (Some quota) passed = nat_lt (least_from 0 passed quota.map quota.cell) quota.limit
 
--- whether the rule of so many places on may decide, behind rules that hold and did not match
+-- whether the rule this many places on may decide, after rules that hold and did not match
 abbrev pub may_decide : (passed : List Rule) → (places : ℕ) → List Rule → Point → Bool
 may_decide passed places [] p = false
 may_decide passed zero (rule ∷ rules) p = holds_at rule p && has_room rule.quota passed
@@ -61,6 +61,12 @@ pub record Matches (rules : List Rule) (place : ℕ) : Type 0 where
   pub point : Point
   pub found : IsFound (Decides rules place) point
 
--- at the point it does, where the limits are such as a table has
+-- if the limits are such as a table has, it decides at the point
 abbrev pub DecidesWithinLimits : List Rule → (place : ℕ) → Point → Type 0
 DecidesWithinLimits rules place p = AreLimited rules → Decides rules place p
+
+-- the rule of a number is before a place and has no quota
+pub record StopsBefore (rules : List Rule) (number place : ℕ) : Type 0 where
+  pub before : number < place
+  pub there : number < length rules
+  pub free : (d : Rule) → (get_or rules number d).quota ≡ None

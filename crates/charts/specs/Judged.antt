@@ -1,4 +1,4 @@
--- The commands that a node brings to its table are among those of which the question is asked.
+-- The commands that a node brings to its table are among those about which the question is asked.
 use Rattle.std.specs.Prelude.{◌≡◌, ◌≤◌, ◌<◌, ◌+◌, ◌^◌, ℕ, true, List, All, None}
 use Rattle.machine.specs.Memory.{header}
 use Rattle.rmap.specs.Checks.{header_line}
@@ -21,14 +21,14 @@ pub record HasBytesAlone (c : CommandValue) : Type 0 where
   pub front : All (λ b. b < 256) c.front
   pub tail : All (λ b. b < 256) c.tail
 
--- where no check of its header stops a command, the question is asked of it
+-- if no check of its header stops a command, the question is asked of it
 abbrev pub JudgedMayBe : Type 0
 JudgedMayBe =
     (c : CommandValue) (w : WindowsValue) → IsHeader c → HasBytesAlone c → All EndsInTime w.banks → header_line c w ≡ None
     → MayBeJudged (header c.front c.tail)
 
--- under two tables that are the same for a region each node decides each command alike whose point is in it, whatever tickets it is
--- told
+-- two tables are the same for a region, and a command has its point there. Then each node decides it alike under both,
+-- whatever tickets one of them gets
 abbrev pub NodesDecideAlike : Type 0
 NodesDecideAlike =
     (asked : Region) (old new : List Rule) → AreSame asked old new → (c : CommandValue) (w : WindowsValue) → IsHeader c → HasBytesAlone c → All EndsInTime w.banks

@@ -9,3 +9,4 @@ pub mod Deciders
 pub mod Meetings
 pub mod Rests
 pub mod Plain
+pub mod Pieces

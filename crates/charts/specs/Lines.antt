@@ -1,9 +1,9 @@
--- The lines of a chart: which points each has, and that each point is told once.
+-- The lines of a chart: which points each has, and that each point is reported once.
 use Rattle.std.specs.Prelude.{◌≡◌, ◌≤◌, ◌&&◌, ◌||◌, ◌++◌, ℕ, suc, Bool, true, false, not, if◌then◌else◌, List, [], ◌∷◌, Option, Some, None, drop, length, map, take}
 use Rattle.policy_table.specs.declared.rules.Quota.{Quota}
 use Rattle.policy_table.specs.declared.rules.Rule.{Rule}
 use Rattle.regions.specs.ByteSets.{are_same_bytes}
-use Rattle.regions.specs.Questions.{HoldsAll, IsFound}
+use Rattle.regions.specs.Questions.{HoldsAll}
 use Rattle.regions.specs.Regions.{are_same_kinds, lies_in}
 use Rattle.regions.specs.declared.cutting.Cell.{Cell}
 use Rattle.regions.specs.declared.points.Point.{Point}
@@ -15,7 +15,7 @@ use Rattle.charts.specs.declared.lines.NextLine.{NextLine}
 
 -- ---- courses
 
--- behind a rule without quota nothing is asked
+-- after a rule without quota nothing is asked
 abbrev pub goes_on : Option Quota → List ℕ → List ℕ
 goes_on None rest = []
 goes_on (Some quota) rest = rest
@@ -34,7 +34,7 @@ course rules p = course_from 1 rules p
 
 -- ---- the points of a line
 
--- whether two regions have the same words but for those of addresses
+-- whether two regions have the same words except those of addresses
 abbrev pub have_same_words : (one other : Region) → Bool
 have_same_words one other =
     are_same_kinds one.kinds other.kinds && (are_same_bytes one.keys other.keys
@@ -46,11 +46,11 @@ is_left [] line p = true
 is_left (other ∷ others) line p =
     not (have_same_words other.region line.region && lies_in other.region p) && is_left others line p
 
--- whether a line has a point: one of its region, and where it is told as the rest, one that the lines before leave
+-- whether a line has a point: one of its region, and, if it has the rest, one that the lines before leave
 abbrev pub has_point : (before : List Line) → Line → Point → Bool
 has_point before line p = lies_in line.region p && (not line.rest || is_left before line p)
 
--- the lines in which a point lies, behind those before
+-- the lines in which a point lies, after those before
 abbrev pub lines_of : (before lines : List Line) → Point → List Line
 lines_of before [] p = []
 lines_of before (line ∷ lines) p =
@@ -58,65 +58,53 @@ lines_of before (line ∷ lines) p =
     then line ∷ lines_of (before ++ line ∷ []) lines p
     else lines_of (before ++ line ∷ []) lines p
 
--- the first line from so many on in which a point lies, and how many lines are told up to it
+-- the first line after this many in which a point lies, and how many lines there are up to it, itself counted
 pub record IsNextLine (lines : List Line) (from : ℕ) (p : Point) (next : NextLine) : Type 0 where
   pub counted : next.behind ≤ length lines
   pub found : lines_of (take from lines) (drop from lines) p ≡ next.line ∷ lines_of (take next.behind lines) (drop next.behind lines) p
 
 -- ---- charts
 
--- the point lies in one line alone, and the tables ask the same rules there as at the point of the line
+-- the point lies in only one line, and the tables ask the same rules there as at the point of the line
 pub record IsToldOnce (old new : List Rule) (lines : List Line) (p : Point) : Type 0 where
   pub line : Line
   pub alone : lines_of [] lines p ≡ line ∷ []
   pub old_course : course old p ≡ course old line.point
   pub new_course : course new p ≡ course new line.point
 
--- where a point is told, it lies in one line alone, and else in none
+-- if a point is reported, it lies in only one line, and else in none
 abbrev pub IsToldRightly : (told : Bool) → (old new : List Rule) → List Line → Point → Type 0
 IsToldRightly true old new lines p = IsToldOnce old new lines p
 IsToldRightly false old new lines p = lines_of [] lines p ≡ []
 
--- a point is not told rightly
+-- a point is not reported rightly
 abbrev pub IsToldWrongly : (told : Bool) → (old new : List Rule) → List Line → Point → Type 0
 IsToldWrongly told old new lines p = ¬ (IsToldRightly told old new lines p)
 
--- whether a point is told, where the points of a region are asked: each of them, or where two tables decide differently
+-- whether a point is reported, if the points of a region are asked: each of them, or those at which two tables decide
+-- differently
 abbrev pub is_told : (asked : Region) → (all : Bool) → (old new : List Rule) → Point → Bool
 is_told asked all old new p = lies_in asked p && (all || not (alike_said (held p old) (held p new)))
 
--- each point that a command has is told rightly
+-- each point that a command has is reported rightly
 abbrev pub IsChart : (asked : Region) → (all : Bool) → (old new : List Rule) → List Line → Type 0
 IsChart asked all old new lines = HoldsAll (λ p. IsToldRightly (is_told asked all old new p) old new lines p)
 
--- each point of the region that a command has lies in one line alone, with the course of the table there, and each other in none
+-- each point of the region that a command has lies in only one line, with the course of the table there. Each other
+-- point lies in none
 abbrev pub IsMap : (asked : Region) → List Rule → List Line → Type 0
 IsMap asked rules lines = IsChart asked true rules [] lines
 
--- each point of the region that a command has, at which two tables decide differently, lies in one line alone, with the courses of
--- both there, and each other in none
+-- a point of the region that a command has, at which two tables decide differently, lies in only one line, with both
+-- courses there. Each other point lies in none
 abbrev pub IsComparison : (asked : Region) → (old new : List Rule) → List Line → Type 0
 IsComparison asked old new lines = IsChart asked false old new lines
 
--- some point that a command has is not told rightly
-pub record IsNoChart (asked : Region) (all : Bool) (old new : List Rule) (lines : List Line) : Type 0 where
-  pub point : Point
-  pub found : IsFound (λ p. IsToldWrongly (is_told asked all old new p) old new lines p) point
-
--- some point of the region that a command has lies in no line or in several, or the table has another course there, or some other
--- lies in a line
-abbrev pub IsNoMap : (asked : Region) → List Rule → List Line → Type 0
-IsNoMap asked rules lines = IsNoChart asked true rules [] lines
-
--- the same of a point at which two tables decide differently, or another lies in some line
-abbrev pub IsNoComparison : (asked : Region) → (old new : List Rule) → List Line → Type 0
-IsNoComparison asked old new lines = IsNoChart asked false old new lines
-
--- the tests by which it is settled whether a point is told
+-- the tests that settle whether a point is reported
 abbrev pub told_tests : (asked : Region) → (old new : List Rule) → List (Point → Bool)
 told_tests asked old new = lies_in asked ∷ tests_of (old ++ new)
 
--- and those by which it is settled whether it is told rightly
+-- and those that settle whether it is reported rightly
 abbrev pub tests_with : (asked : Region) → (old new : List Rule) → List Line → List (Point → Bool)
 tests_with asked old new lines = told_tests asked old new ++ map (λ line. lies_in line.region) lines
 

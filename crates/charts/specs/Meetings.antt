@@ -6,14 +6,14 @@ use Rattle.regions.specs.declared.points.Point.{Point}
 use Rattle.charts.specs.Deciders.{lets_pass}
 use Rattle.charts.specs.Points.{holds_at}
 
--- whether the rule of so many places on is asked: it holds, and none without quota before it does; where it is to end the
--- course it has no quota itself
+-- whether the rule this many places on is asked: it holds, and none without quota before it does. If it must end the
+-- course, it has no quota itself
 abbrev pub is_asked_at : (places : ℕ) → (ends : Bool) → List Rule → Point → Bool
 is_asked_at places ends [] p = false
 is_asked_at zero ends (rule ∷ rules) p = holds_at rule p && (not ends || not (lets_pass rule.quota))
 is_asked_at (suc places) ends (rule ∷ rules) p = (not (holds_at rule p) || lets_pass rule.quota) && is_asked_at places ends rules p
 
--- whether the rule of so many places on holds
+-- whether the rule this many places on holds
 abbrev pub holds_of : (places : ℕ) → List Rule → Point → Bool
 holds_of places [] p = false
 holds_of zero (rule ∷ rules) p = holds_at rule p
@@ -28,6 +28,6 @@ pub record Meet (asked : ℕ) (ends : Bool) (place : ℕ) (rules : List Rule) : 
   pub point : Point
   pub found : IsFound (λ p. meet_at asked ends place rules p ≡ true) point
 
--- at none it is
+-- so it is at no such point
 abbrev pub NeverMeet : (asked : ℕ) → (ends : Bool) → (place : ℕ) → List Rule → Type 0
 NeverMeet asked ends place rules = HoldsAll (λ p. meet_at asked ends place rules p ≡ false)

@@ -9,7 +9,7 @@ use Rattle.regions.specs.declared.stretches.Stretch.{Stretch}
 use Rattle.charts.specs.Lines.{IsChart, course, has_point, is_told, lines_of}
 use Rattle.charts.specs.declared.lines.Line.{Line}
 
--- the first line in whose region a point lies, whatever has the rest
+-- the first line in whose region a point lies, no matter which lines have the rest
 abbrev pub first_with : List Line → Point → Option Line
 first_with [] p = None
 first_with (line ∷ lines) p = if lies_in line.region p then Some line else first_with lines p
@@ -18,15 +18,15 @@ first_with (line ∷ lines) p = if lies_in line.region p then Some line else fir
 abbrev pub HasAddress : Stretch → Type 0
 HasAddress stretch = stretch.start < min stretch.end (2 ^ 32)
 
--- the line has the point, which lies in no other line, and addresses of 32 bits lie on both of its stretches; so one reads it as
--- it stands
+-- the line has the point, which lies in no other line. Addresses of 32 bits lie on both of its stretches, so one reads
+-- it as it is
 pub record IsPlain (lines : List Line) (line : Line) (p : Point) : Type 0 where
   pub first : HasAddress line.region.first
   pub last : HasAddress line.region.last
   pub alone : lines_of [] lines p ≡ line ∷ []
 
--- the lines of a chart are read in their order: of a point that is told, the first line whose words have it is the line in which
--- it lies, with the courses of the tables there, and the words of none have a point that is not told
+-- the lines of a chart are read in their order. If a point is reported, it lies in the first line whose words have it,
+-- with the courses of the tables there. If it is not reported, the words of no line have it
 pub record ChartsAreRead : Type 0 where
   pub told : (asked : Region) (all : Bool) (old new : List Rule) (lines : List Line) → IsChart asked all old new lines → (p : Point) → HasCommand p
       → is_told asked all old new p ≡ true
@@ -35,7 +35,7 @@ pub record ChartsAreRead : Type 0 where
   pub untold : (asked : Region) (all : Bool) (old new : List Rule) (lines : List Line) → IsChart asked all old new lines → (p : Point) → HasCommand p
       → is_told asked all old new p ≡ false → first_with lines p ≡ None
 
--- the line of a place of a chart is plain, where it has a point of a command
+-- if the line of a place of a chart has a point of a command, it is plain
 abbrev pub LinesArePlain : Type 0
 LinesArePlain =
     (asked : Region) (all : Bool) (old new : List Rule) (lines : List Line) → IsChart asked all old new lines → (place : ℕ) (line : Line)

@@ -1,4 +1,4 @@
--- What of a header a policy table looks at, and where two tables decide alike.
+-- The part of a header that a policy table looks at, and where two tables decide alike.
 use Rattle.std.specs.Prelude.{◌≡◌, ◌<◌, ◌&&◌, ℕ, suc, Bool, nat_le, if◌then◌else◌, List, [], ◌∷◌, ◌++◌, get_or, length, map}
 use Rattle.machine.specs.declared.calls.Call.{Call}
 use Rattle.machine.specs.Memory.{Header}
@@ -11,7 +11,7 @@ use Rattle.charts.specs.Tickets.{AreTickets, AreTicketsOfOne}
 use Rattle.regions.specs.Points.{HasCommand}
 use Rattle.regions.specs.declared.points.Point.{Point}
 
--- what of a header a rule looks at
+-- the part of a header that a rule looks at
 abbrev pub point_of : Header → Point
 point_of h = record {
   kind = command_kind (fields_of h);
@@ -28,7 +28,7 @@ holds_at rule p =
     has_kind rule.kind p.kind && agrees rule.key p.key && agrees rule.initiator p.initiator
     && agrees rule.extended p.extended && (nat_le rule.low p.first && nat_le p.last rule.high)
 
--- so it is tested of each rule
+-- the same test for each rule
 abbrev pub tests_of : List Rule → List (Point → Bool)
 tests_of rules = map (λ rule. holds_at rule) rules
 
@@ -40,7 +40,8 @@ decision_at (rule ∷ rules) p told =
     then ruled rule.quota (verdict_number rule.verdict) told (decision_at rules p (λ k. told (suc k)))
     else decision_at rules p told
 
--- two tables decide alike at a point: whatever tickets one of them is told, they make the same draws and give the same verdict
+-- two tables decide alike at a point: whatever tickets one of them gets, they make the same draws and give the same
+-- verdict
 abbrev pub AreAlike : (old new : List Rule) → Point → Type 0
 AreAlike old new p =
     (told : ℕ → ℕ) → AreTicketsOfOne (decision_at old p told).0 (decision_at new p told).0
@@ -59,7 +60,7 @@ pub record IsDifference (old new : List Rule) (p : Point) : Type 0 where
   pub command : HasCommand p
   pub differ : Differ old new p
 
--- the rule of that number of two tables, one behind the other
+-- the rule of that number of two tables, one after the other
 pub record IsRuleAt (old new : List Rule) (number : ℕ) (rule : Rule) : Type 0 where
   pub there : number < length (old ++ new)
   pub own : (d : Rule) → get_or (old ++ new) number d ≡ rule

@@ -11,7 +11,7 @@ use Rattle.charts.specs.declared.lines.Line.{Line}
 abbrev pub is_left_in : (before : List Line) → Line → Region → Point → Bool
 is_left_in before line region p = lies_in region p && is_left before line p
 
--- the tests by which it is settled
+-- the tests that settle it
 abbrev pub rest_tests : (before : List Line) → Line → Region → List (Point → Bool)
 rest_tests before line region = map (λ other p. have_same_words other.region line.region && lies_in other.region p) before ++ lies_in region ∷ []
 

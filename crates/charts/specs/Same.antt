@@ -10,14 +10,14 @@ use Rattle.regions.specs.declared.regions.Region.{Region}
 use Rattle.charts.specs.Points.{IsDifference, point_of}
 use Rattle.charts.specs.Tickets.{AreTicketsOfOne}
 
--- a header of a command that a node may bring to its table: of a kind that is used, with at most 4,096 bytes of data, and of
--- a read-modify-write with 0, 2, 4, 6 or 8, none of them past the last address of 32 bits
+-- a header of a command that a node may bring to its table. Its kind is used. It has at most 4,096 bytes of data, or 0,
+-- 2, 4, 6 or 8 if it is a read-modify-write. None of them is past the last address of 32 bits
 pub record MayBeJudged (h : Header) : Type 0 where
   pub header : IsHeader h
   pub span : IsSpan (point_of h).kind (point_of h).first (point_of h).last
 
--- two tables decide each such command alike whose point is in a region: whatever tickets one of them is told, they make the same
--- draws and give the same verdict
+-- two tables decide each such command alike if its point is in a region. Whatever tickets one of them gets, they make
+-- the same draws and give the same verdict
 abbrev pub AreSame : (asked : Region) → (old new : List Rule) → Type 0
 AreSame asked old new =
     (h : Header) → MayBeJudged h → lies_in asked (point_of h) ≡ true → (told : ℕ → ℕ) → AreTicketsOfOne (decision old h told).0 (decision new h told).0

@@ -1,22 +1,22 @@
--- The tickets that a run of a table is told, and the least that it may still be told.
+-- The tickets that a run of a table gets, and the least that it may still get.
 use Rattle.std.specs.Prelude.{◌≡◌, ◌≤◌, ◌<◌, ◌==◌, ◌&&◌, ◌⊎◌, ◌++◌, ℕ, suc, Bool, max, if◌then◌else◌, List, [], ◌∷◌, All, Option, Some, None}
 use Rattle.machine.specs.declared.calls.Call.{Call}
 use Rattle.policy_table.specs.Meaning.{draw}
 use Rattle.policy_table.specs.declared.rules.Quota.{Quota}
 use Rattle.policy_table.specs.declared.rules.Rule.{Rule}
 
--- where two draws are of one cell, the later is told the greater number
+-- if two draws are of one cell, the later gets the greater number
 abbrev pub IsBelow : (one later : Call) → Type 0
 IsBelow one later =
     one.question.map ≡ later.question.map → one.question.key ≡ later.question.key → one.answer < later.answer
 
--- the draws of one run are told tickets: of two of one cell the later is told the greater, as a counter does that has given
--- fewer than 2^64
+-- the draws of one run get tickets: of two of one cell the later gets the greater. A counter that has given fewer than
+-- 2^64 does so
 abbrev pub AreTickets : List Call → Type 0
 AreTickets [] = Unit {0}
 AreTickets (one ∷ draws) = All (IsBelow one) draws × AreTickets draws
 
--- the draws of one of two runs are told tickets
+-- the draws of one of two runs get tickets
 abbrev pub AreTicketsOfOne : (one other : List Call) → Type 0
 AreTicketsOfOne one other = AreTickets one ⊎ AreTickets other
 
@@ -26,17 +26,17 @@ AreTicketsOfOne one other = AreTickets one ⊎ AreTickets other
 abbrev pub is_of : Quota → (map cell : ℕ) → Bool
 is_of quota map cell = quota.map == map && quota.cell == cell
 
--- the least ticket of a cell behind a rule that holds and does not match, where it was this one before
+-- the least ticket of a cell after a rule that holds and does not match, if it was this one before
 abbrev pub raised : Option Quota → (map cell : ℕ) → (least : ℕ) → ℕ
 raised None map cell least = least
 raised (Some quota) map cell least = if is_of quota map cell then suc (max least quota.limit) else least
 
--- the same behind such rules, in order
+-- the same after such rules, in order
 abbrev pub least_from : (least : ℕ) → (passed : List Rule) → (map cell : ℕ) → ℕ
 least_from least [] map cell = least
 least_from least (rule ∷ rules) map cell = least_from (raised rule.quota map cell least) rules map cell
 
--- the least ticket of a cell behind such rules of two tables, which drew of the same cells
+-- the least ticket of a cell after such rules of two tables, which drew of the same cells
 abbrev pub least_of : (old new : List Rule) → (map cell : ℕ) → ℕ
 least_of old new map cell = max (least_from 0 old map cell) (least_from 0 new map cell)
 
@@ -46,17 +46,17 @@ least_of old new map cell = max (least_from 0 old map cell) (least_from 0 new ma
 abbrev pub IsFrom : (least : (map cell : ℕ) → ℕ) → Call → Type 0
 IsFrom least one = least one.question.map one.question.key ≤ one.answer
 
--- draws are told tickets that are not below the least of their cells
+-- draws get tickets that are not below the least of their cells
 pub record AreTicketsFrom (least : (map cell : ℕ) → ℕ) (draws : List Call) : Type 0 where
   pub from : All (IsFrom least) draws
   pub tickets : AreTickets draws
 
--- the least ticket of a cell behind a draw by a quota
+-- the least ticket of a cell after a draw by a quota
 abbrev pub after : (least : (map cell : ℕ) → ℕ) → Quota → (answer : ℕ) → (map cell : ℕ) → ℕ
 after least quota answer map cell = if is_of quota map cell then suc answer else least map cell
 
--- where the first draw is not below the least of its cell, and those behind it are tickets from what it leaves on, all are
--- tickets from the least on, and the other way round
+-- all draws get tickets from the least on just if two things hold. The first is not below the least of its cell, and
+-- those after it get tickets from what it leaves on
 pub record TicketsFollow : Type 0 where
   pub start : (draws : List Call) → AreTickets draws → AreTicketsFrom (λ map cell. 0) draws
   pub none : (least : (map cell : ℕ) → ℕ) → AreTicketsFrom least []

@@ -18,8 +18,8 @@ instruction_for Write = 108
 instruction_for Rmw = 92
 instruction_for Unused = 64
 
--- the length field of a command of this kind with so many addresses from its first to its last: a read-modify-write of one
--- address has no data and no mask
+-- the length field of a command of this kind with this many addresses from its first to its last. A read-modify-write
+-- of one address has no data and no mask
 abbrev pub length_for : Kind → (addresses : ℕ) → ℕ
 length_for Read addresses = addresses
 length_for Write addresses = addresses
@@ -40,7 +40,7 @@ pub record IsWitness (old new : List Rule) (h : Header) : Type 0 where
   pub new_tickets : AreTickets (decision new h told).0
   pub differ : ¬ (decision old h told ≡ decision new h told)
 
--- where two tables differ at a point, the header there is a witness, and it has that point
+-- if two tables differ at a point, the header there is a witness, and it has that point
 abbrev pub DifferencesHaveHeaders : Type 0
 DifferencesHaveHeaders =
     (old new : List Rule) (p : Point) → IsDifference old new p → IsWitness old new (header_for p) × (point_of (header_for p) ≡ p)

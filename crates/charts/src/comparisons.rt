@@ -34,6 +34,10 @@ impl Question for Comparison<'_> {
         rule_shape(self.old, self.new, number - 1)
     }
 
+    fn passes(&self, _number: usize) -> bool {
+        false
+    }
+
     fn ask(&self, point: &Point) -> bool {
         if !self.asked.has(point) {
             return true;
@@ -42,7 +46,8 @@ impl Question for Comparison<'_> {
     }
 }
 
-/// The point of a command, of those of a region, that two tables decide differently, or `None` where they decide each alike.
+/// The point of a command, of those of a region, that two tables decide differently, or `None` if they decide each
+/// alike.
 pub fn first_difference(asked: &Region, old: &[Rule], new: &[Rule]) -> Option<Point>
     requires old_limits { All HasLimit old.now }
     requires new_limits { All HasLimit new.now }

@@ -29,7 +29,7 @@ pub fn holds_at(rule: &Rule, point: &Point) -> bool
         && (rule.low <= point.first && point.last <= rule.high)
 }
 
-/// A rule that holds at a point, and how many rules are told up to it.
+/// A rule that holds at a point, and how many rules there are up to it, itself counted.
 #[derive(Clone, Copy, Debug, PartialEq, Eq)]
 struct NextRule {
     rule: Rule,
@@ -54,7 +54,7 @@ fn next_held(rules: &[Rule], from: usize, point: &Point) -> Option<NextRule>
     None
 }
 
-/// The number of the verdict that the rules behind so many give at a point without a draw.
+/// The number of the verdict that the rules after this many give at a point without a draw.
 fn stop_at(rules: &[Rule], from: usize, point: &Point) -> Option<u8>
     requires { from ≤ length rules.now }
     ensures { result ≡ stop (held point.now (drop from rules.now)) }
@@ -78,8 +78,8 @@ fn stops_with(stop: Option<u8>, code: u8) -> bool
     }
 }
 
-/// Whether two draws with their verdicts are the same step, before what stops so without a draw, where the ticket is not below
-/// the least.
+/// Whether two draws with their verdicts are the same step, if the ticket is not below the least. The rules after each
+/// stop so without a draw, or do not.
 fn same_steps(
     least: u64,
     one: &Quota,
@@ -98,8 +98,8 @@ fn same_steps(
                 && (other_limit <= least.max(limit) || stops_with(behind_one, other_code))))
 }
 
-/// The least ticket of a cell behind so many rules of two tables, of which those that hold at a point drew of the same cells and
-/// did not match.
+/// The least ticket of a cell after this many rules of each of two tables. Those of them that hold at a point drew of
+/// the same cells and did not match.
 fn least_of(
     old: &[Rule],
     passed: usize,
@@ -118,8 +118,10 @@ fn least_of(
     one.max(other)
 }
 
-/// Whether two tables decide alike at a point behind so many rules of each, of which those that hold there drew of the same cells
-/// and did not match. It calls itself once for each rule with a quota that holds, and a table has at most 12 rules.
+/// Whether two tables decide alike at a point after this many rules of each. Those of them that hold there drew of the
+/// same cells and did not match.
+///
+/// It calls itself once for each rule with a quota that holds, and a table has at most 12 rules.
 fn alike_from(old: &[Rule], passed: usize, new: &[Rule], new_passed: usize, point: &Point) -> bool
     requires old { passed ≤ length old.now }
     requires new { new_passed ≤ length new.now }

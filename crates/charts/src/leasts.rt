@@ -1,4 +1,4 @@
-//! The tickets that a table may still be told.
+//! The tickets that a table may still get.
 
 ghost use Rattle.std.specs.Prelude.{◌≡◌, ◌≤◌, ◌<◌, ◌+◌, ◌-◌, ◌^◌, max};
 ghost use Rattle.charts.specs.Alike.{held};
@@ -15,7 +15,7 @@ pub fn is_of_one_cell(one: &Quota, other: &Quota) -> bool
     one.map == other.map && one.cell == other.cell
 }
 
-/// The least ticket of the cell of a quota behind a rule of another that holds and does not match, where it was this one before.
+/// The least ticket of a quota's cell after a rule of another that holds and does not match, if it was this one before.
 pub fn raised(drawn: Option<Quota>, quota: &Quota, least: u64) -> u64
     requires { least < 2 ^ 64 - 1 }
     ensures raised { result ≡ raised drawn quota.now.map quota.now.cell least }
@@ -33,7 +33,7 @@ pub fn raised(drawn: Option<Quota>, quota: &Quota, least: u64) -> u64
     }
 }
 
-/// The least ticket of the cell of a quota behind rules of which those that hold at a point do not match.
+/// The least ticket of the cell of a quota after rules of which those that hold at a point do not match.
 pub(crate) fn least_ticket(rules: &[Rule], point: &Point, quota: &Quota) -> u64
     ensures { result
         ≡ least_from 0 (held point.now rules.now) quota.now.map quota.now.cell }

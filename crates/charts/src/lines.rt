@@ -4,26 +4,26 @@ ghost use Rattle.std.specs.Prelude.{◌≡◌, ◌≤◌, ◌<◌, ◌+◌, ◌-
 ghost use Rattle.regions.specs.Questions.{IsShapeAt};
 ghost use Rattle.regions.specs.Regions.{lies_in};
 ghost use Rattle.charts.specs.Points.{tests_of};
-ghost use Rattle.charts.specs.Lines.{IsComparison, IsMap, IsNextLine, IsNoComparison, IsNoMap, IsToldRightly, IsToldWrongly, has_point, have_same_words, is_left, is_told, lines_of, tests_with};
+ghost use Rattle.charts.specs.Lines.{IsNextLine, IsToldRightly, IsToldWrongly, has_point, have_same_words, is_left, is_told, lines_of, tests_with};
 
 use crate::decisions::are_alike;
 use crate::shapes::{region_of, rule_at};
 use crate::walks::has_same_course;
 use policy_table::Rule;
-use regions::{Point, Question, Region, search};
+use regions::{Point, Question, Region};
 
 /// A line of a chart: points at all of which the tables ask the same rules.
 #[derive(Clone, Copy, Debug, PartialEq, Eq)]
 pub struct Line {
     /// Its words: the points of the line, or those of which it has the rest.
     pub region: Region,
-    /// Whether it has but the points that lie in none of the lines before with the same words but for addresses.
+    /// Whether it has only the points that lie in none of the lines before with the same words, except addresses.
     pub rest: bool,
     /// One of its points.
     pub point: Point,
 }
 
-/// Whether two regions have the same words but for those of addresses.
+/// Whether two regions have the same words, except those of addresses.
 pub(crate) fn have_same_words(one: &Region, other: &Region) -> bool
     ensures { result ≡ have_same_words one.now other.now }
 {
@@ -32,7 +32,7 @@ pub(crate) fn have_same_words(one: &Region, other: &Region) -> bool
             && (one.initiators.is(&other.initiators) && one.extended.is(&other.extended)))
 }
 
-/// Whether a line has the point, and is told before another with the same words.
+/// Whether another line has the point, and the same words as a line, except addresses.
 fn takes(other: &Line, line: &Line, point: &Point) -> bool
     ensures { result
         ≡ (have_same_words other.now.region line.now.region && lies_in other.now.region point.now) }
@@ -59,7 +59,7 @@ fn has_point(before: &[Line], line: &Line, point: &Point) -> bool
     line.region.has(point) && (!line.rest || is_left(before, line, point))
 }
 
-/// A line in which a point lies, and how many lines are told up to it.
+/// A line in which a point lies, and how many lines there are up to it, itself counted.
 #[derive(Clone, Copy, Debug, PartialEq, Eq)]
 struct NextLine {
     line: Line,
@@ -85,17 +85,18 @@ fn next_line(lines: &[Line], from: usize, point: &Point) -> Option<NextLine>
     None
 }
 
-/// Two tables, the lines of their chart, and which points are told: of those that are asked.
+/// Two tables, the lines of their chart, and which of the asked points are reported.
 #[derive(Drop)]
-struct Chart<'a> {
-    asked: &'a Region,
-    old: &'a [Rule],
-    new: &'a [Rule],
-    lines: &'a [Line],
-    all: bool,
+pub(crate) struct Chart<'a> {
+    pub(crate) asked: &'a Region,
+    pub(crate) old: &'a [Rule],
+    pub(crate) new: &'a [Rule],
+    pub(crate) lines: &'a [Line],
+    pub(crate) all: bool,
 }
 
-/// Whether a point that is told lies in one line alone, with the courses of the tables there, and another in none.
+/// Whether a point lies in only one line, with the courses of the tables there; or in none, if it is not to be
+/// reported.
 fn is_told_rightly(told: bool, old: &[Rule], new: &[Rule], lines: &[Line], point: &Point) -> bool
     ensures { MatchBool result (IsToldRightly told old.now new.now lines.now point.now)
         (IsToldWrongly told old.now new.now lines.now point.now) }
@@ -109,7 +110,7 @@ fn is_told_rightly(told: bool, old: &[Rule], new: &[Rule], lines: &[Line], point
     has_same_course(old, point, &next.line.point) && has_same_course(new, point, &next.line.point)
 }
 
-/// The points of the rule of that number, or else of the line behind all rules.
+/// The points of the rule of that number, or else of the line, which come after all rules.
 fn rule_or_line(old: &[Rule], new: &[Rule], lines: &[Line], number: usize) -> Option<Region>
     ensures { MatchOption result
         (length (tests_of (old.now ++ new.now) ++ map (λ line. lies_in line.region) lines.now) ≤ number)
@@ -141,45 +142,12 @@ impl Question for Chart<'_> {
         rule_or_line(self.old, self.new, self.lines, number - 1)
     }
 
+    fn passes(&self, _number: usize) -> bool {
+        false
+    }
+
     fn ask(&self, point: &Point) -> bool {
         let told = self.asked.has(point) && (self.all || !are_alike(self.old, self.new, point));
         is_told_rightly(told, self.old, self.new, self.lines, point)
     }
-}
-
-/// Whether lines are a map of a table for the points of a region: each that a command has lies in one of them alone, with the course
-/// of the table there, and each other in none. If it says no, it is not so of some point that a command has.
-pub fn is_map(asked: &Region, rules: &[Rule], lines: &[Line]) -> bool
-    requires { length rules.now + length lines.now < 2 ^ 64 - 1 }
-    ensures { MatchBool result (IsMap asked.now rules.now lines.now)
-        (IsNoMap asked.now rules.now lines.now) }
-{
-    let all = true;
-    search(&Chart {
-        asked,
-        old: rules,
-        new: &[],
-        lines,
-        all,
-    })
-    .is_none()
-}
-
-/// Whether lines are those of a comparison of two tables for the points of a region: each that a command has, and at which the tables
-/// decide differently, lies in one of them alone, with the courses of both there, and each other in none. If it says no, it is not
-/// so of some point that a command has.
-pub fn is_comparison(asked: &Region, old: &[Rule], new: &[Rule], lines: &[Line]) -> bool
-    requires { length old.now + length new.now + length lines.now < 2 ^ 64 - 1 }
-    ensures { MatchBool result (IsComparison asked.now old.now new.now lines.now)
-        (IsNoComparison asked.now old.now new.now lines.now) }
-{
-    let all = false;
-    search(&Chart {
-        asked,
-        old,
-        new,
-        lines,
-        all,
-    })
-    .is_none()
 }

@@ -1,17 +1,21 @@
 //! Rules that never match.
 
-ghost use Rattle.std.specs.Prelude.{◌≡◌, ◌<◌, ◌^◌, [], All, MatchBool, length};
+ghost use Rattle.std.specs.Prelude.{◌≡◌, ◌<◌, ◌^◌, [], All, MatchBool, false, length};
+ghost use Rattle.regions.specs.Points.{HasCommand};
+ghost use Rattle.regions.specs.Regions.{lies_in};
+ghost use Rattle.regions.specs.declared.points.Point.{Point};
 ghost use Rattle.charts.specs.Alike.{HasLimit, held};
-ghost use Rattle.charts.specs.Deciders.{DecidesWithinLimits, Matches, NeverDecides, NeverMatches, has_room, may_decide};
+ghost use Rattle.charts.specs.Deciders.{DecidesWithinLimits, Matches, NeverDecides, NeverMatches, StopsBefore, has_room, may_decide};
+ghost use Rattle.charts.specs.Meetings.{holds_of};
 ghost use Rattle.charts.specs.Points.{tests_of};
 
 use crate::decisions::holds_at;
 use crate::leasts::least_ticket;
 use crate::shapes::region_of;
 use policy_table::{Quota, Rule};
-use regions::{Point, Question, Region, search};
+use regions::{Point, Question, Region, search_in};
 
-/// Whether a rule that holds may decide, behind rules of which those that hold did not match.
+/// Whether a rule that holds may decide, after rules of which those that hold did not match.
 fn has_room(quota: Option<Quota>, before: &[Rule], point: &Point) -> bool
     ensures { result ≡ has_room quota (held point.now before.now) }
 {
@@ -38,6 +42,27 @@ fn may_decide(rules: &[Rule], place: usize, point: &Point) -> bool
     false
 }
 
+/// Whether the rule of a number is before a place and has no quota: if it holds, no rule after it decides.
+pub(crate) fn stops_before(rules: &[Rule], number: usize, place: usize) -> bool
+    ensures { MatchBool result (StopsBefore rules.now number place) (Unit {0}) }
+{
+    if number < place && number < rules.len() {
+        return rules[number].quota.is_none();
+    }
+    false
+}
+
+/// The points of the rule of a place; all points, if there is none.
+pub(crate) fn region_at(rules: &[Rule], place: usize) -> Region
+    ensures { (p : Point) → HasCommand p → lies_in result p ≡ false
+        → holds_of place rules.now p ≡ false }
+{
+    if place < rules.len() {
+        return region_of(&rules[place]);
+    }
+    Region::whole()
+}
+
 /// Whether the rule of a place never decides.
 #[derive(Drop)]
 struct Deciding<'a> {
@@ -59,6 +84,10 @@ impl Question for Deciding<'_> {
         None
     }
 
+    fn passes(&self, number: usize) -> bool {
+        stops_before(self.rules, number, self.place)
+    }
+
     fn ask(&self, point: &Point) -> bool {
         !may_decide(self.rules, self.place, point)
     }
@@ -69,5 +98,6 @@ pub fn never_matches(rules: &[Rule], place: usize) -> bool
     requires limits { All HasLimit rules.now }
     ensures { MatchBool result (NeverMatches rules.now place) (Matches rules.now place) }
 {
-    search(&Deciding { rules, place }).is_none()
+    let region = region_at(rules, place);
+    search_in(&Deciding { rules, place }, &region).is_none()
 }

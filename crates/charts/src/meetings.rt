@@ -5,12 +5,13 @@ ghost use Rattle.charts.specs.Meetings.{Meet, NeverMeet, holds_of, is_asked_at, 
 ghost use Rattle.charts.specs.Points.{tests_of};
 
 use crate::decisions::holds_at;
+use crate::matches::{region_at, stops_before};
 use crate::shapes::region_of;
 use policy_table::Rule;
-use regions::{Point, Question, Region, search};
+use regions::{Point, Question, Region, search_in};
 
-/// Whether the rule of a place is asked at a point: it holds, and none without quota before it does. Where it is to end the
-/// course it has no quota itself.
+/// Whether the rule of a place is asked at a point: it holds, and none without quota before it does. If it must end the
+/// course, it has no quota itself.
 fn is_asked_at(rules: &[Rule], place: usize, ends: bool, point: &Point) -> bool
     ensures { result ≡ is_asked_at place ends rules.now point.now }
 {
@@ -65,6 +66,10 @@ impl Question for Meeting<'_> {
         None
     }
 
+    fn passes(&self, number: usize) -> bool {
+        stops_before(self.rules, number, self.asked)
+    }
+
     fn ask(&self, point: &Point) -> bool {
         let meet = is_asked_at(self.rules, self.asked, self.ends, point)
             && holds_of(self.rules, self.place, point);
@@ -72,22 +77,27 @@ impl Question for Meeting<'_> {
     }
 }
 
-/// Whether some command has a point at which one rule of a table is asked, and ends the course if it is to, and another holds.
+/// Whether some command has a point at which one rule of a table is asked, and another holds. If `ends`, the one that
+/// is asked ends the course there.
 fn meet(rules: &[Rule], asked: usize, ends: bool, place: usize) -> bool
     ensures { MatchBool result (Meet asked ends place rules.now)
         (NeverMeet asked ends place rules.now) }
 {
-    search(&Meeting {
-        rules,
-        asked,
-        ends,
-        place,
-    })
+    let region = region_at(rules, asked).both(&region_at(rules, place));
+    search_in(
+        &Meeting {
+            rules,
+            asked,
+            ends,
+            place,
+        },
+        &region,
+    )
     .is_some()
 }
 
-/// Whether some command has a point at which the rule of a place, from 0 on, is asked: it holds, and no rule without quota before
-/// it does.
+/// Whether some command has a point at which the rule of a place, from 0 on, is asked. It holds there, and no rule
+/// without quota before it does.
 pub fn is_asked(rules: &[Rule], place: usize) -> bool
     ensures { MatchBool result (Meet place false place rules.now)
         (NeverMeet place false place rules.now) }

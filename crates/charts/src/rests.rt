@@ -10,7 +10,7 @@ ghost use Rattle.charts.specs.Rests.{HasNoPointIn, IsPointIn, is_left_in, rest_t
 use crate::lines::{Line, have_same_words, is_left};
 use regions::{Kinds, Point, Question, Region, search_in};
 
-/// What a line leaves of a region: the points that lie in none of the regions of the lines before with the same words.
+/// The points of a region that are left for a line: they lie in no region of the lines before with the same words.
 #[derive(Drop)]
 struct Rest<'a> {
     before: &'a [Line],
@@ -49,6 +49,13 @@ impl Question for Rest<'_> {
             return Some(*self.region);
         }
         None
+    }
+
+    fn passes(&self, number: usize) -> bool {
+        if number < self.before.len() {
+            return true;
+        }
+        false
     }
 
     fn ask(&self, point: &Point) -> bool {

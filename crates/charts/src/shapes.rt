@@ -59,7 +59,7 @@ pub fn region_of(rule: &Rule) -> Region
     }
 }
 
-/// The rule of that number of two tables, one behind the other.
+/// The rule of that number of two tables, one after the other.
 pub(crate) fn rule_at(old: &[Rule], new: &[Rule], number: usize) -> Option<Rule>
     ensures { MatchOption result (length (old.now ++ new.now) ≤ number)
         (IsRuleAt old.now new.now number) }

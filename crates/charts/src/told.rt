@@ -12,7 +12,7 @@ use policy_table::Rule;
 use regions::{Cell, Point, Question, Region, cells};
 use std::alloc::{AllocError, Global};
 
-/// Whether nothing is told of a point of two tables.
+/// Whether a point of two tables is not reported.
 #[derive(Drop)]
 struct Told<'a> {
     asked: &'a Region,
@@ -46,6 +46,10 @@ impl Question for Told<'_> {
         rule_shape(self.old, self.new, number - 1)
     }
 
+    fn passes(&self, _number: usize) -> bool {
+        false
+    }
+
     fn ask(&self, point: &Point) -> bool {
         let told = self.asked.has(point) && (self.all || !are_alike(self.old, self.new, point));
         !told
@@ -67,7 +71,7 @@ fn lines_of(alloc: Global, cells: &[Cell]) -> Result<Vec<Line>, AllocError>
     Ok(lines)
 }
 
-/// The lines of the cells of which something is told.
+/// The lines of the reported cells.
 fn cell_lines(
     alloc: Global,
     asked: &Region,
@@ -91,7 +95,7 @@ fn cell_lines(
 ///
 /// # Errors
 ///
-/// Only where memory was refused.
+/// Only if memory is refused.
 pub fn map_cells(alloc: Global, asked: &Region, rules: &[Rule]) -> Result<Vec<Line>, AllocError>
     ensures { IfOk result (λ lines. IsMap asked.now rules.now lines.items) }
 {
@@ -103,7 +107,7 @@ pub fn map_cells(alloc: Global, asked: &Region, rules: &[Rule]) -> Result<Vec<Li
 ///
 /// # Errors
 ///
-/// Only where memory was refused.
+/// Only if memory is refused.
 pub fn comparison_cells(
     alloc: Global,
     asked: &Region,

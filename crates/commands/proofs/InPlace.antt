@@ -6,7 +6,7 @@ use Rattle.bpf.specs.Program.{Program, image_bytes}
 use Rattle.machine.specs.Sizes.{Maps}
 use Rattle.commands.specs.InPlace.{IsInPlace, IsOfTable, Stands}
 
--- a text that writes no program stands for its table, if it is one
+-- a text that writes no program gives the image of its table, if it is one
 pub stands_for_table : (sizes : Maps) (text : List ℕ) (image : Option Program) → ((p : Program) → ¬ IsText text p)
     → IfSome image (IsOfTable sizes text) → Stands sizes text image
 stands_for_table sizes text None none is = none
@@ -18,7 +18,7 @@ not_there image same = cc
 same_image : (image other : Program) → Some image ≡ Some other → image ≡ other
 same_image image other same = cc
 
--- the bytes of the image for which a text stands are given in its place
+-- the bytes of the image that a text gives are given in its place
 pub in_place_of : (sizes : Maps) (bytes given : List ℕ) (image : Program) → (IsUtf8 bytes → Stands sizes bytes (Some image))
     → given ≡ image_bytes image → IsInPlace sizes bytes given
 in_place_of sizes bytes given image stands is = record {

@@ -1,4 +1,6 @@
 mod Apart
+mod Asking
+mod Driving
 mod InPlace
 mod Matching
 mod Placing

@@ -30,12 +30,12 @@ lacks_work words (Parse text) taken h = absurd h
 lacks_work words BadOption taken h = (taken, h)
 lacks_work words Memory taken h = h
 
--- a list of kinds that an error other than want of memory has is not empty
+-- a list of kinds is not empty if an error has one of them and is no want of memory
 has_kind : (kinds : Kinds) (e : Error) → (kind_of e ≡ OutOfMemory → ⊥) → HasKind kinds e → kinds ≡ [] → ⊥
 has_kind kinds e other (inl h) none = other h
 has_kind kinds e other (inr h) none = subst (IsAmong (kind_of e)) none h
 
--- what the user is told of a refusal is a fault of the words
+-- what is printed of a refusal is a fault of the words
 pub refused_words : (words : List Text) (e : Error) (fault : UsageFault) → TellsRefusal (kind_of e) fault
     → HasKind (fault_of rmapctl_app words) e → NamesNone words fault
 refused_words words e (Parse text) told h = has_kind _ e told h

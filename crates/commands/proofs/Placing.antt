@@ -3,14 +3,15 @@ use Rattle.std.proofs.Common.{◌≡◌, Bool, true, false, List, Option, None, 
 use Rattle.std.specs.Prelude.{if◌then◌else◌, is_some, not}
 use Rattle.clap.specs.Walk.{Row, Text}
 use Rattle.commands.specs.CommandLine.{IsPlacedBy, Names, NamesPlaced, NamesPlain, Refuses, RefusesPlace, RefusesPlaced, RefusesPlain, SpoilsPlace}
-use Rattle.commands.specs.OnNodes.{are_left, own_file, takes_file}
+use Rattle.commands.specs.Jobs.{facts_of}
+use Rattle.commands.specs.OnNodes.{are_left, own_file}
 use Rattle.commands.specs.OneInput.{reads_input_twice}
 use Rattle.commands.specs.Words.{name_of}
 use Rattle.commands.specs.declared.jobs.Job.{Job}
 use Rattle.commands.specs.declared.node_jobs.NodeJob.{NodeJob}
 use Rattle.commands.specs.declared.word.Word.{Word}
 use Rattle.commands.specs.declared.work.Work.{Work}
-use Rattle.commands.specs.declared.work.Work.TheVariants.{Once, OnNode, Live}
+use Rattle.commands.specs.declared.work.Work.TheVariants.{Once, OnNode, Live, Told}
 use Rattle.job_live.specs.declared.words.LiveWords.{LiveWords}
 use Rattle.job_parts.specs.declared.usage.UsageFault.{UsageFault}
 use Rattle.job_parts.specs.declared.usage.UsageFault.TheVariants.{Parse, BadOption, Memory}
@@ -27,6 +28,7 @@ names_placed found job (OnNode own) names (same, named, left) = (
   (refl, subst (λ (j : Job). own_file j found.1 ≡ Some (string_bytes own.node)) (sym same) named, left),
 )
 names_placed found job (Live words) names placed = absurd placed
+names_placed found job (Told text) names placed = absurd placed
 
 -- the same of what the subcommand names, which is that job
 pub places : (found : Text × List Row) (plain : Work) (job : Job) (work : Work) → plain ≡ Once job → NamesPlain found plain
@@ -42,7 +44,11 @@ names_talk found plain words is names = subst (NamesPlain found) is names
 pub is_unplaced : (found : Text × List Row) (plain : Work) (own : NodeJob) → plain ≡ OnNode own → NamesPlain found plain → ⊥
 is_unplaced found plain own is names = subst (NamesPlain found) is names
 
--- what is refused of the job alone is refused
+-- no subcommand names a text
+pub is_no_text : (found : Text × List Row) (plain : Work) (text : _) → plain ≡ Told text → NamesPlain found plain → ⊥
+is_no_text found plain text is names = subst (NamesPlain found) is names
+
+-- what is refused of only the job is refused
 pub refuses_plain : (named : Word) (rows : List Row) (fault : UsageFault) → RefusesPlain named rows fault
     → RefusesPlaced named rows fault
 refuses_plain named rows Memory refuses = refuses
@@ -71,7 +77,7 @@ pub refuses_input : (named : Word) (rows : List Row) (work : Work) → NamesPlac
     → reads_input_twice work ≡ true → Refuses named rows BadOption
 refuses_input named rows work names twice = inr (record { work = work; names = names; twice = twice })
 
--- the name of a node's file that stands beside a job is among its matches
+-- the name of a node's file that is beside a job is among its matches
 left_to : (takes : Bool) (given : Option Text) (name : Text) → (if takes then given else None) ≡ Some name → given ≡ Some name
 left_to true given name h = h
 left_to false given name h = absurd (cc h)
@@ -80,4 +86,4 @@ left_to false given name h = absurd (cc h)
 pub spoils_place : (job : Job) (rows : List Row) (name : Text) → own_file job rows ≡ Some name → are_left rows ≡ false
     → SpoilsPlace rows
 spoils_place job rows name is left =
-    (ap (λ (given : Option Text). not (is_some given)) (left_to (takes_file job) _ name is), left)
+    (ap (λ (given : Option Text). not (is_some given)) (left_to (facts_of job).takes_file _ name is), left)

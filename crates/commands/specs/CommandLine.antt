@@ -1,5 +1,5 @@
 -- The command line of rmapctl, as clap reads it, and what its matches name: a job over files, or a talk.
-use Rattle.std.specs.Prelude.{◌≡◌, ◌≢◌, ◌⊎◌, List, [], Option, Some, None, true, false, codes, string_bytes, Bool, not, ◌||◌}
+use Rattle.std.specs.Prelude.{◌≡◌, ◌≢◌, ◌⊎◌, List, [], ◌∷◌, Option, Some, None, true, false, bytes_eq, codes, string_bytes, Bool, not, ◌||◌}
 use Rattle.clap.specs.Walk.{Row, Text, first_of}
 use Rattle.clap.specs.Simple.{App, Shape, new_app, on_top, with_subcommand, subcommand_of}
 use Rattle.clap.specs.Faults.{fault_of}
@@ -28,8 +28,6 @@ use Rattle.job_nodes.specs.SimJob.{sim_app}
 use Rattle.job_ports.specs.ServeJob.{serve_app}
 use Rattle.job_trace.specs.TraceJob.{trace_app}
 use Rattle.job_weigh.specs.WeighJob.{weigh_app, NamesWeigh, SpoilsWeigh}
-use Rattle.commands.specs.declared.asked.Asked.{Asked}
-use Rattle.commands.specs.declared.asked.Asked.TheVariants.{Named, Told}
 use Rattle.commands.specs.declared.jobs.Job.{Job}
 use Rattle.commands.specs.declared.jobs.Job.TheVariants.{Judge, Serve, Simulate, Trace, Assemble, Disassemble}
 use Rattle.commands.specs.declared.jobs.Job.TheVariants.{Verify, Policy, Explain, Why, Weigh, Node, Packet, Show}
@@ -40,7 +38,7 @@ use Rattle.commands.specs.Words.{name_of}
 use Rattle.commands.specs.declared.word.Word.{Word}
 use Rattle.commands.specs.declared.word.Word.TheVariants as word
 use Rattle.commands.specs.declared.work.Work.{Work}
-use Rattle.commands.specs.declared.work.Work.TheVariants.{Once, OnNode, Live}
+use Rattle.commands.specs.declared.work.Work.TheVariants.{Once, OnNode, Live, Told}
 use Rattle.job_parts.specs.declared.usage.UsageFault.{UsageFault}
 use Rattle.job_parts.specs.declared.usage.UsageFault.TheVariants.{Parse, BadOption, Memory}
 
@@ -60,14 +58,14 @@ with_first_jobs app =
     (with_subcommand (with_subcommand (with_subcommand app asm_app.top) dis_app.top) (with_node verify_app).top)
     judge_app.top) (with_node policy_app).top
 
--- a command with the jobs that tell more of packet lines, and the one on the rules of a table, behind others
+-- a command with the jobs that print more of packet lines, and the one on the rules of a table, after others
 abbrev pub with_packet_jobs : App → App
 with_packet_jobs app =
     with_subcommand (with_subcommand
     (with_subcommand (with_subcommand app (with_node packet_app).top) show_app.top) (with_node decide_app).top)
     trace_app.top
 
--- a command with the jobs before a load, and the one that tries a target, behind others
+-- a command with the jobs before a load, and the one that tries a target, after others
 abbrev pub with_chart_jobs : App → App
 with_chart_jobs app =
     with_subcommand (with_subcommand (with_subcommand
@@ -110,13 +108,15 @@ NamesPlain found (Once (Rehearse words)) = (found.0 ≡ codes "rehearse") × Nam
 NamesPlain found (Once (Suite words)) = (found.0 ≡ codes "suite") × NamesSuite found.1 words
 NamesPlain found (OnNode own) = ⊥
 NamesPlain found (Live words) = (found.0 ≡ codes "live") × NamesLive found.1 words
+NamesPlain found (Told text) = ⊥
 
--- the work is the job, or the job for the node of the file that its matches name, to which they leave what it says
+-- the work is the job, or the job for the node of the file that its matches name. They leave to that file what it says
 abbrev pub IsPlacedBy : Job → List Row → Work → Type 0
 IsPlacedBy job rows (Once own) = (own ≡ job) × (own_file job rows ≡ None)
 IsPlacedBy job rows (OnNode own) =
     (own.job ≡ job) × (own_file job rows ≡ Some (string_bytes own.node)) × (are_left rows ≡ true)
 IsPlacedBy job rows (Live words) = ⊥
+IsPlacedBy job rows (Told text) = ⊥
 
 -- the work is that of the subcommand with its matches, whatever of it is standard input
 abbrev pub NamesPlaced : Option (Text × List Row) → Work → Type 0
@@ -124,19 +124,20 @@ NamesPlaced None work = ⊥
 NamesPlaced (Some found) (Once job) = NamesPlain found (Once job) × IsPlacedBy job found.1 (Once job)
 NamesPlaced (Some found) (OnNode own) = NamesPlain found (Once own.job) × IsPlacedBy own.job found.1 (OnNode own)
 NamesPlaced (Some found) (Live words) = NamesPlain found (Live words)
+NamesPlaced (Some found) (Told text) = ⊥
 
 -- the work is that of the subcommand with its matches, and no two of its files are standard input
 abbrev pub Names : Option (Text × List Row) → Work → Type 0
 Names found work = NamesPlaced found work × (reads_input_twice work ≡ false)
 
--- what the user is told of a refusal by clap of this kind
+-- what is printed of a refusal by clap of this kind
 abbrev pub TellsRefusal : ErrorKind → UsageFault → Type 0
 TellsRefusal kind Memory = Unit {0}
 TellsRefusal kind BadOption = ⊥
 TellsRefusal kind (Parse text) = kind ≢ OutOfMemory
 
--- the subcommand of this word lacks a file that has to be given, has an option or a code with a value that it may not have,
--- or has words of no packet
+-- the subcommand of this word lacks a file that must be given, or has words of no packet. Or it has an option or a code
+-- with a value that it may not have
 abbrev pub SpoilsPlain : Word → List Row → Type 0
 SpoilsPlain word.Asm rows = (first_of (codes "text") rows ≡ None) ⊎ (first_of (codes "image") rows ≡ None)
 SpoilsPlain word.Dis rows = first_of (codes "image") rows ≡ None
@@ -159,7 +160,7 @@ SpoilsPlain word.Map rows = SpoilsMap rows
 SpoilsPlain word.Rehearse rows = SpoilsRehearse rows
 SpoilsPlain word.Suite rows = SpoilsSuite rows
 
--- a node's file is named, beside an option that says what it says
+-- a node's file is named, beside an option that says what the file says
 abbrev pub SpoilsPlace : List Row → Type 0
 SpoilsPlace rows = (lacks (codes "node") rows ≡ false) × (are_left rows ≡ false)
 
@@ -192,7 +193,7 @@ RefusesPlain named rows Memory = Unit {0}
 RefusesPlain named rows BadOption = SpoilsPlain named rows
 RefusesPlain named rows (Parse text) = ⊥
 
--- the matches name no node's file alone, or memory was refused
+-- the matches name a node's file beside an option that says what the file says, or memory was refused
 abbrev pub RefusesPlace : List Row → UsageFault → Type 0
 RefusesPlace rows Memory = Unit {0}
 RefusesPlace rows BadOption = SpoilsPlace rows
@@ -230,14 +231,31 @@ NamesNone words Memory = Unit {0}
 NamesNone words BadOption = AreTaken words × IsIncomplete (subcommand_in words)
 NamesNone words (Parse text) = ¬ AreTaken words
 
--- words ask for the work that they name; of a text nothing is said
-abbrev pub AsksFor : List Text → Asked → Type 0
-AsksFor words (Named work) = NamesWork words work
-AsksFor words (Told text) = Unit {0}
+-- the words begin with `help`
+abbrev pub ask_help : List Text → Bool
+ask_help [] = false
+ask_help (first ∷ others) = bytes_eq first (codes "help")
+
+-- the words ask for a text, and name no work: they begin with `help`, or clap refuses them
+abbrev pub AskText : List Text → Type 0
+AskText words = (ask_help words ≡ true) ⊎ (¬ AreTaken words)
+
+-- words ask for the work that they name, or for a text if they name none
+abbrev pub AsksFor : List Text → Work → Type 0
+AsksFor words (Once job) = NamesWork words (Once job)
+AsksFor words (OnNode own) = NamesWork words (OnNode own)
+AsksFor words (Live talk) = NamesWork words (Live talk)
+AsksFor words (Told text) = AskText words
+
+-- words ask for nothing: they name no work, or no text
+abbrev pub AsksNone : List Text → UsageFault → Type 0
+AsksNone words Memory = Unit {0}
+AsksNone words BadOption = (ask_help words ≡ true) ⊎ NamesNone words BadOption
+AsksNone words (Parse text) = AskText words
 
 -- the words ask for a work that waits for standard input: a talk in lines, or any work if no word was given
-abbrev pub waits : Asked → (without_words : Bool) → Bool
-waits (Named (Live words)) without_words = not words.frames || without_words
-waits (Named (Once job)) without_words = without_words
-waits (Named (OnNode own)) without_words = without_words
+abbrev pub waits : Work → (without_words : Bool) → Bool
+waits (Live words) without_words = not words.frames || without_words
+waits (Once job) without_words = without_words
+waits (OnNode own) without_words = without_words
 waits (Told text) without_words = false

@@ -2,7 +2,7 @@
 use Rattle.std.specs.Prelude.{List, [], ◌∷◌, codes}
 use Rattle.clap.specs.Walk.{Text}
 
--- the words that are done: those that are given, and where there is none `judge -`
+-- the words that are done: those that are given, and `judge -` if there is none
 abbrev pub words_given : List Text → List Text
 words_given [] = codes "judge" ∷ codes "-" ∷ []
 words_given (word ∷ words) = word ∷ words

@@ -1,5 +1,5 @@
 -- What each job does, with its fault and its exit status.
-use Rattle.std.specs.Prelude.{◌≡◌, ◌⊎◌, ℕ, List, Option, string_bytes}
+use Rattle.std.specs.Prelude.{◌≡◌, ◌⊎◌, ℕ, Bool, true, List, Option, string_bytes}
 use Rattle.std.specs.Io.KnownBytes.{Appends}
 use Rattle.job_texts.specs.Assembled.{Assembles, IsNotAssembled}
 use Rattle.job_texts.specs.Compiled.{CompilesTable, IsNotCompiled}
@@ -28,14 +28,19 @@ use Rattle.job_parts.specs.declared.faults.Fault.{Fault}
 use Rattle.job_parts.specs.declared.faults.Fault.TheVariants.{NoMemory}
 use Rattle.job_parts.specs.declared.status.Status.{Status}
 use Rattle.job_parts.specs.declared.status.Status.TheVariants.{Failed}
+use Rattle.commands.specs.Jobs.{facts_of}
 use Rattle.commands.specs.declared.jobs.Job.{Job}
 use Rattle.commands.specs.declared.jobs.Job.TheVariants.{Judge, Serve, Simulate, Trace, Assemble, Disassemble}
 use Rattle.commands.specs.declared.jobs.Job.TheVariants.{Verify, Policy, Explain, Why, Weigh, Node, Packet, Show}
 use Rattle.commands.specs.declared.jobs.Job.TheVariants.{Decide, Compare, Map, Rehearse, Suite}
 
+-- the job can be done by who serves ports, if anybody does: only a job that starts threads needs this
+abbrev pub CanDo : (serves : Bool) → Job → Type 0
+CanDo serves job = (facts_of job).starts_threads ≡ true → serves ≡ true
+
 module _ {S : Type 0} (reads : Reads S) (writes : Writes S) where
-  -- the job came to its end, with this exit status: what it read and wrote led from one state of the files to the other,
-  -- and what it prints was printed
+  -- the job came to its end, with this exit status. What it read and wrote led from one state of the files to the
+  -- other, and what it prints was printed
   abbrev pub IsDone : Job → (before after : S) → (old new : Option (List ℕ)) → Status → Type 0
   IsDone (Judge args) before after old new status = IsDoneWith (JudgesFile reads args before after old new) status
   IsDone (Assemble words) before after old new status =
@@ -93,14 +98,14 @@ module _ {S : Type 0} (reads : Reads S) (writes : Writes S) where
   IsEnded (Rehearse words) before after old new fault = IsNotRehearsed reads words before after old new fault
   IsEnded (Suite words) before after old new fault = IsNoSuite reads words before after fault × (new ≡ old)
 
-  -- a fault ended the job, and its line was printed behind what came before, and nothing behind it
+  -- a fault ended the job. Its line was printed after what came before, and nothing after it
   pub record TellsFault (job : Job) (before after : S) (old new : Option (List ℕ)) : Type 0 where
     pub fault : Fault
     pub printed : Option (List ℕ)
     pub ended : IsEnded job before after old printed fault
     pub line : Appends printed new (fault_line fault)
 
-  -- the job came to its end with this exit status; or a fault ended it, which was told
+  -- the job came to its end with this exit status; or a fault ended it, which was printed
   abbrev pub Performs : Job → (before after : S) → (old new : Option (List ℕ)) → Status → Type 0
   Performs job before after old new status =
       IsDone job before after old new status ⊎ ((status ≡ Failed) × TellsFault job before after old new)

@@ -1,4 +1,4 @@
--- Why a command line asks for nothing, and where the user is told of it.
+-- Why a command line asks for nothing, and where that is printed.
 use Rattle.std.specs.Prelude.{◌≡◌, ℕ, List, [], ◌∷◌, Bool, false, ◌&&◌, if◌then◌else◌, bytes_eq, codes, string_bytes}
 use Rattle.std.specs.Borrow.{Bor}
 use Rattle.std.specs.List.{list_any}
@@ -25,13 +25,13 @@ ask_frames [] = false
 ask_frames (first ∷ others) =
     bytes_eq first.now (codes "live") && list_any (λ word. bytes_eq word.now (codes "--frames")) others
 
--- where the user is told of a fault of these words
+-- where a fault of these words is printed
 abbrev pub stream_of : List (Bor (List ℕ)) → UsageFault → Stream
 stream_of words (Parse text) = Errors
 stream_of words BadOption = Errors
 stream_of words Memory = if ask_frames words then Errors else Output
 
--- what more the user is told: nothing, except of a bad option
+-- what more is printed: nothing, except of a bad option
 abbrev pub TellsMore : UsageFault → (text : List ℕ) → Type 0
 TellsMore (Parse text) more = more ≡ []
 TellsMore BadOption more = Unit {0}

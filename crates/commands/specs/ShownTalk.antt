@@ -1,4 +1,4 @@
--- What `show` tells of lines that come one by one. What it says of a line is not told.
+-- What `show` prints of lines that come one by one. What it says of a line is left open.
 use Rattle.std.specs.Prelude.{◌≡◌, ◌⊎◌, ℕ, zero, suc, Bool, true, false, List, codes, Some, None}
 use Rattle.std.specs.Borrow.{Bor}
 use Rattle.spw.specs.Line.{words_of}
@@ -26,17 +26,17 @@ module _ {T : Type 0} (came : Comes T) (sent : Sends T) where
     pub line_came : came start (Some line) heard
     pub left : sent heard text stop
 
-  -- so many lines came, and of each a line was sent before the next was asked for
+  -- this many lines came, and of each a line was sent before the next was asked for
   abbrev pub Shows : (count : ℕ) → (start stop : T) → Type 0
   Shows zero start stop = stop ≡ start
   Shows (suc count) start stop = (between : T) × Shows count start between × ShowsNext between stop
 
-  -- no line came any more, or one came and was told
+  -- no line came any more, or one came and its line was sent
   abbrev pub ShowsOne : (was_given : Bool) → (start stop : T) → Type 0
   ShowsOne false start stop = came start None stop
   ShowsOne true start stop = ShowsNext start stop
 
-  -- all lines were told: behind them no more came, or more than are counted
+  -- the lines of all were sent. After them no more came, or more than are counted
   pub record IsShown (start stop : T) : Type 0 where
     pub count : ℕ
     pub last : T
@@ -59,14 +59,15 @@ module _ {T : Type 0} (came : Comes T) (sent unsent : Sends T) (missed : Misses 
     pub line_came : came start (Some line) stop
     pub is_bad : IsLineFault line (words_of line) bad
 
-  -- why nothing was sent of the line of this number: it could not be read; it came, and is bad; or its text could not be sent
+  -- why nothing was sent of the line of this number: it could not be read; it came, and is bad; or its text could not
+  -- be sent
   abbrev pub IsUntold : (number : ℕ) → (start stop : T) → Halt → Type 0
   IsUntold number start stop (Ended fault) =
       ((file : Bor (List ℕ)) × (fault ≡ CannotRead file) × (file.now ≡ codes "-") × missed start stop)
       ⊎ ((bad : LineFault) × (fault ≡ BadLine number (Line bad)) × HearsBad bad start stop)
   IsUntold number start stop (Unwritten refused) = LosesText start stop
 
-  -- some lines were told, and then the next was not
+  -- the lines of some were sent, and then that of the next was not
   pub record BreaksShow (start stop : T) (halt : Halt) : Type 0 where
     pub count : ℕ
     pub last : T

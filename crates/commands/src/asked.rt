@@ -1,8 +1,8 @@
-//! What the words of a command line ask for: a work, or a text.
+//! What the words of a command line ask for, with help.
 
-ghost use Rattle.std.specs.Prelude.{◌≡◌, ◌&&◌, IfOk, is_some};
+ghost use Rattle.std.specs.Prelude.{◌≡◌, ◌&&◌, IfErr, IfOk, is_some};
 ghost use Rattle.clap.specs.Walk.{texts};
-ghost use Rattle.commands.specs.CommandLine.{AsksFor, waits};
+ghost use Rattle.commands.specs.CommandLine.{AreTaken, AsksFor, AsksNone, ask_help, waits};
 ghost use Rattle.commands.specs.Given.{words_given};
 
 use crate::usage::{command_line, words};
@@ -11,26 +11,17 @@ use clap::error::ErrorKind;
 use job_parts::usage::UsageFault;
 use std::alloc::{AllocError, Global};
 
-/// What the program does where its command line has no word: it judges standard input.
+/// What the program does if its command line has no word: it judges standard input.
 const WITHOUT_WORDS: [&str; 2] = ["judge", "-"];
 
-/// What is told before standard input is judged, where it is a terminal.
+/// What the program prints before it judges standard input, if that is a terminal.
 const JUDGE_WAITS: &str = "judge -: reads packet lines; rmapctl --help has the words";
 
-/// What is told before a talk in lines is held, where standard input is a terminal.
+/// What the program prints before it holds a talk in lines, if standard input is a terminal.
 const LIVE_WAITS: &str =
     "live: reads packet lines, journal, cells and set 00 ADDRESS HEX; rmapctl help live has more";
 
-/// What the words of a command line ask for.
-#[derive(Debug, Drop)]
-pub enum Asked {
-    /// A work, which is to be done.
-    Named(Work),
-    /// A text, which is to be printed: that of `help` or `--help`, or the version.
-    Told(String),
-}
-
-/// Whether `clap` refuses words since they ask for its help or the version.
+/// Whether `clap` refuses words because they ask for its help or the version.
 fn asks_clap(alloc: Global, words: &[&str]) -> Result<bool, AllocError> {
     match command_line(alloc)?.try_get_matches_from(words) {
         Ok(_) => Ok(false),
@@ -42,18 +33,20 @@ fn asks_clap(alloc: Global, words: &[&str]) -> Result<bool, AllocError> {
 }
 
 /// The text for the user of words that `clap` refuses, if they ask for it; else it is that of a fault.
-fn text_asked(alloc: Global, given: &[&str], text: String) -> Result<Asked, UsageFault>
-    ensures { IfOk result (AsksFor (texts given.now)) }
+fn text_asked(alloc: Global, given: &[&str], text: String) -> Result<Work, UsageFault>
+    requires { ¬ AreTaken (texts given.now) }
+    ensures ok { IfOk result (AsksFor (texts given.now)) }
+    ensures err { IfErr result (AsksNone (texts given.now)) }
 {
     if asks_clap(alloc, given)? {
-        Ok(Asked::Told(text))
+        Ok(Work::Told(text))
     } else {
         Err(UsageFault::Parse(text))
     }
 }
 
-/// The text of `--help` for these words: of all commands, or of the one that they name. What `clap` refuses of them is
-/// `Parse`.
+/// The text of `--help` for these words: of all commands, or of the one that they name. If `clap` refuses the words for
+/// another reason, the error is `Parse`.
 fn help(alloc: Global, words: &[&str]) -> Result<String, UsageFault> {
     let mut asking = Vec::from_slice(alloc, words)?;
     asking.push("--help")?;
@@ -72,25 +65,42 @@ fn help(alloc: Global, words: &[&str]) -> Result<String, UsageFault> {
     }
 }
 
+/// The words after `help`, if words begin with it.
+fn topic_of<'a>(given: &'a [&'a str]) -> Option<&'a [&'a str]>
+    ensures { is_some result ≡ ask_help (texts given.now) }
+{
+    match given {
+        [first, topic @ ..] if *first == "help" => Some(topic),
+        _ => None,
+    }
+}
+
 /// What the words of a command line ask for, without the program's own name: `help` and `help WORD` for the text of
 /// `--help`.
 ///
-/// Words that ask for nothing are `Parse` with the text of `clap` for the user, `BadOption` where an option or a code is none,
-/// `Memory` where memory was refused.
-pub fn asked_of(alloc: Global, given: &[&str]) -> Result<Asked, UsageFault>
-    ensures { IfOk result (AsksFor (texts given.now)) }
+/// # Errors
+///
+/// Why words ask for nothing.
+///
+/// - `Parse`, with the text of `clap` for the user.
+/// - `BadOption`: an option or a code is none, or two files that are read are standard input.
+/// - `Memory`: memory is refused.
+#[tactic(auto, using(crate::proofs::Asking::helps_none, crate::proofs::Asking::asks_none, crate::proofs::Asking::asks_for))]
+pub fn asked_of(alloc: Global, given: &[&str]) -> Result<Work, UsageFault>
+    ensures ok { IfOk result (AsksFor (texts given.now)) }
+    ensures err { IfErr result (AsksNone (texts given.now)) }
 {
-    if let ["help", topic @ ..] = given {
-        return Ok(Asked::Told(help(alloc, topic)?));
+    if let Some(topic) = topic_of(given) {
+        return Ok(Work::Told(help(alloc, topic)?));
     }
     match words(alloc, given) {
-        Ok(work) => Ok(Asked::Named(work)),
+        Ok(work) => Ok(work),
         Err(UsageFault::Parse(text)) => text_asked(alloc, given, text),
         Err(fault) => Err(fault),
     }
 }
 
-/// What decides whether the user is told that standard input is waited for.
+/// What decides whether the program says that it waits for standard input.
 #[derive(Clone, Copy, Debug, PartialEq, Eq)]
 pub struct Waits {
     /// Whether standard input is a terminal.
@@ -99,18 +109,19 @@ pub struct Waits {
     pub without_words: bool,
 }
 
-/// What is told of what words ask for before it waits for standard input, if that is a terminal: of a talk, and if no word was
-/// given.
-pub fn told_wait(asked: &Asked, given: Waits) -> Option<&'static str>
+/// What the program prints before it waits for standard input, if that is a terminal: for a talk in lines, and if no
+/// word was given.
+pub fn told_wait(asked: &Work, given: Waits) -> Option<&'static str>
     ensures { is_some result ≡ (given.is_terminal && waits asked.now given.without_words) }
 {
     if !given.is_terminal {
         return None;
     }
     match asked {
-        Asked::Named(Work::Live(words)) if !words.frames => Some(LIVE_WAITS),
-        Asked::Named(_) if given.without_words => Some(JUDGE_WAITS),
-        Asked::Named(_) | Asked::Told(_) => None,
+        Work::Live(words) if !words.frames => Some(LIVE_WAITS),
+        Work::Told(_) => None,
+        _ if given.without_words => Some(JUDGE_WAITS),
+        _ => None,
     }
 }
 

@@ -6,7 +6,7 @@ use job_packets::packet::PacketWords;
 use job_rehearse::again::denies_again;
 use std::alloc::{AllocError, Global};
 
-/// What is told of such a load.
+/// What is printed of such a load.
 const DENIED: &str = "    after this load the same load is denied
     --final says that it is meant, and then nothing is said
 ";
@@ -22,12 +22,12 @@ fn changes_judge(words: &PacketWords) -> bool {
     }
 }
 
-/// What is told of loads of an image after which their packets are denied; it is empty where they are not, or where that is
-/// meant.
+/// What is printed of loads of an image after which their packets are denied. It is empty if they are not denied, or if
+/// that is meant.
 ///
 /// # Errors
 ///
-/// Where memory was refused.
+/// An error if memory is refused.
 pub fn advice(
     alloc: Global,
     words: &PacketWords,

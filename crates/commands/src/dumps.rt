@@ -1,6 +1,8 @@
-//! Lines of a dump: each has the bytes of a packet alone, without port and marker.
+//! Lines of a dump: each has only the bytes of a packet, without port and marker.
 
-ghost use Rattle.std.specs.Prelude.{◌≡◌, ⊤};
+ghost use Rattle.std.specs.Prelude.{◌≡◌, ◌++◌, OnOk, option_map, string_bytes};
+ghost use Rattle.commands.specs.Desks.{packet_line};
+ghost use Rattle.job_live.specs.Talking.{line_given};
 
 use job_live::talk::Talk;
 use job_parts::storage::Cannot;
@@ -8,7 +10,9 @@ use spw::lines_of;
 use std::alloc::{AllocError, Global};
 
 /// Adds the packet line of a line of a dump: that of port 0, whose packet ends in EOP.
-fn add_line(text: &mut String, line: &str) -> Result<(), AllocError> {
+fn add_line(text: &mut String, line: &str) -> Result<(), AllocError>
+    ensures { OnOk result (string_bytes text.new ≡ string_bytes text.old ++ packet_line line.now) }
+{
     write!(text, "0 {line} EOP")
 }
 
@@ -16,7 +20,7 @@ fn add_line(text: &mut String, line: &str) -> Result<(), AllocError> {
 ///
 /// # Errors
 ///
-/// Where memory was refused.
+/// An error if memory is refused.
 pub fn dump_lines(alloc: Global, dump: &str) -> Result<String, AllocError> {
     let mut text = String::new(alloc);
     for line in lines_of(dump) {
@@ -26,8 +30,19 @@ pub fn dump_lines(alloc: Global, dump: &str) -> Result<String, AllocError> {
     Ok(text)
 }
 
-/// A talk whose lines are those of a dump, if it is said so: what comes is the packet line of each. Of the lines that come no
-/// contract speaks.
+/// Puts the packet line of a line of a dump in the place of what `line` holds, if one came.
+fn put_line(line: &mut String, is_given: bool, held: &str) -> Result<(), AllocError>
+    ensures { OnOk result (line_given is_given (string_bytes line.new)
+        ≡ option_map packet_line (line_given is_given held.now)) }
+{
+    line.clear();
+    if is_given {
+        add_line(line, held)?;
+    }
+    Ok(())
+}
+
+/// A talk whose lines are those of a dump, if it is said so: what comes is the packet line of each.
 #[derive(Drop)]
 pub struct DumpTalk<T: Drop> {
     talk: T,
@@ -36,7 +51,7 @@ pub struct DumpTalk<T: Drop> {
 }
 
 impl<T: Talk + Drop> DumpTalk<T> {
-    /// The talk, whose lines are those of a dump or are told as they are.
+    /// The talk, whose lines are those of a dump or come as they are.
     pub fn new(alloc: Global, talk: T, is_dump: bool) -> DumpTalk<T>
         ensures talk { result.talk ≡ talk }
         ensures dump { result.is_dump ≡ is_dump }
@@ -48,7 +63,7 @@ impl<T: Talk + Drop> DumpTalk<T> {
         }
     }
 
-    /// The talk alone.
+    /// The talk itself.
     pub fn into_talk(self) -> T
         ensures { result ≡ self.talk }
     {
@@ -57,24 +72,25 @@ impl<T: Talk + Drop> DumpTalk<T> {
 }
 
 impl<T: Talk + Drop> Talk for DumpTalk<T> {
-    ghost came = { λ _ _ _. ⊤ };
+    ghost use Rattle.commands.specs.Desks.{DumpComes, DumpMisses, DumpSends};
 
-    ghost sent = { λ before text after. T.sent before.talk text after.talk };
+    ghost came = { DumpComes T.came };
 
-    ghost missed = { λ _ _. ⊤ };
+    ghost sent = { DumpSends T.sent };
 
-    ghost unsent = { λ before text after. T.unsent before.talk text after.talk };
+    ghost missed = { DumpMisses T.came T.missed };
+
+    ghost unsent = { DumpSends T.unsent };
 
     fn next(&mut self, line: &mut String) -> Result<bool, Cannot> {
         if !self.is_dump {
             return self.talk.next(line);
         }
         let is_given = self.talk.next(&mut self.held)?;
-        line.clear();
-        if is_given {
-            add_line(line, self.held.as_str()).map_err(|_| Cannot)?;
+        match put_line(line, is_given, self.held.as_str()) {
+            Ok(()) => Ok(is_given),
+            Err(_) => Err(Cannot),
         }
-        Ok(is_given)
     }
 
     fn send(&mut self, text: &[u8]) -> Result<(), Cannot> {

@@ -1,4 +1,4 @@
-//! What is told on standard error of a job that ended, after what it printed.
+//! What is printed on standard error of a job that ended, after what it printed.
 
 use crate::foreign::Foreign;
 use crate::in_place::add_source;
@@ -27,8 +27,8 @@ const WHOLE_MARKER: &str = "no end marker: EOP or EEP, since an event has a whol
 /// The word before the packet line of an event.
 const TAKE: &str = "take";
 
-/// Adds why the file of this name could not be read or written; what the job said of its content is all there is where the
-/// system says nothing.
+/// Adds why the file of this name could not be read or written. If the system says nothing, there is only what the job
+/// said of its content.
 fn add_cause(text: &mut String, name: &str, cause: Option<&Cause>) -> Result<(), AllocError> {
     match cause {
         Some(Cause::System(refused)) => write!(text, "    {refused}\n"),
@@ -51,7 +51,7 @@ fn add_form(text: &mut String, alloc: Global, bytes: Option<&[u8]>) -> Result<()
     write!(text, "    {line}")
 }
 
-/// Adds the place in a text in the place of an image for which it was refused, or why it is none.
+/// If a text is in the place of an image, adds the place in it for which it was refused, or why it is none.
 fn add_place_in(text: &mut String, alloc: Global, noted: &Noted<'_>) -> Result<(), AllocError> {
     match noted.source() {
         Some((source, maps)) => add_source(text, alloc, source, maps, noted.is_on_node()),
@@ -59,8 +59,7 @@ fn add_place_in(text: &mut String, alloc: Global, noted: &Noted<'_>) -> Result<(
     }
 }
 
-/// Adds what bytes are that are no image: why a text is none, where one may be in its place, or else what a text
-/// is.
+/// Adds what bytes are that are no image: why a text is none, if one may be in its place, or else what a text is.
 fn add_no_image(text: &mut String, alloc: Global, noted: &Noted<'_>) -> Result<(), AllocError> {
     match noted.source() {
         Some(_) => add_place_in(text, alloc, noted),
@@ -98,12 +97,40 @@ fn add_bad_line(
     write!(text, "    line {number} fault {code}: {told}\n")
 }
 
-/// Adds where a node's file has its fault, and what is wanted there.
+/// Adds where a node's file has its fault, and what it must have there.
 fn add_place(text: &mut String, place: &str) -> Result<(), AllocError> {
     write!(text, "    {place}\n")
 }
 
-/// Adds what is told of a job that failed.
+/// Adds that a map was cut after this many lines, and how the user asks for fewer commands.
+fn add_cut(text: &mut String, lines: u32) -> Result<(), AllocError> {
+    write!(text, "    the map has over {lines} lines: ")?;
+    text.push_str(
+        "ask of fewer commands by --kind, --key, --initiator, --extended, --address or --port, ",
+    )?;
+    text.push_str("or of more lines by --lines\n")
+}
+
+/// Adds what is printed of a job that failed over a text. If a table has no fault, its map was cut.
+fn add_text(
+    text: &mut String,
+    alloc: Global,
+    job: &Job,
+    read: &str,
+    noted: &Noted<'_>,
+) -> Result<(), AllocError> {
+    if let Job::Map(words) = job {
+        if hints::is_drawn(alloc, read, &words.sizes)? {
+            add_cut(text, words.lines)?;
+            return add_done(text, alloc, job, noted);
+        }
+    }
+    let more = hints::advice(alloc, job, read, noted.is_on_node())?;
+    text.push_str(more.as_str())?;
+    add_place_in(text, alloc, noted)
+}
+
+/// Adds what is printed of a job that failed.
 fn add_failed(
     text: &mut String,
     alloc: Global,
@@ -124,11 +151,7 @@ fn add_failed(
         Some(Fault::BadNode { place, .. }) => add_place(text, place.as_str()),
         Some(Fault::BadImage(_)) => add_no_image(text, alloc, noted),
         Some(Fault::BadText(_) | Fault::BadTable(_)) | None => match noted.text() {
-            Some(read) => {
-                let more = hints::advice(alloc, job, read, noted.is_on_node())?;
-                text.push_str(more.as_str())?;
-                add_place_in(text, alloc, noted)
-            }
+            Some(read) => add_text(text, alloc, job, read, noted),
             None => Ok(()),
         },
         Some(Fault::Refused(_)) => add_place_in(text, alloc, noted),
@@ -144,7 +167,7 @@ fn packet_part<'a>(job: &Job, line: &'a str) -> &'a str {
     }
 }
 
-/// Adds the first path that stands before the packet of a line.
+/// Adds the first path that is before the packet of a line.
 fn add_first_path(
     text: &mut String,
     alloc: Global,
@@ -192,8 +215,8 @@ fn add_full(text: &mut String, full: Option<FullJournals>) -> Result<(), AllocEr
     Ok(())
 }
 
-/// Adds what is told of loads that were made into packets: that the file is no image, which nothing looked at, or that the
-/// same load is denied after them.
+/// Adds what is printed of loads that were made into packets. It is that the file is no image, which nothing looked at,
+/// or that the same load is denied after them.
 fn add_load(
     text: &mut String,
     alloc: Global,
@@ -207,9 +230,13 @@ fn add_load(
     }
 }
 
-/// Adds what is told of a job that is done: of `policy`, that its table lets nobody load another, unless that is meant; of `map`,
-/// whose loads pass; of both what is odd in the table, of which `map` printed the rules that never match; of `map` and of NEW of
-/// `compare`, that a table is too long for a program; of loads, what [`add_load`] adds.
+/// Adds what is printed of a job that is done:
+///
+/// - of `policy`, that its table lets nobody load another, unless that is meant
+/// - of `map`, whose loads pass
+/// - of both, what is odd in the table; `map` itself prints the rules that never match
+/// - of `map` and of NEW of `compare`, that a table is too long for a program
+/// - of loads, what [`add_load`] adds
 fn add_done(
     text: &mut String,
     alloc: Global,
@@ -255,13 +282,17 @@ fn add_lost(text: &mut String, lost: u64) -> Result<(), AllocError> {
     )
 }
 
-/// What is told of a job that ended so, after what it printed: the cause of its fault, as what the system says of a file, what the
-/// line of a text holds, or what a file is that is none of what it has to be; the first path that stands before a packet; that
-/// `judge` found the journal full; and how many replies of `serve` were lost. It is empty where there is nothing to tell.
+/// What is printed of a job that ended so, after what it printed itself. It is empty if there is nothing to say.
+///
+/// - The cause of its fault: what the system says of a file, or what the line of a text holds.
+/// - What a file is that is not what it must be.
+/// - The first path that is before a packet.
+/// - Which journals `judge` found full.
+/// - How many replies of `serve` were lost.
 ///
 /// # Errors
 ///
-/// Where memory was refused.
+/// An error if memory is refused.
 pub fn told_end(
     alloc: Global,
     job: &Job,
@@ -295,12 +326,13 @@ fn add_unread(
     }
 }
 
-/// What is told of a talk whose node could not be made of this source, after its fault was sent: where the node's file has its
-/// fault, why a file could not be read, or what it is that is none. It is empty where there is nothing to tell.
+/// What is printed of a talk whose node could not be made of this source, after its fault was sent. It is where the
+/// node's file has its fault, why a file could not be read, or what the file is instead. It is empty if there is
+/// nothing to say.
 ///
 /// # Errors
 ///
-/// Where memory was refused.
+/// An error if memory is refused.
 pub fn told_node(
     alloc: Global,
     node: &NodeSource,

@@ -1,4 +1,4 @@
-//! What more is told of a text or a table with a fault, after the line that tells the fault.
+//! What more is printed of a text or a table with a fault, after the line that reports the fault.
 
 use crate::jobs::Job;
 use basm::{AsmCode, AsmFault, assemble};
@@ -15,19 +15,19 @@ const TEXT_FORM: &str = "lines end in only a line feed; words are parted by spac
 /// How the lines of a program's text end.
 const LINE_FORM: &str = "lines end in only a line feed";
 
-/// What is told of a table in place of the text of a program.
+/// What is printed of a table in place of the text of a program.
 const IS_TABLE: &str = "    this is a table of a policy\n";
 
-/// What is told of the text of a program in place of a table.
+/// What is printed of the text of a program in place of a table.
 const IS_PROGRAM: &str = "    this is the text of a program\n";
 
-/// What is told of a line that is a bare name.
+/// What is printed of a line that is a bare name.
 const LOOSE_NAME: &str = "a label ends in a colon";
 
 /// The most slots of an image.
 const MAX_SLOTS: usize = 512;
 
-/// The line of that number of a text, from 1; an empty one where there is none.
+/// The line of that number of a text, from 1; an empty one if there is none.
 fn line_at(text: &str, number: usize) -> &str {
     let mut place: usize = 0;
     for line in lines_of(text) {
@@ -125,7 +125,7 @@ fn add_least(text: &mut String, alloc: Global, policy: &Policy) -> Result<(), Al
     }
 }
 
-/// Adds that there are no maps, and of a table that is read the least list for it.
+/// Adds that there are no maps. If the table is read, adds the least list for it.
 fn add_no_maps(
     text: &mut String,
     alloc: Global,
@@ -162,7 +162,7 @@ fn add_maps(
     add_cells(text, sizes)
 }
 
-/// Adds how many slots each rule takes of those that stand in these lines and take so many.
+/// Adds that each rule in the lines from `first` to `last` takes this many slots.
 fn add_cost(text: &mut String, first: usize, last: usize, slots: u8) -> Result<(), AllocError> {
     if first == last {
         write!(text, "    the rule of line {first} takes {slots} slots\n")
@@ -211,7 +211,7 @@ fn add_length(text: &mut String, alloc: Global, table: &str) -> Result<(), Alloc
     text.push('\n')
 }
 
-/// Adds what the line of a fault holds that has a word, with what cannot be seen spelled.
+/// Adds what the line of a fault holds, if it has a word. What cannot be seen is spelled.
 fn add_line(text: &mut String, line: &str) -> Result<(), AllocError> {
     if line.trim().is_empty() {
         return Ok(());
@@ -224,8 +224,8 @@ fn add_line(text: &mut String, line: &str) -> Result<(), AllocError> {
     text.push('\n')
 }
 
-/// Adds what the line of a fault holds; of a quota which cells the maps have, and of a rule for which there is no room what all rules
-/// take.
+/// Adds what the line of a fault holds. Of a quota it adds which cells the maps have, and of a rule for which there is
+/// no room what all rules take.
 fn add_details(
     text: &mut String,
     alloc: Global,
@@ -242,7 +242,8 @@ fn add_details(
     }
 }
 
-/// The faults of a table, for a node with maps of these sizes; if it is to be drawn without that it is too long for a program.
+/// The faults of a table, for a node with maps of these sizes. If the table is to be drawn, the fault that it is too
+/// long for a program is left out.
 fn faults_of(
     alloc: Global,
     table: &str,
@@ -262,8 +263,18 @@ fn faults_of(
     Ok(faults)
 }
 
-/// What more is told of the faults of a table: what the line holds of the one that is reported, and each other fault in a line of its
-/// own. The reported one was told with its place, except if that is to come here.
+/// Whether the lines of a table have no fault, for a node with maps of these sizes.
+///
+/// # Errors
+///
+/// An error if memory is refused.
+pub fn is_drawn(alloc: Global, table: &str, sizes: &MapSizes) -> Result<bool, AllocError> {
+    let faults = faults_of(alloc, table, sizes, true)?;
+    Ok(faults.is_empty())
+}
+
+/// What more is printed of the faults of a table. It is what the line holds of the one that is reported, and each other
+/// fault in a line of its own. The reported one was printed with its place before, except if the place is to come here.
 fn told_faults(
     alloc: Global,
     table: &str,
@@ -290,11 +301,11 @@ fn told_faults(
     Ok(text)
 }
 
-/// What is told of a table that was drawn and is too long for a program; it is empty if it is not.
+/// What is printed of a table that was drawn and is too long for a program. It is empty if the table is not too long.
 ///
 /// # Errors
 ///
-/// Where memory was refused.
+/// An error if memory is refused.
 pub fn told_length(alloc: Global, table: &str, sizes: &MapSizes) -> Result<String, AllocError> {
     let mut text = String::new(alloc);
     let faults = Policy::faults(alloc, table, sizes)?;
@@ -308,11 +319,11 @@ pub fn told_length(alloc: Global, table: &str, sizes: &MapSizes) -> Result<Strin
     Ok(text)
 }
 
-/// All that is told of the faults of a table of a job that told the number of one: where each is.
+/// All that is printed of the faults of a table, if the job printed the number of one: where each is.
 ///
 /// # Errors
 ///
-/// Where memory was refused.
+/// An error if memory is refused.
 pub fn told_placed(
     alloc: Global,
     table: &str,
@@ -329,7 +340,7 @@ fn is_bare_name(line: &str) -> bool {
     is_name(word) && read_mnemonic(word).is_none()
 }
 
-/// Whether a line is this name, in upper or lower case, or begins with it and a colon behind it.
+/// Whether a line is this name, in upper or lower case, or begins with it and a colon after it.
 fn looks_like(alloc: Global, line: &str, name: &str) -> Result<bool, AllocError> {
     let is_bare = is_bare_name(line);
     let line = line.trim_start().to_ascii_lowercase(alloc)?;
@@ -343,7 +354,7 @@ fn looks_like(alloc: Global, line: &str, name: &str) -> Result<bool, AllocError>
     })
 }
 
-/// Adds the lines of a program's text that look as if they defined this name, but for one.
+/// Adds the lines of a program's text that look as if they defined this name, except one.
 fn add_alike(
     text: &mut String,
     alloc: Global,
@@ -372,8 +383,12 @@ fn last_word(line: &str) -> &str {
     }
 }
 
-/// What more is told of the fault of a program's text: its line, with what cannot be seen spelled, and of a name that no line
-/// defines the lines that look like it.
+/// What more is printed of the fault of a program's text: its line, with what cannot be seen spelled. If the fault is a
+/// name that no line defines, the lines that look like it come too.
+///
+/// # Errors
+///
+/// An error if memory is refused.
 pub fn told_text(alloc: Global, source: &str) -> Result<String, AllocError> {
     let mut text = String::new(alloc);
     let Err(AsmFault { line: number, code }) = assemble(alloc, source) else {
@@ -418,13 +433,14 @@ fn is_table(alloc: Global, text: &str) -> bool {
     }
 }
 
-/// What more is told of a job that failed, of the last text that it read, if it is one of a program or a table: what the line of
-/// its fault holds, of `policy` where the fault is, and that it is a table where the text of a program is wanted, or the other
-/// way. It is empty where that text has no fault. Of maps it is told whether a node's file says them.
+/// What more is printed of a job that failed, of the last text that it read, if that is one of a program or a table. It
+/// is what the line of its fault holds, and for `policy` also where the fault is. If the text of a program is wanted,
+/// it is that the text is a table, and the other way round. It is empty if that text has no fault. Of maps it says
+/// whether a node's file says them.
 ///
 /// # Errors
 ///
-/// Where memory was refused.
+/// An error if memory is refused.
 pub fn advice(
     alloc: Global,
     job: &Job,

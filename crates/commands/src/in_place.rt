@@ -2,17 +2,14 @@
 
 ghost use Rattle.std.specs.Prelude.{◌≡◌, IfOk, IfSome};
 ghost use Rattle.std.specs.Str.{IsUtf8};
-ghost use Rattle.commands.specs.InPlace.{IsInPlace, IsOfTable, Stands, maps_of_job, maps_of_node};
+ghost use Rattle.commands.specs.InPlace.{IsInPlace, IsOfTable, Stands};
 
 use crate::hints::{told_placed, told_text};
-use crate::jobs::Job;
 use basm::{AsmCode, assemble};
 use basm_lex::{read_head, read_mnemonic};
 use bpf::Image;
 use bver::{Refusal, Refused, verify};
-use job_config::sources::NodeSource;
 use job_parts::faults::Fault;
-use job_parts::options::no_maps;
 use machine::MapSizes;
 use policy::{Policy, TextFault, compile_policy};
 use spw::lines_of;
@@ -23,41 +20,6 @@ const BUDGET: &str = ".budget";
 
 /// The directives that no table has.
 const DIRECTIVES: [&str; 2] = [BUDGET, ".loop"];
-
-/// The maps of a node that its options say; none of a node's file, which names no image but in it.
-pub fn maps_of_node(node: &NodeSource) -> MapSizes
-    ensures { result ≡ maps_of_node node.now }
-{
-    match node {
-        NodeSource::Words(words) => words.sizes,
-        NodeSource::File(_) => no_maps(),
-    }
-}
-
-/// The maps for which a job takes the text of a program or a table in the place of an image, if it does.
-pub fn maps_of_job(job: &Job) -> Option<MapSizes>
-    ensures { result ≡ maps_of_job job.now }
-{
-    match job {
-        Job::Judge(args) | Job::Serve(args) | Job::Simulate(args) | Job::Trace(args) => {
-            Some(maps_of_node(&args.node))
-        }
-        Job::Verify(args) | Job::Why(args) => Some(args.sizes),
-        Job::Weigh(words) => Some(words.sizes),
-        Job::Assemble(_)
-        | Job::Disassemble(_)
-        | Job::Policy(_)
-        | Job::Explain(_)
-        | Job::Node(_)
-        | Job::Packet(_)
-        | Job::Show(_)
-        | Job::Decide(_)
-        | Job::Compare(_)
-        | Job::Map(_)
-        | Job::Rehearse(_)
-        | Job::Suite(_) => None,
-    }
-}
 
 /// The image of a table that has a rule, for a node with maps of these sizes; none if the text is no such table.
 fn compiled(alloc: Global, text: &str, sizes: &MapSizes) -> Result<Option<Image>, AllocError>
@@ -82,12 +44,12 @@ fn is_memory(fault: &TextFault) -> bool {
     }
 }
 
-/// The image that a text stands for: that of the program that it writes, or of the table, for a node with maps
-/// of these sizes. None if it is neither.
+/// The image that a text gives: that of the program that it writes, or of the table, for a node with maps of these
+/// sizes. None if it is neither.
 ///
 /// # Errors
 ///
-/// If memory was refused.
+/// An error if memory is refused.
 pub fn image_of(alloc: Global, text: &str, sizes: &MapSizes) -> Result<Option<Image>, AllocError>
     ensures { IfOk result (Stands sizes.now text.now) }
 {
@@ -98,7 +60,7 @@ pub fn image_of(alloc: Global, text: &str, sizes: &MapSizes) -> Result<Option<Im
     }
 }
 
-/// The image that bytes stand for, if they are such a text.
+/// The image that bytes give, if they are such a text.
 fn image_in(alloc: Global, bytes: &[u8], sizes: &MapSizes) -> Result<Option<Image>, AllocError>
     ensures { IfOk result (λ image. IsUtf8 bytes.now → Stands sizes.now bytes.now image) }
 {
@@ -108,11 +70,11 @@ fn image_in(alloc: Global, bytes: &[u8], sizes: &MapSizes) -> Result<Option<Imag
     }
 }
 
-/// The bytes of the image that a text stands for; the text's own if it stands for none.
+/// The bytes of the image that a text gives; the text's own if it gives none.
 ///
 /// # Errors
 ///
-/// If memory was refused.
+/// An error if memory is refused.
 pub fn bytes_in_place(
     alloc: Global,
     bytes: Vec<u8>,
@@ -132,7 +94,7 @@ fn is_of_program(line: &str) -> bool {
     DIRECTIVES.contains(&word) || read_mnemonic(word).is_some()
 }
 
-/// Whether a text is to be a program, and no table.
+/// Whether a text is meant as a program, and not as a table.
 fn is_program(text: &str) -> bool {
     for line in lines_of(text) {
         if is_of_program(line) {
@@ -215,12 +177,12 @@ fn add_faults(
     text.push_str(told_text(alloc, source)?.as_str())
 }
 
-/// Adds what is told of a text in the place of an image, that was refused: the line at which the slot of the
+/// Adds what is printed of a text in the place of an image, if it was refused. It is the line at which the slot of the
 /// refusal is, or why the text is none.
 ///
 /// # Errors
 ///
-/// If memory was refused.
+/// An error if memory is refused.
 pub fn add_source(
     text: &mut String,
     alloc: Global,

@@ -1,14 +1,20 @@
 //! The jobs of `rmapctl`.
 
-ghost use Rattle.std.specs.Prelude.{◌≡◌, IfErr, IfOk};
-ghost use Rattle.commands.specs.Performed.{IsDone, IsEnded, Performs};
+ghost use Rattle.std.specs.Prelude.{◌≡◌, IfErr, IfOk, option_map};
+ghost use Rattle.commands.specs.Jobs.{are_talked, facts_of, made_of, maps_of_node, names_of_job};
+ghost use Rattle.commands.specs.Performed.{CanDo, IsDone, IsEnded, Performs};
+ghost use Rattle.job_parts.specs.Arguments.{name_in};
 ghost use Rattle.job_parts.specs.Stops.{StopsBy};
 
+use crate::facts::Facts;
+use crate::read_names::{ReadNames, lent, order_name, place_name, source_name};
+use crate::serving::{Serves, Threaded};
 use job_charts::compare::{CompareWords, compare_file};
 use job_charts::map::{MapWords, map_file};
 use job_codes::explain::{ExplainWords, explain};
 use job_codes::why::why_file;
 use job_config::node_lines::NodeLines;
+use job_config::sources::NodeSource;
 use job_decide::decide::{DecideWords, decide_file};
 use job_node_file::node_file::{NodeFileWords, print_node_file};
 use job_nodes::full_journals::FullJournals;
@@ -18,10 +24,10 @@ use job_packets::made_packets::packet_file;
 use job_packets::packet::PacketWords;
 use job_parts::faults::Fault;
 use job_parts::inputs::Inputs;
+use job_parts::options::no_maps;
 use job_parts::status::Status;
 use job_parts::stops::{Halt, WriteFault};
 use job_parts::storage::Files;
-use job_ports::serve::serve_file;
 use job_rehearse::rehearse::{RehearseWords, rehearse_file};
 use job_show::show::{ShowWords, show_file};
 use job_suite::suite::suite_file;
@@ -33,12 +39,14 @@ use job_texts::policies::{PolicyWords, compile_file};
 use job_texts::verify::verify_file;
 use job_trace::trace::trace_file;
 use job_weigh::weigh::{WeighWords, weigh_file};
+use machine::MapSizes;
 use std::alloc::Global;
 use std::io::Write;
-use std::marker::Brand;
 use std::sync::Wait;
 use std::thread::Threads;
-use target::{Family, Opened};
+
+/// The name of standard input.
+const STANDARD_INPUT: &str = "-";
 
 /// A job, as a command line names it.
 #[derive(Debug, Drop)]
@@ -59,7 +67,7 @@ pub enum Job {
     Verify(ImageArgs),
     /// Compiles a policy table, and writes the image.
     Policy(PolicyWords),
-    /// Prints what is to be said of a code, or a line for each code.
+    /// Prints what there is to say of a code, or a line for each code.
     Explain(ExplainWords),
     /// Verifies a BPF image, and prints whether it may judge, the reason why not, and the maps that it needs.
     Why(ImageArgs),
@@ -81,6 +89,23 @@ pub enum Job {
     Rehearse(RehearseWords),
     /// Prints packet lines that try a target, or their index.
     Suite(SuiteWords),
+}
+
+/// The maps of a node that its options say. There are none for a node's file, since only that file names an image.
+pub fn maps_of_node(node: &NodeSource) -> MapSizes
+    ensures { result ≡ maps_of_node node.now }
+{
+    match node {
+        NodeSource::Words(words) => words.sizes,
+        NodeSource::File(_) => no_maps(),
+    }
+}
+
+/// Whether lines are those of standard input.
+fn are_talked(words: &ShowWords) -> bool
+    ensures { result ≡ are_talked words.now }
+{
+    words.lines.as_str() == STANDARD_INPUT
 }
 
 impl Job {
@@ -106,6 +131,76 @@ impl Job {
             Job::Explain(_) => Inputs::of(None, None),
         }
     }
+
+    /// The names of the files that it reads.
+    pub fn names(&self) -> ReadNames<'_>
+        ensures first { name_in result.first ≡ (names_of_job self.now).first }
+        ensures second { name_in result.second ≡ (names_of_job self.now).second }
+        ensures third { name_in result.third ≡ (names_of_job self.now).third }
+    {
+        match self {
+            Job::Judge(args) | Job::Serve(args) | Job::Simulate(args) | Job::Trace(args) => {
+                ReadNames::of(Some(args.lines.as_str()), source_name(&args.node))
+            }
+            Job::Assemble(words) => ReadNames::of(Some(words.text.as_str()), None),
+            Job::Disassemble(words) => ReadNames::of(Some(words.image.as_str()), None),
+            Job::Verify(args) | Job::Why(args) => ReadNames::of(Some(args.image.as_str()), None),
+            Job::Policy(words) => ReadNames::of(Some(words.table.as_str()), None),
+            Job::Explain(_) => ReadNames::of(None, None),
+            Job::Weigh(words) => ReadNames::of(Some(words.image.as_str()), None),
+            Job::Node(words) => ReadNames::of(Some(words.node.as_str()), lent(&words.table)),
+            Job::Packet(words) => ReadNames::of(order_name(&words.order), None),
+            Job::Show(words) => ReadNames::of(Some(words.lines.as_str()), None),
+            Job::Decide(words) => {
+                ReadNames::of(Some(words.lines.as_str()), Some(words.table.as_str()))
+            }
+            Job::Compare(words) => ReadNames::of(
+                Some(words.old.as_str()),
+                Some(words.new.as_str()),
+            ),
+            Job::Map(words) => ReadNames::of(Some(words.table.as_str()), None),
+            Job::Rehearse(words) => {
+                ReadNames::of(Some(words.old.as_str()), Some(words.new.as_str())).with(place_name(
+                    &words.place,
+                ))
+            }
+            Job::Suite(words) => ReadNames::of(words.table_name(), lent(&words.node)),
+        }
+    }
+
+    /// What must be known of it before it is done.
+    pub fn facts(&self) -> Facts
+        ensures { result ≡ facts_of self.now }
+    {
+        match self {
+            Job::Judge(args) | Job::Simulate(args) | Job::Trace(args) => Facts::on_lines(
+                maps_of_node(&args.node),
+            ),
+            Job::Serve(args) => Facts::serves_lines(maps_of_node(&args.node)),
+            Job::Verify(args) | Job::Why(args) => Facts::on_image(args.sizes),
+            Job::Weigh(words) => Facts::on_image(words.sizes),
+            Job::Show(words) => Facts::shows(words.raw, are_talked(words)),
+            Job::Policy(_) | Job::Packet(_) | Job::Decide(_) | Job::Compare(_) | Job::Map(_) =>
+                Facts::for_node(),
+            Job::Assemble(_)
+            | Job::Disassemble(_)
+            | Job::Explain(_)
+            | Job::Node(_)
+            | Job::Rehearse(_)
+            | Job::Suite(_) => Facts::plain(),
+        }
+    }
+
+    /// The file of which it makes another, and that one, if it makes one.
+    pub fn made(&self) -> Option<(&str, &str)>
+        ensures { option_map (λ names. (names.0.now, names.1.now)) result ≡ made_of self.now }
+    {
+        match self {
+            Job::Assemble(words) => Some((words.text.as_str(), words.image.as_str())),
+            Job::Policy(words) => Some((words.table.as_str(), words.image.as_str())),
+            _ => None,
+        }
+    }
 }
 
 /// How a job ended.
@@ -121,18 +216,19 @@ pub struct JobEnd<'a> {
     pub lost: u64,
 }
 
-/// Does a job, up to its end or the fault that ends it, which is still to be printed. `full` and `lost` are as in [`JobEnd`].
-fn attempt<'a, J: Family + Send + Sync + 'static, R: Threads + Wait + Sync, F: Files, W: Write>(
-    rt: &R,
+/// Does a job, up to its end or the fault that ends it. The fault is not printed yet. `full` and `lost` are as in
+/// [`JobEnd`].
+fn attempt<'a, S: Serves, F: Files, W: Write>(
     alloc: Global,
-    opened: Opened,
+    server: &S,
     job: &'a Job,
     files: &mut F,
     out: &mut W,
     full: &mut Option<FullJournals>,
     lost: &mut u64,
 ) -> Result<Status, Halt<'a>>
-    requires { opened ≡ J.book }
+    requires can { CanDo S.serves job.now }
+    requires shared { S.shares }
     ensures done { IfOk result (IsDone F.reads F.writes job.now files.old files.new
         (W.contents out.old) (W.contents out.new)) }
     ensures stops { IfErr result (StopsBy (IsEnded F.reads F.writes job.now files.old files.new
@@ -140,7 +236,7 @@ fn attempt<'a, J: Family + Send + Sync + 'static, R: Threads + Wait + Sync, F: F
 {
     match job {
         Job::Judge(args) => judge_file(alloc, args, files, out, full),
-        Job::Serve(args) => serve_file::<J, _, _, _>(rt, alloc, opened, args, files, out, lost),
+        Job::Serve(args) => server.serve(alloc, args, files, out, lost),
         Job::Simulate(args) => sim_file(alloc, args, files, out),
         Job::Trace(args) => trace_file(alloc, args, files, out),
         Job::Assemble(words) => {
@@ -163,28 +259,26 @@ fn attempt<'a, J: Family + Send + Sync + 'static, R: Threads + Wait + Sync, F: F
     }
 }
 
-/// Does a job, where a node that it makes has that history of programs.
-fn perform_opened<
-    'a,
-    J: Family + Send + Sync + 'static,
-    R: Threads + Wait + Sync,
-    F: Files,
-    W: Write,
->(
-    rt: &R,
+/// Does a job with who serves ports, and gives how it ended.
+///
+/// # Errors
+///
+/// `WriteFault` if the writer failed. Nothing is written after that.
+pub fn perform_with<'a, S: Serves, F: Files, W: Write>(
     alloc: Global,
-    opened: Opened,
+    server: &S,
     job: &'a Job,
     files: &mut F,
     out: &mut W,
 ) -> Result<JobEnd<'a>, WriteFault>
-    requires { opened ≡ J.book }
+    requires can { CanDo S.serves job.now }
+    requires shared { S.shares }
     ensures { IfOk result (λ end. Performs F.reads F.writes job.now files.old files.new
         (W.contents out.old) (W.contents out.new) end.status) }
 {
     let mut full = None;
     let mut lost = 0;
-    match attempt::<J, _, _, _>(rt, alloc, opened, job, files, out, &mut full, &mut lost) {
+    match attempt(alloc, server, job, files, out, &mut full, &mut lost) {
         Ok(status) => Ok(JobEnd {
             status,
             fault: None,
@@ -204,25 +298,17 @@ fn perform_opened<
     }
 }
 
-/// Does a job over any files and any writer, and gives how it ended, with the exit status: `Failed` where an image was refused, two tables differ,
-/// a load or its way back is closed or a fault was printed, `Misused` where there are no packets such as `packet` was to make, or a bank begins with bytes, which no schedule does, else `Done`. What the writer holds back is
-/// not flushed. It may wait: `serve` has a node, whose end does, and starts threads and waits for them.
+/// Does a job over any files and any writer, and gives the exit status. What the writer holds back is not flushed. The
+/// call may wait: `serve` has a node, whose end waits, and starts threads and waits for them.
 ///
-/// `WriteFault` where the writer failed; nothing is written after that.
-pub fn perform_told<'a, R: Threads + Wait + Sync, F: Files, W: Write>(
-    rt: &R,
-    alloc: Global,
-    job: &'a Job,
-    files: &mut F,
-    out: &mut W,
-) -> Result<JobEnd<'a>, WriteFault>
-    ensures { IfOk result (λ end. Performs F.reads F.writes job.now files.old files.new
-        (W.contents out.old) (W.contents out.new) end.status) }
-{
-    perform_opened::<Brand, _, _, _>(rt, alloc, Opened::new(), job, files, out)
-}
-
-/// The same, with the exit status alone.
+/// - `Failed`: an image was refused, two tables differ, a load or its way back is closed, or a fault was printed.
+/// - `Misused`: there are no packets such as `packet` was to make, or a bank begins with bytes, which no schedule does.
+///   Or the node of `rehearse` does not have the port of the loader.
+/// - `Done`: all else.
+///
+/// # Errors
+///
+/// `WriteFault` if the writer failed. Nothing is written after that.
 pub fn perform<R: Threads + Wait + Sync, F: Files, W: Write>(
     rt: &R,
     alloc: Global,
@@ -233,6 +319,7 @@ pub fn perform<R: Threads + Wait + Sync, F: Files, W: Write>(
     ensures { IfOk result (Performs F.reads F.writes job.now files.old files.new
         (W.contents out.old) (W.contents out.new)) }
 {
-    let end = perform_told(rt, alloc, job, files, out)?;
+    let server = Threaded::new(rt);
+    let end = perform_with(alloc, &server, job, files, out)?;
     Ok(end.status)
 }

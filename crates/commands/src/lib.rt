@@ -1,21 +1,28 @@
-//! What `rmapctl` does: its command line, its jobs over any files and any writer, and its talks over any lines or frames that come.
+//! What `rmapctl` does: its command line, its jobs over any files and any writer, and its talks over any lines or
+//! frames that come.
 #![tactic(auto)]
 
 mod asked;
 mod denied_loads;
+mod desk;
+mod driver;
 mod dumps;
 mod ends;
+mod facts;
 mod foreign;
 mod hints;
 mod in_place;
 mod jobs;
 mod line_paths;
 mod losses;
+mod machine_desk;
 mod node_jobs;
 mod noted;
 mod odd;
 mod one_input;
+mod read_names;
 mod refusals;
+mod serving;
 mod short_quotas;
 mod shows;
 mod slips;
@@ -26,15 +33,12 @@ mod whole_file;
 mod word;
 mod work;
 
-pub use asked::{Asked, Waits, asked_of, told_wait, words_or_judge};
-pub use dumps::DumpTalk;
-pub use ends::{told_end, told_node};
+pub use desk::Desk;
+pub use driver::{End, LEFT_OUT, Left, do_words};
 pub use job_charts::compare::CompareWords;
 pub use job_charts::map::MapWords;
 pub use job_codes::explain::ExplainWords;
-pub use job_config::configuration::Configuration;
 pub use job_config::node_lines::NodeLines;
-pub use job_config::reading::configuration_in;
 pub use job_decide::decide::DecideWords;
 pub use job_frames::holding::live_frames;
 pub use job_frames::host::HostLink;
@@ -47,7 +51,6 @@ pub use job_node_file::node_file::NodeFileWords;
 pub use job_packets::orders::{Order, Source};
 pub use job_packets::packet::PacketWords;
 pub use job_packets::packet_options::HeaderWords;
-pub use job_parts::faults::Fault;
 pub use job_parts::status::Status;
 pub use job_parts::stops::WriteFault;
 pub use job_parts::storage::{Cannot, Files};
@@ -60,14 +63,11 @@ pub use job_texts::asm::AsmWords;
 pub use job_texts::dis::DisWords;
 pub use job_texts::images::ImageArgs;
 pub use job_weigh::weigh::WeighWords;
-pub use jobs::{Job, JobEnd, perform, perform_told};
-pub use losses::{Untold, told_loss};
-pub use node_jobs::{NodeJob, node_inputs};
-pub use noted::{Cause, FileNode, Noted};
-pub use refusals::{Refusal, Stream, argument_fault, stream_of, told_fault, usage_end};
-pub use shows::show_talk;
-pub use slips::{OWN_CONTENTS, OWN_SOURCE, told_option};
-pub use told_files::{ToldFiles, own_contents, own_source};
-pub use told_talk::ToldTalk;
+pub use jobs::{Job, perform};
+pub use machine_desk::MachineDesk;
+pub use node_jobs::NodeJob;
+pub use noted::Cause;
+pub use refusals::{Refusal, Stream, argument_fault, stream_of, usage_end};
+pub use serving::{Nobody, Serves, Threaded};
 pub use usage::words;
-pub use work::{Course, Work};
+pub use work::Work;

@@ -1,4 +1,4 @@
-//! The paths that stand before the packets of lines.
+//! The paths that are before the packets of lines.
 
 ghost use Rattle.std.specs.Prelude.{◌≡◌};
 
@@ -12,23 +12,23 @@ use std::alloc::{AllocError, Global};
 /// The marker of a piece of a packet that goes on.
 const GOES_ON: &str = "PART";
 
-/// Which lines came, of which the packets are looked at: how many there were, and which ports hold pieces of a packet, by the
-/// bit of their number. Only the whole packet of one line is looked at, since what ends a packet may look like a path.
+/// Which lines came whose packets are looked at: how many there were, and, by the bit of their number, which ports hold
+/// pieces of a packet. Only the whole packet of one line is looked at, because what ends a packet may look like a path.
 #[derive(Debug, Drop)]
 pub struct LinePaths {
     number: usize,
     held: u32,
 }
 
-/// Whether the packet of some line may begin with a path. Its first byte is then below 32, so its first digit is 0 or 1, which
-/// comes after a space.
+/// Whether the packet of some line may begin with a path. If it does, its first byte is below 32, so its first digit is
+/// 0 or 1, which comes after a space.
 pub fn may_have_paths(lines: &str) -> bool {
     let bytes = lines.as_bytes();
     memmem::find(bytes, b" 0").is_some() || memmem::find(bytes, b" 1").is_some()
 }
 
-/// Whether four characters of a line show that it has no piece, and no packet that begins with a path: a digit, a space, a
-/// character above `1`, and at the end neither a space nor the last character of [`GOES_ON`].
+/// Whether four characters of a line show that it has no piece, and no packet that begins with a path. These are a
+/// digit, a space, a character above `1`, and at the end neither a space nor the last character of [`GOES_ON`].
 fn is_passed(line: &str) -> bool {
     let [port, b' ', first, .., last] = line.as_bytes() else {
         return false;
@@ -48,7 +48,7 @@ fn is_looked_at(line: &str) -> bool {
     rest.starts_with('0') || rest.starts_with('1') || rest.ends_with(GOES_ON)
 }
 
-/// The path that stands before a packet, which is discarded for it: no bytes, if none does.
+/// The path that is before a packet, which is discarded because of it. It has no bytes if there is no path.
 fn path_before(packet: &Packet) -> &[u8] {
     match Seen::of(packet) {
         Seen::Discarded {
@@ -86,12 +86,12 @@ impl LinePaths {
         Packet::new(bytes, end).ok()
     }
 
-    /// Takes the next line, and adds the path that stands before its packet, if one does: then the packet is discarded. Tells
-    /// whether one does.
+    /// Takes the next line, and adds the path that is before its packet, if there is one: then the packet is discarded.
+    /// Returns whether there is one.
     ///
     /// # Errors
     ///
-    /// Where memory was refused.
+    /// An error if memory is refused.
     pub fn take(
         &mut self,
         alloc: Global,

@@ -1,4 +1,5 @@
-//! What is told, and how it ends, if standard output or standard error does not take all that is printed.
+//! What is printed if standard output or standard error does not take all that is printed, and how the program then
+//! ends.
 
 ghost use Rattle.std.specs.Prelude.{◌≡◌, ◌≢◌, ◌<◌, IfErr, IsErrAnd, MatchOption, Some, codes};
 ghost use Rattle.std.specs.IoError.{error_kind};
@@ -7,10 +8,10 @@ ghost use Rattle.commands.specs.Losses.{untold_text};
 use std::fmt;
 use std::io::{self, ErrorKind};
 
-/// What is told if standard output cannot be written.
+/// What is printed if standard output cannot be written.
 const LOST: &str = "cannot write standard output";
 
-/// What is told of output that was not written, if its reader did not just close the pipe.
+/// What is printed of output that was not written, if its reader did not just close the pipe.
 pub fn told_loss(written: &io::Result<()>) -> Option<&'static str>
     ensures { MatchOption result
         (IsErrAnd written.now (λ refused. error_kind refused ≡ ErrorKind.BrokenPipe))
@@ -26,14 +27,14 @@ pub fn told_loss(written: &io::Result<()>) -> Option<&'static str>
     }
 }
 
-/// That standard error did not take so many texts.
+/// That standard error did not take this many texts.
 #[derive(Clone, Copy, Debug)]
 pub struct Untold {
     count: u64,
 }
 
 impl Untold {
-    /// What is told of that many texts, if there are any.
+    /// What is printed of that many texts, if there are any.
     pub fn of(count: u64) -> Option<Untold>
         ensures { MatchOption result (count ≡ 0) (λ untold. (0 < count) × (untold.count ≡ count)) }
     {

@@ -5,7 +5,8 @@ ghost use Rattle.clap.specs.Matches.{found_of};
 ghost use Rattle.clap.specs.Simple.{app_of};
 ghost use Rattle.clap.specs.Walk.{rows_of};
 ghost use Rattle.clap.specs.declared.builder.command.Command.TheViews.{out-Command as fields_of};
-ghost use Rattle.commands.specs.OnNodes.{are_left, own_file, placed, takes_file, with_node};
+ghost use Rattle.commands.specs.Jobs.{placed};
+ghost use Rattle.commands.specs.OnNodes.{are_left, own_file, with_node};
 ghost use Rattle.job_config.specs.Configured.{numbers_in};
 ghost use Rattle.job_parts.specs.Inputs.{AreInputs, input, input_value};
 ghost use Rattle.job_parts.specs.declared.inputs.Content.TheVariants.{Node};
@@ -40,22 +41,7 @@ pub struct NodeJob {
     pub node: String,
 }
 
-impl NodeJob {
-    /// What is read first of all that is read, and what is written: the node's file, the first file of the job, and its OUT.
-    pub fn inputs(&self) -> Inputs<'_>
-        ensures { option_map input_value result.first
-            ≡ Some (input (string_bytes self.now.node) Node) }
-    {
-        let own = self.job.inputs();
-        Inputs {
-            first: node_inputs(self.node.as_str()).first,
-            second: own.first,
-            output: own.output,
-        }
-    }
-}
-
-/// What is read of the node's file of this name: it alone, and none of the files that it names.
+/// What is read of the node's file of this name: only that file, and none of the files that it names.
 pub fn node_inputs(node: &str) -> Inputs<'_>
     ensures { AreInputs (Some (input node.now Node)) None None result }
 {
@@ -77,6 +63,10 @@ impl<'a> JobEnd<'a> {
 }
 
 /// The subcommand with the option `--node`.
+///
+/// # Errors
+///
+/// An error if memory is refused.
 pub fn with_node<'a>(alloc: Global, command: Command<'a>) -> Result<Command<'a>, AllocError>
     requires { (fields_of command).has_globals ≡ false }
     ensures shape { IfOk result (λ c. app_of c ≡ with_node (app_of command.entry)) }
@@ -86,45 +76,18 @@ pub fn with_node<'a>(alloc: Global, command: Command<'a>) -> Result<Command<'a>,
     command.arg(node)
 }
 
-/// Whether what the options of a job say of a node may be left to a node's file.
-fn takes_file(job: &Job) -> bool
-    ensures { result ≡ takes_file job.now }
-{
-    match job {
-        Job::Verify(_)
-        | Job::Why(_)
-        | Job::Weigh(_)
-        | Job::Policy(_)
-        | Job::Packet(_)
-        | Job::Decide(_)
-        | Job::Compare(_)
-        | Job::Map(_) => true,
-        Job::Assemble(_)
-        | Job::Disassemble(_)
-        | Job::Judge(_)
-        | Job::Serve(_)
-        | Job::Simulate(_)
-        | Job::Explain(_)
-        | Job::Node(_)
-        | Job::Show(_)
-        | Job::Trace(_)
-        | Job::Rehearse(_)
-        | Job::Suite(_) => false,
-    }
-}
-
-/// The name of the node's file that such a job is left to, if the matches have one.
+/// The name of the node's file to which such a job is left, if the matches have one.
 pub fn own_file<'a>(job: &Job, found: &ArgMatches<'a>) -> Option<&'a str>
     ensures { option_map (λ name. name.now) result ≡ own_file job.now (rows_of (found_of found.now)) }
 {
-    if takes_file(job) {
+    if job.facts().takes_file {
         text_of(found, "node")
     } else {
         None
     }
 }
 
-/// The first option with a value that says what a node's file says, if there is one.
+/// The first option with a value that says what a node's file says too, if there is one.
 pub fn beside_file(found: &ArgMatches) -> Option<&'static str>
     ensures { is_none result ≡ are_left (rows_of (found_of found.now)) }
 {
@@ -201,6 +164,7 @@ fn map_on(words: MapWords, sizes: MapSizes) -> MapWords
         sizes,
         markdown: words.markdown,
         is_quiet: words.is_quiet,
+        lines: words.lines,
         asking: words.asking,
     }
 }
@@ -250,9 +214,13 @@ fn packet_on(words: PacketWords, target: u8) -> PacketWords
 }
 
 impl Job {
-    /// The job for a node of this configuration, in place of what its options say of a node: with its maps, if it takes maps;
-    /// `decide` with its address, its ports and its banks too; `compare` with its address and its banks; `packet` with its address as
-    /// the target's. The condition is banks that a node may have.
+    /// The job for a node of this configuration, in place of what its options say of a node. The condition is banks
+    /// that a node may have.
+    ///
+    /// - A job that takes maps has the node's maps.
+    /// - `decide` has its address, its ports and its banks too.
+    /// - `compare` has its address and its banks too.
+    /// - `packet` has its address as the target's.
     pub fn placed(self, own: &Configuration) -> Job
         requires { are_within own.now.banks.items ≡ true }
         ensures { result ≡ placed self (numbers_in own.now) }

@@ -1,13 +1,13 @@
 //! What is noted of the files that a job reads: why one could not be read or written, and what was read last.
 
 ghost use Rattle.std.specs.Prelude.{◌≡◌, ◌≤◌, IfOk, IfSome, None, Some, false, is_some, option_copied, option_map, string_bytes, true};
-ghost use Rattle.commands.specs.InPlace.{maps_of_job, maps_of_node};
-ghost use Rattle.commands.specs.Notes.{GivesPlaced, is_dump, maps_for, may_be_text, most_of, next_content, ports_of, reads_dump};
+ghost use Rattle.commands.specs.Jobs.{is_dump, maps_of_job, maps_of_node};
+ghost use Rattle.commands.specs.Notes.{GivesPlaced, maps_for, may_be_text, most_of, next_content, ports_of, reads_dump};
 ghost use Rattle.node_parts.specs.Nodes.{are_within, windows_of};
 
 use crate::dumps::dump_lines;
-use crate::in_place::{bytes_in_place, maps_of_job, maps_of_node};
-use crate::jobs::Job;
+use crate::in_place::bytes_in_place;
+use crate::jobs::{Job, maps_of_node};
 use job_config::configuration::Configuration;
 use job_config::sources::NodeSource;
 use job_parts::inputs::{Content, Inputs};
@@ -32,7 +32,7 @@ pub enum Cause {
     System(io::Error),
     /// It is no text.
     NoText,
-    /// It is an image, where a text is wanted.
+    /// It is an image, but a text is wanted.
     Image,
     /// It is standard input, which cannot be written.
     Input,
@@ -45,7 +45,7 @@ pub enum Cause {
 pub struct FileNode {
     /// How many ports it has.
     pub ports: u8,
-    /// Its address, and where its banks lie.
+    /// Its address, and where its banks are.
     pub windows: Windows,
 }
 
@@ -80,7 +80,7 @@ fn is_image(bytes: &[u8]) -> bool {
     bytes.starts_with(MAGIC)
 }
 
-/// How many bytes are read of a file at most: one that has more is longer than its content may be.
+/// How many bytes are read of a file at most. A file that has more is longer than its content may be.
 pub fn most_of(content: Content) -> u64
     ensures { result ≡ most_of content }
 {
@@ -92,8 +92,8 @@ pub fn most_of(content: Content) -> u64
     }
 }
 
-/// Why bytes are not what a file has to be, if they are not: no text, or one that is too long. What is wrong with an image the
-/// job says.
+/// Why bytes are not what a file must be, if they are not: no text, or one that is too long. The job says what is wrong
+/// with an image.
 fn no_content(content: Content, bytes: &[u8]) -> Option<Cause> {
     match content {
         Content::Lines => no_text(bytes),
@@ -106,7 +106,7 @@ fn no_content(content: Content, bytes: &[u8]) -> Option<Cause> {
     }
 }
 
-/// Whether a file that has to be that may be the text of a program or a table in the place of an image.
+/// Whether a file that must be that may be the text of a program or a table in the place of an image.
 fn may_be_text(content: Content) -> bool
     ensures { result ≡ may_be_text content }
 {
@@ -138,16 +138,6 @@ fn too_long(bytes: &[u8]) -> Option<Cause> {
     }
 }
 
-/// Whether the lines of a job are those of a dump.
-fn shows_dump(job: &Job) -> bool
-    ensures { result ≡ is_dump job.now }
-{
-    match job {
-        Job::Show(words) => words.raw,
-        _ => false,
-    }
-}
-
 /// The packet lines of a dump, which is a text.
 fn packet_lines(alloc: Global, bytes: &[u8]) -> Result<Vec<u8>, AllocError> {
     let dump = str::from_utf8(bytes).unwrap_or("");
@@ -172,16 +162,18 @@ impl<'a> Noted<'a> {
         }
     }
 
-    /// Nothing yet, of the files that the job reads; the node whose file says the job's maps, if one says them. The
-    /// lines of a dump are given as its packet lines, and of the text of a program or a table in the place of an image the image is given.
+    /// Nothing yet, of the files that the job reads. `node` is the node whose file says the job's maps, if one says
+    /// them. The lines of a dump are given as its packet lines. Of the text of a program or a table in the place of an
+    /// image the image is given.
     pub fn of_job(job: &'a Job, node: Option<FileNode>) -> Noted<'a>
         ensures dump { reads_dump result ≡ is_dump job.now }
         ensures maps { maps_for result ≡ maps_of_job job.now }
     {
+        let facts = job.facts();
         let mut noted = Noted::new(job.inputs());
-        noted.is_dump = shows_dump(job);
+        noted.is_dump = facts.is_dump;
         noted.node = node;
-        noted.maps = maps_of_job(job);
+        noted.maps = facts.maps;
         noted
     }
 
@@ -262,7 +254,7 @@ impl<'a> Noted<'a> {
         }
     }
 
-    /// What the file has to be that is read next.
+    /// What the file must be that is read next.
     pub fn next(&mut self) -> Content
         ensures content { result ≡ next_content self.old }
         ensures dump { reads_dump self.new ≡ reads_dump self.old }
@@ -308,10 +300,12 @@ impl<'a> Noted<'a> {
         }
     }
 
-    /// The bytes that a job gets of those of a file: of the text of a program or a table in the place of an
-    /// image those of the image.
+    /// The bytes that a job gets of those of a file. Of the text of a program or a table in the place of an image they
+    /// are those of the image.
     ///
-    /// `Cannot` if memory was refused; then the cause is noted.
+    /// # Errors
+    ///
+    /// `Cannot` if memory is refused. Then the cause is noted.
     fn placed(&mut self, alloc: Global, content: Content, bytes: Vec<u8>) -> Result<Vec<u8>, Cannot>
         ensures given { IfOk result (λ given. GivesPlaced self.old content bytes.items given.items) }
         ensures dump { reads_dump self.new ≡ reads_dump self.old }
@@ -339,7 +333,9 @@ impl<'a> Noted<'a> {
 
     /// The bytes of a text, of which nothing is kept.
     ///
-    /// `Cannot` if they are no text, or one that is too long; then the cause is noted.
+    /// # Errors
+    ///
+    /// `Cannot` if they are no text, or one that is too long. Then the cause is noted.
     pub fn lent(&mut self, bytes: Vec<u8>) -> Result<Vec<u8>, Cannot>
         ensures given { IfOk result (λ given. given.items ≡ bytes.items) }
         ensures dump { reads_dump self.new ≡ reads_dump self.old }
@@ -351,9 +347,11 @@ impl<'a> Noted<'a> {
         }
     }
 
-    /// The bytes that a job gets of those that were read of a file, which has to be that.
+    /// The bytes that a job gets of those that were read of a file, which must be that.
     ///
-    /// `Cannot` where it is not; then the cause is noted.
+    /// # Errors
+    ///
+    /// `Cannot` if the file is not that. Then the cause is noted.
     pub fn given(
         &mut self,
         alloc: Global,

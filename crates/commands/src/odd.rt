@@ -60,12 +60,15 @@ fn add_unused(text: &mut String, alloc: Global, table: &str) -> Result<(), Alloc
     Ok(())
 }
 
-/// Adds what is odd in a table for maps of these sizes, if it can be drawn: which rules never match, if that was not printed; which match
-/// no command of the node, if its file was given; and which ranges have no use.
+/// Adds what is odd in a table for maps of these sizes, if it can be drawn:
+///
+/// - which rules never match, if that was not printed
+/// - which rules match no command of the node, if its file was given
+/// - which ranges have no use
 ///
 /// # Errors
 ///
-/// If memory was refused.
+/// An error if memory is refused.
 pub fn add_odd(
     text: &mut String,
     alloc: Global,

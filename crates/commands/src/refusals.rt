@@ -1,4 +1,4 @@
-//! Where the user is told of a command line that asks for nothing, and with which exit status.
+//! Where a fault of a command line that asks for nothing is printed, and with which exit status.
 
 ghost use Rattle.std.specs.Prelude.{◌≡◌, IfOk, Some, string_bytes};
 ghost use Rattle.std.specs.IoError.{error_kind};
@@ -41,8 +41,8 @@ fn ask_frames(words: &[&str]) -> bool
     }
 }
 
-/// Where the user is told of a fault of these words: of refused memory on standard output, as by a job, unless they ask for
-/// frames; of each other fault on standard error.
+/// Where a fault of these words is printed. Refused memory is printed on standard output, as by a job, unless the words
+/// ask for frames. Each other fault is printed on standard error.
 pub fn stream_of(fault: &UsageFault, words: &[&str]) -> Stream
     ensures { result ≡ stream_of words.now fault.now }
 {
@@ -68,11 +68,11 @@ pub fn usage_end(fault: &UsageFault) -> Status
     }
 }
 
-/// What more the user is told of a fault of these words: of a bad option the word that it may not be ([`told_option`]).
+/// What more is printed of a fault of these words: of a bad option the word that it may not be ([`told_option`]).
 ///
 /// # Errors
 ///
-/// If memory was refused.
+/// An error if memory is refused.
 pub fn told_fault(alloc: Global, fault: &UsageFault, words: &[&str]) -> Result<String, AllocError>
     ensures { IfOk result (λ more. TellsMore fault.now (string_bytes more)) }
 {
@@ -89,7 +89,7 @@ pub struct Refusal<'a> {
 }
 
 impl<'a> Refusal<'a> {
-    /// That of this fault.
+    /// What is printed of this fault.
     pub fn of(fault: &'a UsageFault) -> Refusal<'a>
         ensures { result.fault.now ≡ fault.now }
     {

@@ -75,7 +75,7 @@ fn judge_of(
     let Ok(image) = compile_policy(alloc, table, sizes) else {
         return Ok(None);
     };
-    // Memory alone can be refused to this: what a table compiles to is accepted.
+    // Only memory can be refused to this: what a table compiles to is accepted.
     match verify(alloc, image, sizes) {
         Ok(judge) => Ok(Some(judge)),
         Err(_) => Err(AllocError),
@@ -109,7 +109,7 @@ fn is_held(
     Ok(!passes(alloc, held, asker, port)? && passes(alloc, freed, asker, port)?)
 }
 
-/// Whether it is so of a load by one of these at a port of the node.
+/// Whether it is so for a load by one of these at a port of the node.
 fn are_held(
     alloc: Global,
     held: &Accepted,
@@ -143,12 +143,13 @@ fn freed_judge(
     }
 }
 
-/// Adds which rules of a table have a quota that lets no whole load pass, in slot 3 of a node with these maps and ports: one of its askers
-/// can never load the smallest image, and can if the rule has no quota.
+/// Adds which rules of a table have a quota that lets no whole load pass, in slot 3 of a node with these maps and
+/// ports. For such a rule, one of the table's askers can never load the smallest image, but can if the rule has no
+/// quota.
 ///
 /// # Errors
 ///
-/// If memory was refused.
+/// An error if memory is refused.
 pub fn add_short_quotas(
     text: &mut String,
     alloc: Global,

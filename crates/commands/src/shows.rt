@@ -13,10 +13,10 @@ use job_show::shown_lines::shown_line;
 use std::alloc::Global;
 use std::io::Write;
 
-/// The name of standard input, where the lines cannot be read.
+/// The name of standard input, for the fault that the lines cannot be read.
 const STANDARD_INPUT: &str = "-";
 
-/// Takes the next line, the one of that number, and sends what it is in words: whether there was one.
+/// Takes the next line, the one of that number, and sends what it is in words. Returns whether there was one.
 fn show_next<'a, T: Talk>(alloc: Global, talk: &mut T, number: usize) -> Result<bool, Halt<'a>>
     ensures shown { IfOk result (λ was_given. ShowsOne T.came T.sent was_given talk.old talk.new) }
     ensures stops { IfErr result (IsUntold T.came T.sent T.unsent T.missed number talk.old talk.new) }
@@ -65,10 +65,12 @@ fn tell<T: Talk>(alloc: Global, fault: &Fault<'_>, talk: &mut T) -> Result<(), W
     talk.send(text.as_slice()).map_err(|_| WriteFault)
 }
 
-/// Tells in words what the lines of a talk are, as they come, and gives the exit status: `Failed` where a line was bad, or
-/// could not be read, and ended it, else `Done`. What a line is is sent before the next is asked for.
+/// Sends in words what the lines of a talk are, as they come, and gives the exit status. It is `Failed` if a line was
+/// bad or could not be read, which ends the talk, else `Done`. What a line is is sent before the next is asked for.
 ///
-/// `WriteFault` where what a line is could not be sent; nothing is sent after that.
+/// # Errors
+///
+/// `WriteFault` if what a line is could not be sent. Nothing is sent after that.
 pub fn show_talk<T: Talk>(alloc: Global, talk: &mut T) -> Result<Status, WriteFault>
     ensures shows { IfOk result (ShowsTalk T.came T.sent T.unsent T.missed talk.old talk.new) }
     ensures unsent { IfErr result (IsUnsent T.came T.sent T.unsent T.missed talk.old talk.new) }

@@ -1,9 +1,10 @@
-//! What more is told of words that name no work, and of a job that failed, behind the line that tells so.
+//! What more is printed of words that name no work, and of a job that failed, after the line that says so.
 
 use crate::jobs::Job;
 use crate::node_jobs::beside_file;
 use crate::usage::command_line;
 use clap::ArgMatches;
+use job_charts::map::lines_wanted;
 use job_codes::topics::{CodeKind, KINDS};
 use job_config::sources::beside_node;
 use job_live::words::scrub_of;
@@ -28,6 +29,9 @@ const PORTS: &str = "a decimal number from 1 to 32";
 
 /// What `--scrub` may be.
 const SCRUB: &str = "a decimal number from 1 to 4294967295";
+
+/// What `--lines` may be.
+const LINES: &str = "a decimal number from 1 to 4294967295";
 
 /// What `--ports` may be beside `--frames`.
 const ONE_PORT: &str = "1 if frames come";
@@ -170,7 +174,7 @@ const TABLE: &str =
 const WITHIN: &str =
     "ranges of addresses in hexadecimal digits with commas between them, first not above last, as 00:A0000000-A000FFFF";
 
-/// What is told of an OUT that is the file that is read.
+/// What is printed of an OUT that is the file that is read.
 pub const OWN_SOURCE: &str = "    this is the file that is read\n";
 
 /// What is printed of an OUT that a bank begins with.
@@ -184,14 +188,14 @@ const LEFT: [&str; 8] = [
 /// What CODE may be.
 const CODE: &str = "one of the codes that explain lists without CODE, as V5 or load12";
 
-/// What is told of a node's file whose banks do not begin with zeros, of a job that steps through a schedule.
+/// What is printed of a node's file whose banks do not begin with zeros, if a job steps through a schedule.
 const CONTENTS: &str =
     "bad option\n    contents is there in the node's file: the banks of a schedule begin with zeros\n";
 
-/// What is told of a loader at a port that the node of a file does not have.
+/// What is printed of a loader at a port that the node of a file does not have.
 const FEW_PORTS: &str = "bad option\n    --port is there: the node of the file has fewer ports\n";
 
-/// The line that tells what a word stands for, how it was written, and what is wanted.
+/// The line that says what a word is for, how it was written, and what is wanted.
 fn line_of(
     alloc: Global,
     name: &str,
@@ -218,7 +222,7 @@ fn slip_line(alloc: Global, found: &ArgMatches, slip: Slip) -> Result<String, Al
     line_of(alloc, name, text_of(found, word.id()), wanted)
 }
 
-/// What the word of this name names of the files that are read. `packet` names one more after KIND.
+/// What the word of this name names among the files that are read. `packet` names one more after KIND.
 fn read_by(name: &str) -> &'static [Named] {
     match name {
         "verify" | "why" | "weigh" => &OF_IMAGE,
@@ -248,8 +252,8 @@ fn input_line(alloc: Global, name: &str, found: &ArgMatches) -> Result<String, A
     Ok(String::new(alloc))
 }
 
-/// The line of words of which each is one that it may be, but not beside the other: `--frames` and `--ports`, `--any` and options
-/// of loads that are done or the file of a node, or two files that are standard input.
+/// The line of words of which each is one that it may be, but not beside the other. These are `--frames` and `--ports`,
+/// `--any` and options of loads that are done or the file of a node, or two files that are standard input.
 fn pair_line(alloc: Global, name: &str, found: &ArgMatches) -> Result<String, AllocError> {
     if is_set(found, "frames") {
         return line_of(alloc, "--ports", text_of(found, "ports"), ONE_PORT);
@@ -273,7 +277,7 @@ fn codes_of(alloc: Global, number: u8) -> Result<String, AllocError> {
     Ok(text)
 }
 
-/// The line of a code that is none: where it is a number, with the codes that have it.
+/// The line of a code that is none: if it is a number, with the codes that have it.
 fn code_line(alloc: Global, code: &str) -> Result<String, AllocError> {
     let codes = match code.parse::<u8>() {
         Ok(number) if !code.starts_with('+') => codes_of(alloc, number)?,
@@ -285,12 +289,12 @@ fn code_line(alloc: Global, code: &str) -> Result<String, AllocError> {
     format!(in alloc; "    CODE is {code}: the number of {codes}\n")
 }
 
-/// The line of an option of the node that stands beside its file.
+/// The line of an option of the node that is beside its file.
 fn beside_line(alloc: Global, name: &str) -> Result<String, AllocError> {
     format!(in alloc; "    --{name} is there beside --node: the node's file says it\n")
 }
 
-/// The option that says what the node's file says that the subcommand of this name has, if it has both.
+/// The option that says what the node's file says, if the subcommand of this name has both.
 fn beside(name: &str, found: &ArgMatches) -> Option<&'static str> {
     if !LEFT.iter().any(|word| *word == name) {
         return beside_node(found);
@@ -333,6 +337,16 @@ fn suite_line(alloc: Global, found: &ArgMatches) -> Result<String, AllocError> {
     Ok(String::new(alloc))
 }
 
+/// The line of an option of `map`. A number of lines is looked at after the maps, as the job does.
+fn map_line(alloc: Global, name: &str, found: &ArgMatches) -> Result<String, AllocError> {
+    match (sizes_of(alloc, found), lines_wanted(found)) {
+        (Ok(_), Err(UsageFault::BadOption)) => {
+            line_of(alloc, "--lines", text_of(found, "lines"), LINES)
+        }
+        _ => option_line(alloc, name, found),
+    }
+}
+
 /// The line of an option that words of any other job have.
 fn option_line(alloc: Global, name: &str, found: &ArgMatches) -> Result<String, AllocError> {
     if let Err(UsageFault::BadOption) = sizes_of(alloc, found) {
@@ -360,11 +374,11 @@ fn option_line(alloc: Global, name: &str, found: &ArgMatches) -> Result<String, 
     }
 }
 
-/// The line behind `bad option`: the word, what it stands for and what is wanted. It is empty where `clap` refuses the words.
+/// The line after `bad option`: the word, what it is for and what is wanted. It is empty if `clap` refuses the words.
 ///
 /// # Errors
 ///
-/// Where memory was refused.
+/// An error if memory is refused.
 pub fn told_option(alloc: Global, words: &[&str]) -> Result<String, AllocError> {
     let Ok(found) = command_line(alloc)?.try_get_matches_from(words) else {
         return Ok(String::new(alloc));
@@ -378,11 +392,13 @@ pub fn told_option(alloc: Global, words: &[&str]) -> Result<String, AllocError> 
     match name {
         "packet" => packet_line(alloc, found),
         "suite" => suite_line(alloc, found),
+        "map" => map_line(alloc, name, found),
         _ => option_line(alloc, name, found),
     }
 }
 
-/// `bad option` of a job that was begun, and the line behind it: what of a packet is too long, or what the node's file may not say.
+/// `bad option` of a job that was begun, and the line after it: what of a packet is too long, or what the node's file
+/// may not say.
 pub(crate) fn advice(job: &Job) -> &'static str {
     match job {
         Job::Simulate(_) | Job::Trace(_) => CONTENTS,
@@ -398,7 +414,7 @@ pub(crate) fn advice(job: &Job) -> &'static str {
     }
 }
 
-/// The line behind `cannot write NAME` of a job that reads nothing, since its OUT is the file that it would read.
+/// The line after `cannot write NAME` of a job that reads nothing, because its OUT is the file that it would read.
 pub(crate) fn told_output(job: &Job) -> &'static str {
     let inputs = job.inputs();
     match (inputs.first, inputs.output) {

@@ -1,4 +1,4 @@
-//! A talk that tells on standard error what the faults are that it sends, and which path stands before a packet.
+//! A talk that reports on standard error what the faults are that it sends, and which path is before a packet.
 
 ghost use Rattle.std.specs.Prelude.{◌≡◌};
 
@@ -13,9 +13,9 @@ use std::alloc::Global;
 const NO_PLACE: &str =
     "no such port, or set has not three words, or its bytes lie outside the bank";
 
-/// A talk, which tells on standard error what a fault is whose line it sends: of each number once, so that what nobody reads
-/// there holds nothing up. So it tells once, of the first line with one, the path that stands before a packet: then the packet
-/// is discarded.
+/// A talk, which reports on standard error what a fault is whose line it sends. It reports each number once, so that
+/// standard error which nobody reads holds nothing up. It also reports once the path that is before a packet, of the
+/// first line that has one. Such a packet is discarded.
 #[derive(Drop)]
 pub struct ToldTalk<'a, R, T: Drop> {
     rt: &'a R,
@@ -28,14 +28,14 @@ pub struct ToldTalk<'a, R, T: Drop> {
     foreign: Foreign,
 }
 
-/// Whether a path was told.
+/// Whether a path was reported.
 #[derive(Debug, Drop)]
 enum PathTold {
     /// No line had one.
     None,
-    /// The last line has one, which is told behind what comes of it.
+    /// The last line has one, which is reported after what comes of it.
     Due(String),
-    /// It was told.
+    /// It was reported.
     Told,
 }
 
@@ -56,13 +56,13 @@ fn may_report_fault(text: &[u8]) -> bool {
     }
 }
 
-/// The number of the line and the fault that a line tells, if it tells one: `line K fault C`.
+/// The number of the line and the fault that a line reports, if it reports one: `line K fault C`.
 fn fault_told(line: &str) -> Option<(&str, BadLine)> {
     let (number, code) = line.strip_prefix("line ")?.split_once(" fault ")?;
     Some((number, BadLine::from_number(code.parse().ok()?)?))
 }
 
-/// What is told of a fault.
+/// What is printed of a fault.
 fn words_for(fault: BadLine) -> &'static str {
     match fault {
         BadLine::NoPort | BadLine::NoEvent => NO_PLACE,
@@ -87,14 +87,14 @@ impl<'a, R: Eprint, T: Talk + Drop> ToldTalk<'a, R, T> {
         }
     }
 
-    /// The talk alone.
+    /// The talk itself.
     pub fn into_talk(self) -> T
         ensures { result ≡ self.entry.talk }
     {
         self.talk
     }
 
-    /// Tells what the fault is that the last line of a text tells, if it was not told before.
+    /// Reports what the fault is that the last line of a text has, if it was not reported before.
     fn tell(&mut self, text: &[u8])
         ensures { self.new.talk ≡ self.old.talk }
     {
@@ -122,7 +122,7 @@ impl<'a, R: Eprint, T: Talk + Drop> ToldTalk<'a, R, T> {
 }
 
 impl<'a, R: Eprint, T: Talk + Drop> ToldTalk<'a, R, T> {
-    /// Looks for a path before the packet of a line, as long as none was told.
+    /// Looks for a path before the packet of a line, as long as none was reported.
     fn look(&mut self, line: &str)
         ensures { self.new.talk ≡ self.old.talk }
     {
@@ -135,7 +135,7 @@ impl<'a, R: Eprint, T: Talk + Drop> ToldTalk<'a, R, T> {
         }
     }
 
-    /// Tells the path that stands before the packet of the last line, if one does.
+    /// Reports the path that is before the packet of the last line, if there is one.
     fn tell_path(&mut self)
         ensures { self.new.talk ≡ self.old.talk }
     {

@@ -40,7 +40,7 @@ use job_trace::trace::trace_command;
 use job_weigh::weigh::{weigh_command, weigh_job};
 use std::alloc::{AllocError, Global};
 
-/// What `rmapctl --version` tells.
+/// What `rmapctl --version` prints.
 const VERSION: &str = "1.0+6";
 
 /// The command line with the jobs on programs and on packets in order.
@@ -60,7 +60,7 @@ fn with_first_jobs<'a>(alloc: Global, rmapctl: Command<'a>) -> Result<Command<'a
         .subcommand(policy)
 }
 
-/// The command line with the jobs that tell more of packet lines, and the one on the rules of a table, behind others.
+/// The command line with the jobs that print more of packet lines, and the one on the rules of a table, after others.
 fn with_packet_jobs<'a>(alloc: Global, rmapctl: Command<'a>) -> Result<Command<'a>, AllocError>
     ensures { IfOk result (λ c. app_of c ≡ with_packet_jobs (app_of rmapctl.entry)) }
 {
@@ -75,8 +75,8 @@ fn with_packet_jobs<'a>(alloc: Global, rmapctl: Command<'a>) -> Result<Command<'
         .subcommand(trace)
 }
 
-/// The command line with the jobs before a load: what tables decide of all commands, and its rehearsal, and the one that tries a
-/// target, behind others.
+/// The command line with the jobs before a load, and the one that tries a target, after others. The jobs before a load
+/// show what tables decide of all commands, and rehearse the load.
 fn with_chart_jobs<'a>(alloc: Global, rmapctl: Command<'a>) -> Result<Command<'a>, AllocError>
     ensures { IfOk result (λ c. app_of c ≡ with_chart_jobs (app_of rmapctl.entry)) }
 {
@@ -122,7 +122,7 @@ pub(crate) fn command_line<'a>(alloc: Global) -> Result<Command<'a>, AllocError>
     with_chart_jobs(alloc, told)
 }
 
-/// What the user is told of words that `clap` refuses.
+/// What is printed of words that `clap` refuses.
 fn told(alloc: Global, refusal: &Error) -> UsageFault
     ensures { TellsRefusal (kind_of refusal.now) result }
 {
@@ -184,7 +184,7 @@ fn placed_by(alloc: Global, job: Job, rows: &ArgMatches) -> Result<Work, UsageFa
 }
 
 /// What the subcommand of this word names with its matches, whatever of it is standard input.
-#[tactic(auto, using(crate::proofs::Placing::places, crate::proofs::Placing::names_talk, crate::proofs::Placing::is_unplaced, crate::proofs::Placing::refuses_plain, crate::proofs::Placing::refuses_place))]
+#[tactic(auto, using(crate::proofs::Placing::places, crate::proofs::Placing::names_talk, crate::proofs::Placing::is_unplaced, crate::proofs::Placing::is_no_text, crate::proofs::Placing::refuses_plain, crate::proofs::Placing::refuses_place))]
 fn placed_named(alloc: Global, word: Word, rows: &ArgMatches) -> Result<Work, UsageFault>
     ensures ok { IfOk result (NamesPlaced (Some (name_of word, rows_of (found_of rows.now)))) }
     ensures err { IfErr result (RefusesPlaced word (rows_of (found_of rows.now))) }
@@ -192,6 +192,7 @@ fn placed_named(alloc: Global, word: Word, rows: &ArgMatches) -> Result<Work, Us
     match plain_named(alloc, word, rows)? {
         Work::Once(job) => placed_by(alloc, job, rows),
         Work::OnNode(_) => unreachable!(),
+        Work::Told(_) => unreachable!(),
         Work::Live(words) => Ok(Work::Live(words)),
     }
 }
@@ -235,9 +236,13 @@ fn work_of(alloc: Global, found: &ArgMatches) -> Result<Work, UsageFault>
 
 /// What the words of a command line name, without the program's own name: a job over files, or a talk.
 ///
-/// Words that name none are `Parse` with the text of `clap` for the user (so are `--help`, `-h` and
-/// `--version`), `BadOption` where an option or a code is none, or two files that are read are standard input, `Memory` where
-/// memory was refused.
+/// # Errors
+///
+/// Why words name none.
+///
+/// - `Parse`, with the text of `clap` for the user: also for `--help`, `-h` and `--version`.
+/// - `BadOption`: an option or a code is none, or two files that are read are standard input.
+/// - `Memory`: memory is refused.
 pub fn words(alloc: Global, words: &[&str]) -> Result<Work, UsageFault>
     ensures ok { IfOk result (NamesWork (texts words.now)) }
     ensures err { IfErr result (NamesNone (texts words.now)) }

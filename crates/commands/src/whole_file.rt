@@ -18,13 +18,14 @@ enum Way {
     InPlace,
 }
 
-/// Writes these bytes to the file of this name. If they cannot be written, a file that was there is as it was, and one that was not
-/// there is none. A link stays, and what it leads to is exchanged. A device, a pipe, a file of several names or of another owner,
-/// and one in a folder that may not be written are written in place.
+/// Writes these bytes to the file of this name. If they cannot be written, a file that was there is as it was, and one
+/// that was not there is none. A link stays, and the file to which it leads is exchanged. A device, a pipe, a file of
+/// several names or of another owner, and one in a folder that may not be written are written in place.
 ///
 /// # Errors
 ///
-/// What the system refused, or that memory was refused. A file that may not be written is refused before anything is done.
+/// What the system refused, or that memory was refused. A file that may not be written is refused before anything is
+/// done.
 pub fn write_whole<R: rt::Files>(
     rt: &R,
     alloc: Global,
@@ -59,7 +60,7 @@ fn way_to<R: rt::Files>(
     if !old.is_file() || old.nlink() != 1 {
         return Ok(Way::InPlace);
     }
-    // Who may not write it is refused, though the folder may be written.
+    // Who may not write the file is refused, even if the folder may be written.
     File::options().write(true).open(rt, name)?;
     Ok(Way::Whole(rt.canonicalize(alloc, name)?.into_string()))
 }

@@ -1,4 +1,4 @@
--- What is gained by new rules.
+-- Gains by new rules.
 use Rattle.std.proofs.Common.{◌≡◌, ◌≤◌, ◌<◌, ◌+◌, ◌-◌, ◌^◌, ◌==◌, ◌&&◌, ◌||◌, ◌⊎◌, ◌++◌, inl, inr, length, max, ℕ, suc, Bool, true, false, not, List, [], ◌∷◌, Option, Some, None, refl, ap, sym, subst, ◌∙◌, arith}
 use Rattle.std.specs.Prelude.{All, MatchBool, if◌then◌else◌, nat_lt}
 use Rattle.std.proofs.lemmas.Bool.Decides.{nat_tests}
@@ -156,7 +156,7 @@ limits_more (r ∷ rs) rule limits own = All-cons HasLimit r (rs ++ rule ∷ [])
 
 -- ---- the rule that decides
 
--- the verdict of rules is that of the first, where it matches, and else that of those behind it
+-- the verdict of rules is that of the first, if it matches, and else that of those after it
 by_first : (cells : ℕ → ℕ → ℕ) (passed : List Rule) (rule : Rule) (rules : List Rule) (t : Bool) → is_met cells passed rule.quota ≡ t
     → code_from cells passed (rule ∷ rules) ≡ (if t then verdict_number rule.verdict else code_from cells (passed ++ rule ∷ []) rules)
 by_first cells passed rule rules t e = ap (λ (b : Bool). if b then verdict_number rule.verdict else code_from cells (passed ++ rule ∷ []) rules) e
@@ -177,7 +177,7 @@ pub record Passes (olds : List Rule) (stop : Option Quota) (news new : List Rule
   pub met : is_met cells olds stop ≡ true
   pub passed : passes (code_from cells news new) ≡ true
 
--- the first of new rules passes, or what is behind it
+-- the first of new rules passes, or what comes after it
 passes_by : (olds : List Rule) (stop : Option Quota) (news : List Rule) (rule : Rule) (rules : List Rule) → All HasLimit olds → All HasLimit news
     → (may_pass olds stop (news ++ rule ∷ []) rules ≡ true → Passes olds stop (news ++ rule ∷ []) rules)
     → ((passes (verdict_number rule.verdict) && (may_meet olds news stop && may_meet news olds rule.quota)) ≡ true) ⊎ ((goes_on rule.quota && may_pass olds stop (news ++ rule ∷ []) rules) ≡ true)
@@ -228,7 +228,7 @@ pub record Differs (olds old new : List Rule) : Type 0 where
   pub stopped : passes (code_from cells olds old) ≡ false
   pub passed : passes (code_from cells [] new) ≡ true
 
--- the first of old rules stops, or what is behind it
+-- the first of old rules stops, or what comes after it
 stops_by : (olds : List Rule) (rule : Rule) (rules new : List Rule) → All HasLimit olds → All HasLimit new
     → (gains_behind (olds ++ rule ∷ []) rules new ≡ true → Differs (olds ++ rule ∷ []) rules new)
     → ((not (passes (verdict_number rule.verdict)) && may_pass olds rule.quota [] new) ≡ true) ⊎ ((goes_on rule.quota && gains_behind (olds ++ rule ∷ []) rules new) ≡ true)

@@ -66,7 +66,7 @@ limited_rules steps limits few = record { limits = rule_limits steps limits; few
 
 -- ---- one step more
 
--- the rules behind so many steps begin with that of the next
+-- the rules after `n` steps begin with that of the next
 pub rules_here : (steps : List Step) (n : ℕ) (d : Step) → n < length steps → rules_of (drop n steps) ≡ (get_or steps n d).rule ∷ rules_of (drop (n + 1) steps)
 rules_here steps n d lt =
     ap rules_of (drop-cons steps n d lt) ∙ ap (λ (k : ℕ). (get_or steps n d).rule ∷ rules_of (drop k steps)) (sym (add-one n))
@@ -75,6 +75,6 @@ pub rules_append : (steps others : List Step) → rules_of (steps ++ others) ≡
 rules_append [] others = refl
 rules_append (s ∷ ss) others = ap (λ (rs : List Rule). s.rule ∷ rs) (rules_append ss others)
 
--- those of so many and one end with it
+-- those of one step more end with it
 pub rules_more : (steps : List Step) (n : ℕ) (d : Step) → n < length steps → rules_of (take (n + 1) steps) ≡ rules_of (take n steps) ++ (get_or steps n d).rule ∷ []
 rules_more steps n d lt = ap rules_of (take_more steps n d lt) ∙ rules_append (take n steps) (get_or steps n d ∷ [])

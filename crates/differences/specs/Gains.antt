@@ -16,7 +16,7 @@ use Rattle.differences.specs.declared.signs.Sign.TheVariants.{Both, Fewer, More,
 abbrev pub passes : (code : ℕ) → Bool
 passes code = code == verdict_number Authorised
 
--- one draw more, where a rule draws of the cell
+-- one draw more, if a rule draws of the cell
 abbrev pub with_draw : Option Quota → (map cell : ℕ) → (draws : ℕ) → ℕ
 with_draw None map cell draws = draws
 with_draw (Some quota) map cell draws = if is_of quota map cell then suc draws else draws
@@ -45,7 +45,8 @@ code_from cells passed [] = verdict_number NotAuthorised
 code_from cells passed (rule ∷ rules) =
     if is_met cells passed rule.quota then verdict_number rule.verdict else code_from cells (passed ++ rule ∷ []) rules
 
--- some words of the cells, the same before both, let a command pass by the new rules and not by the old ones, and no draw wraps
+-- some words of the cells, the same before both, let a command pass by the new rules and not by the old ones. No draw
+-- wraps
 pub record Gains (old new : List Rule) : Type 0 where
   pub cells : (map cell : ℕ) → ℕ
   pub fit : (map cell : ℕ) → cells map cell + (length old + length new) < 2 ^ 64
@@ -59,7 +60,7 @@ IsSign Fewer old new = ¬ (Gains old new) × Gains new old
 IsSign Both old new = Gains old new × Gains new old
 IsSign Other old new = ¬ (Gains old new) × ¬ (Gains new old)
 
--- ---- how it is found: a rule of the old course that stops, and one of the new that passes, and the least words that lead to both
+-- ---- how it is found: an old rule that stops, a new one that passes, and the least words that lead to both
 
 -- the limit of a step's rule is such as a table has
 abbrev pub HasStepLimit : Step → Type 0
@@ -107,7 +108,7 @@ gains_behind olds (rule ∷ rules) new =
     (not (passes (verdict_number rule.verdict)) && may_pass olds rule.quota [] new)
     || (goes_on rule.quota && gains_behind (olds ++ rule ∷ []) rules new)
 
--- the sign where something is gained under the new rules, or not, and something under the old ones, or not
+-- the sign if something is gained under the new rules, or not, and something under the old ones, or not
 abbrev pub sign_with : (more fewer : Bool) → Sign
 sign_with true true = Both
 sign_with true false = More

@@ -8,12 +8,12 @@ use Rattle.charts.specs.Lines.{course}
 use Rattle.charts.specs.Points.{decision_at, holds_at}
 use Rattle.differences.specs.declared.courses.Step.{Step}
 
--- behind a rule without quota nothing is asked
+-- after a rule without quota nothing is asked
 abbrev pub steps_behind : Option Quota → List Step → List Step
 steps_behind None rest = []
 steps_behind (Some quota) rest = rest
 
--- the rules that hold at a point, up to the first without quota, where the first of all has this number
+-- the rules that hold at a point, up to the first without quota, if the first of all has this number
 abbrev pub steps_from : (number : ℕ) → List Rule → Point → List Step
 steps_from number [] p = []
 steps_from number (rule ∷ rules) p =
@@ -29,7 +29,7 @@ steps_at rules p = steps_from 1 rules p
 abbrev pub rules_of : List Step → List Rule
 rules_of steps = map (λ step. step.rule) steps
 
--- their numbers are those of the course that a chart tells
+-- their numbers are those of the course of a chart
 abbrev pub StepsAreNumbered : Type 0
 StepsAreNumbered = (rules : List Rule) (p : Point) → map (λ step. step.number) (steps_at rules p) ≡ course rules p
 

@@ -21,7 +21,7 @@ pub struct Step {
 ///
 /// # Errors
 ///
-/// Only where memory was refused.
+/// Only if memory is refused.
 pub fn course(alloc: Global, rules: &[Rule], point: &Point) -> Result<Vec<Step>, AllocError>
     ensures { IfOk result (λ steps. steps.items ≡ steps_at rules.now point.now) }
 {

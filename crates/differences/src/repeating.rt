@@ -1,38 +1,39 @@
-//! How often a command has to come until two courses give it different verdicts: which verdicts equal commands are given one after
-//! another.
+//! How often a command must come until two courses give it different verdicts: the verdicts that equal commands get one
+//! after another.
 
 use crate::courses::Step;
 use policy_table::Quota;
 use rmap::Verdict;
 use std::alloc::{AllocError, Global};
 
-/// How often a command has to come until two courses give it different verdicts, where it is the first that a node judges.
+/// How often a command must come until two courses give it different verdicts, if it is the first that a node judges.
 #[derive(Clone, Copy, Debug, PartialEq, Eq)]
 pub enum Repeats {
-    /// So often.
+    /// This many times.
     Times(u128),
     /// However often it comes, its verdicts are the same.
     Draws,
 }
 
-/// Commands, one behind another, of equal ones that are judged from counters at 0, which are given the same verdict by one rule.
+/// Commands, one after another, that get the same verdict by one rule. They are of equal ones that are judged from
+/// counters at 0.
 #[derive(Clone, Copy, Debug)]
 struct Span {
     /// The number of the verdict.
     verdict: u8,
-    /// How many commands there are up to the last of them; `None` where there is no last.
+    /// How many commands there are up to the last of them; `None` if there is no last.
     until: Option<u128>,
 }
 
-/// A cell of which a ticket is drawn by each command behind the first so many.
+/// A cell from which each command after the first `from` draws a ticket.
 #[derive(Clone, Copy, Debug)]
 struct Drawn {
     quota: Quota,
     from: u128,
 }
 
-/// How many commands there are up to the last that is given a ticket below the limit of a quota, which is drawn by each behind
-/// the first so many, behind other draws.
+/// How many commands there are up to the last that gets a ticket below the limit of a quota. Each command after the
+/// first `from` draws one, after other draws.
 fn until(before: &[Drawn], quota: &Quota, from: u128) -> u128 {
     let mut ticket: u128 = 0;
     let mut pace: u128 = 1;
@@ -81,7 +82,7 @@ fn spans(alloc: Global, steps: &[Step]) -> Result<Vec<Span>, AllocError> {
     Ok(spans)
 }
 
-/// The verdict of the command behind so many.
+/// The verdict of the command after the first `before`.
 fn verdict_at(spans: &[Span], before: u128) -> Option<u8> {
     for span in spans {
         if span.until.is_none_or(|until| before < until) {
@@ -96,7 +97,8 @@ fn lesser(one: Option<u128>, other: u128) -> u128 {
     one.map_or(other, |number| number.min(other))
 }
 
-/// How many equal commands are judged alike, where the one behind so many is not; and else what was found before.
+/// How many equal commands are judged alike before one is not. It is the lesser of `before`, if the command after those
+/// is judged otherwise, and of what was found.
 fn found_at(found: Option<u128>, old: &[Span], new: &[Span], before: u128) -> Option<u128> {
     if verdict_at(old, before) == verdict_at(new, before) {
         return found;
@@ -104,7 +106,7 @@ fn found_at(found: Option<u128>, old: &[Span], new: &[Span], before: u128) -> Op
     Some(lesser(found, before))
 }
 
-/// The least number of commands behind which one is judged otherwise, where a span of these ends there.
+/// The least number of commands after which one is judged otherwise, if a span of these ends there.
 fn found_in(found: Option<u128>, ends: &[Span], old: &[Span], new: &[Span]) -> Option<u128> {
     let mut least = found;
     for span in ends {
@@ -115,11 +117,11 @@ fn found_in(found: Option<u128>, ends: &[Span], old: &[Span], new: &[Span]) -> O
     least
 }
 
-/// How often a command has to come until two courses give it different verdicts.
+/// How often a command must come until two courses give it different verdicts.
 ///
 /// # Errors
 ///
-/// Only where memory was refused.
+/// Only if memory is refused.
 pub fn repeats_of(alloc: Global, old: &[Step], new: &[Step]) -> Result<Repeats, AllocError> {
     let olds = spans(alloc, old)?;
     let news = spans(alloc, new)?;

@@ -30,7 +30,7 @@ fn passes(verdict: Verdict) -> bool
     verdict.number() == Verdict::Authorised.number()
 }
 
-/// What rules that do not match ask of a cell.
+/// How rules that do not match use a cell.
 #[derive(Clone, Copy, Debug, PartialEq, Eq)]
 struct Past {
     /// How many draws of it they make.
@@ -39,7 +39,7 @@ struct Past {
     least: u64,
 }
 
-/// What is asked of the cell of a quota by one rule more that does not match.
+/// How rules use the cell of a quota, with one rule more that does not match.
 fn with_rule(past: Past, drawn: Option<Quota>, quota: &Quota) -> Past
     requires { past.draws < 2 ^ 63 }
     ensures draws { result.draws ≡ with_draw drawn quota.now.map quota.now.cell past.draws }
@@ -62,7 +62,7 @@ fn with_rule(past: Past, drawn: Option<Quota>, quota: &Quota) -> Past
     }
 }
 
-/// What the rules of a course that do not match ask of the cell of a quota.
+/// How the rules of a course that do not match use the cell of a quota.
 fn past_of(steps: &[Step], quota: &Quota) -> Past
     ensures draws { result.draws ≡ draws_of (rules_of steps.now) quota.now.map quota.now.cell }
     ensures least { result.least ≡ least_word (rules_of steps.now) quota.now.map quota.now.cell }
@@ -76,7 +76,7 @@ fn past_of(steps: &[Step], quota: &Quota) -> Past
     past
 }
 
-/// Whether a rule with this quota can match behind rules that do not, where those of another course do not match.
+/// Whether a rule with this quota can match after rules that do not, if those of another course do not match.
 fn may_meet(own: &[Step], others: &[Step], quota: Option<Quota>) -> bool
     ensures { result ≡ may_meet (rules_of own.now) (rules_of others.now) quota }
 {
@@ -88,7 +88,7 @@ fn may_meet(own: &[Step], others: &[Step], quota: Option<Quota>) -> bool
     one.least.max(other.least) + one.draws < u64::from(quota.limit)
 }
 
-/// Whether some rule of a new course can pass, where a rule of the old course with this quota matches behind others.
+/// Whether some rule of a new course can pass, if a rule of the old course with this quota matches after others.
 fn may_pass(olds: &[Step], stop: Option<Quota>, new: &[Step]) -> bool
     ensures { result ≡ may_pass (rules_of olds.now) stop [] (rules_of new.now) }
 {
@@ -123,7 +123,7 @@ fn gains(old: &[Step], new: &[Step]) -> bool
     may_pass(old, None, new)
 }
 
-/// The sign where something is gained under the new course, or not, and something under the old one, or not.
+/// The sign if something is gained under the new course, or not, and something under the old one, or not.
 fn sign_with(more: bool, fewer: bool) -> Sign
     ensures { result ≡ sign_with more fewer }
 {
@@ -133,7 +133,7 @@ fn sign_with(more: bool, fewer: bool) -> Sign
     if fewer { Sign::Fewer } else { Sign::Other }
 }
 
-/// How a new course differs from an old one in the commands that pass, where the cells have the same words before both.
+/// How a new course differs from an old one in the commands that pass, if the cells have the same words before both.
 pub fn sign_of(old: &[Step], new: &[Step]) -> Sign
     requires old_limits { All HasStepLimit old.now }
     requires new_limits { All HasStepLimit new.now }

@@ -1,2 +1,2 @@
-mod Naming
-mod OnNodes
+mod Input
+mod Linkless

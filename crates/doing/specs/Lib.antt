@@ -1,4 +1,2 @@
-pub mod Alone
 pub mod Desks
 pub mod Doings
-pub mod Speeches

@@ -1,67 +1,144 @@
-//! The files of a folder, as a job reads them.
+//! A desk in memory.
 
-ghost use Rattle.std.specs.Prelude.{◌≡◌};
-ghost use Rattle.doing.specs.Desks.{DeskReads, DeskWrites};
+ghost use Rattle.std.specs.Prelude.{◌≡◌, [], IfOk};
+ghost use Rattle.doing.specs.Desks.{input_of};
 
-use commands::{Cannot, Cause, Files, Noted};
+use crate::slate::Slate;
+use commands::{Cause, Desk, Files, HostLink, HostTalk, Nobody};
 use folders::Folder;
-use std::alloc::Global;
-use std::io;
+use std::alloc::{AllocError, Global};
+use std::fmt::Display;
+use std::io::{self, Cursor, Eprint};
+use std::mem;
 
-/// The number of the system's fault where there is no file of a name.
+/// The number of the system's fault if there is no file of a name.
 const NO_FILE: i32 = 2;
 
-/// The files of a folder, with what is noted of those that a job reads. Each is read whole.
+/// The name of standard input.
+pub const STANDARD_INPUT: &str = "-";
+
+/// A folder, in which the file `-` is standard input, with what standard output has. What is printed beside that is on
+/// a slate. No thread can start, and there is no link. If memory is refused, that ends all.
 #[derive(Drop)]
-pub struct Desk<'a, 'b> {
+pub struct PageDesk<'a, 'b> {
     folder: Folder<'a>,
-    noted: Noted<'b>,
+    slate: &'b Slate,
+    alloc: Global,
+    out: Vec<u8>,
 }
 
-impl<'a, 'b> Desk<'a, 'b> {
-    /// The files of the folder, of which those are read.
-    pub fn new(folder: Folder<'a>, noted: Noted<'b>) -> Desk<'a, 'b>
+impl<'a, 'b> PageDesk<'a, 'b> {
+    /// The desk over this folder, on which nothing was printed.
+    pub fn new(folder: Folder<'a>, slate: &'b Slate, alloc: Global) -> PageDesk<'a, 'b>
         ensures folder { result.folder ≡ folder.entry }
-        ensures noted { result.noted ≡ noted.entry }
+        ensures silent { result.out.items ≡ [] }
     {
-        Desk { folder, noted }
-    }
-
-    /// What was noted of them.
-    pub fn noted(&self) -> &Noted<'b>
-        ensures { result.now ≡ self.now.noted }
-    {
-        &self.noted
-    }
-
-    /// The folder.
-    pub fn into_folder(self) -> Folder<'a>
-        ensures { result ≡ self.entry.folder }
-    {
-        self.folder
-    }
-}
-
-impl Files for Desk<'_, '_> {
-    ghost reads = { DeskReads };
-
-    ghost writes = { DeskWrites };
-
-    fn read(&mut self, alloc: Global, name: &str) -> Result<Vec<u8>, Cannot> {
-        let content = self.noted.next();
-        match self.folder.read(alloc, name) {
-            Ok(bytes) => self.noted.given(alloc, content, bytes),
-            Err(_) => Err(
-                self.noted
-                    .refuse(Cause::System(io::Error::from_raw_os_error(NO_FILE))),
-            ),
+        PageDesk {
+            folder,
+            slate,
+            alloc,
+            out: Vec::new(alloc),
         }
     }
 
-    fn write(&mut self, name: &str, bytes: &[u8]) -> Result<(), Cannot> {
+    /// The folder, and what was printed.
+    pub fn into_parts(self) -> (Folder<'a>, Vec<u8>)
+        ensures folder { result.0 ≡ self.entry.folder }
+        ensures printed { result.1 ≡ self.entry.out }
+    {
+        (self.folder, self.out)
+    }
+
+    /// What standard input has.
+    #[tactic(auto, using(crate::proofs::Input::input_found, crate::proofs::Input::input_is_empty))]
+    fn input(&self, alloc: Global) -> Result<Vec<u8>, AllocError>
+        ensures { IfOk result (λ bytes. bytes.items ≡ input_of self.now.folder) }
+    {
+        match self.folder.content(STANDARD_INPUT) {
+            Some(bytes) => Vec::from_slice(alloc, bytes),
+            None => Ok(Vec::new(alloc)),
+        }
+    }
+}
+
+impl<'a, 'b> Desk for PageDesk<'a, 'b> {
+    type Output = Vec<u8>;
+
+    type Talk = HostTalk<Cursor<Vec<u8>>, Vec<u8>>;
+
+    type Link = HostLink<Cursor<Vec<u8>>, Vec<u8>, Vec<u8>>;
+
+    type Errors = &'b Slate;
+
+    type Server = Nobody;
+
+    ghost use Rattle.std.specs.Prelude.{[]};
+    ghost use Rattle.doing.specs.Desks.{page_words};
+
+    ghost words = { page_words };
+
+    ghost held = { λ _. [] };
+
+    fn read(&mut self, alloc: Global, name: &str, _most: u64) -> Result<Vec<u8>, Cause> {
+        match self.folder.read(alloc, name) {
+            Ok(bytes) => Ok(bytes),
+            Err(_) => Err(Cause::System(io::Error::from_raw_os_error(NO_FILE))),
+        }
+    }
+
+    fn write(&mut self, name: &str, bytes: &[u8]) -> Result<(), Cause> {
         match self.folder.write(name, bytes) {
             Ok(()) => Ok(()),
-            Err(_) => Err(self.noted.refuse(Cause::Input)),
+            Err(_) => Err(Cause::Input),
         }
+    }
+
+    fn are_one(&self, one: &str, other: &str) -> bool {
+        one == other
+    }
+
+    fn output(&self, alloc: Global) -> Result<Vec<u8>, AllocError> {
+        Ok(Vec::new(alloc))
+    }
+
+    fn close(&mut self, out: &mut Vec<u8>) -> io::Result<()> {
+        self.out = mem::replace(out, Vec::new(self.alloc));
+        Ok(())
+    }
+
+    fn talk(&self, alloc: Global) -> Result<HostTalk<Cursor<Vec<u8>>, Vec<u8>>, AllocError> {
+        let input = self.input(alloc)?;
+        Ok(HostTalk::new(Cursor::new(input), Vec::new(alloc)))
+    }
+
+    fn end_talk(&mut self, talk: HostTalk<Cursor<Vec<u8>>, Vec<u8>>) -> io::Result<()> {
+        let (out, lost) = talk.into_output();
+        self.out = out;
+        lost
+    }
+
+    fn link(&self) -> Option<HostLink<Cursor<Vec<u8>>, Vec<u8>, Vec<u8>>> {
+        None
+    }
+
+    fn end_link(&mut self, _link: HostLink<Cursor<Vec<u8>>, Vec<u8>, Vec<u8>>) -> io::Result<()> {
+        Ok(())
+    }
+
+    fn errors(&self) -> &'b Slate {
+        self.slate
+    }
+
+    fn server(&self) -> Nobody {
+        Nobody
+    }
+
+    fn tell<T: Display + Drop>(&self, told: Result<T, AllocError>) -> Result<(), AllocError> {
+        let text = told?;
+        self.slate.eprint(text).map_err(|_| AllocError)
+    }
+
+    fn lose(&self, _written: &io::Result<()>) -> Result<(), AllocError> {
+        Err(AllocError)
     }
 }

@@ -5,7 +5,7 @@ use std::cell::RefCell;
 use std::fmt::Display;
 use std::io::{self, Eprint};
 
-/// What was told on standard error, in the order in which it was told.
+/// What was printed on standard error, in that order.
 #[derive(Drop)]
 pub struct Slate {
     told: RefCell<String>,
@@ -19,7 +19,7 @@ impl Slate {
         }
     }
 
-    /// What was told.
+    /// What was printed.
     pub fn into_told(self) -> String {
         self.told.into_inner()
     }

@@ -6,7 +6,7 @@ use Rattle.std.specs.Str.{bytes_eq}
 use Rattle.std.proofs.lemmas.Slice.Eq.{bytes_eq-Decides}
 use Rattle.folders.specs.Folders.{FolderValue, Sets, content_of}
 
--- names that differ are told apart
+-- names that differ are not taken for one
 apart : (name other : List ℕ) (is_same : Bool) → Decides is_same (name ≡ other) → other ≢ name → is_same ≡ false
 apart name other true tells differ = absurd (differ (sym (tells.0 refl)))
 apart name other false tells differ = refl

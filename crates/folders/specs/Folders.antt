@@ -12,12 +12,12 @@ FolderValue = List (List ℕ × List ℕ)
 abbrev pub sheets_value : List Sheet → FolderValue
 sheets_value sheets = map pair_of sheets
 
--- the bytes of the file of this name, or none where there is no such file
+-- the bytes of the file of this name, or none if there is no such file
 abbrev pub content_of : FolderValue → List ℕ → Option (List ℕ)
 content_of [] name = None
 content_of (sheet ∷ sheets) name = if bytes_eq sheet.0 name then Some sheet.1 else content_of sheets name
 
--- a read changes nothing, and gives the bytes that stand there, or none, since memory can be refused
+-- a read changes nothing, and gives the bytes that are there, or none, since memory can be refused
 abbrev pub FolderReads : (before : FolderValue) → List ℕ → Option (List ℕ) → (after : FolderValue) → Type 0
 FolderReads before name None after = after ≡ before
 FolderReads before name (Some bytes) after = (after ≡ before) × (content_of before name ≡ Some bytes)
@@ -28,7 +28,7 @@ pub record Sets (before : FolderValue) (name bytes : List ℕ) (after : FolderVa
   pub own : content_of after name ≡ Some bytes
   pub others : (other : List ℕ) → other ≢ name → content_of after other ≡ content_of before other
 
--- a write that is taken sets that file alone; else nothing changes
+-- a write that is taken sets only that file; else nothing changes
 abbrev pub FolderWrites : (before : FolderValue) → (name bytes : List ℕ) → Bool → (after : FolderValue) → Type 0
 FolderWrites before name bytes true after = Sets before name bytes after
 FolderWrites before name bytes false after = after ≡ before

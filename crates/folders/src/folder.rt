@@ -89,7 +89,7 @@ impl<'a> Folder<'a> {
     ///
     /// # Errors
     ///
-    /// Where memory was refused; then the folder stays as it was.
+    /// An error if memory is refused. The folder then stays as it was.
     pub fn put(&mut self, name: &str, bytes: &[u8]) -> Result<(), AllocError>
         ensures { MatchResult result
             (λ _. self.new ≡ (name.now, bytes.now) ∷ self.old)

@@ -32,11 +32,11 @@ came_parts s (byte ∷ first) others =
     ap (onto (comes s byte)) (came_parts (step s byte) first others)
     ∙ onto_joined (comes s byte) (came_in (step s byte) first) (came_in (after (step s byte) first) others)
 
--- in the body of a frame, of which so many bytes are left
+-- in the body of a frame, of which that many bytes are left
 abbrev in_frame : Flag → ℕ → List ℕ → Reading
 in_frame flag left held = record { head = []; flag = flag; left = left; held = held }
 
--- what is read where a byte left that, and what it brings
+-- what is read if a byte left that, and what it brings
 abbrev settle : Reading → Reading
 settle s = cond (is_between s) (behind_end s) s
 
@@ -88,7 +88,7 @@ body_came flag held byte (another ∷ bytes) =
     ∙ body_came flag (held_with flag held byte) another bytes
     ∙ ap (λ (h : List ℕ). came_of flag h ∷ []) (held_more flag held byte (another ∷ bytes))
 
--- what is read behind the last byte of a head
+-- what is read after the last byte of a head
 frame_after : (flag : Flag) (held body : List ℕ) → after (settle (in_frame flag (length body) held)) body ≡ between flag (rest_of flag (held_behind flag held body))
 frame_after (Last end) held [] = refl
 frame_after Part held [] = refl
@@ -150,7 +150,7 @@ keep_short most first held byte short = rw (positive (length held), lt-ltb (leng
 keep_long : (most first : ℕ) (held : List ℕ) (byte : ℕ) → most ≤ length (first ∷ held) → keep_in most (first ∷ held) byte ≡ first ∷ held
 keep_long most first held byte long = rw (positive (length held), le-ltb (length (first ∷ held)) most long) refl
 
--- behind its first byte a packet is kept up to that many bytes
+-- after its first byte a packet is kept up to that many bytes
 keep_more : (most first : ℕ) (held bytes : List ℕ) → length (first ∷ held) ≤ most → keep_all_in most (first ∷ held) bytes ≡ take most ((first ∷ held) ++ bytes)
 keep_more most first held [] few = sym (ap (take most) (append-nil (first ∷ held)) ∙ take_all most (first ∷ held) few)
 keep_more most first held (byte ∷ bytes) few =
@@ -207,7 +207,7 @@ keep_parts : (held first others : List ℕ) → keep_all held (first ++ others) 
 keep_parts held [] others = refl
 keep_parts held (byte ∷ first) others = keep_parts (keep held byte) first others
 
--- the pieces of a packet behind what is held of it
+-- the pieces of a packet after what is held of it
 packet_read : (before : Flag) (held : List ℕ) (pieces : List (List ℕ)) (last : List ℕ) (end : End) → All (λ piece. length piece < 256 ^ 10) pieces → length last < 256 ^ 10 → after (between before held) (packet_bytes pieces last end) ≡ between (Last end) []
 packet_read before held [] last Eop few short = read before held 0 0 last short
 packet_read before held [] last Eep few short = read before held 1 0 last short
@@ -233,7 +233,7 @@ packet before pieces last end few short = (
       ∙ ap (λ (bytes : List ℕ). map (λ (piece : List ℕ). Piece) pieces ++ Whole (record { bytes = bytes; end = end }) ∷ []) (kept (concat pieces ++ last)),
 )
 
--- what is held of a packet behind some of it
+-- what is held of a packet after some of it
 pub kept_first : (bytes : List ℕ) → keep_all [] bytes ≡ take 4200 (behind_path bytes)
 kept_first bytes = kept bytes
 

@@ -9,8 +9,8 @@ use Rattle.frames.specs.declared.heads.TheConstants.{HEAD_LENGTH}
 use Rattle.frames.specs.declared.came.Came.{Came}
 use Rattle.frames.specs.declared.came.Came.TheVariants.{Whole, Piece, Time, Other as Unknown}
 
--- the bytes of a head that is not whole yet, what the frame is whose body comes, how many of its bytes are left, and
--- what is held of a packet that has not ended
+-- What was read. It has the bytes of a head that is not whole yet, what the current frame is, and how many of its bytes
+-- are left. It also has what is held of a packet that has not ended.
 pub record Reading : Type 0 where
   pub head : List ℕ
   pub flag : Flag
@@ -33,15 +33,15 @@ is_cargo SendTime = false
 is_cargo GotTime = false
 is_cargo (Other code) = false
 
--- what is held behind one byte more: path address bytes, which are below 32, are dropped before a packet begins, and so is
--- all that would be past 4,200 bytes
+-- What is held after one byte more. Path address bytes, which are below 32, are dropped before a packet begins. So is
+-- all that would be past 4,200 bytes.
 abbrev pub keep : List ℕ → ℕ → List ℕ
 keep held byte =
     if length held == 0 && nat_lt byte 32 then held
     else if nat_lt (length held) MAX_PACKET then held ++ byte ∷ []
     else held
 
--- what is held behind a byte of the body of such a frame
+-- what is held after a byte of the body of such a frame
 abbrev pub held_with : Flag → List ℕ → ℕ → List ℕ
 held_with flag held byte = if is_cargo flag then keep held byte else held
 
@@ -78,7 +78,7 @@ came_of SendTime held = Time
 came_of GotTime held = Time
 came_of (Other code) held = Unknown code
 
--- what is held behind a frame of this kind
+-- what is held after a frame of this kind
 abbrev pub rest_of : Flag → List ℕ → List ℕ
 rest_of (Last end) held = []
 rest_of Part held = held
@@ -86,7 +86,7 @@ rest_of SendTime held = held
 rest_of GotTime held = held
 rest_of (Other code) held = held
 
--- behind the end of a frame
+-- after the end of a frame
 abbrev pub behind_end : Reading → Reading
 behind_end s = record { head = s.head; flag = s.flag; left = s.left; held = rest_of s.flag s.held }
 
@@ -94,6 +94,6 @@ behind_end s = record { head = s.head; flag = s.flag; left = s.left; held = rest
 abbrev pub comes : Reading → ℕ → Option Came
 comes s byte = if is_between (next s byte) then Some (came_of (next s byte).flag (next s byte).held) else None
 
--- what was read behind a byte
+-- what was read after a byte
 abbrev pub step : Reading → ℕ → Reading
 step s byte = if is_between (next s byte) then behind_end (next s byte) else next s byte

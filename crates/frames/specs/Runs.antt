@@ -25,7 +25,8 @@ EndsPacket SendTime = ⊥
 EndsPacket GotTime = ⊥
 EndsPacket (Other code) = ⊥
 
--- bytes were taken up to one that ends a frame, and there was no memory for the packet that ended: what was held is held still
+-- Bytes were taken up to one that ends a frame, and there was no memory for the packet that ended. What was held is
+-- still held.
 pub record EndsUnpacked (s : Reading) (bytes : List ℕ) (next : Reading) : Type 0 where
   pub count : ℕ
   pub few : count ≤ length bytes

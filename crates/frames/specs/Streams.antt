@@ -13,12 +13,12 @@ use Rattle.frames.specs.declared.flags.Flag.TheVariants.{Last, Part}
 use Rattle.frames.specs.Heads.{flag_code, flag_of}
 use Rattle.frames.specs.Reading.{Reading, came_of, comes, is_cargo, keep, rest_of, step}
 
--- what was read behind some bytes
+-- what was read after some bytes
 abbrev pub after : Reading → List ℕ → Reading
 after s [] = s
 after s (byte ∷ bytes) = after (step s byte) bytes
 
--- what came first, if anything did, and what came behind it
+-- what came first, if anything did, and what came after it
 abbrev pub onto : Option Came → List Came → List Came
 onto None others = others
 onto (Some first) others = first ∷ others
@@ -36,16 +36,16 @@ between flag held = record { head = []; flag = flag; left = 0; held = held }
 abbrev pub frame_bytes : (code reserved : ℕ) → (body : List ℕ) → List ℕ
 frame_bytes code reserved body = code ∷ reserved ∷ big_bytes 10 (length body) ++ body
 
--- what is held behind bytes of a packet
+-- what is held after bytes of a packet
 abbrev pub keep_all : List ℕ → List ℕ → List ℕ
 keep_all held [] = held
 keep_all held (byte ∷ bytes) = keep_all (keep held byte) bytes
 
--- what is held behind the body of such a frame
+-- what is held after the body of such a frame
 abbrev pub held_behind : Flag → List ℕ → List ℕ → List ℕ
 held_behind flag held body = if is_cargo flag then keep_all held body else held
 
--- what a target takes of a packet that came over a link: its bytes behind the path, the first 4,200 of them
+-- what a target takes of a packet that came over a link: its bytes after the path, the first 4,200 of them
 abbrev pub cargo_of : List ℕ → List ℕ
 cargo_of bytes = take MAX_PACKET (behind_path bytes)
 
@@ -54,8 +54,8 @@ abbrev pub packet_bytes : (pieces : List (List ℕ)) → (last : List ℕ) → E
 packet_bytes [] last end = frame_bytes (flag_code (Last end)) 0 last
 packet_bytes (piece ∷ pieces) last end = frame_bytes (flag_code Part) 0 piece ++ packet_bytes pieces last end
 
--- what comes of a packet in pieces: that it goes on, as often as there are pieces before the last, and then what a target takes
--- of the bytes of all pieces
+-- What comes of a packet in pieces. Once for each piece before the last, it is that the packet goes on. Then it is what
+-- a target takes of the bytes of all pieces.
 abbrev pub packet_came : (pieces : List (List ℕ)) → (last : List ℕ) → End → List Came
 packet_came pieces last end =
     map (λ (piece : List ℕ). Piece) pieces ++ Whole (record { bytes = cargo_of (concat pieces ++ last); end = end }) ∷ []
@@ -77,7 +77,7 @@ pub record FramesAreRead : Type 0 where
   pub brought : (last : Flag) (held : List ℕ) (code reserved : ℕ) (body : List ℕ) → length body < 256 ^ 10
       → came_in (between last held) (frame_bytes code reserved body)
       ≡ came_of (flag_of code) (held_behind (flag_of code) held body) ∷ []
-  -- a packet comes as what a target takes of it, in however many pieces it was cut, and nothing is held behind it
+  -- A packet comes as what a target takes of it, in however many pieces it was cut. After it nothing is held.
   pub packet : (before : Flag) (pieces : List (List ℕ)) (last : List ℕ) (end : End)
       → All (λ piece. length piece < 256 ^ 10) pieces → length last < 256 ^ 10
       → (after (between before []) (packet_bytes pieces last end) ≡ between (Last end) [])

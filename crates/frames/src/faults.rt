@@ -40,7 +40,7 @@ impl FrameFault {
         }
     }
 
-    /// The fault of a number, as [`FrameFault::code`] gives it. `None` where no fault has it.
+    /// The fault of a number, as [`FrameFault::code`] gives it, or `None` if no fault has it.
     pub fn from_code(code: u8) -> Option<FrameFault>
         ensures value { result ≡ frame_fault_of_code code }
         ensures number { IfSome result (λ fault. frame_fault_code fault ≡ code) }

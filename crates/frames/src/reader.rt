@@ -13,8 +13,8 @@ use spw::{Feed, behind_path};
 use std::alloc::{AllocError, Global};
 use std::marker::Model;
 
-/// Reads frames from bytes as they come, and gives the packets that they carry. It holds the head of a frame, and at most
-/// 4,200 bytes of a packet, however many a frame says that it has.
+/// Reads frames from bytes as they come, and gives the packets that they carry. It holds the head of a frame, and at
+/// most 4,200 bytes of a packet, however many a frame says that it has.
 #[derive(Drop)]
 pub struct FrameReader {
     head: ArrayVec<u8, HEAD_LENGTH>,
@@ -35,8 +35,8 @@ impl Model for FrameReader {
     ghost invariant = { λ r. length r.head.items < HEAD_LENGTH };
 }
 
-/// Puts bytes of a packet behind what is held of it. Path address bytes before the packet begins are dropped, and so is what
-/// would be past [`MAX_PACKET`](spw::MAX_PACKET) bytes.
+/// Puts bytes of a packet after what is held of it. Path address bytes before the packet begins are dropped, and so is
+/// what would be past [`MAX_PACKET`](spw::MAX_PACKET) bytes.
 #[tactic(auto, using(crate::proofs::Streaming::kept_first, crate::proofs::Streaming::kept_from))]
 fn keep_run(held: &mut Feed, bytes: &[u8])
     ensures { held.new ≡ keep_all held.old bytes.now }
@@ -53,7 +53,7 @@ impl FrameReader {
     ///
     /// # Errors
     ///
-    /// Where memory was refused.
+    /// `AllocError` if memory was refused.
     pub fn new(alloc: Global) -> Result<FrameReader, AllocError>
         ensures { IfOk result (λ r. r ≡ first_reading) }
     {
@@ -113,7 +113,7 @@ impl FrameReader {
         }
     }
 
-    /// Ends a frame, and gives what it brings; nothing is held behind a packet. Where memory is refused, nothing changes.
+    /// Ends a frame, and gives what it brings. After a packet nothing is held. If memory is refused, nothing changes.
     fn end(&mut self) -> Result<Came, AllocError>
         ensures ok { IfOk result (λ came. came ≡ came_of self.old.flag self.old.held) }
         ensures behind { OnOk result (self.new ≡ behind_end self.old) }
@@ -128,12 +128,12 @@ impl FrameReader {
         }
     }
 
-    /// Takes bytes up to one that ends a frame, or some of them where none does, and gives how many, and what came with the
-    /// last, or `None` where it ends no frame. It takes one at least. The condition is that there is one.
+    /// Takes bytes up to one that ends a frame, or some of them if none does. It gives how many, and what came with the
+    /// last, or `None` if that ends no frame. It takes at least one. The condition is that there is one.
     ///
     /// # Errors
     ///
-    /// Where memory was refused for a packet that ends: its bytes are then held still.
+    /// `AllocError` if memory was refused for a packet that ends. Its bytes are then still held.
     pub fn take(&mut self, bytes: &[u8]) -> Result<(usize, Option<Came>), AllocError>
         requires { bytes.now ≢ [] }
         ensures some { IfOk result (λ r. 0 < r.0) }

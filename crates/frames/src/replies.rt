@@ -19,8 +19,8 @@ fn head_of(reply: &[u8]) -> Head
     }
 }
 
-/// The bytes before a reply in the frame that carries it. With the reply behind them, its reply path in front as it is, they
-/// are a packet that ends in EOP, in one frame.
+/// The bytes before a reply in the frame that carries it. With the reply after them, its reply path in front as it is,
+/// they are a packet that ends in EOP, in one frame.
 pub fn reply_head(reply: &[u8]) -> [u8; HEAD_LENGTH]
     ensures { result ++ reply.now ≡ reply_frame_of reply.now }
 {

@@ -8,7 +8,7 @@ use Rattle.frames_c.specs.Taking.{FramesAreTaken, Taken, take_whole, taken_with,
 
 -- ---- one call
 
--- the same behind so many bytes, with none of which anything came whole
+-- the same after that many bytes, with none of which anything came whole
 abbrev pub more : ℕ → Taken → Taken
 more n t = record { count = n + t.count; came = t.came; next = t.next }
 
@@ -44,7 +44,7 @@ all s [] none = refl
 all s (byte ∷ bytes) none =
     all_with (whole_in (comes s byte)) (step s byte) (take_whole (step s byte) bytes) (length bytes) (all (step s byte) bytes) none
 
--- what is whole of what came, and of what came behind it
+-- what is whole of what came, and of what came after it
 wholes_onto : (c : Option Came) (others : List Came) → wholes (onto c others) ≡ onto (whole_in c) (wholes others)
 wholes_onto None others = refl
 wholes_onto (Some came) others = refl

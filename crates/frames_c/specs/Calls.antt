@@ -9,31 +9,32 @@ use Rattle.frames_c.specs.declared.codes.TheConstants.{DAMAGED, IS_OPEN, NO_MEMO
 use Rattle.frames_c.specs.declared.numbers.CameNumbers.{CameNumbers}
 use Rattle.spw.specs.declared.packets.TheConstants.{MAX_PACKET}
 
--- a reader is opened that has read nothing, or memory was refused; one that is open stays as it is
+-- A reader is opened that has read nothing, or memory was refused. One that is open stays as it is.
 abbrev pub OpensFrames : (old new : Option CheckedReading) → (code : ℕ) → Type 0
 OpensFrames None new code = ((code ≡ OK) × (new ≡ Some (checked first_reading))) ⊎ ((code ≡ NO_MEMORY) × (new ≡ None))
 OpensFrames (Some s) new code = (code ≡ IS_OPEN) × (new ≡ Some s)
 
--- the code of a call that takes bytes: that of the first test that fails. A reader that is not whole takes none
+-- The code of a call that takes bytes: that of the first test that fails. A reader that is not whole takes none.
 abbrev pub take_code : Option CheckedReading → (room : ℕ) → ℕ
 take_code None room = NO_NODE
 take_code (Some s) room = if is_whole s then (if nat_lt room MAX_PACKET then NO_ROOM else OK) else DAMAGED
 
--- bytes were taken up to the first with which something came whole, or all of them if nothing does (`take_whole`): the numbers
--- tell how many and what came, a packet is at the front of the room, with the rest of it as before, and that much was read. The
--- reader is whole then
+-- Bytes were taken up to the first with which something came whole, or all of them if nothing does (`take_whole`). The
+-- numbers say how many and what came. A packet is at the front of the room, with the rest of it as before, and that
+-- much was read. The reader is whole then.
 pub record TakesBytes (bytes room left : List ℕ) (numbers : CameNumbers) (s next : CheckedReading) : Type 0 where
   pub numbers_are : numbers ≡ came_numbers (take_whole s.reading bytes).count (take_whole s.reading bytes).came
   pub left_is : left ≡ put_front room (packet_in (take_whole s.reading bytes).came)
   pub next_is : next ≡ checked (take_whole s.reading bytes).next
 
--- the handle held a reader and holds one, which stand so to each other
+-- the handle held a reader and holds one, which are in that relation
 abbrev pub Becomes : (CheckedReading → CheckedReading → Type 0) → (old new : Option CheckedReading) → Type 0
 Becomes Relates None new = ⊥
 Becomes Relates (Some before) None = ⊥
 Becomes Relates (Some before) (Some after) = Relates before after
 
--- what a call that takes bytes answers and does: at any code but `OK` the reader, the room and the numbers are as before
+-- What a call that takes bytes answers and does. At any code except `OK` the reader, the room and the numbers are as
+-- before.
 pub record TakesFrames (bytes room left : List ℕ) (before told : CameNumbers) (old new : Option CheckedReading) (code : ℕ) : Type 0 where
   pub is_code : code ≡ take_code old (length room)
   pub taken : code ≡ OK → Becomes (TakesBytes bytes room left told) old new

@@ -7,8 +7,8 @@ use Rattle.frames.specs.declared.flags.Flag.TheVariants.{Last}
 use Rattle.frames_c.specs.declared.numbers.CameNumbers.{CameNumbers}
 use Rattle.frames_c.specs.declared.numbers.TheConstants.{BRIDGE, NOTHING, PACKET, TIME}
 
--- the numbers of what came whole with the last of so many bytes, if anything did. The end of a packet is the first byte of the
--- frame that ends it
+-- The numbers of what came whole with the last of that many bytes, if anything did. The end of a packet is the first
+-- byte of the frame that ends it.
 abbrev pub came_numbers : (taken : ℕ) → Option Came → CameNumbers
 came_numbers taken None = record { taken = taken; length = 0; kind = NOTHING; end = 0; flag = 0; unused = 0 }
 came_numbers taken (Some (Whole packet)) =

@@ -5,7 +5,7 @@ use Rattle.frames.specs.Streams.{after, came_in, onto}
 use Rattle.frames.specs.declared.came.Came.{Came}
 use Rattle.frames.specs.declared.came.Came.TheVariants.{Whole, Piece, Time, Other as Unknown}
 
--- what is whole of what a frame brings: nothing where it brings bytes of a packet that goes on
+-- What is whole of what a frame brings. If it brings bytes of a packet that goes on, it is nothing.
 abbrev pub whole_of : Came → Option Came
 whole_of (Whole packet) = Some (Whole packet)
 whole_of Piece = None
@@ -28,11 +28,11 @@ pub record Taken : Type 0 where
   pub came : Option Came
   pub next : Reading
 
--- the same behind a byte with which nothing came whole
+-- the same after a byte with which nothing came whole
 abbrev pub behind_byte : Taken → Taken
 behind_byte others = record { count = others.count + 1; came = others.came; next = others.next }
 
--- a byte with which this came whole, and which leaves that: if anything did, no other is taken
+-- A byte with which this came whole, and which leaves that. If anything did, no other is taken.
 abbrev pub taken_with : Option Came → Reading → (others : Taken) → Taken
 taken_with None next others = behind_byte others
 taken_with (Some came) next others = record { count = 1; came = Some came; next = next }
@@ -44,7 +44,7 @@ take_whole s (byte ∷ bytes) = taken_with (whole_in (comes s byte)) (step s byt
 
 -- what is taken again and again, until all bytes are taken, is read as the whole stream
 pub record FramesAreTaken : Type 0 where
-  -- one is taken at least, if there is one, and never more than there are; all are if nothing came whole
+  -- At least one is taken, if there is one, and never more than there are. All are if nothing came whole.
   pub some : (s : Reading) (bytes : List ℕ) → bytes ≢ [] → 0 < (take_whole s bytes).count
   pub few : (s : Reading) (bytes : List ℕ) → (take_whole s bytes).count ≤ length bytes
   pub all : (s : Reading) (bytes : List ℕ) → (take_whole s bytes).came ≡ None → (take_whole s bytes).count ≡ length bytes

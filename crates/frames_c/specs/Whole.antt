@@ -30,7 +30,7 @@ checked r = record { reading = r; complement = complement r.left; sum = state_su
 abbrev pub is_whole : CheckedReading → Bool
 is_whole c = c.complement == complement c.reading.left && c.sum == state_sum c.reading
 
--- what is behind each call is whole, and what changed in one place is not
+-- what each call leaves is whole, and what changed in one place is not
 pub record ChangesAreSeen : Type 0 where
   pub whole : (r : Reading) → is_whole (checked r) ≡ true
   -- another count, or another complement of it

@@ -32,7 +32,7 @@ fn fresh(alloc: Global) -> Result<Box<CheckedFrames>, AllocError>
     }
 }
 
-/// Takes bytes, if memory kept the reader, and there is room for a packet: a code.
+/// Takes bytes, if memory kept the reader, and there is room for a packet, and gives a code.
 fn take_into(
     frames: &mut CheckedFrames,
     bytes: &[u8],
@@ -70,8 +70,9 @@ impl FramesHandle {
         }
     }
 
-    /// Takes bytes up to the first with which something came whole, or all of them if nothing does, and tells how many, and what came.
-    /// The bytes of a packet go to the front of the room. It asks for no memory. At any code but `OK` all that was lent is as before.
+    /// Takes bytes up to the first with which something came whole, or all of them if nothing does, and reports how
+    /// many, and what came. The bytes of a packet go to the front of the room. It asks for no memory. At any code
+    /// except `OK` all that was lent is as before.
     pub fn take(
         &mut self,
         alloc: Global,
@@ -102,8 +103,8 @@ impl FramesHandle {
     }
 }
 
-/// The bytes before a reply of so many bytes in the frame that carries it: with the reply behind them they are a packet that ends
-/// in EOP, in one frame.
+/// The bytes before a reply of that many bytes in the frame that carries it. With the reply after them they are a
+/// packet that ends in EOP, in one frame.
 pub fn head(reply_length: u32, head: &mut [u8; HEAD_LENGTH])
     ensures bytes { head.new ≡ head_bytes (record { flag = Last Eop; length = reply_length }) }
     ensures frame { (reply : List ℕ) → length reply ≡ reply_length

@@ -39,6 +39,10 @@ fn complement(left: u128) -> u128
 
 impl CheckedFrames {
     /// A reader that has read nothing.
+    ///
+    /// # Errors
+    ///
+    /// `AllocError` if memory was refused.
     pub fn new(alloc: Global) -> Result<CheckedFrames, AllocError>
         ensures { IfOk result (λ c. c ≡ checked first_reading) }
     {
@@ -59,8 +63,9 @@ impl CheckedFrames {
         self.complement == complement(self.frames.left()) && self.sum == self.frames.state_sum()
     }
 
-    /// Takes bytes up to the first with which something came whole, or all of them if nothing does, and tells how many, and what
-    /// came. The bytes of a packet go to the front of the room. The condition is room for the longest packet.
+    /// Takes bytes up to the first with which something came whole, or all of them if nothing does, and reports how
+    /// many, and what came. The bytes of a packet go to the front of the room. The condition is room for the longest
+    /// packet.
     pub fn take(&mut self, bytes: &[u8], room: &mut [u8]) -> CameNumbers
         requires { MAX_PACKET ≤ length room.old }
         ensures told { result

@@ -17,7 +17,7 @@ pub fn take_out(alloc: Global, handle: &mut FramesHandle) -> Option<Box<CheckedF
     replace(handle, FramesHandle::none()).into_box(alloc)
 }
 
-/// Gives a handle a reader; one that it held is ended.
+/// Gives a handle a reader. If it held one before, that one is ended.
 pub fn put_in(alloc: Global, handle: &mut FramesHandle, frames: Box<CheckedFrames>)
     ensures { handle.new.kept ≡ Some frames.value }
 {

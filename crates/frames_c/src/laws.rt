@@ -10,7 +10,8 @@ pub fn frames_are_taken()
     ensures { FramesAreTaken }
 {}
 
-/// A law and no work: a reader is whole behind each call, and is not if one word of it is another, or its count of bytes.
+/// A law and no work: a reader is whole after each call. It is not if one word of it is another, or its count of bytes
+/// is.
 pub fn changes_are_seen()
     ensures { ChangesAreSeen }
 {

@@ -1,8 +1,8 @@
 //! Frames as C programs read them: `include/sandbarstove_frames.h` declares what `single_node_c` exports of this.
 //!
-//! A reader takes bytes of frames as they come, as the reader of `frames` does, and asks for memory only when it is made. C keeps
-//! a [`FramesHandle`], behind which it is, beside what says whether memory keeps it: a reader that a flipped bit changed takes no
-//! byte.
+//! A reader takes bytes of frames as they come, as the reader of `frames` does, and asks for memory only when it is
+//! made. C keeps a [`FramesHandle`], which points to it. Beside the reader is what says whether memory keeps it: a
+//! reader that a flipped bit changed takes no byte.
 #![tactic(auto)]
 
 mod byte_sums;

@@ -5,7 +5,7 @@ ghost use Rattle.frames_c.specs.Numbers.{came_numbers};
 
 use frames::Flag;
 
-/// The kind where nothing came whole.
+/// The kind if nothing came whole.
 pub const NOTHING: u8 = 0;
 
 /// The kind of a packet.
@@ -30,7 +30,7 @@ pub struct CameNumbers {
 }
 
 impl CameNumbers {
-    /// So many bytes were taken, and brought nothing.
+    /// That many bytes were taken, and brought nothing.
     pub fn nothing(taken: u64) -> CameNumbers
         ensures { result ≡ came_numbers taken None }
     {

@@ -19,8 +19,9 @@ use std::alloc::{AllocError, Global};
 use std::marker::Model;
 use sums::after_word;
 
-/// Reads frames from bytes as they come, and copies out the packets that they carry. It holds the head of a frame, and at most
-/// 4,200 bytes of a packet, however many a frame says that it has. What a frame is it holds as its first byte: each byte is one.
+/// Reads frames from bytes as they come, and copies out the packets that they carry. It holds the head of a frame, and
+/// at most 4,200 bytes of a packet, however many a frame says that it has. It holds what a frame is as its first byte:
+/// each byte is one.
 #[derive(Drop)]
 pub struct Frames {
     head: ArrayVec<u8, HEAD_LENGTH>,
@@ -44,6 +45,10 @@ impl Model for Frames {
 
 impl Frames {
     /// A reader that has read nothing.
+    ///
+    /// # Errors
+    ///
+    /// `AllocError` if memory was refused.
     pub fn new(alloc: Global) -> Result<Frames, AllocError>
         ensures { IfOk result (λ r. r ≡ first_reading) }
     {
@@ -63,8 +68,8 @@ impl Frames {
         self.left
     }
 
-    /// The sum of all that is held, but for how many bytes are left, and the bytes of a packet. Of a head no byte after its place
-    /// is read, also if memory changed how many there are.
+    /// The sum of all that is held, except how many bytes are left, and the bytes of a packet. Of a head no byte after
+    /// its place is read, also if memory changed how many there are.
     pub fn state_sum(&self) -> u64
         ensures { result ≡ state_sum self.now }
     {
@@ -110,7 +115,7 @@ impl Frames {
         }
     }
 
-    /// Ends a packet behind so many bytes: its bytes go to the front of the room, and nothing is held.
+    /// Ends a packet after that many bytes. Its bytes go to the front of the room, and nothing is held.
     fn end_packet(&mut self, end: End, taken: u64, room: &mut [u8]) -> CameNumbers
         requires { MAX_PACKET ≤ length room.old }
         ensures told { result ≡ came_numbers taken (Some (came_of (Last end) self.old.held)) }
@@ -132,8 +137,8 @@ impl Frames {
         }
     }
 
-    /// Ends a frame behind so many bytes, and tells what is whole of what it brings, if anything is. The bytes of a packet go to
-    /// the front of the room.
+    /// Ends a frame after that many bytes, and reports what is whole of what it brings, if anything is. The bytes of a
+    /// packet go to the front of the room.
     fn end(&mut self, taken: u64, room: &mut [u8]) -> Option<CameNumbers>
         requires { MAX_PACKET ≤ length room.old }
         ensures told { result ≡ numbers_if taken (whole_of (came_of self.old.flag self.old.held)) }
@@ -156,8 +161,8 @@ impl Frames {
         }
     }
 
-    /// Takes a byte, the last of so many, and tells what came whole with it, if anything did. The bytes of a packet go to the front
-    /// of the room.
+    /// Takes a byte, the last of that many, and reports what came whole with it, if anything did. The bytes of a packet
+    /// go to the front of the room.
     fn step(&mut self, byte: u8, taken: u64, room: &mut [u8]) -> Option<CameNumbers>
         requires { MAX_PACKET ≤ length room.old }
         ensures told { result ≡ numbers_if taken (whole_in (comes self.old byte)) }
@@ -172,8 +177,9 @@ impl Frames {
         }
     }
 
-    /// Takes bytes up to the first with which something came whole, or all of them if nothing does, and tells how many, and what
-    /// came. The bytes of a packet go to the front of the room. The condition is room for the longest packet.
+    /// Takes bytes up to the first with which something came whole, or all of them if nothing does, and reports how
+    /// many, and what came. The bytes of a packet go to the front of the room. The condition is room for the longest
+    /// packet.
     pub fn take(&mut self, bytes: &[u8], room: &mut [u8]) -> CameNumbers
         requires { MAX_PACKET ≤ length room.old }
         ensures told { result

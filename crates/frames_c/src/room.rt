@@ -8,7 +8,7 @@ use spw::{FIRST_LOGICAL, MAX_PACKET};
 use std::alloc::{AllocError, Global};
 use std::marker::Model;
 
-/// The bytes of a packet that has not ended yet. Room for the longest packet is taken when it is made.
+/// The bytes of a packet that has not ended yet. Making it takes room for the longest packet.
 #[derive(Drop)]
 pub struct PacketRoom {
     held: BytesMut,
@@ -27,6 +27,10 @@ impl Model for PacketRoom {
 
 impl PacketRoom {
     /// Room that holds nothing.
+    ///
+    /// # Errors
+    ///
+    /// `AllocError` if memory was refused.
     pub fn new(alloc: Global) -> Result<PacketRoom, AllocError>
         ensures { IfOk result (λ r. r ≡ []) }
     {
@@ -34,8 +38,8 @@ impl PacketRoom {
         Ok(PacketRoom { held })
     }
 
-    /// Puts a byte of a packet behind what is held. A path address byte before the packet begins is dropped, and so is what would
-    /// be past [`MAX_PACKET`] bytes.
+    /// Puts a byte of a packet after what is held. A path address byte before the packet begins is dropped, and so is
+    /// what would be past [`MAX_PACKET`] bytes.
     pub fn keep(&mut self, byte: u8)
         ensures { self.new ≡ keep self.old byte }
     {

@@ -1,4 +1,4 @@
--- The packets of a load are taken where they are meant.
+-- The node of a load accepts its packets at the right places.
 use Rattle.std.proofs.Common.{◌≡◌, ℕ, ◌+◌, ◌*◌, ◌<◌, ◌≤◌, ◌++◌, List, [], ◌∷◌, true, false, eqb, ltb, leb, length, Option, Some, None, refl, sym, ap, ◌/◌, ◌%◌, ◌∙◌, arith, length-take, length-drop, drop}
 use Rattle.std.proofs.lemmas.Bool.{le-ltb, lt-ltb, le-leb}
 use Rattle.std.proofs.lemmas.Bool.Decides.{nat_tests}
@@ -44,25 +44,25 @@ bits_of i code is low =
     let verify : i / 16 % 2 ≡ 0 = omega (arith, is, low) in
     replies i increment reply verify
 
--- the bytes of a command to the boot window lie where they lie in it
+-- the bytes of a command to the boot window have the place that they have in it
 in_window : (c : CommandValue) (place : Place) → extended_of c ≡ 255 → boot_place c ≡ Some place → bank_place None c ≡ Some place
 in_window c place extended at =
     let same : eqb (extended_of c) 255 ≡ true = ap (λ n. eqb n 255) extended in
     rw same at
 
--- so they do under windows that have no bank of its number
+-- and so they do under windows that have no bank of its number
 lies_there : (w : WindowsValue) (c : CommandValue) (place : Place) → extended_of c ≡ 255 → slice_get w.banks 255 ≡ None → boot_place c ≡ Some place → place_of c w ≡ Some place
 lies_there w c place extended none at =
     ap (λ (b : Option (ℕ × ℕ)). bank_place b c) (ap (slice_get w.banks) extended ∙ none) ∙ in_window c place extended at
 
--- no check of the header holds at a write for that node
+-- no check of the header stops a write for that node
 write_passes : (w : WindowsValue) (c : CommandValue) (place : Place) → command_kind c ≡ Write → target_of c ≡ w.node_address → verifies c ≡ false → length_of c ≤ 4096 → place_of c w ≡ Some place → header_check c w ≡ None
 write_passes w c place kind target verify few at =
     let mine : eqb (target_of c) w.node_address ≡ true = grind (arith, nat_tests, target) in
     let short : ltb 4096 (length_of c) ≡ false = le-ltb 4096 (length_of c) few in
     rw (kind, mine, verify, short, at) refl
 
--- and at a read
+-- and none stops a read
 read_passes : (w : WindowsValue) (c : CommandValue) (place : Place) → command_kind c ≡ Read → target_of c ≡ w.node_address → verifies c ≡ false → length_of c ≤ 4096 → place_of c w ≡ Some place → header_check c w ≡ None
 read_passes w c place kind target verify few at =
     let mine : eqb (target_of c) w.node_address ≡ true = grind (arith, nat_tests, target) in

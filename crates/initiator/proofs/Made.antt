@@ -1,4 +1,4 @@
--- What is made of fields is the command of these fields.
+-- The command that is made of fields.
 use Rattle.std.proofs.Common.{◌≡◌, ℕ, ◌++◌, ◌∷◌, [], List, ap, ◌∙◌, append_assoc}
 use Rattle.rcrc.specs.Crc.{crc_of}
 use Rattle.initiator.specs.declared.write.CommandFields.{CommandFields}

@@ -1,4 +1,4 @@
--- A command that is made of fields has those fields, and no check of its body holds.
+-- A command that is made of fields has those fields, and no check of its body stops it.
 use Rattle.std.proofs.Common.{◌≡◌, ℕ, ◌+◌, ◌++◌, List, [], ◌∷◌, true, false, eqb, ltb, length, get_or, take, None, refl, sym, ap, ◌∙◌, arith, length-append}
 use Rattle.std.proofs.lemmas.List.{take_at, get_or-append-add}
 use Rattle.std.proofs.lemmas.Bool.{le-ltb}
@@ -18,14 +18,14 @@ use Rattle.initiator.specs.Writing.{AreFields, Fit, HasFields, command_with, hea
 pub length_is : (f : CommandFields) (body : List ℕ) → AreFields f → length_of (command_with f body) ≡ f.length
 length_is f body h = big_number-reads_back 3 f.length (crc_of (header_with f) ∷ []) (omega (arith, h.short))
 
--- what is made is a command
+-- the bytes that are made are a command
 pub is_made : (f : CommandFields) (body : List ℕ) → AreFields f → IsCommand (bytes_of (command_with f body)) (command_with f body)
 is_made f body h = record {
   header = record { front = refl; reply_address = h.address; tail = refl; protocol = refl; no_reply = h.no_reply; crc = refl };
   parts = refl;
 }
 
--- what is made is a command with those fields
+-- the bytes that are made are a command with those fields
 pub made_is_read : (f : CommandFields) (body : List ℕ) → AreFields f → Fit f → IsCommand (bytes_of (command_with f body)) (command_with f body) × HasFields f body (command_with f body)
 made_is_read f body h fit = (
   is_made f body h,
@@ -43,7 +43,7 @@ made_is_read f body h fit = (
   },
 )
 
--- a command of fields with some data has so many bytes
+-- how many bytes a command of fields with some data has
 pub made_is_so_long : MadeCommandsAreSoLong
 made_is_so_long f bytes =
     let c = command_with f (with_crc bytes) in
@@ -66,7 +66,7 @@ carried_is_right f bytes h carries count =
     let same : eqb (crc_of bytes) (crc_of bytes) ≡ true = grind (arith, nat_tests) in
     rw (carries, field, few, many, last, front, same) refl
 
--- no body is right where none is carried
+-- if a command carries no data, having no body is right
 none_is_right : (f : CommandFields) → carries_data (kind_of f.instruction.0) ≡ false → body_line (command_with f []) ≡ None
 none_is_right f carries = rw carries refl
 

@@ -26,7 +26,7 @@ body_is_read false header d h =
     let front : take (announced_length false header) (d ++ crc_of d ∷ []) ≡ d = take_at d (crc_of d ∷ []) (announced_length false header) h in
     rw (same, crc, front) refl
 
--- so many bytes of a header end with the header's CRC, whatever follows them
+-- `n + 1` bytes of a header end with the header's CRC, whatever follows them
 crc_before : (n : ℕ) (header rest : List ℕ) → length header ≡ suc n → has_right_crc (length header) header ≡ true → has_right_crc (suc n) (header ++ rest) ≡ true
 crc_before n header rest long crc =
     let last : get_or (header ++ rest) n 0 ≡ get_or header n 0 = get_or_append_left header rest 0 n (omega (arith, long)) in
@@ -57,7 +57,7 @@ long_enough : (w : Bool) (header : List ℕ) → length header ≡ form_length w
 long_enough true header long = omega (arith, long)
 long_enough false header long = omega (arith, long)
 
--- a reply is read as it is
+-- the bytes of a reply are read as that reply
 pub replies_are_read : (bytes : List ℕ) (r : ReplyValue) → IsReply bytes r → reply_reading bytes ≡ Ok r
 replies_are_read bytes r h =
     let w = has_write_form r in

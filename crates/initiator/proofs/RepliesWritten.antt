@@ -1,4 +1,4 @@
--- What is written behind the path of a reply is read as that reply.
+-- What comes after the path of a reply is read as that reply.
 use Rattle.std.proofs.Common.{◌≡◌, ℕ, ◌/◌, ◌%◌, ◌≤◌, ◌<◌, ◌++◌, List, [], ◌∷◌, Bool, true, false, cond, eqb, length, get_or, drop, refl, sym, ap, arith, append_assoc}
 use Rattle.std.proofs.lemmas.List.{get_or-drop}
 use Rattle.std.specs.Prelude.{All}
@@ -29,7 +29,7 @@ form_stays instruction =
     let same : instruction % 64 / 32 % 2 ≡ instruction / 32 % 2 = omega arith in
     ap (λ n. eqb n 1) same
 
--- the header of a reply in the form that a bit tells
+-- the header of a reply in the form that a bit selects
 abbrev header_in : (w : Bool) → (initiator instruction status target transaction count : ℕ) → List ℕ
 header_in w initiator instruction status target transaction count =
     initiator ∷ 1 ∷ instruction ∷ status ∷ target ∷ [] ++ big_bytes 2 transaction ++ (cond w [] (0 ∷ big_bytes 3 count))

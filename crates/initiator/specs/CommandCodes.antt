@@ -1,4 +1,4 @@
--- The command codes of commands that are made (ECSS-E-ST-50-52C, instruction field).
+-- The command codes of commands that an initiator makes (ECSS-E-ST-50-52C, instruction field).
 use Rattle.std.specs.Prelude.{ℕ, ◌+◌, ◌*◌, Bool, cond}
 
 -- a bit of an instruction

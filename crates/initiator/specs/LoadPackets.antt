@@ -26,13 +26,13 @@ pub record AreFieldsOf (r : Request) (f : CommandFields) : Type 0 where
   pub address : f.address ≡ r.address
   pub count : f.length ≡ r.count
 
--- the fields are for the node with these windows, of which no bank hides the boot window
+-- the fields are for the node with these windows; none of its banks hides the boot window
 pub record AreForNode (w : WindowsValue) (f : CommandFields) : Type 0 where
   pub target : f.target ≡ w.node_address
   pub no_bank : slice_get w.banks BOOT_WINDOW ≡ None
 
--- what is made of the fields and the body is a command of that kind that asks for a reply; under these windows no check of
--- its header holds, and its bytes lie at that place; and no check of its body holds
+-- The bytes that are made of the fields and the body are a command of that kind that asks for a reply. Under these
+-- windows no check of its header stops it, and its bytes lie at that place. No check of its body stops it.
 pub record IsTakenAt (w : WindowsValue) (f : CommandFields) (body : List ℕ) (kind : Kind) (place : Place) : Type 0 where
   pub command : IsCommand (bytes_of (command_with f body)) (command_with f body)
   pub is_kind : command_kind (command_with f body) ≡ kind
@@ -40,8 +40,8 @@ pub record IsTakenAt (w : WindowsValue) (f : CommandFields) (body : List ℕ) (k
   pub placed : HasPlace (command_with f body) w place
   pub right : body_line (command_with f body) ≡ None
 
--- each packet of a load is taken where it is meant: the parts of the image as writes to the staging, the control data as
--- a control write, and the read as that of the load result
+-- A node accepts each packet of a load at its place. The parts of the image are writes to the staging. The control
+-- data are a control write, and the read is that of the load result.
 pub record LoadPacketsAreTaken : Type 0 where
   pub staged : (w : WindowsValue) (f : CommandFields) (transaction : ℕ) (image : List ℕ) (number : ℕ) → AreForNode w f
       → AreFieldsOf (stage_request transaction (part_of image number) number) f → length image ≤ STAGING_SIZE

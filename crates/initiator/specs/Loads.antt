@@ -15,15 +15,15 @@ load_code = write_code false true true
 abbrev pub result_code : ℕ
 result_code = read_code true
 
--- a transaction identifier so many further on; behind FFFF comes 0000
+-- a transaction identifier `count` further on; after FFFF comes 0000
 abbrev pub further : (transaction count : ℕ) → ℕ
 further transaction count = (transaction + count) % 2 ^ 16
 
--- the bytes of an image that its part of this number has: at most 4,096
+-- the bytes of the image's part of this number: at most 4,096
 abbrev pub part_of : (image : List ℕ) → (number : ℕ) → List ℕ
 part_of image number = take MAX_DATA (drop (MAX_DATA * number) image)
 
--- the write of a part to the staging, where the load begins with this transaction identifier
+-- the write of a part to the staging, if the load begins with this transaction identifier
 abbrev pub stage_request : (transaction : ℕ) → (part : List ℕ) → (number : ℕ) → Request
 stage_request transaction part number = record {
   code = load_code;
@@ -47,7 +47,7 @@ control_request transaction image = record {
   count = CONTROL_SIZE;
 }
 
--- what asks to load the image into that slot
+-- the control data that ask to load the image into that slot
 abbrev pub asked_for : (slot : ℕ) → (image : List ℕ) → ControlData
 asked_for slot image = record { slot = slot; zero = 0; length = length image }
 

@@ -1,4 +1,4 @@
--- Replies as they are read, from the initiator logical address on (ECSS-E-ST-50-52C, write reply format, read reply
+-- Replies as they are read, from the initiator logical address (ECSS-E-ST-50-52C, write reply format, read reply
 -- format and read-modify-write reply format). Fields of several bytes have the most significant byte first.
 use Rattle.std.specs.Prelude.{◌≡◌, ℕ, ◌+◌, ◌-◌, Bool, true, ◌==◌, ◌&&◌, not, nat_lt, if◌then◌else◌, List, [], ◌∷◌}
 use Rattle.std.specs.Prelude.{◌++◌, length, take, drop, slice_index, Result, Ok, Err}
@@ -14,8 +14,8 @@ use Rattle.rmap.specs.Reply.{reply_body, reply_header, reply_instruction, with_c
 
 -- the parts of a reply in the order of its bytes, without its path
 pub record ReplyValue : Type 0 where
-  -- initiator logical address, protocol identifier, instruction, status, target logical address, transaction
-  -- identifier, in read form a reserved byte and the data length, and the header CRC
+  -- Initiator logical address, protocol identifier, instruction, status, target logical address, transaction
+  -- identifier, header CRC. In read form a reserved byte and the data length are before the CRC.
   pub header : List ℕ
   -- the data; none in write form
   pub data_field : List ℕ
@@ -60,7 +60,7 @@ announced_length writes header = if writes then 0 else big_number 3 (drop 8 head
 abbrev pub checked_data : (writes : Bool) → List ℕ → List ℕ
 checked_data writes bytes = if writes then [] else bytes ++ crc_of bytes ∷ []
 
--- whether the last of so many bytes is the CRC of those before it
+-- whether the last of `count` bytes is the CRC of those before it
 abbrev pub has_right_crc : (count : ℕ) → List ℕ → Bool
 has_right_crc count bytes = slice_index bytes (count - 1) == crc_of (take (count - 1) bytes)
 
@@ -72,8 +72,9 @@ last_of bytes = slice_index bytes (length bytes - 1)
 abbrev pub crc_before_last : List ℕ → ℕ
 crc_before_last bytes = crc_of (take (length bytes - 1) bytes)
 
--- the bytes are the reply: protocol 1, packet type 00, a header whose last byte is the CRC of those before it, and
--- behind it in read form as many bytes of data as it announces, with their CRC, in write form nothing
+-- The bytes are the reply: protocol identifier 1, packet type 00, and a header whose last byte is the CRC of those
+-- before it. In read form as many bytes of data as the header announces come after it, with their CRC. In write form
+-- nothing comes after it.
 pub record IsReply (bytes : List ℕ) (r : ReplyValue) : Type 0 where
   pub header : length r.header ≡ form_length (has_write_form r)
   pub protocol : reply_protocol r ≡ 1
@@ -88,7 +89,7 @@ pub record IsReply (bytes : List ℕ) (r : ReplyValue) : Type 0 where
 abbrev pub body_length : (writes : Bool) → (header : List ℕ) → ℕ
 body_length writes header = if writes then 0 else announced_length writes header + 1
 
--- another number of bytes follows the header than should
+-- the number of bytes that follow the header is not the right one
 unfoldable pub wrong_length : (writes : Bool) → (header body : List ℕ) → NoReply
 wrong_length writes header body = Length (length body) (body_length writes header)
 
@@ -107,7 +108,7 @@ body_reading writes header body =
     else if not writes && not (has_right_crc (length body) body) then Err (wrong_data body)
     else Ok (record { header = header; data_field = take (announced_length writes header) body })
 
--- a header of so many bytes, and what follows it
+-- a header of `count` bytes, and what follows it
 abbrev pub form_reading : (writes : Bool) → (count : ℕ) → List ℕ → Result ReplyValue NoReply
 form_reading writes count bytes =
     if nat_lt (length bytes) count then Err Short
@@ -115,7 +116,7 @@ form_reading writes count bytes =
     then Err (wrong_header (take count bytes))
     else body_reading writes (take count bytes) (drop count bytes)
 
--- the first reason that holds, with what was found, or the reply
+-- the reason of the first test that fails, with what was found, or the reply
 abbrev pub reply_reading : List ℕ → Result ReplyValue NoReply
 reply_reading bytes =
     if nat_lt (length bytes) 3 then Err Short
@@ -123,7 +124,7 @@ reply_reading bytes =
     else if not (packet_type (slice_index bytes 2) == 0) then Err (Command (record { 0 = slice_index bytes 2 }))
     else form_reading (has_write_bit (slice_index bytes 2)) (form_length (has_write_bit (slice_index bytes 2))) bytes
 
--- any reply that the bytes are is the one that is given
+-- if the bytes are a reply, that reply is given
 abbrev pub GivesAnyReplyOf : List ℕ → Result ReplyValue NoReply → Type 0
 GivesAnyReplyOf bytes given = (r : ReplyValue) → IsReply bytes r → given ≡ Ok r
 

@@ -1,4 +1,4 @@
--- What a packet is, to who watches a link.
+-- What a packet on a link is to an observer.
 use Rattle.std.specs.Prelude.{◌≡◌, ◌-◌, ℕ, Bool, true, false, ◌==◌, ◌&&◌, not, nat_lt, List, length, take, slice_index, Some, None, Ok, Err}
 use Rattle.spw.specs.Cargo.{Cargo}
 use Rattle.spw.specs.Paths.{behind_path}
@@ -11,7 +11,7 @@ use Rattle.initiator.specs.ReplyReading.{reply_reading}
 use Rattle.initiator.specs.declared.seen.Seen.{Seen}
 use Rattle.initiator.specs.declared.seen.Seen.TheVariants.{Command, Reply, NoReply, Discarded}
 
--- that path
+-- the path before a reply
 abbrev pub path_before : List ℕ → List ℕ
 path_before bytes = take (length bytes - length (behind_path bytes)) bytes
 
@@ -21,8 +21,9 @@ abbrev pub has_reply_type : List ℕ → Bool
 has_reply_type bytes =
     not (nat_lt (length bytes) 3) && (slice_index bytes 1 == 1 && packet_type (slice_index bytes 2) == 0)
 
--- what bytes are that are no command, however their packet ended: a reply behind its path, or why they are none; or where they have not the type of one why a
--- target discards them, and what is wrong
+-- What bytes are if they are no command, however their packet ended. If they have the type of a reply after their
+-- path, they are that reply, or there is the reason why they are none. Else there is the reason why a target discards
+-- them, with what is wrong.
 abbrev pub IsOther : List ℕ → Seen → Type 0
 IsOther bytes (Command command fault) = ⊥
 IsOther bytes (Reply path reply) =
@@ -33,13 +34,14 @@ IsOther bytes (NoReply instruction why) =
 IsOther bytes (Discarded reason flaw) =
     (has_reply_type (behind_path bytes) ≡ false) × (discard_of bytes ≡ Some reason) × (flaw ≡ flaw_of bytes reason)
 
--- no command stands to the bytes, and that is what they are
+-- the bytes are no command, and this is what they are
 pub record IsNoCommand (bytes : List ℕ) (seen : Seen) : Type 0 where
   pub reason : Discard
   pub discarded : discard_of bytes ≡ Some reason
   pub other : IsOther bytes seen
 
--- what a packet is: a command with the first check of what follows its header that holds, or no command and what it is then
+-- What a packet is. A command comes with the first check of what follows its header that stops it. If it is no
+-- command, it is what the bytes then are.
 abbrev pub IsSeen : Cargo → Seen → Type 0
 IsSeen p (Command command fault) =
     (discard_of p.bytes ≡ None) × (command ≡ command_of p) × (fault ≡ content_check command)

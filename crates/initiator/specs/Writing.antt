@@ -13,7 +13,7 @@ use Rattle.rmap.specs.Command.{target_of, transaction_of}
 abbrev pub front_with : CommandFields → List ℕ
 front_with f = f.target ∷ 1 ∷ f.instruction.0 ∷ f.key ∷ []
 
--- what stands between the reply address and the header's CRC
+-- the fields between the reply address and the header's CRC
 abbrev pub tail_with : CommandFields → List ℕ
 tail_with f =
     f.initiator ∷ [] ++ big_bytes 2 f.transaction ++ f.extended ∷ [] ++ big_bytes 4 f.address ++ big_bytes 3 f.length
@@ -32,8 +32,8 @@ command_with f body = record {
   end = Eop;
 }
 
--- the fields are those of a command: it is no reply, the length fits its field, and the reply address is as long as the
--- instruction says
+-- The fields are those of a command. It is no reply, the length fits its field, and the reply address is as long as
+-- the instruction says.
 pub record AreFields (f : CommandFields) : Type 0 where
   pub no_reply : 1 ≤ packet_type f.instruction.0
   pub short : f.length < 2 ^ 24

@@ -1,4 +1,4 @@
-//! The command codes of commands that are made (ECSS-E-ST-50-52C, instruction field).
+//! The command codes of commands that an initiator makes (ECSS-E-ST-50-52C, instruction field).
 
 ghost use Rattle.std.specs.Prelude.{◌≡◌, ◌<◌};
 ghost use Rattle.initiator.specs.CommandCodes.{bit_of, read_code, rmw_code, write_code};

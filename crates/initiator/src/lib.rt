@@ -1,8 +1,10 @@
 //! What an initiator does with RMAP: it makes commands and reads replies (ECSS-E-ST-50-52C).
 //!
-//! [`write_command`] makes a command of its fields, and a [`Reply`] is a view of a reply's bytes, or [`NoReply`] tells why
-//! they are none. A load is its [`Request`]s: [`stage_request`] for each part of the image, [`control_request`] and
-//! [`result_request`]. [`Seen`] is what a packet is that came by.
+//! - [`write_command`] makes a command of its fields.
+//! - A [`Reply`] is a view of a reply's bytes. If they are none, [`NoReply`] says why.
+//! - A load is its [`Request`]s: [`stage_request`] for each part of the image, [`control_request`] and
+//!   [`result_request`].
+//! - [`Seen`] says what a packet on the link is.
 #![tactic(auto)]
 
 mod codes;

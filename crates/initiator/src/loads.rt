@@ -1,5 +1,5 @@
-//! The commands of a load: the writes of the image's parts to the staging of the boot window, the control write, and the
-//! read of the load result. Their transaction identifiers follow each other; behind FFFF comes 0000.
+//! The commands of a load: the writes of the image's parts to the staging, the control write, and the read of the
+//! load result. All are for the boot window. Their transaction identifiers follow each other; after FFFF comes 0000.
 
 ghost use Rattle.std.specs.Prelude.{◌≡◌, ◌≤◌, ◌<◌, ◌*◌, ◌^◌, IfOk, length, take};
 ghost use Rattle.rmap.specs.Reply.{with_crc};
@@ -16,7 +16,7 @@ use std::alloc::{AllocError, Global};
 /// The most bytes of a part of an image: as many as one command may have.
 pub const PART_SIZE: usize = MAX_DATA as usize;
 
-/// The first of some bytes, at most so many.
+/// The first of some bytes, at most `most`.
 fn first_bytes(bytes: &[u8], most: usize) -> &[u8]
     ensures bytes { result.now ≡ take most bytes.now }
     ensures few { length result.now ≤ most }
@@ -28,7 +28,7 @@ fn first_bytes(bytes: &[u8], most: usize) -> &[u8]
     }
 }
 
-/// The bytes of an image that its part of this number has, at most [`PART_SIZE`].
+/// The bytes of the image's part of this number, at most [`PART_SIZE`].
 pub fn part_of(image: &[u8], number: u16) -> &[u8]
     requires { MAX_DATA * number ≤ length image.now }
     ensures part { result.now ≡ part_of image.now number }
@@ -47,7 +47,7 @@ fn part_count(image: &[u8]) -> u16
     ((image.len() + PART_SIZE - 1) / PART_SIZE) as u16
 }
 
-/// The write of a part to the staging, where the load begins with this transaction identifier.
+/// The write of a part to the staging, if the load begins with this transaction identifier.
 pub fn stage_request(transaction: u16, part: &[u8], number: u16) -> Request
     requires few { length part.now ≤ MAX_DATA }
     requires number { number < 4 }
@@ -64,7 +64,7 @@ pub fn stage_request(transaction: u16, part: &[u8], number: u16) -> Request
     }
 }
 
-/// The control write, behind the writes of all parts.
+/// The control write, after the writes of all parts.
 pub fn control_request(transaction: u16, image: &[u8]) -> Request
     requires { length image.now ≤ STAGING_SIZE }
     ensures value { result ≡ control_request transaction image.now }
@@ -80,7 +80,7 @@ pub fn control_request(transaction: u16, image: &[u8]) -> Request
     }
 }
 
-/// The read of the load result, behind the control write.
+/// The read of the load result, after the control write.
 pub fn result_request(transaction: u16, image: &[u8]) -> Request
     requires { length image.now ≤ STAGING_SIZE }
     ensures value { result ≡ result_request transaction image.now }
@@ -96,7 +96,11 @@ pub fn result_request(transaction: u16, image: &[u8]) -> Request
     }
 }
 
-/// The data of the control write, with their CRC: the slot, and how many bytes are loaded.
+/// The data of the control write, with their CRC: the slot, and how many bytes the image has.
+///
+/// # Errors
+///
+/// Memory is refused.
 pub fn control_body(alloc: Global, slot: u8, image: &[u8]) -> Result<Vec<u8>, AllocError>
     requires { length image.now ≤ STAGING_SIZE }
     ensures { IfOk result (λ body. body.items ≡ with_crc (control_bytes slot image.now)) }

@@ -4,7 +4,7 @@ use rmap::Instruction;
 use thiserror::Error;
 
 /// Why bytes are no reply, with what was found there (ECSS-E-ST-50-52C, write reply format, read reply format,
-/// read-modify-write reply format), in the order in which it is tested.
+/// read-modify-write reply format). The variants are in the order of the tests.
 #[derive(Clone, Copy, Debug, PartialEq, Eq, Error)]
 pub enum NoReply {
     /// Fewer bytes than the header has.
@@ -27,15 +27,16 @@ pub enum NoReply {
     HeaderCrc {
         /// The header CRC.
         found: u8,
-        /// That of the header.
+        /// The right CRC of the header.
         right: u8,
     },
-    /// Not as many bytes follow the header as it announces: none in write form, else its data length and a CRC.
+    /// Another number of bytes follows the header than it announces: none in write form, else its data length and a
+    /// CRC.
     #[error("the data have another length than the header says")]
     Length {
         /// How many follow it.
         found: usize,
-        /// How many should.
+        /// How many should follow it.
         wanted: usize,
     },
     /// The data CRC is not that of the data.
@@ -43,7 +44,7 @@ pub enum NoReply {
     DataCrc {
         /// The data CRC.
         found: u8,
-        /// That of the data.
+        /// The right CRC of the data.
         right: u8,
     },
 }

@@ -15,7 +15,7 @@ const WRITE_HEADER: usize = 8;
 /// The bytes of a header in read form, with its CRC.
 const READ_HEADER: usize = 12;
 
-/// Where the fields of a reply's header stand (ECSS-E-ST-50-52C, write reply format, read reply format).
+/// The offsets of the fields in a reply's header (ECSS-E-ST-50-52C, write reply format, read reply format).
 mod place {
     pub const INITIATOR: usize = 0;
 
@@ -30,9 +30,9 @@ mod place {
     pub const LENGTH: usize = 8;
 }
 
-/// A reply with right CRCs, lent from its bytes, which begin with the initiator logical address: the path that
-/// leads to the initiator is not part of it (ECSS-E-ST-50-52C, write reply format, read reply format,
-/// read-modify-write reply format). The reserved byte of read form may have any value.
+/// A reply with right CRCs, lent from its bytes (ECSS-E-ST-50-52C, write reply format, read reply format,
+/// read-modify-write reply format). They begin with the initiator logical address: the path to the initiator is not
+/// part of the reply. The reserved byte of read form may have any value.
 #[derive(Debug, Drop)]
 pub struct Reply<'a> {
     header: &'a [u8],
@@ -61,7 +61,7 @@ fn last_and_crc(bytes: &[u8]) -> (u8, u8)
     (bytes[last], crc(&bytes[..last]))
 }
 
-/// How many bytes of data a header announces; none in write form.
+/// How many bytes of data a header announces. In write form there are none.
 fn announced_length(writes: bool, header: &[u8]) -> usize
     requires { length header.now ≡ form_length writes }
     ensures value { result ≡ announced_length writes header.now }
@@ -87,8 +87,19 @@ fn body_length(writes: bool, header: &[u8]) -> usize
 }
 
 impl<'a> Reply<'a> {
-    /// The reply that the bytes are, or why they are none, tested in the order Short for the first three bytes,
-    /// Protocol, Command, Short for the whole header, HeaderCrc, Length, DataCrc.
+    /// The reply that the bytes are.
+    ///
+    /// # Errors
+    ///
+    /// The first of these tests that fails gives the reason:
+    ///
+    /// 1. `Short`: there are at least three bytes.
+    /// 2. `Protocol`: the protocol identifier is 1.
+    /// 3. `Command`: the packet type is 00.
+    /// 4. `Short`: there is the whole header.
+    /// 5. `HeaderCrc`: the header CRC is that of the header.
+    /// 6. `Length`: as many bytes follow the header as it announces.
+    /// 7. `DataCrc`: the data CRC is that of the data.
     pub fn view(bytes: &'a [u8]) -> Result<Reply<'a>, NoReply>
         ensures reading { result ≡ reply_reading bytes.now }
         ensures reply { IfOk result (IsReply bytes.now) }
@@ -166,7 +177,7 @@ impl<'a> Reply<'a> {
         Instruction(self.header[place::INSTRUCTION])
     }
 
-    /// The number of the status (ECSS-E-ST-50-52C, status field); it may be one that no standard status has.
+    /// The number of the status (ECSS-E-ST-50-52C, status field). It may be one that no standard status has.
     pub fn status(&self) -> u8
         ensures { result ≡ reply_status self.now }
     {
@@ -188,14 +199,14 @@ impl<'a> Reply<'a> {
         BigEndian::read_u16(&header[place::TRANSACTION..])
     }
 
-    /// Whether it has the form of a write reply, and so no data.
+    /// Whether the reply has the form of a write reply, and so no data.
     pub fn writes(&self) -> bool
         ensures { result ≡ has_write_form self.now }
     {
         self.instruction().writes()
     }
 
-    /// The data; none in write form.
+    /// The data. In write form there are none.
     pub fn data(&self) -> &'a [u8]
         ensures { result.now ≡ self.now.data_field }
     {

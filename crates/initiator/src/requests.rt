@@ -1,4 +1,4 @@
-//! A command that is requested of a target.
+//! A command that an initiator requests of a target.
 
 /// A command: its code, and the fields that differ from packet to packet.
 #[derive(Clone, Copy, Debug)]

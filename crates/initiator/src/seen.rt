@@ -1,4 +1,4 @@
-//! What a packet is, to who watches a link.
+//! What a packet on a link is to an observer.
 
 ghost use Rattle.std.specs.Prelude.{◌≡◌};
 ghost use Rattle.rmap.specs.Command.{IsDiscarded};
@@ -16,17 +16,17 @@ pub enum Seen<'a> {
     Command {
         /// The command.
         command: Command<'a>,
-        /// The first check of what follows its header that holds, however the packet ended.
+        /// The first check of what follows its header that stops it, however the packet ended.
         fault: Option<BodyFault>,
     },
     /// A reply, however the packet ended.
     Reply {
-        /// The path of the reply: the bytes below 32 in front.
+        /// The path of the reply: the bytes below 32 before it.
         path: &'a [u8],
-        /// The reply behind it.
+        /// The reply after the path.
         reply: Reply<'a>,
     },
-    /// What has the protocol and the packet type of a reply behind its path, and is none.
+    /// Bytes that have the protocol and the packet type of a reply after their path, and are none.
     NoReply {
         /// The instruction.
         instruction: Instruction,
@@ -54,7 +54,7 @@ fn has_reply_type(bytes: &[u8]) -> bool
     }
 }
 
-/// What bytes are that are no command.
+/// What bytes are if they are no command.
 fn other<'a>(bytes: &'a [u8], reason: Discard) -> Seen<'a>
     requires { IsDiscarded bytes.now reason }
     ensures { IsOther bytes.now result }

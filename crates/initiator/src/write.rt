@@ -1,4 +1,4 @@
-//! Commands that are made, for tests and for who reads them.
+//! Commands that are made, for tests and for readers of commands.
 
 ghost use Rattle.std.specs.Prelude.{◌≡◌, ◌≤◌, ◌<◌, ◌^◌, ◌*◌, ◌∷◌, ◌++◌, [], length, IfOk, OnOk};
 ghost use Rattle.byteorder.specs.Endian.{big_bytes};
@@ -13,16 +13,16 @@ use rmap::{Instruction, PROTOCOL};
 use std::alloc::{AllocError, Global};
 
 /// How many bytes a command that carries data has beside its reply address and its data: 16 of its header, and the
-/// data CRC (ECSS-E-ST-50-52C, write command format, read-modify-write command format).
+/// data CRC. See ECSS-E-ST-50-52C, write command format, read-modify-write command format.
 pub const DATA_OVERHEAD: usize = 17;
 
-/// The fields of a command's header, but for its CRC (ECSS-E-ST-50-52C, write command format, read command format,
+/// The fields of a command's header, except its CRC (ECSS-E-ST-50-52C, write command format, read command format,
 /// read-modify-write command format).
 #[derive(Clone, Copy, Debug)]
 pub struct CommandFields<'a> {
     /// The target logical address.
     pub target: u8,
-    /// The instruction, which is no reply's.
+    /// The instruction. It is not that of a reply.
     pub instruction: Instruction,
     /// The key.
     pub key: u8,
@@ -47,7 +47,7 @@ fn push_front(bytes: &mut Vec<u8>, fields: &CommandFields) -> Result<(), AllocEr
     bytes.extend_from_slice(&[fields.target, PROTOCOL, fields.instruction.0, fields.key])
 }
 
-/// Adds what stands between the reply address and the header's CRC.
+/// Adds the fields between the reply address and the header's CRC.
 fn push_tail(bytes: &mut Vec<u8>, fields: &CommandFields) -> Result<(), AllocError>
     requires { fields.now.length < 2 ^ 24 }
     ensures { OnOk result (bytes.new.items ≡ bytes.old.items ++ tail_with fields.now) }
@@ -75,9 +75,16 @@ fn push_header(bytes: &mut Vec<u8>, fields: &CommandFields) -> Result<(), AllocE
     push_tail(bytes, fields)
 }
 
-/// The bytes of the command of these fields, with that body behind its header: the header, its CRC, the body. The
-/// conditions are that the instruction is no reply's, the length is below 2²⁴, and the reply address is as long as the
-/// instruction says.
+/// The bytes of the command of these fields with that body: the header, its CRC, the body. There are three
+/// conditions:
+///
+/// - The instruction is not that of a reply.
+/// - The length is below 2²⁴.
+/// - The reply address is as long as the instruction says.
+///
+/// # Errors
+///
+/// Memory is refused.
 pub fn write_command(
     alloc: Global,
     fields: &CommandFields,
@@ -95,7 +102,11 @@ pub fn write_command(
     Ok(bytes)
 }
 
-/// Data with their CRC behind them: the body of a command that carries data.
+/// Data, and after them their CRC: the body of a command that carries data.
+///
+/// # Errors
+///
+/// Memory is refused.
 pub fn body_with_crc(alloc: Global, bytes: &[u8]) -> Result<Vec<u8>, AllocError>
     ensures { IfOk result (λ body. body.items ≡ with_crc bytes.now) }
 {

@@ -4,7 +4,7 @@ use Rattle.std.specs.Prelude.{get_or}
 use Rattle.job_packets.specs.HexWords.{WritesHex}
 use Rattle.job_charts.specs.Asking.{HasAddresses}
 
--- it is alone
+-- it is the only one
 pub no_one : {X : Type 0} (text : X → List ℕ) (xs : List X) (d : X) → length xs ≡ 1 → ((n : ℕ) → ¬ WritesHex 8 (text (get_or xs 0 d)) n) → HasAddresses (map text xs) → ⊥
 no_one text [] d e fails has = absurd (omega (arith, e))
 no_one text (a ∷ []) d e fails (low, high, are) = fails low are.0

@@ -9,7 +9,7 @@ use Rattle.chart_lines.specs.AskedTables.{AskedValue, asked_at}
 use Rattle.job_charts.specs.ComparedFile.{AreSameAt, AreSameIfCharted, DifferAt, HaveDifference, HaveDifferenceAt}
 
 module _ (asked : Region) (one other : PolicyValue) (port : ℕ) where
-  -- where they do not differ
+  -- if they do not differ
   pub not_apart : (is : Bool) → is ≡ false → MatchBool is (DifferAt asked one other port) (AreSameIfCharted asked one other port)
       → AreSameIfCharted asked one other port
   not_apart true e known = absurd (cc)

@@ -30,7 +30,7 @@ turned : (A B : Type 0) (t : Bool) → MatchBool t A B → MatchBool (not t) B A
 turned A B true h = h
 turned A B false h = h
 
--- whether it holds at none, by the rules with it behind the places
+-- whether it holds at none, by the rules with it after the places
 pub none_met : (windows : WindowsValue) (rule : Rule) (places rules : List Rule) (count : ℕ) (t : Bool) → ArePlaces windows places
     → rules ≡ places ++ rule ∷ [] → count ≡ length places → MatchBool t (MeetsPlace rules count) (MissesPlaces rules count count)
     → MeetsNone windows rule (not t)

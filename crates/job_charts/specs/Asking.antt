@@ -16,7 +16,7 @@ use Rattle.job_packets.specs.HexWords.{Has, WritesHex}
 use Rattle.job_parts.specs.Arguments.{option_rule}
 use Rattle.job_charts.specs.declared.asking.Asking.{Asking}
 
--- an app, and behind it `[--kind KIND] [--key HH] [--initiator HH] [--extended HH] [--address RANGE] [--port N]`
+-- an app, and after it `[--kind KIND] [--key HH] [--initiator HH] [--extended HH] [--address RANGE] [--port N]`
 abbrev pub with_asking : App → App
 with_asking app =
     with_rule
@@ -37,7 +37,7 @@ GivesByte None byte = byte ≡ None
 GivesByte (Some word) None = ⊥
 GivesByte (Some word) (Some byte) = WritesHex 2 word byte
 
--- what is between the hyphens (45) of a word
+-- the parts of a word between its hyphens (45)
 abbrev pub dash_parts : List ℕ → List (List ℕ)
 dash_parts word = slice_split (λ code. code == 45) word
 

@@ -11,7 +11,7 @@ use Rattle.job_decide.specs.DecideJob.{own_windows}
 use Rattle.job_charts.specs.Asking.{GivesAsking, SpoilsAsking, with_asking}
 use Rattle.job_charts.specs.declared.compare.CompareWords.{CompareWords}
 
--- `compare OLD NEW [--maps LIST] [--markdown]`, and behind it the options of the commands that are asked of
+-- `compare OLD NEW [--maps LIST] [--markdown]`, and after it the options of the commands that are asked of
 abbrev pub compare_app : App
 compare_app =
     with_asking
@@ -30,8 +30,8 @@ pub record NamesCompare (rows : List Row) (words : CompareWords) : Type 0 where
   pub windows : words.windows ≡ own_windows
   pub asking : GivesAsking rows words.asking
 
--- matches without one of the files, with one input for both, with a list of maps that is none, or that do not say which commands are
--- asked of
+-- matches without one of the files, with one input for both, or with a list of maps that is none. Or they do not say
+-- which commands are asked of
 abbrev pub SpoilsCompare : List Row → Type 0
 SpoilsCompare rows = (first_of (codes "old") rows ≡ None) ⊎ (first_of (codes "new") rows ≡ None) ⊎ NamesOneInput rows
     ⊎ IsBadList (first_of (codes "maps") rows) ⊎ SpoilsAsking rows

@@ -1,4 +1,4 @@
--- What the job `compare` reads and prints.
+-- The input and output of the job `compare`.
 use Rattle.std.specs.Prelude.{◌≡◌, ◌⊎◌, ◌<◌, Bool, true, ℕ, List, [], ◌∷◌, ◌++◌, Option, Some, None, codes, string_bytes}
 use Rattle.std.specs.Io.KnownBytes.{Appends}
 use Rattle.charts.specs.Same.{AreSame, IsDifferenceIn}
@@ -97,7 +97,8 @@ TellsTables asking one other old new Done = TellsSame asking one other old new
 TellsTables asking one other old new Failed = TellsDifferent asking one other old new
 TellsTables asking one other old new Misused = ⊥
 
--- why there is no table in the file of this name: it cannot be read, or the table has a fault, and the file's name is told with it
+-- why there is no table in the file of this name: it cannot be read, or the table has a fault. With that fault the
+-- file's name is reported
 abbrev pub IsNoNamed : {S : Type 0} → (reads : Reads S) → (name : List ℕ) → Maps → (before after : S) → NoPair → Type 0
 IsNoNamed reads name sizes before after (Ended fault) = TextUnread reads before name after fault
 IsNoNamed reads name sizes before after (BadTable own fault) =
@@ -114,14 +115,14 @@ module _ {S : Type 0} (reads : Reads S) (words : CompareWords) where
     pub first : HoldsOld before one between
     pub second : HoldsDrawn reads between (string_bytes words.new) words.sizes other after
 
-  -- the new table cannot be read, behind the old one
+  -- the new table cannot be read, after the old one
   pub record NewUnread (before after : S) (fault : Fault) : Type 0 where
     pub between : S
     pub policy : PolicyValue
     pub first : HoldsOld before policy between
     pub unread : TextUnread reads between (string_bytes words.new) after fault
 
-  -- the new table has this first fault, behind the old one, which has none
+  -- the new table has this first fault, after the old one, which has none
   pub record NewIsBad (before after : S) (fault : TextFault) : Type 0 where
     pub between : S
     pub policy : PolicyValue
@@ -151,7 +152,7 @@ module _ {S : Type 0} (reads : Reads S) (words : CompareWords) where
     pub tables : AreTables before one other after
     pub told : TellsTables words.asking one other old new status
 
-  -- a table has a fault, which was told with the name of its file and its place
+  -- a table has a fault, which was printed with the name of its file and its place
   pub record TellsBad (before after : S) (old new : Option (List ℕ)) (status : Status) : Type 0 where
     pub name : List ℕ
     pub fault : TextFault
@@ -159,19 +160,19 @@ module _ {S : Type 0} (reads : Reads S) (words : CompareWords) where
     pub told : TellsNamedFault name fault old new
     pub failed : status ≡ Failed
 
-  -- what `compare` reads and prints where no fault ends it, with its exit status: 0 where both tables decide all commands alike,
-  -- 1 where they do not, or one has a fault
+  -- what `compare` reads and prints if no fault ends it, with its exit status. It is 0 if both tables decide all
+  -- commands alike, and 1 if they do not, or if one has a fault
   abbrev pub ComparesFile : (before after : S) → (old new : Option (List ℕ)) → Status → Type 0
   ComparesFile before after old new status =
       ComparesTables before after old new status ⊎ TellsBad before after old new status
 
-  -- memory was refused behind the reads
+  -- memory was refused after the reads
   pub record LacksMemory (before after : S) (fault : Fault) : Type 0 where
     pub one : PolicyValue
     pub other : PolicyValue
     pub tables : AreTables before one other after
     pub is_fault : fault ≡ NoMemory
 
-  -- a file cannot be read, or memory was refused behind the reads; nothing was printed
+  -- a file cannot be read, or memory was refused after the reads; nothing was printed
   abbrev pub IsNotCompared : (before after : S) → Fault → Type 0
   IsNotCompared before after fault = IsUnread before after fault ⊎ LacksMemory before after fault

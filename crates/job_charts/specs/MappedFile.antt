@@ -1,5 +1,5 @@
--- What the job `map` reads and prints.
-use Rattle.std.specs.Prelude.{◌≡◌, ◌⊎◌, ℕ, Bool, false, true, List, [], Option, string_bytes}
+-- The input and output of the job `map`.
+use Rattle.std.specs.Prelude.{◌≡◌, ◌⊎◌, ◌&&◌, ◌-◌, nat_le, if◌then◌else◌, ℕ, Bool, false, true, List, [], Option, length, string_bytes, take}
 use Rattle.std.specs.Io.KnownBytes.{Appends}
 use Rattle.policy_table.specs.Policies.{PolicyValue}
 use Rattle.policy_table.specs.declared.text_faults.TextFault.{TextFault}
@@ -24,17 +24,31 @@ abbrev pub NotesFor : (wanted : Bool) → PolicyValue → List Note → Type 0
 NotesFor true policy notes = AreNotes policy notes
 NotesFor false policy notes = notes ≡ []
 
--- what a table decides of the commands that are asked of was printed: these rows of a map of it, and if all are asked of these rules
--- that never match
-pub record TellsMap (asking : Asking) (policy : PolicyValue) (old new : Option (List ℕ)) : Type 0 where
+-- whether this many rows, and after them this many notes, are at most `most` lines
+abbrev pub fits : (rows notes most : ℕ) → Bool
+fits rows notes most = nat_le rows most && nat_le notes (most - rows)
+
+-- the status of a job whose map was printed: 0 if it was printed to its end, and else 1
+abbrev pub map_status : (is_whole : Bool) → Status
+map_status is_whole = if is_whole then Done else Failed
+
+-- what a table decides of the commands that are asked of was printed, at most `most` lines of it. They are the first of
+-- the rows of a map of it. If all commands are asked of and there are no more rows, the first of the rules that never
+-- match follow
+pub record TellsMap (asking : Asking) (most : ℕ) (policy : PolicyValue) (old new : Option (List ℕ)) (status : Status) : Type 0 where
   pub region : Region
   pub is_asked : IsAskedRegion asking region
   pub rows : List RowValue
   pub are_rows : AreMapRows region asking.port policy rows
+  pub shown : List RowValue
+  pub is_shown : shown ≡ take most rows
   pub notes : List Note
-  pub are_notes : NotesFor (is_all asking) policy notes
+  pub are_notes : NotesFor (is_all asking && nat_le (length rows) most) policy notes
+  pub shown_notes : List Note
+  pub are_shown : shown_notes ≡ take (most - length shown) notes
   pub text : List ℕ
   pub printed : Appends old new text
+  pub ends : status ≡ map_status (fits (length rows) (length notes) most)
 
 module _ {S : Type 0} (reads : Reads S) (words : MapWords) where
   -- the file has this text, which is a table whose lines have no fault for these maps
@@ -42,33 +56,33 @@ module _ {S : Type 0} (reads : Reads S) (words : MapWords) where
   IsGiven before written policy after = HoldsText reads before (string_bytes words.table) words.sizes written policy after
 
   -- what the table decides was printed
-  pub record MapsTable (before after : S) (old new : Option (List ℕ)) : Type 0 where
+  pub record MapsTable (before after : S) (old new : Option (List ℕ)) (status : Status) : Type 0 where
     pub written : List ℕ
     pub policy : PolicyValue
     pub given : IsGiven before written policy after
-    pub told : TellsMap words.asking policy old new
+    pub told : TellsMap words.asking words.lines policy old new status
 
-  -- the table has a fault, which was told with its place
+  -- the table has a fault, which was printed with its place
   pub record TellsTable (before after : S) (old new : Option (List ℕ)) : Type 0 where
     pub fault : TextFault
     pub held : HoldsBadDrawn reads before (string_bytes words.table) words.sizes fault after
     pub told : TellsTableFault fault old new
 
-  -- what `map` reads and prints where no fault ends it, by its exit status: 0 where the map was printed, 1 where the table has
-  -- a fault
+  -- what `map` reads and prints if no fault ends it, by its exit status. It is 0 if the map was printed to its end. It
+  -- is 1 if the map has more lines than are to be printed at most, or if the table has a fault
   abbrev pub MapsFile : (before after : S) → (old new : Option (List ℕ)) → Status → Type 0
-  MapsFile before after old new Done = MapsTable before after old new
-  MapsFile before after old new Failed = TellsTable before after old new
+  MapsFile before after old new Done = MapsTable before after old new Done
+  MapsFile before after old new Failed = MapsTable before after old new Failed ⊎ TellsTable before after old new
   MapsFile before after old new Misused = ⊥
 
-  -- memory was refused behind the read
+  -- memory was refused after the read
   pub record LacksMemory (before after : S) (fault : Fault) : Type 0 where
     pub written : List ℕ
     pub policy : PolicyValue
     pub given : IsGiven before written policy after
     pub is_fault : fault ≡ NoMemory
 
-  -- the file cannot be read, or memory was refused behind the read; nothing was printed
+  -- the file cannot be read, or memory was refused after the read; nothing was printed
   abbrev pub IsNotMapped : (before after : S) → Fault → Type 0
   IsNotMapped before after fault =
       TextUnread reads before (string_bytes words.table) after fault ⊎ LacksMemory before after fault

@@ -31,7 +31,7 @@ abbrev pub bank_rules : (number : ℕ) → Option (ℕ × ℕ) → List Rule
 bank_rules number None = []
 bank_rules number (Some own) = window_rule number own.0 own.1 ∷ []
 
--- that of the bank of a number behind others
+-- that of the bank of a number after others
 abbrev pub AddsBank : WindowsValue → (number : ℕ) → (before after : List Rule) → Type 0
 AddsBank windows number before after = after ≡ before ++ bank_rules number (slice_get windows.banks number)
 
@@ -46,7 +46,7 @@ pub record ArePlaces (windows : WindowsValue) (places : List Rule) : Type 0 wher
   pub are : TellsFirst (AddsBank windows) 8 [] banks
   pub is : places ≡ banks ++ boot_rules
 
--- the rule after so many places holds at a command of one of them
+-- the rule after this many places holds at a command of one of them
 pub record MeetsPlace (rules : List Rule) (places : ℕ) : Type 0 where
   pub number : ℕ
   pub below : number < places

@@ -35,7 +35,8 @@ fields_at target p = record {
   length = count_at p;
 }
 
--- what stands behind the header of a command of a kind with so many bytes of data: zeros and their CRC, where it carries data
+-- the bytes after the header of a command of a kind with this many bytes of data: zeros and their CRC, if it carries
+-- data
 abbrev pub body_for : Kind → (count : ℕ) → List ℕ
 body_for Read count = []
 body_for Write count = with_crc (replicate count 0)
@@ -59,7 +60,7 @@ is_brought_by windows None p = is_none (header_check (command_of p) windows)
 abbrev pub is_brought : WindowsValue → Cargo → Bool
 is_brought windows p = is_brought_by windows (discard_of p.bytes) p
 
--- the packet of a point that a command has is a command, which has this point, for whatever target
+-- the packet of a point that a command has is a command, which has this point, for any target
 abbrev pub PacketsHavePoints : Type 0
 PacketsHavePoints =
     (target : ℕ) (p : Point) → target < 256 → HasCommand p

@@ -59,6 +59,10 @@ impl Asking {
 }
 
 /// The subcommand with the options that say of which commands a chart is asked.
+///
+/// # Errors
+///
+/// An error if memory is refused.
 pub fn asking_arguments<'a>(alloc: Global, command: Command<'a>) -> Result<Command<'a>, AllocError>
     requires { (fields_of command).has_globals ≡ false }
     ensures shape { IfOk result (λ c. app_of c ≡ with_asking (app_of command.entry)) }
@@ -127,7 +131,7 @@ fn byte_of(found: &ArgMatches, name: &str) -> Result<Option<u8>, UsageFault>
     }
 }
 
-/// What is between the hyphens of a word.
+/// The parts of a word between its hyphens.
 fn parts_of(alloc: Global, word: &str) -> Result<Vec<&str>, AllocError>
     ensures { IfOk result (λ parts. map (λ part. part.now) parts.items ≡ dash_parts word.now) }
 {
@@ -187,7 +191,11 @@ fn port_of(found: &ArgMatches) -> Result<Option<u8>, UsageFault>
     }
 }
 
-/// The commands that are asked of by the matches. `BadOption` where a value is none of an option.
+/// The commands that are asked of by the matches.
+///
+/// # Errors
+///
+/// `BadOption` if the value of an option is none of that option, or `Memory` if memory is refused.
 pub fn asking_of(alloc: Global, found: &ArgMatches) -> Result<Asking, UsageFault>
     ensures ok { IfOk result (GivesAsking (rows_of (found_of found.now))) }
     ensures err { IfErr result (IsValueFault (Has (GivesAsking (rows_of (found_of found.now))))) }

@@ -58,7 +58,7 @@ pub struct CompareWords {
 }
 
 impl CompareWords {
-    /// What the job reads: the old table, and then the new one.
+    /// The input of the job: the old table, and then the new one.
     pub fn inputs(&self) -> Inputs<'_>
         ensures { AreInputs (Some (input (string_bytes self.now.old) Table))
             (Some (input (string_bytes self.now.new) Table)) None result }
@@ -72,6 +72,10 @@ impl CompareWords {
 }
 
 /// `compare OLD NEW [--maps LIST] [--markdown]`, and the options of the commands that are asked of.
+///
+/// # Errors
+///
+/// An error if memory is refused.
 pub fn compare_command<'a>(alloc: Global) -> Result<Command<'a>, AllocError>
     ensures shape { IfOk result (λ c. app_of c ≡ compare_app) }
     ensures local { IfOk result (λ c. (fields_of c).has_globals ≡ false) }
@@ -93,6 +97,11 @@ pub fn compare_command<'a>(alloc: Global) -> Result<Command<'a>, AllocError>
 }
 
 /// The words of `compare` with these matches.
+///
+/// # Errors
+///
+/// `BadOption` if a file is not named, if both files are one input, or for the maps or the commands that are asked of.
+/// `Memory` if memory is refused.
 pub fn compare_job(alloc: Global, found: &ArgMatches) -> Result<CompareWords, UsageFault>
     ensures ok { IfOk result (NamesCompare (rows_of (found_of found.now))) }
     ensures err { IfErr result (RefusesCompare (rows_of (found_of found.now))) }
@@ -304,11 +313,16 @@ fn print_comparison<'a, W: Write>(
     Ok(Status::Failed)
 }
 
-/// Prints `same` where the tables of two files decide all commands alike at each port, and else where they differ: with `--markdown`
-/// as a table in markdown. Where a line of a table has a fault that is printed, with the name of its file and the place, and the job failed.
+/// Prints `same` if the tables of two files decide all commands alike at each port, and else where they differ. With
+/// `--markdown` it prints that as a table in markdown. If a line of a table has a fault, it prints that with the file's
+/// name and the place, and the job failed.
 ///
-/// Faults are found in this order: the file of the old table (`CannotRead`, also where it is not UTF-8), that table, the file
-/// of the new one, and that table.
+/// Faults are found in this order: the old table's file, that table, the new table's file, and that table. The fault of
+/// a file is `CannotRead`, also if it is not UTF-8.
+///
+/// # Errors
+///
+/// `CannotRead` of a file, `NoMemory`, or that the writer failed.
 pub fn compare_file<'a, F: Files, W: Write>(
     alloc: Global,
     words: &'a CompareWords,

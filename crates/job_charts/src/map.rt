@@ -1,16 +1,18 @@
 //! The job `map`.
 
-ghost use Rattle.std.specs.Prelude.{◌≡◌, IfErr, IfOk, OnOk, false, None, Some, string_bytes};
+ghost use Rattle.std.specs.Prelude.{◌≡◌, IfErr, IfOk, MatchResult, codes, false, None, Some, string_bytes, take};
 ghost use Rattle.clap.specs.Simple.{app_of};
 ghost use Rattle.clap.specs.declared.builder.command.Command.TheViews.{out-Command as fields_of};
-ghost use Rattle.clap.specs.Walk.{rows_of};
+ghost use Rattle.clap.specs.Walk.{first_of, rows_of};
 ghost use Rattle.clap.specs.Matches.{found_of};
 ghost use Rattle.job_parts.specs.Inputs.{AreInputs, input};
 ghost use Rattle.job_parts.specs.declared.inputs.Content.TheVariants.{Table};
 ghost use Rattle.job_parts.specs.Stops.{StopsBy};
 ghost use Rattle.job_charts.specs.Asking.{is_all};
-ghost use Rattle.job_charts.specs.MapJob.{NamesMap, RefusesMap, map_app};
-ghost use Rattle.job_charts.specs.MappedFile.{IsNotMapped, MapsFile, NotesFor, TellsMap};
+ghost use Rattle.job_charts.specs.MapJob.{GivesLines, IsLineCount, NamesMap, RefusesMap, map_app};
+ghost use Rattle.job_charts.specs.MappedFile.{IsNotMapped, MapsFile, NotesFor, TellsMap, fits, map_status};
+ghost use Rattle.job_packets.specs.HexWords.{Has};
+ghost use Rattle.job_parts.specs.Options.{IsBadValue, WritesSuch};
 ghost use Rattle.job_parts.specs.declared.faults.Fault.TheVariants.{NoMemory};
 
 use crate::asking::{Asking, asking_arguments, asking_of};
@@ -18,7 +20,7 @@ use crate::{markdown, notes, plain};
 use chart_lines::{Note, Row, map_rows, never_matching};
 use clap::{ArgMatches, Command};
 use job_decide::tables::{NoTable, print_table_fault, text_and_table};
-use job_parts::arguments::{file, flag, is_set, name_of};
+use job_parts::arguments::{file, flag, is_set, name_of, option, text_of};
 use job_parts::inputs::{Content, Inputs};
 use job_parts::options::{maps_option, sizes_of};
 use job_parts::printing::print_text;
@@ -31,6 +33,9 @@ use policy::Policy;
 use std::alloc::{AllocError, Global};
 use std::io::Write;
 
+/// How many lines of a map are printed at most, if no option says it.
+const MOST_LINES: u32 = 20_000;
+
 /// The words of the job `map`.
 #[derive(Debug, Drop)]
 pub struct MapWords {
@@ -42,12 +47,14 @@ pub struct MapWords {
     pub markdown: bool,
     /// Whether nothing is said of the table beside the map.
     pub is_quiet: bool,
+    /// How many lines are printed at most: 1 to 4,294,967,295.
+    pub lines: u32,
     /// The commands that are asked of.
     pub asking: Asking,
 }
 
 impl MapWords {
-    /// What the job reads: the table.
+    /// The input of the job: the table.
     pub fn inputs(&self) -> Inputs<'_>
         ensures { AreInputs (Some (input (string_bytes self.now.table) Table)) None None result }
     {
@@ -55,7 +62,11 @@ impl MapWords {
     }
 }
 
-/// `map TABLE [--maps LIST] [--markdown] [--quiet]`, and the options of the commands that are asked of.
+/// `map TABLE [--maps LIST] [--markdown] [--quiet] [--lines N]`, and the options of the commands that are asked of.
+///
+/// # Errors
+///
+/// An error if memory is refused.
 pub fn map_command<'a>(alloc: Global) -> Result<Command<'a>, AllocError>
     ensures shape { IfOk result (λ c. app_of c ≡ map_app) }
     ensures local { IfOk result (λ c. (fields_of c).has_globals ≡ false) }
@@ -67,16 +78,57 @@ pub fn map_command<'a>(alloc: Global) -> Result<Command<'a>, AllocError>
     let markdown = flag(alloc, "markdown", help);
     let help = "Say nothing of the table on standard error";
     let quiet = flag(alloc, "quiet", help);
+    let help = "Print at most N lines; without it 20000";
+    let lines = option(alloc, "lines", "N", help);
     let command = Command::new(alloc, "map")
         .about("Prints what a policy table decides, for each command one line")
         .arg(table)?
         .arg(maps)?
         .arg(markdown)?
-        .arg(quiet)?;
+        .arg(quiet)?
+        .arg(lines)?;
     asking_arguments(alloc, command)
 }
 
+/// The number of lines that a word writes, or `BadOption`.
+fn line_count(word: &str) -> Result<u32, UsageFault>
+    ensures { MatchResult result (WritesSuch IsLineCount word.now)
+        (IsBadValue (IsLineCount word.now)) }
+{
+    if word.starts_with('+') {
+        return Err(UsageFault::BadOption);
+    }
+    let count: u32 = word.parse().map_err(|_| UsageFault::BadOption)?;
+    if count >= 1 {
+        Ok(count)
+    } else {
+        Err(UsageFault::BadOption)
+    }
+}
+
+/// How many lines are printed at most, by `--lines`: a decimal number from 1 to 4,294,967,295, and 20,000 without the
+/// option.
+///
+/// # Errors
+///
+/// `BadOption` if the value of the option is no such number.
+pub fn lines_wanted(found: &ArgMatches) -> Result<u32, UsageFault>
+    ensures { MatchResult result
+        (GivesLines (first_of (codes "lines") (rows_of (found_of found.now))))
+        (IsBadValue (Has (GivesLines (first_of (codes "lines") (rows_of (found_of found.now)))))) }
+{
+    match text_of(found, "lines") {
+        Some(word) => line_count(word),
+        None => Ok(MOST_LINES),
+    }
+}
+
 /// The words of `map` with these matches.
+///
+/// # Errors
+///
+/// `BadOption` if the file is not named, or for the maps, the number of lines or the commands that are asked of.
+/// `Memory` if memory is refused.
 pub fn map_job(alloc: Global, found: &ArgMatches) -> Result<MapWords, UsageFault>
     ensures ok { IfOk result (NamesMap (rows_of (found_of found.now))) }
     ensures err { IfErr result (RefusesMap (rows_of (found_of found.now))) }
@@ -85,17 +137,19 @@ pub fn map_job(alloc: Global, found: &ArgMatches) -> Result<MapWords, UsageFault
     let sizes = sizes_of(alloc, found)?;
     let markdown = is_set(found, "markdown");
     let is_quiet = is_set(found, "quiet");
+    let lines = lines_wanted(found)?;
     let asking = asking_of(alloc, found)?;
     Ok(MapWords {
         table,
         sizes,
         markdown,
         is_quiet,
+        lines,
         asking,
     })
 }
 
-/// The lines of a map: those of its rows, and behind them one for each rule that never matches.
+/// The lines of a map: those of its rows, and after them one for each rule that never matches.
 fn plain_text(alloc: Global, rows: &[Row], never: &[Note]) -> Result<String, AllocError> {
     let mut text = String::new(alloc);
     for row in rows {
@@ -107,8 +161,8 @@ fn plain_text(alloc: Global, rows: &[Row], never: &[Note]) -> Result<String, All
     Ok(text)
 }
 
-/// A map in markdown: a table of its rows, with the comments of the lines of the text that writes the table, and behind it a paragraph
-/// for each rule that never matches.
+/// A map in markdown: a table of its rows, with the comments of the lines of the text that writes the table. After it
+/// comes a paragraph for each rule that never matches.
 fn markdown_text(
     alloc: Global,
     written: &str,
@@ -127,46 +181,87 @@ fn markdown_text(
     Ok(text)
 }
 
-/// The rules that never match, where all commands are asked of.
-fn notes_of(alloc: Global, asking: &Asking, policy: &Policy) -> Result<Vec<Note>, AllocError>
-    ensures { IfOk result (λ notes. NotesFor (is_all asking.now) policy.now notes.items) }
+/// The first of some items, at most `most`.
+fn first<T>(items: &[T], most: usize) -> &[T]
+    ensures { result.now ≡ take most items.now }
 {
-    if asking.is_all() {
+    if items.len() <= most {
+        return items;
+    }
+    &items[..most]
+}
+
+/// The rules that never match, if they are wanted.
+fn notes_of(alloc: Global, are_wanted: bool, policy: &Policy) -> Result<Vec<Note>, AllocError>
+    ensures { IfOk result (λ notes. NotesFor are_wanted policy.now notes.items) }
+{
+    if are_wanted {
         never_matching(alloc, policy)
     } else {
         Ok(Vec::new(alloc))
     }
 }
 
-/// Prints what a table decides that this text writes.
+/// Whether this many rows, and after them this many notes, are at most `most` lines.
+fn fits(rows: usize, notes: usize, most: usize) -> bool
+    ensures { result ≡ fits rows notes most }
+{
+    rows <= most && notes <= most - rows
+}
+
+/// The status of a job whose map was printed: to its end, or not.
+fn map_status(is_whole: bool) -> Status
+    ensures { result ≡ map_status is_whole }
+{
+    if is_whole {
+        Status::Done
+    } else {
+        Status::Failed
+    }
+}
+
+/// Prints what a table decides that this text writes: at most as many lines as the words say.
 fn print_map<'a, W: Write>(
     alloc: Global,
     words: &MapWords,
     written: &str,
     policy: &Policy,
     out: &mut W,
-) -> Result<(), Halt<'a>>
-    ensures done { OnOk result (TellsMap words.now.asking policy.now (W.contents out.old) (W.contents out.new)) }
+) -> Result<Status, Halt<'a>>
+    ensures done { IfOk result (TellsMap words.now.asking words.now.lines policy.now
+        (W.contents out.old) (W.contents out.new)) }
     ensures stops { IfErr result (StopsBy (λ fault. fault ≡ NoMemory)) }
     ensures quiet { IfErr result (StopsBy (λ _. W.contents out.new ≡ W.contents out.old)) }
 {
-    let rows = map_rows(alloc, &words.asking.region(), words.asking.port, policy)?;
-    let never = notes_of(alloc, &words.asking, policy)?;
+    let most = words.lines as usize;
+    let all = map_rows(alloc, &words.asking.region(), words.asking.port, policy)?;
+    let rows = first(all.as_slice(), most);
+    let are_wanted = words.asking.is_all() && all.as_slice().len() <= most;
+    let never = notes_of(alloc, are_wanted, policy)?;
+    let notes = first(never.as_slice(), most.saturating_sub(rows.len()));
     let text = if words.markdown {
-        markdown_text(alloc, written, rows.as_slice(), never.as_slice())?
+        markdown_text(alloc, written, rows, notes)?
     } else {
-        plain_text(alloc, rows.as_slice(), never.as_slice())?
+        plain_text(alloc, rows, notes)?
     };
     print_text(out, text.as_str())?;
-    Ok(())
+    let is_whole = fits(all.as_slice().len(), never.as_slice().len(), most);
+    Ok(map_status(is_whole))
 }
 
-/// Prints what the table of a file decides: at each port each command lies in one line alone, with the rules that the table asks
-/// there; and behind these the rules that match at no port. With `--markdown` the lines are a table in markdown, with the comments of
-/// the rules. Where a line of the table has a fault that is printed, with its place, and the job failed. A table that is too long for
-/// a program is drawn.
+/// Prints what the table of a file decides. At each port each command lies in only one line, with the rules that the
+/// table asks there. After these lines it prints the rules that match at no port. With `--markdown` the lines are a
+/// table in markdown, with the comments of the rules.
 ///
-/// Faults are found in this order: the file (`CannotRead`, also where it is not UTF-8), and the table.
+/// If the map has more lines than are to be printed at most, it prints the first of them, and the job failed. If a line
+/// of the table has a fault, it prints that with its place, and the job failed. A table that is too long for a program
+/// is drawn.
+///
+/// Faults are found in this order: the file (`CannotRead`, also if it is not UTF-8), and the table.
+///
+/// # Errors
+///
+/// `CannotRead` of the file, `NoMemory`, or that the writer failed.
 pub fn map_file<'a, F: Files, W: Write>(
     alloc: Global,
     words: &'a MapWords,
@@ -179,10 +274,7 @@ pub fn map_file<'a, F: Files, W: Write>(
     ensures quiet { IfErr result (StopsBy (λ _. W.contents out.new ≡ W.contents out.old)) }
 {
     match text_and_table(alloc, files, words.table.as_str(), &words.sizes) {
-        Ok((written, policy)) => {
-            print_map(alloc, words, written.as_str(), &policy, out)?;
-            Ok(Status::Done)
-        }
+        Ok((written, policy)) => print_map(alloc, words, written.as_str(), &policy, out),
         Err(NoTable::Ended(fault)) => Err(Halt::Ended(fault)),
         Err(NoTable::BadTable(fault)) => {
             print_table_fault(out, &fault)?;
@@ -192,6 +284,10 @@ pub fn map_file<'a, F: Files, W: Write>(
 }
 
 /// The lines of `map` for the rules of a table that match at no port.
+///
+/// # Errors
+///
+/// An error if memory is refused.
 pub fn notes_text(alloc: Global, policy: &Policy) -> Result<String, AllocError> {
     let never = never_matching(alloc, policy)?;
     let mut text = String::new(alloc);

@@ -21,7 +21,7 @@ pub const COMPARISON_HEAD: &str =
 |---|---|---|---|---|---|---|---|---|---|---|---|---|---|
 ";
 
-/// What a cell says of the rules that a table asks.
+/// The part of a cell on the rules that a table asks.
 #[derive(Clone, Copy)]
 enum Column {
     /// Their quotas.
@@ -42,8 +42,8 @@ fn has_meaning(c: char) -> bool {
     }
 }
 
-/// Adds a character of a cell: a space in the place of a control character that is no tab, and a backslash before one that has a
-/// meaning.
+/// Adds a character of a cell. A control character that is no tab becomes a space, and a character that has a meaning
+/// gets a backslash before it.
 fn add_char(text: &mut String, c: char) -> Result<(), AllocError> {
     if c < ' ' && c != '\t' {
         return text.push_str(" ");
@@ -54,7 +54,7 @@ fn add_char(text: &mut String, c: char) -> Result<(), AllocError> {
     text.push(c)
 }
 
-/// Adds a comment, and a dash where there is none.
+/// Adds a comment, or a dash if there is none.
 fn add_comment(text: &mut String, comment: &str) -> Result<(), AllocError> {
     if comment.is_empty() {
         return text.push_str("-");
@@ -73,7 +73,11 @@ fn comment_in(line: &str) -> &str {
     }
 }
 
-/// The comments of the lines of a text, by the numbers of the lines: the first is of no line, since lines count from 1.
+/// The comments of the lines of a text, by the numbers of the lines. The first is of no line, since lines count from 1.
+///
+/// # Errors
+///
+/// An error if memory is refused.
 pub fn comments_of(alloc: Global, text: &str) -> Result<Vec<&str>, AllocError> {
     let mut comments = Vec::new(alloc);
     comments.push("")?;
@@ -141,6 +145,10 @@ fn add_front(text: &mut String, alloc: Global, row: &Row) -> Result<(), AllocErr
 }
 
 /// Adds a row of a map, with the comments of the lines of its table.
+///
+/// # Errors
+///
+/// An error if memory is refused.
 pub fn add_map_row(
     text: &mut String,
     alloc: Global,
@@ -155,6 +163,10 @@ pub fn add_map_row(
 }
 
 /// Adds a row of a comparison, with its packet for a node with these windows.
+///
+/// # Errors
+///
+/// An error if memory is refused.
 pub fn add_difference(
     text: &mut String,
     alloc: Global,

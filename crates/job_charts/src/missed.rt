@@ -24,7 +24,7 @@ pub enum Missed {
     Range,
 }
 
-/// A rule of all commands to so many bytes from an address on.
+/// A rule of all commands to this many bytes from an address on.
 fn window_rule(extended: u8, base: u32, size: u32) -> Rule
     ensures { result ≡ window_rule extended base size }
 {
@@ -91,7 +91,7 @@ fn places_of(alloc: Global, windows: &Windows) -> Result<Vec<Rule>, AllocError>
     Ok(places)
 }
 
-/// Rules with one more behind them.
+/// Rules with one more after them.
 fn with_rule(alloc: Global, places: &[Rule], own: &Rule) -> Result<Vec<Rule>, AllocError>
     ensures { IfOk result (λ rules. rules.items ≡ places.now ++ own.now ∷ []) }
 {
@@ -100,7 +100,7 @@ fn with_rule(alloc: Global, places: &[Rule], own: &Rule) -> Result<Vec<Rule>, Al
     Ok(rules)
 }
 
-/// Whether the last rule of some holds at a command that one of so many before it is the first to hold at.
+/// Whether the last rule of some holds at a command that one of the `places` rules before it is the first to hold at.
 fn meets_place(rules: &[Rule], places: usize) -> bool
     ensures { MatchBool result (MeetsPlace rules.now places) (MissesPlaces rules.now places places) }
 {
@@ -121,7 +121,7 @@ fn meets_none(alloc: Global, windows: &Windows, own: &Rule) -> Result<bool, Allo
     Ok(!meets_place(rules.as_slice(), places.len()))
 }
 
-/// That a port is none of so many, if it is so.
+/// That a port is none of this many, if it is so.
 fn port_missed(ports: u8, port: Option<u8>) -> Option<Missed>
     ensures { result ≡ port_missed ports port }
 {
@@ -165,11 +165,12 @@ fn first_of(port: Option<Missed>, bank: Option<Missed>, range: Option<Missed>) -
     }
 }
 
-/// Why a rule matches no command of a node with these windows and so many ports; `None` if it matches one, unless rules before it do.
+/// Why a rule matches no command of a node with these windows and this many ports. It is `None` if the rule matches
+/// one, unless rules before it do.
 ///
 /// # Errors
 ///
-/// If memory was refused.
+/// An error if memory is refused.
 pub fn why_missed(
     alloc: Global,
     windows: &Windows,

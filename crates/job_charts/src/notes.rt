@@ -3,8 +3,8 @@
 use chart_lines::{Note, Reason};
 use std::alloc::AllocError;
 
-/// Adds which rules are before one, and what these do: `none` where there are no such rules, `one` behind the line of one,
-/// `some` behind those of several.
+/// Adds which rules are before one, and what these do. It adds `none` if there are no such rules, `one` after the line
+/// of one, and `some` after those of several.
 fn add_rules(
     text: &mut String,
     lines: &[usize],
@@ -42,6 +42,10 @@ fn add_draws(text: &mut String, lines: &[usize]) -> Result<(), AllocError> {
 }
 
 /// Adds the line of a rule that never matches, with the reason.
+///
+/// # Errors
+///
+/// An error if memory is refused.
 pub fn add_note(text: &mut String, note: &Note) -> Result<(), AllocError> {
     let line = note.line;
     write!(text, "rule {line} never matches: ")?;

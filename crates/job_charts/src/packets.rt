@@ -28,7 +28,7 @@ fn instruction_for(kind: Kind) -> Instruction
     }
 }
 
-/// The length field of a command of a kind with so many addresses.
+/// The length field of a command of a kind with this many addresses.
 fn length_for(kind: Kind, addresses: u32) -> u32
     ensures { result ≡ length_for kind addresses }
 {
@@ -65,14 +65,14 @@ fn fields_at<'a>(target: u8, point: &Point) -> CommandFields<'a>
     }
 }
 
-/// So many bytes of zero.
+/// This many bytes of zero.
 fn zeros(alloc: Global, count: usize) -> Result<Vec<u8>, AllocError>
     ensures { IfOk result (λ bytes. bytes.items ≡ replicate count 0) }
 {
     vec![in alloc; 0; count]
 }
 
-/// What stands behind the header of a command of a kind with so many bytes of data: zeros, where it carries data.
+/// The bytes after the header of a command of a kind with this many bytes of data: zeros, if it carries data.
 fn body_for(alloc: Global, kind: Kind, count: u32) -> Result<Vec<u8>, AllocError>
     ensures { IfOk result (λ body. body.items ≡ body_for kind count) }
 {
@@ -104,7 +104,7 @@ fn packet_at(alloc: Global, target: u8, point: &Point) -> Result<Packet, AllocEr
     let bytes = bytes_at(alloc, target, point)?;
     match Packet::new(bytes, End::Eop) {
         Ok(packet) => Ok(packet),
-        // Memory alone can be refused to it: a command has at most 4,096 bytes of data.
+        // Only memory can be refused to it: a command has at most 4,096 bytes of data.
         Err(_) => Err(AllocError),
     }
 }
@@ -119,7 +119,7 @@ fn is_brought(windows: &Windows, packet: &Packet) -> bool
     }
 }
 
-/// Adds how often the packet has to come: nothing for once.
+/// Adds how often the packet must come: nothing for once.
 fn add_repeats(text: &mut String, repeats: Repeats) -> Result<(), AllocError> {
     match repeats {
         Repeats::Times(1) => Ok(()),
@@ -128,8 +128,12 @@ fn add_repeats(text: &mut String, repeats: Repeats) -> Result<(), AllocError> {
     }
 }
 
-/// Adds the line of the packet of a row of these ports, for a node with these windows: at the first of them, whether that node brings
-/// it to its table, and how often it has to come.
+/// Adds the line of the packet of a row of these ports, for a node with these windows. The line has the first of the
+/// ports, whether that node brings the packet to its table there, and how often the packet must come.
+///
+/// # Errors
+///
+/// An error if memory is refused.
 pub fn add_packet(
     text: &mut String,
     alloc: Global,

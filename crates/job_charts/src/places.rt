@@ -4,13 +4,13 @@ use regions::{ByteSet, Region, Stretch};
 use rmap::{BOOT_WINDOW, CONTROL_SIZE, LOAD_REGISTER, LOAD_RESULT_SIZE, STAGING_SIZE, Windows};
 use std::alloc::{AllocError, Global};
 
-/// The initiator that is taken where any may be.
+/// The initiator that is taken if any may be.
 const INITIATOR: u8 = 0x67;
 
 /// The most banks that a node has.
 const BANKS: u8 = 8;
 
-/// The commands whose bytes lie in so many from an address on, of an extended address.
+/// The commands whose bytes lie in this many from an address on, of an extended address.
 fn range(extended: u8, base: u32, size: u32) -> Region {
     let addresses = Stretch {
         start: u64::from(base),
@@ -90,8 +90,12 @@ fn add_places(
     add_place(places, Region::whole(), initiators)
 }
 
-/// Where the point of a row is looked for, in this order: with initiator 67 before any other, and first where a node with these
-/// windows brings commands to its table.
+/// The places where the point of a row is looked for, in their order. Those with initiator 67 come before those with
+/// any other. In each part, those where a node with these windows brings commands to its table come first.
+///
+/// # Errors
+///
+/// An error if memory is refused.
 pub fn places(alloc: Global, windows: &Windows) -> Result<Vec<Region>, AllocError> {
     let mut places = Vec::new(alloc);
     add_places(&mut places, windows, &ByteSet::only(INITIATOR))?;

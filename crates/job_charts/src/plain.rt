@@ -17,7 +17,7 @@ pub fn sign_word(sign: Sign) -> &'static str {
     }
 }
 
-/// Adds a course: the rules that are asked, in order, and the verdict where none of them matches.
+/// Adds a course: the rules that are asked, in order, and the verdict if none of them matches.
 fn add_course(text: &mut String, steps: &[Step]) -> Result<(), AllocError> {
     for step in steps {
         let (line, verdict) = (step.number, step.rule.verdict.number());
@@ -44,6 +44,10 @@ fn add_front(text: &mut String, alloc: Global, row: &Row) -> Result<(), AllocErr
 }
 
 /// Adds the line of a row of a map.
+///
+/// # Errors
+///
+/// An error if memory is refused.
 pub fn add_map_row(text: &mut String, alloc: Global, row: &Row) -> Result<(), AllocError> {
     add_front(text, alloc, row)?;
     text.push_str(" : ")?;
@@ -52,6 +56,10 @@ pub fn add_map_row(text: &mut String, alloc: Global, row: &Row) -> Result<(), Al
 }
 
 /// Adds the four lines of a row of a comparison, with its packet for a node with these windows.
+///
+/// # Errors
+///
+/// An error if memory is refused.
 pub fn add_difference(
     text: &mut String,
     alloc: Global,

@@ -1,5 +1,5 @@
-//! The words of a row: kinds, three sets of bytes, addresses and ports. What they are is decided below; how they are written is held
-//! by the cases.
+//! The words of a row: kinds, three sets of bytes, addresses and ports. The crates below decide what they are. The
+//! cases hold how they are written.
 
 use byteorder::{BigEndian, ByteOrder};
 use chart_lines::{PORTS, Told};
@@ -45,7 +45,12 @@ fn add_bytes(text: &mut String, alloc: Global, bytes: &[u8]) -> Result<(), Alloc
     Ok(())
 }
 
-/// Adds the word for a set of bytes: `*` for all; those that are of it; or if those are most, `!` and those that are not.
+/// Adds the word for a set of bytes. It is `*` for all, and else the bytes that are of the set. If those are most, it
+/// is `!` and the bytes that are not.
+///
+/// # Errors
+///
+/// An error if memory is refused.
 pub fn add_set(text: &mut String, alloc: Global, set: &ByteSet) -> Result<(), AllocError> {
     let beside = bytes_of(alloc, set, false)?;
     if beside.is_empty() {
@@ -59,7 +64,7 @@ pub fn add_set(text: &mut String, alloc: Global, set: &ByteSet) -> Result<(), Al
     add_bytes(text, alloc, bytes.as_slice())
 }
 
-/// Adds an address, or the last where it is past that.
+/// Adds an address, or the last if it is past that.
 fn add_address(text: &mut String, alloc: Global, address: u64) -> Result<(), AllocError> {
     let mut bytes = [0; 4];
     BigEndian::write_u32(&mut bytes, address.min(END - 1) as u32);
@@ -114,6 +119,10 @@ fn add_addresses(
 }
 
 /// Adds the five words of a row, with this between them.
+///
+/// # Errors
+///
+/// An error if memory is refused.
 pub fn add_words(
     text: &mut String,
     alloc: Global,
@@ -154,6 +163,10 @@ fn add_numbers(text: &mut String, numbers: &[u8]) -> Result<(), AllocError> {
 }
 
 /// Adds the word for ports: `*` for all; those; or if those are most, `!` and the others.
+///
+/// # Errors
+///
+/// An error if memory is refused.
 pub fn add_ports(text: &mut String, alloc: Global, ports: &[u8]) -> Result<(), AllocError> {
     let beside = ports_of(alloc, ports, false)?;
     if beside.is_empty() {

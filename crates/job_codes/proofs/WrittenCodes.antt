@@ -1,4 +1,4 @@
--- A text that writes a code has the code's number behind its letters.
+-- A text that writes a code has the code's number after its letters.
 use Rattle.std.proofs.Common.{◌≡◌, ◌<◌, ◌^◌, ℕ, List, [], ◌∷◌, ◌++◌, drop, map, refl, sym, ap, ap₂, ◌∙◌, arith}
 use Rattle.std.specs.Prelude.{decimal}
 use Rattle.std.specs.Char.{digit_value, to_ascii_lowercase}
@@ -20,6 +20,6 @@ written_behind word text n small written =
     sym written ∙ map-append to_ascii_lowercase word (decimal n)
     ∙ ap (λ (ds : List ℕ). map to_ascii_lowercase word ++ ds) (lower_digits (decimal n) (decimal_is_IsNumeral n (omega (arith, small))).0.1)
 
--- What stands behind the letters is the rest of the text.
+-- What comes after the letters is the rest of the text.
 pub rest_behind : (text front digits rest : List ℕ) (k : ℕ) → rest ≡ drop k text → text ≡ front ++ drop k text → text ≡ front ++ digits → rest ≡ digits
 rest_behind text front digits rest k is split whole = is ∙ append_cancel_left front (drop k text) digits (sym split ∙ whole)

@@ -18,12 +18,12 @@ abbrev pub NamesExplain : List Row → ExplainWords → Type 0
 NamesExplain rows words = (first_of (codes "code") rows ≡ option_map string_bytes words.code)
     × IfSome (first_of (codes "code") rows) IsCode
 
--- the matches have a code that is none
+-- the matches have a text that is no code
 abbrev pub IsBadCode : Option (List ℕ) → Type 0
 IsBadCode None = ⊥
 IsBadCode (Some text) = ¬ IsCode text
 
--- matches with a code that is none
+-- matches with a text that is no code
 abbrev pub SpoilsExplain : List Row → Type 0
 SpoilsExplain rows = IsBadCode (first_of (codes "code") rows)
 
@@ -33,7 +33,8 @@ RefusesExplain rows Memory = Unit {0}
 RefusesExplain rows BadOption = SpoilsExplain rows
 RefusesExplain rows (Parse text) = ⊥
 
--- some lines were printed, and behind them what is to be said of a code, four columns further right; which is not told
+-- some lines were printed, and after them what is to be said of a code, four columns further right. Which text that is
+-- has no clause
 pub record Explains (old new : Option (List ℕ)) : Type 0 where
   pub told : Option (List ℕ)
   pub head : PrintsMore old told

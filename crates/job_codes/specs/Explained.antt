@@ -28,7 +28,7 @@ use Rattle.job_texts.specs.Needed.{PrintsMaps}
 use Rattle.job_texts.specs.VerifyJob.{accepted_line}
 use Rattle.job_texts.specs.declared.images.ImageArgs.{ImageArgs}
 
--- the line of the instruction that begins at a slot; where none does there is no line
+-- the line of the instruction that begins at a slot; if none does, there is no line
 abbrev pub insn_line : (slot : ℕ) → Option Insn → List ℕ
 insn_line slot None = []
 insn_line slot (Some insn) = codes "slot " ++ decimal slot ++ codes ": " ++ insn_text insn ++ 10 ∷ []
@@ -37,8 +37,8 @@ insn_line slot (Some insn) = codes "slot " ++ decimal slot ++ codes ": " ++ insn
 abbrev pub weight_line : Program → List ℕ
 weight_line p = codes "weight " ++ decimal (saturated_weight (weight_of p)) ++ codes " budget " ++ decimal p.budget ++ 10 ∷ []
 
--- what is told of a program for this code of a refusal at a slot: its weight and budget where that is what is wrong with
--- it, nothing for want of memory, and else the instruction at the slot
+-- what is printed of a program for this code of a refusal at a slot. It is its weight and budget if that is what is
+-- wrong with it, nothing if memory was refused, and else the instruction at the slot
 abbrev pub cause_of : Program → (slot : ℕ) → Refusal → List ℕ
 cause_of p slot Target = insn_line slot (insn_at p slot)
 cause_of p slot BackJump = insn_line slot (insn_at p slot)
@@ -71,7 +71,7 @@ pub record TellsRefusal (p : Program) (refused : Refused) (old new : Option (Lis
   pub cause : Appends told caused (cause_line p refused)
   pub reason : GivesReason caused new
 
--- the program is justified, and so safe, and its weight and budget were printed, and behind them the maps that it needs
+-- the program is justified, and so safe. Its weight and budget were printed, and after them the maps that it needs
 pub record AcceptsProgram (p : Program) (sizes : Maps) (old new : Option (List ℕ)) : Type 0 where
   pub justified : IsJustified p sizes
   pub safe : IsSafe p sizes
@@ -79,8 +79,8 @@ pub record AcceptsProgram (p : Program) (sizes : Maps) (old new : Option (List �
   pub line : Appends old told (accepted_line (saturated_weight (weight_of p)) p.budget)
   pub maps : PrintsMaps [] p told new
 
--- the verifier refuses the program so, for a node with maps of these sizes; and that was printed, with the maps that the
--- program needs behind it
+-- the verifier refuses the program so, for a node with maps of these sizes. That was printed, with the maps that the
+-- program needs after it
 pub record RefusesProgram (p : Program) (sizes : Maps) (old new : Option (List ℕ)) : Type 0 where
   pub refused : Refused
   pub refusal : IsRefusal p refused
@@ -89,20 +89,20 @@ pub record RefusesProgram (p : Program) (sizes : Maps) (old new : Option (List �
   pub tells : TellsRefusal p refused old told
   pub maps : PrintsMaps [] p told new
 
--- what was printed of a program, by the status: 0 where it is accepted, 1 where it is refused
+-- what was printed of a program, by the status: 0 if it is accepted, 1 if it is refused
 abbrev pub ExplainsProgram : Program → Maps → (old new : Option (List ℕ)) → Status → Type 0
 ExplainsProgram p sizes old new Done = AcceptsProgram p sizes old new
 ExplainsProgram p sizes old new Failed = RefusesProgram p sizes old new
 ExplainsProgram p sizes old new Misused = ⊥
 
--- the bytes spell the program, and it was told
+-- the bytes spell the program, and what there is to say of it was printed
 pub record TellsProgram (bytes : List ℕ) (Told : Program → Type 0) : Type 0 where
   pub program : Program
   pub spelled : bytes ≡ image_bytes program
   pub limits : IsProgram program
   pub told : Told program
 
--- an image's fault is the first in the bytes; and its line was printed, a reason behind it, and what the bytes are
+-- an image's fault is the first in the bytes; and its line was printed, a reason after it, and what the bytes are
 pub record TellsNoImage (bytes : List ℕ) (old new : Option (List ℕ)) : Type 0 where
   pub fault : ImageFault
   pub first : Fails fault (image_reading bytes)
@@ -112,8 +112,8 @@ pub record TellsNoImage (bytes : List ℕ) (old new : Option (List ℕ)) : Type 
   pub reason : GivesReason told explained
   pub form : PrintsForm bytes explained new
 
--- what was printed of the bytes of a file, by the status: 0 where they are an image whose program may judge, 1 where it is
--- refused or they are none
+-- what was printed of the bytes of a file, by the status. It is 0 if they are an image whose program may judge, and 1
+-- if the program is refused or they are no image
 abbrev pub ExplainsBytes : (bytes : List ℕ) → Maps → (old new : Option (List ℕ)) → Status → Type 0
 ExplainsBytes bytes sizes old new Done = TellsProgram bytes (λ p. AcceptsProgram p sizes old new)
 ExplainsBytes bytes sizes old new Failed =
@@ -121,7 +121,7 @@ ExplainsBytes bytes sizes old new Failed =
 ExplainsBytes bytes sizes old new Misused = ⊥
 
 module _ {S : Type 0} (reads : Reads S) (args : ImageArgs) where
-  -- what `why` reads and prints where no fault ends it, by its exit status: 0 where the program may judge, else 1
+  -- what `why` reads and prints if no fault ends it, by its exit status: 0 if the program may judge, else 1
   pub record ExplainsFile (before after : S) (old new : Option (List ℕ)) (status : Status) : Type 0 where
     pub bytes : List ℕ
     pub read : reads before (string_bytes args.image) (Some bytes) after

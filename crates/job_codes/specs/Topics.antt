@@ -1,4 +1,4 @@
--- The codes that outputs tell: a kind and a number, which the enums of the kinds have.
+-- The codes that outputs have: a kind and a number, which the enums of the kinds have.
 use Rattle.std.specs.Prelude.{◌≡◌, ◌<◌, ◌^◌, ◌==◌, ◌||◌, ◌⊎◌, ℕ, List, [], ◌∷◌, ◌++◌, map, Bool, true, is_some}
 use Rattle.std.specs.Prelude.{if◌then◌else◌, codes, decimal}
 use Rattle.std.specs.Char.{to_ascii_lowercase}
@@ -46,7 +46,7 @@ kind_word Load = codes "load"
 kind_word Policy = codes "policy"
 kind_word Node = codes "node"
 
--- the code of a load result: 0 of a load that was carried out, or that of a refusal
+-- the code of a load result: 0 for a load that was carried out, or that of a refusal
 abbrev pub is_load_code : ℕ → Bool
 is_load_code n = n == 0 || is_some (load_refusal_of_code n)
 
@@ -104,7 +104,7 @@ HasByte text = (byte : ℕ) × (byte < 2 ^ 8) × WritesByte byte text
 abbrev pub IsCode : List ℕ → Type 0
 IsCode text = IsDecimalCode text ⊎ HasByte text
 
--- the text is the code of this kind and number: in decimal, or of a load result in hexadecimal digits that are no code in
--- decimal
+-- the text is the code of this kind and number: in decimal, or for a load result in hexadecimal digits that are no code
+-- in decimal
 abbrev pub IsCodeOf : CodeKind → ℕ → List ℕ → Type 0
 IsCodeOf kind n text = Writes kind n text ⊎ ((kind ≡ Load) × WritesByte n text × ¬ IsDecimalCode text)

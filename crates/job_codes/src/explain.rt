@@ -27,6 +27,10 @@ pub struct ExplainWords {
 }
 
 /// `explain [CODE]`.
+///
+/// # Errors
+///
+/// An error if memory is refused.
 pub fn explain_command<'a>(alloc: Global) -> Result<Command<'a>, AllocError>
     ensures shape { IfOk result (λ c. app_of c ≡ explain_app) }
     ensures local { IfOk result (λ c. (fields_of c).has_globals ≡ false) }
@@ -49,6 +53,10 @@ fn checked_code(alloc: Global, text: &str) -> Result<String, UsageFault>
 }
 
 /// The words of `explain` with these matches.
+///
+/// # Errors
+///
+/// `BadOption` if what is given is no code, or `Memory` if memory is refused.
 pub fn explain_job(alloc: Global, found: &ArgMatches) -> Result<ExplainWords, UsageFault>
     ensures ok { IfOk result (NamesExplain (rows_of (found_of found.now))) }
     ensures err { IfErr result (RefusesExplain (rows_of (found_of found.now))) }
@@ -84,7 +92,7 @@ fn listing(alloc: Global) -> Result<String, AllocError> {
     Ok(text)
 }
 
-/// What is told of the code that is written so: its line, and when it comes and what to do.
+/// What is said of the code that is written so: its line, and when it comes and what to do.
 fn explanation(alloc: Global, code: &str) -> Result<(String, &'static str), AllocError> {
     let mut text = String::new(alloc);
     let mut advice = "";
@@ -98,6 +106,10 @@ fn explanation(alloc: Global, code: &str) -> Result<(String, &'static str), Allo
 }
 
 /// Prints what is to be said of a code, or a line for each code.
+///
+/// # Errors
+///
+/// `NoMemory` if memory is refused, or that the writer failed.
 pub fn explain<'a, W: Write>(
     alloc: Global,
     words: &ExplainWords,

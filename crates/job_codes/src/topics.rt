@@ -1,4 +1,4 @@
-//! The codes that outputs tell, and what is said of each.
+//! The codes that outputs have, and what is said of each.
 
 ghost use Rattle.std.specs.Prelude.{◌≡◌, ◌↔◌, ◌<◌, ◌^◌, ◌++◌, ℕ, IfOk, IsTrue, MatchOption, Some, decimal, is_some};
 ghost use Rattle.job_codes.specs.Topics.{HasNumber, HasByte, IsCode, IsCodeOf, IsDecimalCode, IsWritten, Writes, WritesByte, byte_text, code_text, has_code, is_load_code, kind_at, kind_word, marked_byte_text};
@@ -15,7 +15,7 @@ use policy::PolicyFault;
 use rmap::{Discard, Status};
 use std::alloc::{AllocError, Global};
 
-/// What the bytes of an image's slot are where they spell no instruction.
+/// What the bytes of an image's slot are if they spell no instruction.
 const NO_INSN: &str = "the bytes of a slot spell no instruction";
 
 /// What a load result with the code 0 is.
@@ -57,7 +57,7 @@ pub enum CodeKind {
 /// How many kinds there are.
 pub const KINDS: u8 = 11;
 
-/// What a code tells.
+/// What a code means.
 #[derive(Clone, Copy, Debug)]
 pub enum Topic {
     /// The verifier refuses a program.
@@ -88,6 +88,10 @@ pub enum Topic {
 
 impl Topic {
     /// What it is, in a few words.
+    ///
+    /// # Errors
+    ///
+    /// An error if memory is refused.
     pub fn title(self, alloc: Global) -> Result<String, AllocError> {
         match self {
             Topic::Refusal(refusal) => format!(in alloc; "{refusal}"),
@@ -140,7 +144,7 @@ fn load_topic(number: u8) -> Option<Topic>
     }
 }
 
-/// The number that stands behind this word in a text, in upper or lower case. A text that writes a number so gives that
+/// The number that comes after this word in a text, in upper or lower case. A text that writes a number so gives that
 /// number; another may give one too.
 fn number_behind(alloc: Global, word: &str, text: &str) -> Result<Option<u8>, AllocError>
     ensures { IfOk result (λ number. (n : ℕ) → n < 2 ^ 8
@@ -194,7 +198,7 @@ impl CodeKind {
         }
     }
 
-    /// What the code of this number tells. `None` where the kind has no such code.
+    /// What the code of this number means. `None` if the kind has no such code.
     pub fn topic(self, number: u8) -> Option<Topic>
         ensures { is_some result ≡ has_code self number }
     {
@@ -245,7 +249,7 @@ pub struct Code {
     pub number: u8,
 }
 
-/// The code that a text writes in decimal, in upper or lower case. `None` where it is none.
+/// The code that a text writes in decimal, in upper or lower case. `None` if it is none.
 fn decimal_code(alloc: Global, text: &str) -> Result<Option<Code>, AllocError>
     ensures { IfOk result (λ code. MatchOption code
         (¬ IsDecimalCode text.now) (λ c. Writes c.kind c.number text.now)) }
@@ -291,7 +295,7 @@ fn is_load_byte(alloc: Global, byte: u8, text: &str) -> Result<bool, AllocError>
     is_marked_byte_written(alloc, byte, text)
 }
 
-/// The first byte of a load result that a text writes in hexadecimal digits, behind `load`.
+/// The first byte of a load result that a text writes in hexadecimal digits, after `load`.
 fn load_byte(alloc: Global, text: &str) -> Result<Option<u8>, AllocError>
     ensures { IfOk result (λ byte. MatchOption byte
         (¬ HasByte text.now) (λ n. WritesByte n text.now)) }
@@ -304,8 +308,12 @@ fn load_byte(alloc: Global, text: &str) -> Result<Option<u8>, AllocError>
     Ok(None)
 }
 
-/// The code that a text writes, in upper or lower case: in decimal, or of a load result in the hexadecimal digits in which
-/// replies have it, where these are no decimal code. `None` where it is none.
+/// The code that a text writes, in upper or lower case. It is in decimal. If it is no decimal code, it may be that of a
+/// load result in the hexadecimal digits in which replies have it. `None` if it is none.
+///
+/// # Errors
+///
+/// An error if memory is refused.
 pub fn read_code(alloc: Global, text: &str) -> Result<Option<Code>, AllocError>
     ensures { IfOk result (λ code. MatchOption code
         (¬ IsCode text.now) (λ c. IsCodeOf c.kind c.number text.now)) }

@@ -179,8 +179,8 @@ fn add_word(text: &mut String, state: &State, word: usize) -> Result<(), AllocEr
     text.push_str("\n")
 }
 
-/// Adds a line for each word of the stack of which a load reads bytes, from that byte on: the numbers that it may be, or
-/// which bytes of it are read and not all set.
+/// Adds a line for each word of the stack from which a load reads bytes, from that byte on. The line has the numbers
+/// that the word may be, or which of its bytes are read and not all set.
 fn add_read_words(
     text: &mut String,
     state: &State,
@@ -201,7 +201,7 @@ fn add_read_words(
     Ok(())
 }
 
-/// The same for the instruction at a slot, where it is a load of the stack in a program of version 2.
+/// The same for the instruction at a slot, if it is a load of the stack in a program of version 2.
 fn add_read_stack(
     text: &mut String,
     image: &Image,
@@ -224,6 +224,10 @@ fn add_read_stack(
 }
 
 /// `why FILE [--maps LIST]`.
+///
+/// # Errors
+///
+/// An error if memory is refused.
 pub fn why_command<'a>(alloc: Global) -> Result<Command<'a>, AllocError>
     ensures shape { IfOk result (λ c. app_of c ≡ why_app) }
     ensures local { IfOk result (λ c. (fields_of c).has_globals ≡ false) }
@@ -246,7 +250,7 @@ fn reason_of_fault(alloc: Global, fault: ImageFault) -> Result<String, AllocErro
     Ok(reason)
 }
 
-/// Whether a refusal is for what values may do wrong, so that it tells what was known at its slot.
+/// Whether a refusal is for what values may do wrong, so that what was known at its slot is printed.
 fn is_of_values(code: Refusal) -> bool {
     match code {
         Refusal::LoopEntry
@@ -270,7 +274,7 @@ fn is_of_values(code: Refusal) -> bool {
     }
 }
 
-/// Adds what was known at the slot where a program is refused for its values.
+/// Adds what was known at the slot at which a program is refused for its values.
 fn add_known(
     reason: &mut String,
     image: &Image,
@@ -302,7 +306,7 @@ fn reason_of_refusal(
     Ok(reason)
 }
 
-/// The reason that was made, or none where memory was refused to it.
+/// The reason that was made, or none if memory was refused to it.
 fn reason_or_none(alloc: Global, reason: Result<String, AllocError>) -> String {
     match reason {
         Ok(reason) => reason,
@@ -330,7 +334,8 @@ fn print_weight<W: Write>(out: &mut W, image: &Image) -> io::Result<()>
     writeln!(out, "weight {weight} budget {budget}")
 }
 
-/// Prints what a program is refused for: the instruction at the slot, or its weight and budget; nothing for want of memory.
+/// Prints what a program is refused for: the instruction at the slot, or its weight and budget; nothing if memory was
+/// refused.
 fn print_cause<W: Write>(out: &mut W, image: &Image, refused: Refused) -> io::Result<()>
     ensures { OnOk result (Prints W.contents out.old out.new (cause_line image.now refused)) }
 {
@@ -373,7 +378,7 @@ fn print_refusal<W: Write>(
     Ok(())
 }
 
-/// The line of the maps that a program needs, or none where memory was refused to it.
+/// The line of the maps that a program needs, or none if memory was refused to it.
 fn maps_or_none(alloc: Global, image: &Image) -> String
     ensures { IsMapsLine [] image.now (string_bytes result) }
 {
@@ -383,8 +388,8 @@ fn maps_or_none(alloc: Global, image: &Image) -> String
     }
 }
 
-/// Verifies an image, and prints its weight and its budget where it may judge, else the refusal and the reason; and then
-/// the maps that its program needs.
+/// Verifies an image, and prints its weight and its budget if it may judge, else the refusal and the reason. Then it
+/// prints the maps that its program needs.
 fn explain_program<W: Write>(
     alloc: Global,
     image: &Image,
@@ -430,7 +435,7 @@ fn explain_fault<W: Write>(
     Ok(())
 }
 
-/// Prints what there is to tell of the bytes of a file.
+/// Prints what there is to say of the bytes of a file.
 fn explain_bytes<W: Write>(
     alloc: Global,
     bytes: &[u8],
@@ -449,11 +454,13 @@ fn explain_bytes<W: Write>(
     }
 }
 
-/// Verifies the image of a file as the job `verify` does, and prints the same; and behind the line of a refusal or of an
-/// image's fault the instruction that is told, and the reason. Behind all stands what maps the program needs, or what a file
-/// is that is no image. The exit status is that of `verify`.
+/// Verifies the image of a file as the job `verify` does, and prints the same. After the line of a refusal or of an
+/// image's fault it prints the instruction at the slot, and the reason. Last it prints what maps the program needs, or
+/// what the file is if it is no image. The exit status is that of `verify`.
 ///
-/// The fault that ends it is `CannotRead`.
+/// # Errors
+///
+/// `CannotRead` if the file cannot be read, or that the writer failed.
 pub fn why_file<'a, F: Files, W: Write>(
     alloc: Global,
     args: &'a ImageArgs,

@@ -8,7 +8,7 @@ use Rattle.job_parts.specs.declared.faults.Fault.{Fault}
 use Rattle.job_config.specs.Reads.{AreRead, SomeRead}
 
 module _ {S : Type 0} (reads : Reads S) where
-  -- files that are read behind others
+  -- files that are read after others
   read_behind : (first next : List (List ℕ × Option (List ℕ))) (before middle after : S) → AreRead reads first before middle
       → AreRead reads next middle after → AreRead reads (first ++ next) before after
   read_behind [] next before middle after same read = subst (λ (s : S). AreRead reads next s after) same read

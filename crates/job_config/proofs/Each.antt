@@ -28,7 +28,7 @@ module _ {A : Type 0} (one : List A → Data → Result A ConfigFault) where
       omega (arith, longer, one_more)
   next_length done all items (Err fault) more h = absurd (cc h)
 
-  -- what was read of a list is as long as what stood before it and the list
+  -- what was read of a list is as long as what came before it and the list together
   pub each_length : (done all : List A) (items : Items) → each one done items ≡ Ok all → length all ≡ length done + count items
   each_length done all no_items h =
       let same : done ≡ all = cc h in

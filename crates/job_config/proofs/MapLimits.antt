@@ -6,7 +6,7 @@ use Rattle.std.proofs.lemmas.List.Elements.{All-map}
 use Rattle.machine.specs.Sizes.{AreSizes, listed_maps}
 use Rattle.machine.specs.declared.kinds.MapKind.{MapKind}
 
--- at most eight maps, each of a cell at least, which leave so many cells of 256
+-- at most eight maps, each of a cell at least, which leave `left` cells of 256
 pub sizes_of_maps : (maps : List (ℕ × MapKind)) (left : ℕ) → All (λ m. 1 ≤ m.0) maps → left + sum (map (λ m. m.0) maps) ≡ 256
     → length maps ≤ 8 → AreSizes (listed_maps maps)
 sizes_of_maps maps left cells total few = record {

@@ -50,7 +50,7 @@ abbrev pub unknown_in : Place → Option Members → Option ConfigFault
 unknown_in at None = None
 unknown_in at (Some table) = unknown at (unknown_key at.kind table)
 
--- the same of the tables of a list, behind so many of them
+-- the same of the tables of a list, after `before` others
 abbrev pub unknown_among : Kind → (before : ℕ) → Items → Option ConfigFault
 unknown_among kind before no_items = None
 unknown_among kind before (item value items) =
@@ -81,7 +81,7 @@ abbrev pub list_of : Kind → Option Items → Result (Option Items) ConfigFault
 list_of kind None = Err (NoList kind)
 list_of kind (Some items) = Ok (Some items)
 
--- the list of tables that stands at a key, if something does
+-- the list of tables at a key, if something is there
 abbrev pub list_in : Kind → Option Data → Result (Option Items) ConfigFault
 list_in kind None = Ok None
 list_in kind (Some value) = list_of kind (as_array value)
@@ -115,7 +115,7 @@ count (item value items) = suc (count items)
 abbrev pub greatest_size : (base : ℕ) → ℕ
 greatest_size base = min MAX_SIZE (2 ^ 32 - base)
 
--- the bank of a table: a base of 32 bits, a size of which no byte is past the last address, the room of a journal
+-- the bank of a table: a base of 32 bits, a size with which no byte is past the last address, the room of a journal
 unfoldable pub bank_in : (number : ℕ) → Data → Result BankConfig ConfigFault
 bank_in number value =
     table_in value (place Bank number) >>= (λ table.
@@ -124,7 +124,7 @@ bank_in number value =
     number_at table (place Bank number) Journal 1 MAX_ROOM >>= (λ room.
     Ok (record { base = base; size = size; room = room })))))
 
--- the bank that stands behind those
+-- the bank that comes after those
 abbrev pub next_bank : List BankConfig → Data → Result BankConfig ConfigFault
 next_bank banks value = bank_in (length banks) value
 
@@ -141,18 +141,18 @@ banks_at table = list_at table Bank >>= banks_in
 
 -- ---- maps
 
--- the kind of a map by what stands at its key `peak`
+-- the kind of a map by what is at its key `peak`
 abbrev pub kind_of : Place → Option Bool → Result MapKind ConfigFault
 kind_of at None = Err (BadPeak at)
 kind_of at (Some true) = Ok Peak
 kind_of at (Some false) = Ok Counter
 
--- the same; it counts where nothing stands there
+-- the same; it counts if nothing is there
 abbrev pub kind_in : Place → Option Data → Result MapKind ConfigFault
 kind_in at None = Ok Counter
 kind_in at (Some value) = kind_of at (as_bool value)
 
--- how many cells are left behind those maps
+-- how many cells are left after those maps
 abbrev pub left_behind : List (ℕ × MapKind) → ℕ
 left_behind maps = 256 - sum (map (λ m. m.0) maps)
 
@@ -164,7 +164,7 @@ map_in number left value =
     kind_in (place Map number) (get_member (codes "peak") table) >>= (λ kind.
     Ok (cells, kind))))
 
--- the map that stands behind those
+-- the map that comes after those
 abbrev pub next_map : List (ℕ × MapKind) → Data → Result (ℕ × MapKind) ConfigFault
 next_map maps value = map_in (length maps) (left_behind maps) value
 
@@ -172,7 +172,7 @@ next_map maps value = map_in (length maps) (left_behind maps) value
 abbrev pub maps_in : Items → Result (List (ℕ × MapKind)) ConfigFault
 maps_in items = if nat_le (count items) 8 then each next_map [] items else Err (BadCount Map (count items))
 
--- the items of a list; none where there is no list
+-- the items of a list; none if there is no list
 abbrev pub items_in : Option Items → Items
 items_in None = no_items
 items_in (Some items) = items

@@ -35,7 +35,7 @@ name_code names.Contents = codes.Contents
 name_code names.Program = codes.Program
 name_code names.Image = codes.Load
 
--- the code of a fault, but for want of memory
+-- the code of a fault; none if memory was refused
 abbrev pub code_of : ConfigFault → Option NodeCode
 code_of Memory = None
 code_of (NoToml line message) = Some codes.Text

@@ -13,7 +13,7 @@ abbrev pub name_of : Place → NameKey → Option (List ℕ) → Result (Option 
 name_of place key None = Err (NoName place key)
 name_of place key (Some name) = Ok (Some name)
 
--- the name that stands at a key, if something does
+-- the name at a key, if something is there
 abbrev pub name_from : Place → NameKey → Option Data → Result (Option (List ℕ)) ConfigFault
 name_from place key None = Ok None
 name_from place key (Some value) = name_of place key (as_str value)
@@ -32,7 +32,7 @@ abbrev pub path_in : Option (List ℕ) → (name : List ℕ) → List ℕ
 path_in None name = codes "./" ++ name
 path_in (Some folder) name = folder ++ (codes "/" ++ name)
 
--- the path of a name that begins with a slash is that name, and of another it is in the folder of the file
+-- the path of a name: that name, if it begins with a slash, and else in the folder of the file
 abbrev pub IsPath : (rooted : Bool) → (file name path : List ℕ) → Type 0
 IsPath true file name path = path ≡ name
 IsPath false file name path = (folder : Option (List ℕ)) × IsFolder file folder × (path ≡ path_in folder name)

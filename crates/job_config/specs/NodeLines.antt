@@ -17,7 +17,7 @@ abbrev pub NamesNodeLines : List Row → NodeLines → Type 0
 NamesNodeLines rows args =
     (first_of (codes "lines") rows ≡ Some (string_bytes args.lines)) × GivesSource rows args.node
 
--- matches without the file of lines, or with options that are no node's
+-- matches without the file of lines, or with options that no node has
 abbrev pub SpoilsNodeLines : List Row → Type 0
 SpoilsNodeLines rows = (first_of (codes "lines") rows ≡ None) ⊎ SpoilsSource rows
 

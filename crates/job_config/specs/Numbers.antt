@@ -9,12 +9,12 @@ use Rattle.job_config.specs.declared.places.NumberKey.{NumberKey}
 use Rattle.job_config.specs.declared.places.Place.{Place}
 use Rattle.job_config.specs.Places.{number_word}
 
--- what a value is where a number is wanted
+-- what a value is, in the place of a number
 abbrev pub found_of : Option ℤ → Found
 found_of None = Other
 found_of (Some number) = Number number
 
--- what stands where a number is wanted
+-- what was found in the place of a number
 abbrev pub found_in : Option Data → Found
 found_in None = Missing
 found_in (Some value) = found_of (as_integer value)
@@ -43,12 +43,12 @@ found_at table key = found_in (get_member (number_word key) table)
 abbrev pub number_at : Members → Place → NumberKey → (least most : ℕ) → Result ℕ ConfigFault
 number_at table place key least most = number_of place key least most (found_at table key)
 
--- the number that was found at a key, or `other` where nothing stands there
+-- the number that was found at a key, or `other` if nothing is there
 abbrev pub number_unless : Place → NumberKey → (least most other : ℕ) → Found → Result ℕ ConfigFault
 number_unless place key least most other Missing = Ok other
 number_unless place key least most other (Number number) = number_of place key least most (Number number)
 number_unless place key least most other Other = number_of place key least most Other
 
--- the number from `least` to `most` that a key of a table holds, or `other` where the table has not the key
+-- the number from `least` to `most` that a key of a table holds, or `other` if the table does not have the key
 abbrev pub number_or : Members → Place → NumberKey → (least most other : ℕ) → Result ℕ ConfigFault
 number_or table place key least most other = number_unless place key least most other (found_at table key)

@@ -11,9 +11,9 @@ use Rattle.node_parts.specs.declared.config.NodeConfig.{NodeConfig}
 abbrev pub IsPublish : Maps → ℕ × AcceptedValue → Type 0
 IsPublish sizes publish = (publish.0 ≤ 3) × (publish.1.sizes ≡ sizes)
 
--- what a node takes beside its first program: its logical address, how many ports it has, its banks by their extended address,
--- the bytes at the beginning of each, its maps, and the programs that are published before the first packet, in that order, each
--- with its slot
+-- what a node takes beside its first program: its logical address, how many ports it has, and its banks by their
+-- extended address. Then the bytes at the beginning of each bank, its maps, and the programs that are published before
+-- the first packet, in that order, each with its slot
 pub record OwnNodeValue : Type 0 where
   pub address : ℕ
   pub ports : ℕ

@@ -1,4 +1,4 @@
--- Where something stands in a node's file, and the keys that stand there.
+-- Where something is in a node's file, and the keys that are there.
 use Rattle.std.specs.Prelude.{ℕ, List, [], Bool, ◌||◌, codes}
 use Rattle.std.specs.Str.{bytes_eq}
 use Rattle.job_config.specs.declared.places.Kind.{Kind}

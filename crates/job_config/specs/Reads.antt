@@ -1,4 +1,4 @@
--- The node of a node's file, with what stands in the files beside it.
+-- The node of a node's file, with the contents of the files beside it.
 use Rattle.std.specs.Prelude.{◌≡◌, ◌≤◌, ◌+◌, ◌⊎◌, ℕ, List, [], ◌∷◌, length, Option, None, Some, Ok}
 use Rattle.std.specs.Str.{IsUtf8}
 use Rattle.bver.specs.Justified.{AcceptedValue, IsJustified}
@@ -44,7 +44,7 @@ abbrev pub IsBadText : (text : List ℕ) → ConfigFault → Type 0
 IsBadText text fault =
     IsNoTable text fault ⊎ ((table : Members) × (parse_document text ≡ Some table) × IsBadConfiguration table fault)
 
--- what ends a job for that fault: its code is printed, but where memory was refused
+-- what ends a job for that fault: its code is printed, except if memory was refused
 abbrev pub Ends : Option NodeCode → Fault → Type 0
 Ends None end = end ≡ NoMemory
 Ends (Some code) NoMemory = Unit {0}
@@ -58,7 +58,7 @@ Ends (Some code) (BadImage fault) = ⊥
 Ends (Some code) (Refused refused) = ⊥
 Ends (Some code) (BadLine number fault) = ⊥
 
--- the job ends for a fault of which that is said
+-- the job ends for a fault with this property
 pub record EndsBy (end : Fault) (bad : ConfigFault → Type 0) : Type 0 where
   pub fault : ConfigFault
   pub is_bad : bad fault
@@ -74,7 +74,7 @@ module _ {S : Type 0} (reads : Reads S) where
   abbrev pub SomeRead : (before after : S) → Type 0
   SomeRead before after = (files : List (List ℕ × Option (List ℕ))) × AreRead files before after
 
-  -- the text of the node's file is a configuration, and a file beside it does not serve
+  -- the text of the node's file is a configuration, and a file beside it cannot be used
   pub record IsBadBeside (text : List ℕ) (before : S) (fault : ConfigFault) (after : S) : Type 0 where
     pub table : Members
     pub numbers : ConfigurationValue
@@ -82,19 +82,19 @@ module _ {S : Type 0} (reads : Reads S) where
     pub configured : configuration_at table ≡ Ok numbers
     pub read : SomeRead before after
 
-  -- why there is no node of a text: it is no configuration, or a file beside it does not serve
+  -- why there is no node of a text: it is no configuration, or a file beside it cannot be used
   abbrev pub IsBadNode : (text : List ℕ) → (before : S) → ConfigFault → (after : S) → Type 0
   IsBadNode text before fault after = (IsBadText text fault × (after ≡ before)) ⊎ IsBadBeside text before fault after
 
 module _ {S : Type 0} (reads : Reads S) (file : List ℕ) where
-  -- the file of that name beside the node's was read, and gave these bytes, at most so many
+  -- the file of that name beside the node's was read, and gave these bytes, at most `most`
   pub record HoldsBeside (name : List ℕ) (most : ℕ) (before : S) (bytes : List ℕ) (after : S) : Type 0 where
     pub path : List ℕ
     pub beside : IsBeside file name path
     pub read : reads before path (Some bytes) after
     pub short : length bytes ≤ most
 
-  -- the bytes are those of the file of that name; no bytes where there is no name
+  -- the bytes are those of the file of that name; no bytes if there is no name
   abbrev pub HoldsNamed : Option (List ℕ) → (most : ℕ) → (before : S) → (bytes : List ℕ) → (after : S) → Type 0
   HoldsNamed None most before bytes after = (bytes ≡ []) × (after ≡ before)
   HoldsNamed (Some name) most before bytes after = HoldsBeside name most before bytes after
@@ -107,7 +107,7 @@ module _ {S : Type 0} (reads : Reads S) (file : List ℕ) where
     pub named : name_at table at Contents ≡ Ok name
     pub held : HoldsNamed name size before bytes after
 
-  -- each of the banks begins with these bytes, by its table, in this order; so many banks stand before them
+  -- each of the banks begins with these bytes, by its table, in this order; `number` banks come before them
   abbrev pub BeginWith : (number : ℕ) → Items → List BankConfig → (before : S) → List (List ℕ) → (after : S) → Type 0
   BeginWith number items [] before contents after = (contents ≡ []) × (after ≡ before)
   BeginWith number no_items (bank ∷ banks) before contents after = ⊥
@@ -128,8 +128,8 @@ module _ {S : Type 0} (reads : Reads S) (file : List ℕ) where
     pub listed : list_at table Bank ≡ Ok list
     pub held : HoldsContents list banks before contents after
 
-  -- the program is that of the image in the file of that name beside the node's, which has at most that number of bytes; it is
-  -- justified on its maps, and so safe
+  -- the program is that of the image in the file of that name beside the node's, which has at most that number of
+  -- bytes. It is justified on its maps, and so safe
   pub record HoldsProgramOf (name : List ℕ) (most : ℕ) (before : S) (program : AcceptedValue) (after : S) : Type 0 where
     pub bytes : List ℕ
     pub beside : HoldsBeside name most before bytes after
@@ -138,7 +138,7 @@ module _ {S : Type 0} (reads : Reads S) (file : List ℕ) where
     pub justified : IsJustified program.program program.sizes
     pub safe : IsSafe program.program program.sizes
 
-  -- the program of the image that a table names, which the staging would have room for
+  -- the program of the image that a table names, for which the staging would have room
   pub record HoldsImageAt (at : Place) (table : Members) (before : S) (program : AcceptedValue) (after : S) : Type 0 where
     pub name : List ℕ
     pub named : name_at table at Image ≡ Ok (Some name)
@@ -190,8 +190,8 @@ module _ {S : Type 0} (reads : Reads S) (file : List ℕ) where
     pub sizes : program.sizes ≡ own.sizes
     pub publishes : HoldsPublishes table judged own.publishes after
 
-  -- the node of the node's file, and the program that judges in all slots at first; and files were read, and nothing else was done
-  -- to them
+  -- the node of the node's file, and the program that judges in all slots at first; and files were read, and nothing
+  -- else was done to them
   pub record ReadsNode (before : S) (own : OwnNodeValue) (program : AcceptedValue) (after : S) : Type 0 where
     pub text : List ℕ
     pub table : Members

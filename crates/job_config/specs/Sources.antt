@@ -19,13 +19,13 @@ lacks name rows = not (is_some (first_of name rows))
 abbrev pub is_alone : List Row → Bool
 is_alone rows = lacks (codes "image") rows && lacks (codes "maps") rows && lacks (codes "ports") rows
 
--- the node comes from the file of that name, if there is one, and then no other option says anything of it; or else from the
--- other options
+-- the node comes from the file of that name, if there is one, and then no other option says anything of it; or else
+-- from the other options
 abbrev pub GivesSource : List Row → NodeSource → Type 0
 GivesSource rows (File name) = (first_of (codes "node") rows ≡ Some (string_bytes name)) × (is_alone rows ≡ true)
 GivesSource rows (Words words) = (first_of (codes "node") rows ≡ None) × GivesNode rows words
 
--- why matches name no node, where they have that name of a file: another option says something of it too, or is none
+-- why matches name no node, if they have that name of a file: another option says something of it too, or is none
 abbrev pub SpoilsBy : (file : Option Text) → List Row → Type 0
 SpoilsBy (Some name) rows = is_alone rows ≡ false
 SpoilsBy None rows = SpoilsNode rows

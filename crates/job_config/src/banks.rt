@@ -63,7 +63,7 @@ fn banks_in(alloc: Global, list: &[Value]) -> Result<Vec<BankConfig>, ConfigFaul
     Ok(banks)
 }
 
-/// The bank of a node of which no bank is said.
+/// The bank of a node for which no bank is given.
 fn own_banks(alloc: Global) -> Result<Vec<BankConfig>, AllocError>
     ensures { IfOk result (λ banks. banks.items ≡ own_bank ∷ []) }
 {
@@ -72,7 +72,7 @@ fn own_banks(alloc: Global) -> Result<Vec<BankConfig>, AllocError>
     Ok(banks)
 }
 
-/// Whether a node may have so many banks.
+/// Whether a node may have this many banks.
 pub(crate) fn is_count(count: usize) -> bool
     ensures { result ≡ (nat_le 1 count && nat_le count 8) }
 {
@@ -80,6 +80,11 @@ pub(crate) fn is_count(count: usize) -> bool
 }
 
 /// The banks of a file, by their extended address.
+///
+/// # Errors
+///
+/// `NoList` if what the file has there is no list of tables, and `BadCount` if there are not 1 to 8. Else the first
+/// fault of a table: `NoTable`, or `BadNumber` for its base, its size or its journal. `Memory` if memory was refused.
 #[tactic(auto, using(crate::proofs::Each::count_view), unfolding(crate::specs::Configured::banks_at))]
 pub fn banks_of(alloc: Global, table: &Table) -> Result<Vec<BankConfig>, ConfigFault>
     ensures ok { IfOk result (λ banks. banks_at (table_view table.now) ≡ Ok banks.items) }

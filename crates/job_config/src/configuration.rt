@@ -34,7 +34,7 @@ pub struct Configuration {
 }
 
 impl Configuration {
-    /// The windows of the node: its address, and where its banks lie. The condition is banks that a node may have.
+    /// The windows of the node: its address, and where its banks are. The condition is banks that a node may have.
     #[tactic(auto, using(crate::proofs::BankLimits::at_most_eight))]
     pub fn windows(&self) -> Windows
         requires { are_within self.now.banks.items ≡ true }
@@ -52,7 +52,10 @@ impl Configuration {
 
 /// The configuration that a table says.
 ///
-/// Faults are found in this order: a key that is unknown, the address, the ports, the banks, the maps.
+/// # Errors
+///
+/// The first fault, in this order: an unknown key, the address, the ports, the banks, the maps. `Memory` if memory was
+/// refused.
 #[tactic(auto, unfolding(crate::specs::Configured::numbers_at))]
 pub fn configuration_of(alloc: Global, table: &Table) -> Result<Configuration, ConfigFault>
     ensures says { IfOk result (IsConfiguration (table_view table.now)) }

@@ -105,7 +105,7 @@ impl<'a> Faults<'a> {
         }
     }
 
-    /// Adds each key that a node has not: of the node's own table, then of banks, maps and publishes.
+    /// Adds each key that no node has: of the node's own table, then of banks, maps and publishes.
     fn note_keys(&mut self, alloc: Global, table: &Table) -> Result<(), AllocError> {
         self.note_table(alloc, table, OWN)?;
         self.note_kind(alloc, table, Kind::Bank)?;
@@ -140,7 +140,7 @@ impl<'a> Faults<'a> {
         Ok(())
     }
 
-    /// Adds what is wrong with the table of a map, and how many of so many cells are left after it.
+    /// Adds what is wrong with the table of a map. `left` cells are left before it; returns how many are left after it.
     fn note_map(&mut self, item: &Value, place: Place, left: u16) -> Result<u16, AllocError> {
         let Some(table) = self.note(table_in(item, place))? else {
             return Ok(left);

@@ -12,7 +12,7 @@ use std::alloc::{AllocError, AllocFailed, Global};
 use std::fmt;
 use std::marker::Model;
 
-/// What stands where a number is wanted.
+/// What was found in the place of a number.
 #[derive(Clone, Copy, Debug, PartialEq, Eq)]
 pub enum Found {
     /// Nothing.
@@ -39,6 +39,10 @@ impl Model for Word {
 
 impl Word {
     /// A copy of this text.
+    ///
+    /// # Errors
+    ///
+    /// An error if memory is refused.
     pub fn new(alloc: Global, text: &str) -> Result<Word, AllocError>
         ensures { IfOk result (λ word. word ≡ text.now) }
     {
@@ -48,16 +52,16 @@ impl Word {
     }
 }
 
-/// Why a file beside a node's file does not serve.
+/// Why a file beside a node's file cannot be used.
 #[derive(Clone, Copy, Debug)]
 pub enum Trouble {
     /// It cannot be read.
     Unread,
-    /// It has so many bytes, of which that many would be the most.
+    /// It has more bytes than the most that are allowed.
     TooLong {
         /// How many bytes it has.
         bytes: usize,
-        /// How many are wanted at most.
+        /// The most that are allowed.
         most: usize,
     },
     /// It is no image; the line of a text or a table, if it is one, or no line.
@@ -93,7 +97,7 @@ pub enum ConfigFault {
         key: NumberKey,
         /// What it holds.
         found: Found,
-        /// The least number that is wanted.
+        /// The least number that is allowed.
         least: u32,
         /// The greatest.
         most: u32,
@@ -104,7 +108,7 @@ pub enum ConfigFault {
     NoTable(Place),
     /// What the file has under the key of a kind is no list of tables.
     NoList(Kind),
-    /// So many tables of a kind are too many, or too few.
+    /// The number of tables of a kind is too great, or too small.
     BadCount {
         /// The kind.
         kind: Kind,
@@ -118,7 +122,7 @@ pub enum ConfigFault {
         /// The key.
         key: NameKey,
     },
-    /// The file that a key names does not serve.
+    /// The file that a key names cannot be used.
     BadFile {
         /// The table.
         place: Place,
@@ -168,7 +172,7 @@ fn code_of_name(key: NameKey) -> NodeCode
 }
 
 impl ConfigFault {
-    /// The code that is printed of it; `None` where memory was refused.
+    /// The code that is printed of it; `None` if memory was refused.
     pub fn code(&self) -> Option<NodeCode>
         ensures { result ≡ code_of self.now }
     {
@@ -288,7 +292,8 @@ fn print_count<W: fmt::Write>(f: &mut fmt::Formatter<W>, kind: Kind, count: usiz
     write!(f, "{count} {word}{plural}: wanted {wanted}")
 }
 
-/// Prints that a number is none that is wanted; of a logical address also the digits that a packet has.
+/// Prints that a number is not one of those that are allowed. For a logical address it also prints the digits that a
+/// packet has.
 fn print_number<W: fmt::Write>(
     f: &mut fmt::Formatter<W>,
     place: &Place,

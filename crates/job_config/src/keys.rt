@@ -38,7 +38,7 @@ fn check_table(alloc: Global, table: &Table, place: Place) -> Result<(), ConfigF
     }
 }
 
-/// Refuses a list of which a table has a key that it may not have.
+/// Refuses a list if one of its tables has a key that it may not have.
 fn check_list(alloc: Global, list: &[Value], kind: Kind) -> Result<(), ConfigFault>
     ensures ok { IfOk result (λ _. unknown_among kind 0 (items_view list.now) ≡ None) }
     ensures err { IfErr result (IsKeyFault (unknown_among kind 0 (items_view list.now))) }
@@ -53,7 +53,7 @@ fn check_list(alloc: Global, list: &[Value], kind: Kind) -> Result<(), ConfigFau
     Ok(())
 }
 
-/// Refuses a file of which a table of this kind has a key that it may not have.
+/// Refuses a file if one of its tables of this kind has a key that it may not have.
 fn check_kind(alloc: Global, table: &Table, kind: Kind) -> Result<(), ConfigFault>
     ensures ok { IfOk result (λ _. unknown_of_kind (table_view table.now) kind ≡ None) }
     ensures err { IfErr result (IsKeyFault (unknown_of_kind (table_view table.now) kind)) }
@@ -67,7 +67,12 @@ fn check_kind(alloc: Global, table: &Table, kind: Kind) -> Result<(), ConfigFaul
     }
 }
 
-/// Refuses a file of which a table has a key that it may not have: the node's own first, then those of banks, maps and publishes.
+/// Refuses a file if one of its tables has a key that it may not have: the node's own first, then those of banks, maps
+/// and publishes.
+///
+/// # Errors
+///
+/// `UnknownKey` for the first such key, or `Memory` if memory was refused.
 pub fn check_keys(alloc: Global, table: &Table) -> Result<(), ConfigFault>
     ensures ok { IfOk result (λ _. unknown_at_all (table_view table.now) ≡ None) }
     ensures err { IfErr result (IsKeyFault (unknown_at_all (table_view table.now))) }

@@ -1,9 +1,9 @@
 //! The node that a job runs: what the text of a node's file says of it, and what the node takes.
 //!
-//! The text is `configuration`: the numbers that a TOML table has, and the names of the files beside it, each fault with its place.
-//! What the node takes is `own_node`: address, ports, banks with the bytes at their beginning, maps, and the programs that are
-//! published before the first packet. Where a job has its node from, its own words or such a file, is `sources`. All faults of a file,
-//! as text for the user, are of `every_fault`.
+//! The text is `configuration`: the numbers that a TOML table has, and the names of the files beside it, each fault
+//! with its place. What the node takes is `own_node`: address, ports, banks with the bytes at their beginning, maps,
+//! and the programs that are published before the first packet. `sources` says where the node of a job comes from: its
+//! own words, or such a file. `every_fault` has all faults of a file, as text for the user.
 #![tactic(auto)]
 
 mod banks;

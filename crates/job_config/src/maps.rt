@@ -16,7 +16,7 @@ use machine::{MAX_CELLS, MAX_MAPS, MapKind};
 use std::alloc::Global;
 use toml::{Table, Value};
 
-/// The kind of the map that a table is of: of the greatest numbers where `peak` is true, and counting without it.
+/// The kind of the map of a table: of the greatest numbers if `peak` is true, and counting without it.
 pub(crate) fn kind_of(table: &Table, place: Place) -> Result<MapKind, ConfigFault>
     ensures { result ≡ kind_in place (get_member (codes "peak") (table_view table.now)) }
 {
@@ -30,7 +30,7 @@ pub(crate) fn kind_of(table: &Table, place: Place) -> Result<MapKind, ConfigFaul
     }
 }
 
-/// The map of a table, where so many cells are left to it.
+/// The map of a table, if this many cells are left to it.
 #[tactic(auto, unfolding(crate::specs::Configured::map_in))]
 fn map_in(item: &Value, number: usize, left: u16) -> Result<(u16, MapKind), ConfigFault>
     requires { left ≤ 256 }
@@ -66,6 +66,11 @@ fn maps_in(alloc: Global, list: &[Value]) -> Result<Vec<(u16, MapKind)>, ConfigF
 }
 
 /// The maps of a file.
+///
+/// # Errors
+///
+/// `NoList` if what the file has there is no list of tables, and `BadCount` if there are more than 8. Else the first
+/// fault of a table: `NoTable`, `BadNumber` for its cells, or `BadPeak`. `Memory` if memory was refused.
 #[tactic(auto, using(crate::proofs::Each::count_view), unfolding(crate::specs::Configured::maps_at))]
 pub fn maps_of(alloc: Global, table: &Table) -> Result<MapSizes, ConfigFault>
     ensures ok { IfOk result (λ sizes. maps_at (table_view table.now) ≡ Ok sizes) }

@@ -11,6 +11,10 @@ use std::alloc::{AllocError, Global};
 use toml::Table;
 
 /// The name of a file that a key of a table holds, if the table has the key.
+///
+/// # Errors
+///
+/// `NoName` if the key holds no text.
 pub fn name_at(table: &Table, place: Place, key: NameKey) -> Result<Option<&str>, ConfigFault>
     ensures ok { IfOk result
         (λ name. name_at (table_view table.now) place key ≡ Ok (option_map (λ n. n.now) name)) }
@@ -26,6 +30,10 @@ pub fn name_at(table: &Table, place: Place, key: NameKey) -> Result<Option<&str>
 }
 
 /// The name of a file that a key of a table holds.
+///
+/// # Errors
+///
+/// `NoName` if the table does not have the key, or the key holds no text.
 pub fn name_in(table: &Table, place: Place, key: NameKey) -> Result<&str, ConfigFault>
     ensures ok { IfOk result (λ name. name_at (table_view table.now) place key ≡ Ok (Some name.now)) }
 {
@@ -55,6 +63,10 @@ fn path_in(alloc: Global, folder: Option<&str>, name: &str) -> Result<String, Al
 }
 
 /// The path of the file of a name beside another one. A name that begins with a slash is its path.
+///
+/// # Errors
+///
+/// An error if memory is refused.
 pub fn beside(alloc: Global, file: &str, name: &str) -> Result<String, AllocError>
     ensures { IfOk result (λ path. IsBeside file.now name.now (string_bytes path)) }
 {

@@ -35,7 +35,11 @@ impl NodeLines {
     }
 }
 
-/// A subcommand that takes the lines of a file on a node. `help` tells what is in the file.
+/// A subcommand that takes the lines of a file on a node. `help` says what is in the file.
+///
+/// # Errors
+///
+/// An error if memory is refused.
 pub fn node_lines_command<'a>(
     alloc: Global,
     name: &'a str,
@@ -51,6 +55,10 @@ pub fn node_lines_command<'a>(
 }
 
 /// The arguments of such a subcommand with these matches.
+///
+/// # Errors
+///
+/// Those of [`name_of`] for the file of lines, and those of [`source_of`].
 pub fn node_lines(alloc: Global, found: &ArgMatches) -> Result<NodeLines, UsageFault>
     ensures ok { IfOk result (NamesNodeLines (rows_of (found_of found.now))) }
     ensures err { IfErr result (RefusesNodeLines (rows_of (found_of found.now))) }

@@ -9,7 +9,7 @@ use crate::places::{NumberKey, Place};
 use crate::tables::held;
 use toml::Table;
 
-/// What a key of a table holds, where a number is wanted.
+/// What a key of a table holds in the place of a number.
 fn found_at(table: &Table, key: NumberKey) -> Found
     ensures { result ≡ found_at (table_view table.now) key }
 {
@@ -36,6 +36,10 @@ fn within(found: Found, least: u32, most: u32) -> Option<u32>
 }
 
 /// The number from `least` to `most` that a key of a table holds.
+///
+/// # Errors
+///
+/// `BadNumber` if the key holds no such number, or the table does not have the key.
 pub fn number_at(
     table: &Table,
     place: Place,
@@ -59,7 +63,11 @@ pub fn number_at(
     }
 }
 
-/// The same, or `other` where the table has not the key.
+/// The same, or `other` if the table does not have the key.
+///
+/// # Errors
+///
+/// `BadNumber` if the table has the key, and it holds no such number.
 pub fn number_or(
     table: &Table,
     place: Place,

@@ -10,7 +10,7 @@ use node_parts::{BankConfig, NodeConfig};
 use std::alloc::{AllocError, Global};
 use std::marker::Model;
 
-/// The logical address of a node of which nothing else is said.
+/// The logical address of a node if nothing else is said of it.
 pub const NODE_ADDRESS: u8 = 0xFE;
 
 /// The least logical address: those below it are path addresses (ECSS-E-ST-50-12C).
@@ -28,7 +28,7 @@ pub const BANK_SIZE: u32 = 0x1_0000;
 /// How many entries the journal of that bank has room for.
 pub const BANK_ROOM: u32 = 1024;
 
-/// The bank of a node of which no bank is said.
+/// The bank of a node for which no bank is given.
 pub const OWN_BANK: BankConfig = BankConfig {
     base: BANK_BASE,
     size: BANK_SIZE,
@@ -65,10 +65,16 @@ impl Contents {
     }
 }
 
-/// What a node takes of its configuration, beside the program that judges in all slots at first: its logical address; its ports,
-/// which [`single_node`] and `target` want to be 1 to 32; 1 to 8 banks within their limits, the extended address of each being
-/// its place; for each bank the bytes at its beginning, no more than it has; its maps; and the programs that are published before
-/// the first packet, in this order: each with its slot, 0 to 3, and accepted for the maps. Contracts see a record of these.
+/// What a node takes of its configuration, beside the program that judges in all slots at first. Contracts see a record
+/// of these parts:
+///
+/// - its logical address
+/// - its ports, which [`single_node`] and `target` want to be 1 to 32
+/// - 1 to 8 banks within their limits, the extended address of each being its place
+/// - for each bank the bytes at its beginning, no more than it has
+/// - its maps
+/// - the programs that are published before the first packet, in this order: each with its slot, 0 to 3, and accepted
+///   for the maps
 #[derive(Debug, Drop)]
 pub struct OwnNode {
     address: u8,
@@ -90,8 +96,12 @@ impl Model for OwnNode {
 }
 
 impl OwnNode {
-    /// The node of which no file says anything: address FE, one bank of 65,536 zero bytes at A0000000 whose journal has room
-    /// for 1,024 entries, so many ports and these maps. Nothing is published for it.
+    /// The node of which no file says anything: address FE, this many ports and these maps. Its one bank has 65,536
+    /// zero bytes at A0000000, and a journal with room for 1,024 entries. Nothing is published for it.
+    ///
+    /// # Errors
+    ///
+    /// An error if memory is refused.
     pub fn plain(alloc: Global, ports: u8, sizes: MapSizes) -> Result<OwnNode, AllocError>
         ensures { IfOk result (λ node. node ≡ plain_node ports sizes) }
     {
@@ -109,8 +119,8 @@ impl OwnNode {
         })
     }
 
-    /// The node of these: banks within their limits, for each the bytes at its beginning, no more than it has; and programs that
-    /// were accepted for the maps, each with a slot of 0 to 3, at most 4,294,967,295.
+    /// The node of these parts: banks within their limits, for each the bytes at its beginning, no more than it has,
+    /// and programs. The programs were accepted for the maps, each with a slot of 0 to 3, at most 4,294,967,295.
     pub fn of_parts(
         address: u8,
         ports: u8,
@@ -169,7 +179,8 @@ impl OwnNode {
         self.banks.as_slice()
     }
 
-    /// The bytes at the beginning of each bank, by its extended address: as many as there are banks, each no longer than its bank.
+    /// The bytes at the beginning of each bank, by its extended address. There are as many as banks, each no longer
+    /// than its bank.
     pub fn contents(&self) -> &[Contents]
         ensures contents { result.now ≡ self.now.contents }
         ensures fit { fit self.now.banks self.now.contents ≡ true }

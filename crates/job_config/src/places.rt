@@ -1,4 +1,4 @@
-//! Where something stands in a node's file.
+//! Where something is in a node's file.
 
 ghost use Rattle.std.specs.Prelude.{◌≡◌};
 ghost use Rattle.job_config.specs.Places.{kind_word, knows, name_word, number_word};
@@ -20,7 +20,7 @@ pub enum Kind {
 }
 
 impl Kind {
-    /// The key under which the file has such tables; of the node's own there is none.
+    /// The key under which the file has such tables; the node's own table has none.
     pub fn word(self) -> &'static str
         ensures { result.now ≡ kind_word self }
     {

@@ -51,7 +51,7 @@ pub struct ReadNode {
     pub program: Accepted,
 }
 
-/// Whether a trouble is want of memory.
+/// Whether a trouble is that memory was refused.
 fn is_memory(trouble: Trouble) -> bool {
     match trouble {
         Trouble::NoImage(fault, _) => fault == ImageFault::Memory,
@@ -91,7 +91,7 @@ fn read_bytes<F: Files>(alloc: Global, files: &mut F, path: &str) -> Option<Vec<
     }
 }
 
-/// The bytes of the file that a key names, at most so many.
+/// The bytes of the file that a key names, if they are no more than `most`.
 fn bytes_beside<F: Files>(
     alloc: Global,
     file: &str,
@@ -218,8 +218,8 @@ fn accepted(alloc: Global, bytes: &[u8], sizes: MapSizes) -> Result<Accepted, Tr
     }
 }
 
-/// The program of the image file that a key names, of at most so many bytes, which may judge on a node with these maps. It is
-/// verified here, and nowhere after.
+/// The program of the image file that a key names, of at most `most` bytes, which may judge on a node with these maps.
+/// It is verified here, and nowhere after.
 fn program_beside<F: Files>(
     alloc: Global,
     file: &str,
@@ -249,7 +249,7 @@ fn first_of_none(alloc: Global, sizes: MapSizes) -> Result<Accepted, ConfigFault
     ensures justified { IfOk result (λ program. IsJustified program.program program.sizes) }
     ensures safe { IfOk result (λ program. IsSafe program.program program.sizes) }
 {
-    // Memory alone can be refused to it.
+    // Only memory can be refused to it.
     match factory_program(alloc, sizes) {
         Ok(program) => Ok(program),
         Err(_) => Err(ConfigFault::Memory),
@@ -381,7 +381,7 @@ fn publishes_of<F: Files>(
     publishes_in(alloc, file, files, list, sizes)
 }
 
-/// The node of this configuration, which is that of the table, with what stands in the files that the table names.
+/// The node of this configuration, which is that of the table, with the contents of the files that the table names.
 fn node_with<F: Files>(
     alloc: Global,
     file: &str,
@@ -409,7 +409,7 @@ fn node_with<F: Files>(
     Ok(ReadNode { node, program })
 }
 
-/// The number of the line, from 1, in which a byte of a text stands.
+/// The number of the line, from 1, that has this byte of a text.
 fn line_at(text: &str, place: usize) -> usize {
     let mut line: usize = 1;
     let (before, _) = text.as_bytes().split_at(place.min(text.len()));
@@ -447,8 +447,8 @@ fn table_of(alloc: Global, text: &str) -> Result<Table, ConfigFault>
     }
 }
 
-/// What ends a job whose node's file has a fault with that code, or for `None` one to which memory was refused; each of its faults
-/// is in that text, if there was memory for it.
+/// What ends a job whose node's file has a fault with that code; for `None`, one to which memory was refused. Each of
+/// its faults is in that text, if there was memory for it.
 fn ended<'a>(code: Option<NodeCode>, text: Result<String, AllocError>) -> Fault<'a>
     ensures { Ends code result }
 {
@@ -465,7 +465,8 @@ fn fault_of<'a>(alloc: Global, name: &str, fault: &ConfigFault) -> Fault<'a>
     ended(fault.code(), format!(in alloc; "{name} {fault}"))
 }
 
-/// The faults of the numbers of that table, which is the node's file of this name, of which that is the first.
+/// The faults of the numbers of that table, which is the node's file of this name. The fault that is given is the first
+/// of them.
 fn number_faults(
     alloc: Global,
     name: &str,
@@ -480,7 +481,8 @@ fn number_faults(
     Ok(faults.into_text())
 }
 
-/// The faults of the files that the table of the node's file of this name names, of which that is the first that was found.
+/// The faults of the files that the table of the node's file of this name names. The fault that is given was found
+/// first.
 fn named_faults<F: Files>(
     alloc: Global,
     name: &str,
@@ -594,12 +596,17 @@ fn read_text<'a, F: Files>(alloc: Global, files: &mut F, name: &'a str) -> Resul
     text_in(alloc, files, name)
 }
 
-/// The node of the node's file of this name, with what stands in the files beside it that it names, and the program that judges
-/// in all slots at first.
+/// The node of the node's file of this name, with the contents of the files beside it that it names. Besides, the
+/// program that judges in all slots at first.
 ///
-/// Faults are found in this order: the file (`CannotRead`, also where it is not UTF-8), that it is no TOML, a key that is
-/// unknown, the address, the ports, the banks, the maps, the contents of banks, the program, and the publishes (`BadNode`). The text
-/// beside the first has a line for each; for those of the files that the file names only if it has no other.
+/// # Errors
+///
+/// `CannotRead` if the file cannot be read, or is not UTF-8. Else `BadNode` for the first of these: no TOML, an unknown
+/// key, the address, the ports, the banks, the maps, the contents of banks, the program, and the publishes. `NoMemory`
+/// if memory was refused.
+///
+/// The text beside the first fault has a line for each fault. It has lines for the files that the file names only if
+/// nothing else is wrong.
 pub fn node_in<'a, F: Files>(
     alloc: Global,
     files: &mut F,
@@ -613,10 +620,14 @@ pub fn node_in<'a, F: Files>(
     node_of_text(alloc, name, text.as_str(), files)
 }
 
-/// The configuration of the node's file of this name. Of the files that it names none is read.
+/// The configuration of the node's file of this name. It reads none of the files that the file names.
 ///
-/// Faults are found in this order: the file (`CannotRead`, also where it is not UTF-8), that it is no TOML, a key that is
-/// unknown, the address, the ports, the banks and the maps (`BadNode`). The text beside the first has a line for each.
+/// # Errors
+///
+/// `CannotRead` if the file cannot be read, or is not UTF-8. Else `BadNode` for the first of these: no TOML, an unknown
+/// key, the address, the ports, the banks and the maps. `NoMemory` if memory was refused.
+///
+/// The text beside the first fault has a line for each fault.
 pub fn configuration_in<'a, F: Files>(
     alloc: Global,
     files: &mut F,

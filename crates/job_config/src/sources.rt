@@ -52,6 +52,10 @@ pub fn node_option<'a>(alloc: Global) -> Arg<'a>
 }
 
 /// The subcommand with the options of a node, or with its file: `[--image FILE] [--maps LIST] [--ports N]` or `[--node FILE]`.
+///
+/// # Errors
+///
+/// An error if memory is refused.
 pub fn source_arguments<'a>(alloc: Global, command: Command<'a>) -> Result<Command<'a>, AllocError>
     requires { (fields_of command).has_globals ≡ false }
     ensures shape { IfOk result (λ c. app_of c ≡ with_source_options (app_of command.entry)) }
@@ -68,7 +72,7 @@ pub fn lacks(found: &ArgMatches, name: &str) -> bool
     text_of(found, name).is_none()
 }
 
-/// Whether no option but `--node` says anything of the node.
+/// Whether no option except `--node` says anything of the node.
 fn is_alone(found: &ArgMatches) -> bool
     ensures { result ≡ is_alone (rows_of (found_of found.now)) }
 {
@@ -92,7 +96,12 @@ pub fn beside_node(found: &ArgMatches) -> Option<&'static str>
     None
 }
 
-/// Where the node comes from by these matches. `BadOption` also where `--node` stands beside another option of the node.
+/// Where the node comes from by these matches.
+///
+/// # Errors
+///
+/// Those of [`node_words`], if there is no `--node`. `BadOption` if `--node` is beside another option of the node, and
+/// `Memory` if memory is refused.
 pub fn source_of(alloc: Global, found: &ArgMatches) -> Result<NodeSource, UsageFault>
     ensures ok { IfOk result (GivesSource (rows_of (found_of found.now))) }
     ensures err { IfErr result (RefusesSource (rows_of (found_of found.now))) }

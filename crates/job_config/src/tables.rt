@@ -23,6 +23,10 @@ pub fn held<'a>(table: &'a Table, key: &str) -> Option<&'a Value>
 }
 
 /// The list of the tables of a kind, if the file has one.
+///
+/// # Errors
+///
+/// `NoList` if the key of the kind holds no list of tables.
 pub fn list_at(table: &Table, kind: Kind) -> Result<Option<&[Value]>, ConfigFault>
     ensures ok { IfOk result (λ list.
         list_at (table_view table.now) kind ≡ Ok (option_map (λ l. items_view l.now) list)) }
@@ -38,6 +42,10 @@ pub fn list_at(table: &Table, kind: Kind) -> Result<Option<&[Value]>, ConfigFaul
 }
 
 /// The table that an item of such a list is.
+///
+/// # Errors
+///
+/// `NoTable` if the item is no table.
 pub fn table_in(item: &Value, place: Place) -> Result<&Table, ConfigFault>
     ensures ok { IfOk result (λ table. table_in (view item.now) place ≡ Ok (table_view table.now)) }
     ensures err { IfErr result (λ fault. table_in (view item.now) place ≡ Err fault) }

@@ -59,7 +59,7 @@ ticket_text None = 10 ∷ []
 ticket_text (Some call) = codes ", ticket " ++ decimal call.answer ++ codes " of " ++ decimal call.question.map ++ codes ":"
     ++ decimal call.question.key ++ 10 ∷ []
 
--- the line of a packet on which a table decides whose rules stand in these lines
+-- the line of a packet on which a table decides; the rules of the table are in these lines
 abbrev pub match_line : (port : ℕ) → (lines : List ℕ) → Match → List ℕ
 match_line port lines found = rule_text port (option_map (λ number. line_of lines number) found.rule) ++ codes " verdict " ++ decimal (verdict_number found.verdict)
     ++ ticket_text found.ticket

@@ -27,15 +27,15 @@ use Rattle.job_parts.specs.declared.stops.LineEnd.{LineEnd}
 use Rattle.job_parts.specs.declared.stops.LineEnd.TheVariants.{NoMemory}
 use Rattle.job_decide.specs.DecideJob.{match_line, status_text}
 
--- why rules do not match of which that is told: those before the one that decides, where it refuses
+-- why the rules before the one that decides do not match, if that one refuses
 abbrev pub told_passed : Verdict → List Rule → Header → (draws : List Call) → List Passed
 told_passed Authorised rules header draws = []
 told_passed InvalidKey rules header draws = passed_rules rules header draws
 told_passed NotAuthorised rules header draws = passed_rules rules header draws
 told_passed InvalidLogicalAddress rules header draws = passed_rules rules header draws
 
--- the rule in one of these lines by which a table of a port decides on the header of the command was told, as the counts answer
--- its draws, and more behind it; and the counts are those behind its draws
+-- the rule by which a table of a port decides on the header of the command was printed, with its line among these, as
+-- the counts answer its draws. More was printed after it, and the counts are those after its draws
 pub record TellsMatch (port : ℕ) (rules : List Rule) (lines : List ℕ) (c : CommandValue) (before after : List ℕ)
     (old new : Option (List ℕ)) : Type 0 where
   pub told : Option (List ℕ)
@@ -50,21 +50,20 @@ abbrev pub TellsDecision : (port : ℕ) → PolicyValue → CommandValue → (be
 TellsDecision port policy c before after old new =
     TellsMatch port (rules_at port policy.rules) (lines_at port policy.rules) c before after old new
 
--- the status of a command was told, and more behind it
+-- the status of a command was printed, and more after it
 pub record TellsStatus (port : ℕ) (status : Status) (old new : Option (List ℕ)) : Type 0 where
   pub told : Option (List ℕ)
   pub line : Appends old told (status_text port status)
   pub more : PrintsMore told new
 
--- of a command whose header is found to have a fault the status was told, and nothing drawn; on any other the table
--- decides
+-- if the header of a command has a fault, the status was printed, and nothing drawn; on any other the table decides
 abbrev pub TellsCommand : (port : ℕ) → PolicyValue → CommandValue → Option HeaderFault → (before after : List ℕ)
     → (old new : Option (List ℕ)) → Type 0
 TellsCommand port policy c (Some fault) before after old new =
     (after ≡ before) × TellsStatus port (header_status fault) old new
 TellsCommand port policy c None before after old new = TellsDecision port policy c before after old new
 
--- of a packet that is no command the reason was told, and nothing drawn
+-- if a packet is no command, the reason was printed, and nothing drawn
 abbrev pub TellsPacket : WindowsValue → (port : ℕ) → PolicyValue → Cargo → Option Discard → (before after : List ℕ)
     → (old new : Option (List ℕ)) → Type 0
 TellsPacket windows port policy p (Some discard) before after old new =

@@ -20,7 +20,7 @@ use Rattle.job_decide.specs.declared.decide.Deciding.{Deciding}
 use Rattle.job_decide.specs.declared.tables.NoTable.{NoTable}
 use Rattle.job_decide.specs.declared.tables.NoTable.TheVariants.{BadTable, Ended}
 
--- what decides by this table before the first line: nothing is held of any port, and no ticket was drawn
+-- what decides by this table before the first line: no port holds anything, and no ticket was drawn
 abbrev pub at_first : PolicyValue → (ports : ℕ) → Bor WindowsValue → Deciding
 at_first policy ports windows =
     record { table = policy; feeds = replicate ports []; counts = replicate 2048 0; windows = windows }
@@ -43,28 +43,29 @@ module _ {S : Type 0} (reads : Reads S) (words : DecideWords) where
     pub first : deciding ≡ at_first deciding.table words.ports deciding.windows
     pub windows : deciding.windows.now ≡ words.windows
 
-  -- the file of the table was read behind that of the lines, and this is the first fault of the table, with its place
+  -- the file of the table was read after that of the lines, and this is the first fault of the table, with its place
   pub record HoldsTableFault (before after : S) (fault : TextFault) : Type 0 where
     pub text : List ℕ
     pub between : S
     pub lines : HoldsLines before text between
     pub table : HoldsBadTable reads between (string_bytes words.table) words.sizes fault after
 
-  -- the file of the table, behind that of the lines, cannot be read or is not UTF-8
+  -- the file of the table, after that of the lines, cannot be read or is not UTF-8
   pub record TableUnread (before after : S) (fault : Fault) : Type 0 where
     pub text : List ℕ
     pub between : S
     pub lines : HoldsLines before text between
     pub unread : TextUnread reads between (string_bytes words.table) after fault
 
-  -- memory was refused behind the reads
+  -- memory was refused after the reads
   pub record LacksMemory (before after : S) (fault : Fault) : Type 0 where
     pub text : List ℕ
     pub policy : PolicyValue
     pub given : IsGiven before text policy after
     pub is_fault : fault ≡ NoMemory
 
-  -- a file cannot be read, or memory was refused behind the reads; a table's fault is no such end, but told with its place
+  -- a file cannot be read, or memory was refused after the reads; a table's fault is no such end, but printed with its
+  -- place
   abbrev pub IsUnread : (before after : S) → Fault → Type 0
   IsUnread before after fault =
       TextUnread reads before (string_bytes words.lines) after fault
@@ -96,14 +97,14 @@ module _ {S : Type 0} (reads : Reads S) (words : DecideWords) where
   IsNotDecided before after old new fault =
       ((new ≡ old) × IsUnread before after fault) ⊎ StopsFile before after old new fault
 
-  -- the table has a fault, which was told with its place
+  -- the table has a fault, which was printed with its place
   pub record TellsTable (before after : S) (old new : Option (List ℕ)) : Type 0 where
     pub fault : TextFault
     pub held : HoldsTableFault before after fault
     pub told : TellsTableFault fault old new
 
-  -- what `decide` reads and prints where no fault ends it, by its exit status: 0 where all lines were taken, 1 where the
-  -- table has a fault
+  -- what `decide` reads and prints if no fault ends it, by its exit status: 0 if all lines were taken, 1 if the table
+  -- has a fault
   abbrev pub Decides : (before after : S) → (old new : Option (List ℕ)) → Status → Type 0
   Decides before after old new Done = DecidesFile before after old new
   Decides before after old new Failed = TellsTable before after old new

@@ -10,14 +10,14 @@ use Rattle.job_parts.specs.declared.stops.LineEnd.TheVariants.{Bad, NoMemory}
 use Rattle.job_decide.specs.Decided.{TellsPacket}
 use Rattle.job_decide.specs.declared.decide.Deciding.{Deciding}
 
--- of a line that ends no packet nothing was printed and drawn, and else what becomes of its packet
+-- if a line ends no packet, nothing was printed and drawn, and else what becomes of its packet
 abbrev pub TellsCame : WindowsValue → PolicyValue → Option (ℕ × Cargo) → (before after : List ℕ)
     → (old new : Option (List ℕ)) → Type 0
 TellsCame windows policy None before after old new = (after ≡ before) × (new ≡ old)
 TellsCame windows policy (Some came) before after old new =
     TellsPacket windows came.0 policy came.1 (discard_of came.1.bytes) before after old new
 
--- the line was taken by the table, which stays, as the node's windows do, and what comes of it was told
+-- the line was taken by the table, which stays, as the node's windows do, and what comes of it was printed
 pub record DecidesLine (line : List ℕ) (before after : Deciding) (old new : Option (List ℕ)) : Type 0 where
   pub came : Option (ℕ × Cargo)
   pub fed : IsFed line before.feeds after.feeds came

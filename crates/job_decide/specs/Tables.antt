@@ -1,4 +1,4 @@
--- The tables of files, and how their faults are told.
+-- The tables of files, and how their faults are printed.
 use Rattle.std.specs.Prelude.{◌≡◌, ◌-◌, ℕ, List, [], ◌∷◌, ◌++◌, Option, Some, None, codes, slice_index_or}
 use Rattle.std.specs.Io.KnownBytes.{Appends}
 use Rattle.std.specs.Str.{IsUtf8}
@@ -14,7 +14,7 @@ use Rattle.job_parts.specs.declared.faults.Fault.TheVariants.{BadTable as IsBadT
 use Rattle.job_decide.specs.declared.tables.NoTable.{NoTable}
 use Rattle.job_decide.specs.declared.tables.NoTable.TheVariants.{BadTable, Ended}
 
--- the line of the rule of this number, from 1, where rules stand in these lines; 0 where none is
+-- the line of the rule of this number, from 1; the rules are in these lines; 0 if there is no such rule
 abbrev pub line_of : (lines : List ℕ) → (number : ℕ) → ℕ
 line_of lines number = slice_index_or lines (number - 1) 0
 
@@ -22,7 +22,7 @@ line_of lines number = slice_index_or lines (number - 1) 0
 abbrev pub place_line : TextFault → List ℕ
 place_line fault = codes "    " ++ text_fault_text fault ++ 10 ∷ []
 
--- the line of a table's fault was printed, and behind it a line with the place
+-- the line of a table's fault was printed, and after it a line with the place
 pub record TellsTableFault (fault : TextFault) (old new : Option (List ℕ)) : Type 0 where
   pub told : Option (List ℕ)
   pub line : Appends old told (fault_line (IsBadTable (text_fault_of fault)))

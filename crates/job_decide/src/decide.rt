@@ -43,7 +43,7 @@ pub struct DecideWords {
     pub sizes: MapSizes,
     /// How many ports the node has.
     pub ports: u8,
-    /// The address of the node, and where its banks lie.
+    /// The address of the node, and where its banks are.
     pub windows: Windows,
 }
 
@@ -62,6 +62,10 @@ impl DecideWords {
 }
 
 /// `decide LINES TABLE [--maps LIST] [--ports N]`.
+///
+/// # Errors
+///
+/// An error if memory is refused.
 pub fn decide_command<'a>(alloc: Global) -> Result<Command<'a>, AllocError>
     ensures shape { IfOk result (λ c. app_of c ≡ decide_app) }
     ensures local { IfOk result (λ c. (fields_of c).has_globals ≡ false) }
@@ -82,6 +86,10 @@ pub fn decide_command<'a>(alloc: Global) -> Result<Command<'a>, AllocError>
 }
 
 /// The words of `decide` with these matches.
+///
+/// # Errors
+///
+/// Those of [`name_of`] for the two files, and those of [`sizes_of`] and [`ports_of`].
 pub fn decide_job(alloc: Global, found: &ArgMatches) -> Result<DecideWords, UsageFault>
     ensures ok { IfOk result (NamesDecide (rows_of (found_of found.now))) }
     ensures err { IfErr result (RefusesDecide (rows_of (found_of found.now))) }
@@ -99,8 +107,8 @@ pub fn decide_job(alloc: Global, found: &ArgMatches) -> Result<DecideWords, Usag
     })
 }
 
-/// What decides on packet lines by a table: the table, what each port has of a packet that has not ended, how many tickets were
-/// drawn, and where the node's banks lie.
+/// What decides on packet lines by a table: the table, and what each port has of a packet that has not ended. Besides,
+/// how many tickets were drawn, and where the node's banks are.
 #[derive(Drop)]
 struct Deciding<'a> {
     table: Policy,
@@ -154,12 +162,14 @@ fn ready<'a, F: Files>(
     Ok((text, deciding))
 }
 
-/// Decides on the packets of a file by the table of another, for a node with these maps, ports and windows. For each packet it
-/// prints what becomes of it, as docs/COMMANDS.md has it. Where the table has a fault that is printed, with its place, and
-/// the job failed.
+/// Decides on the packets of a file by the table of another, for a node with these maps, ports and windows. For each
+/// packet it prints what becomes of it, as docs/COMMANDS.md has it. If the table has a fault, it prints that with its
+/// place, and the job failed.
 ///
-/// Faults are found in this order: the file of lines (`CannotRead`, also where it is not UTF-8), the file of the table, the
-/// table, and then each line.
+/// # Errors
+///
+/// Faults are found in this order: those of the file of lines (`CannotRead`, also if it is not UTF-8), of the file of
+/// the table, and then of each line. `NoMemory` if memory was refused.
 pub fn decide_file<'a, F: Files, W: Write>(
     alloc: Global,
     words: &'a DecideWords,

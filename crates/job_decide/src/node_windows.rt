@@ -8,7 +8,7 @@ use job_nodes::node::node_config;
 use machine::MapSizes;
 use rmap::Windows;
 
-/// The address of the node of the jobs, and where its bank lies.
+/// The address of the node of the jobs, and where its bank is.
 pub fn own_windows() -> Windows
     ensures { result ≡ own_windows }
 {

@@ -23,7 +23,7 @@ use spw::Packet;
 use std::alloc::{AllocError, Global};
 use std::io::{self, Write};
 
-/// Prints text as it stands.
+/// Prints text as it is.
 fn print_more<W: Write>(out: &mut W, text: &str) -> io::Result<()>
     ensures { OnOk result (PrintsMore (W.contents out.old) (W.contents out.new)) }
 {
@@ -49,7 +49,7 @@ fn print_rule<W: Write>(out: &mut W, port: u8, line: Option<usize>) -> io::Resul
     }
 }
 
-/// The line of the rule of this number, if there is one, where rules stand in these lines.
+/// The line of the rule of this number, if there is one. The rules are in these lines.
 fn line_in(lines: &[usize], number: Option<usize>) -> Option<usize>
     ensures { result ≡ option_map (λ number. line_of lines.now number) number }
 {
@@ -59,7 +59,7 @@ fn line_in(lines: &[usize], number: Option<usize>) -> Option<usize>
     }
 }
 
-/// Prints the ticket of the rule that decides, where it has one.
+/// Prints the ticket of the rule that decides, if it has one.
 fn print_ticket<W: Write>(out: &mut W, ticket: Option<Call>) -> io::Result<()>
     ensures { OnOk result (Prints W.contents out.old out.new (ticket_text ticket)) }
 {
@@ -80,7 +80,8 @@ fn print_match<W: Write>(out: &mut W, port: u8, lines: &[usize], found: Match) -
     print_ticket(out, found.ticket)
 }
 
-/// Why the rules before the one that decides do not match, where it refuses; nothing is to be said where it does not.
+/// Why the rules before the one that decides do not match, if that one refuses. If it does not refuse, there is nothing
+/// to say.
 fn passed_by(
     alloc: Global,
     table: &Table,
@@ -100,7 +101,7 @@ fn passed_by(
     }
 }
 
-/// A line for each rule before the one that decides, where it refuses: why it does not match.
+/// A line for each rule before the one that decides, if that one refuses: why the rule does not match.
 fn why_passed(
     alloc: Global,
     rules: &[PortRule],
@@ -162,7 +163,7 @@ fn decide_admitted<W: Write>(
     Ok(print_more(out, why.as_str())?)
 }
 
-/// Prints the status of a command that a check of its header answers, or decides on it.
+/// Prints the status of a command, if a check of its header answers it. Else it decides on the command.
 fn decide_on<W: Write>(
     alloc: Global,
     windows: &Windows,
@@ -186,6 +187,10 @@ fn decide_on<W: Write>(
 }
 
 /// Decides on a packet at its port, for a node with these windows, and prints what comes of it.
+///
+/// # Errors
+///
+/// Memory was refused, and nothing was printed; or the writer failed.
 pub fn decide_packet<W: Write>(
     alloc: Global,
     windows: &Windows,

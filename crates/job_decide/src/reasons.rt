@@ -73,8 +73,12 @@ fn other_port(own: &PortRule, port: u8) -> Option<u8> {
     if wanted == port { None } else { Some(wanted) }
 }
 
-/// A line for each rule before the one that decides, from the first on: its line, and why it does not match. These are the
-/// reasons of the rules that are asked at the port, in order; the rule behind them decides.
+/// A line for each rule before the one that decides, from the first on: its line, and why it does not match. These are
+/// the reasons of the rules that are asked at the port, in order; the rule after them decides.
+///
+/// # Errors
+///
+/// An error if memory is refused.
 pub fn reasons(
     alloc: Global,
     rules: &[PortRule],
@@ -144,6 +148,10 @@ fn add_unused(text: &mut String, instruction: Instruction) -> Result<(), AllocEr
 }
 
 /// The check of its header by which a command is answered, and what it found, as a line.
+///
+/// # Errors
+///
+/// An error if memory is refused.
 pub fn fault_text(alloc: Global, fault: HeaderFault) -> Result<String, AllocError> {
     let mut text = String::new(alloc);
     match fault {

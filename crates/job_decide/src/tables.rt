@@ -47,6 +47,10 @@ impl From<AllocError> for NoTable<'_> {
 }
 
 /// The table of either version in the file of this name, which compiles for a node with maps of these sizes.
+///
+/// # Errors
+///
+/// `CannotRead` if the file cannot be read, or is not UTF-8. Else the first fault of the table, or `NoMemory`.
 pub fn table_in<'a, F: Files>(
     alloc: Global,
     files: &mut F,
@@ -61,8 +65,12 @@ pub fn table_in<'a, F: Files>(
     Ok(Policy::read_for(alloc, text.as_str(), sizes)?)
 }
 
-/// The text of the file of this name, and the table of either version that it writes, whose lines have no fault for maps of these sizes.
-/// It may be too long for a program.
+/// The text of the file of this name, and the table of either version that it writes. The lines of the table have no
+/// fault for maps of these sizes. It may be too long for a program.
+///
+/// # Errors
+///
+/// `CannotRead` if the file cannot be read, or is not UTF-8. Else the first fault of a line, or `NoMemory`.
 pub fn text_and_table<'a, F: Files>(
     alloc: Global,
     files: &mut F,
@@ -79,6 +87,10 @@ pub fn text_and_table<'a, F: Files>(
 }
 
 /// The table in the file of this name, as [`text_and_table`] gives it.
+///
+/// # Errors
+///
+/// Those of [`text_and_table`].
 pub fn drawn_in<'a, F: Files>(
     alloc: Global,
     files: &mut F,
@@ -94,6 +106,10 @@ pub fn drawn_in<'a, F: Files>(
 }
 
 /// Prints the fault of a table: its line, and a line with its place.
+///
+/// # Errors
+///
+/// The error of `out`, if it does not take all of the text.
 pub fn print_table_fault<W: Write>(out: &mut W, fault: &TextFault) -> io::Result<()>
     ensures { OnOk result (TellsTableFault fault.now (W.contents out.old) (W.contents out.new)) }
 {
@@ -102,7 +118,7 @@ pub fn print_table_fault<W: Write>(out: &mut W, fault: &TextFault) -> io::Result
     writeln!(out, "    {fault}")
 }
 
-/// The line of the rule of this number, from 1, where rules stand in these lines; 0 where none is.
+/// The line of the rule of this number, from 1. The rules are in these lines; 0 if there is no such rule.
 pub fn line_of(lines: &[usize], number: usize) -> usize
     ensures { result ≡ line_of lines.now number }
 {

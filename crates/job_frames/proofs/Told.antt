@@ -10,7 +10,7 @@ use Rattle.job_live.specs.ScrubLines.{found_text}
 use Rattle.job_frames.specs.Answering.{AnswersPacket, due_of}
 use Rattle.job_frames.specs.Told.{discard_words, served_text}
 
--- where nothing is told of a packet
+-- if nothing is reported of a packet
 pub no_more : (begun new : List ℕ) → new ≡ begun → new ≡ begun ++ []
 no_more begun new is = is ∙ sym (append-nil begun)
 

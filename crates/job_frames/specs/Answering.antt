@@ -1,4 +1,4 @@
--- A node behind a link: what it makes of what comes with a frame.
+-- A node at the end of a link: what it makes of what comes with a frame.
 use Rattle.std.specs.Prelude.{◌≡◌, ℕ, ◌+◌, ◌-◌, ◌^◌, min, Bool, true, false, List, [], ◌∷◌, ◌++◌, length, Option, Some}
 use Rattle.spw.specs.Cargo.{Cargo}
 use Rattle.scrub.specs.Guarded.{is_damaged}
@@ -30,18 +30,18 @@ first_answering node at_once = record { node = node; at_once = at_once; count = 
 abbrev pub next_number : AnsweringValue → ℕ
 next_number behind = min (behind.count + 1) (2 ^ 64 - 1)
 
--- the same node behind a frame more, and whether a packet goes on then
+-- the same node after a frame more, and whether a packet goes on then
 abbrev pub one_more : AnsweringValue → (is_open : Bool) → AnsweringValue
 one_more behind is_open = record behind { count = next_number behind; is_open = is_open }
 
--- the bytes that are sent of a reply: a frame of its own, or none where no reply is due
+-- the bytes that are sent of a reply: a frame of its own, or none if no reply is due
 abbrev pub due_of : List ℕ → List ℕ
 due_of [] = []
 due_of (byte ∷ reply) = reply_frame_of (byte ∷ reply)
 
--- a packet, which ended with the frame of that number, met a journal with room for its command, and was served; its reply is
--- due, and then are told the journals that were full, what a scrub found, the entries that are handed out at once, whose
--- journals begin anew, and that the packet was discarded, if it was
+-- a packet, which ended with the frame of that number, met a journal with room for its command, and was served. Its
+-- reply is due. Then are reported the journals that were full, what a scrub found, the entries that are handed out at
+-- once, and the packet's discard, if there was one. Journals of those entries begin anew
 pub record AnswersPacket (at_once : Bool) (packet : Cargo) (frame : ℕ) (before after : LiveNodeValue) (reply text : List ℕ) : Type 0 where
   pub ready : LiveNodeValue
   pub journal : List ℕ
@@ -63,8 +63,8 @@ AreNone reply text = (reply ≡ []) × (text ≡ [])
 abbrev pub IsFaultDue : (frame : ℕ) → (reply text : List ℕ) → Type 0
 IsFaultDue frame reply text = (reply ≡ []) × (text ≡ fault_line frame ForBridge)
 
--- what is due for what came with a frame: for a packet, if the node is not damaged, what it comes to, for a frame that is for a
--- bridge its fault, and for a time code or bytes of a packet that goes on nothing
+-- what is due for what came with a frame. For a packet, if the node is not damaged, it is what the packet comes to. For
+-- a frame that is for a bridge it is its fault. For a time code or bytes of a packet that goes on it is nothing
 abbrev pub Answers : AnsweringValue → Came → (reply text : List ℕ) → AnsweringValue → Type 0
 Answers before (Whole packet) reply text after =
     AnswersPacket before.at_once packet (next_number before) before.node after.node reply text
@@ -75,21 +75,21 @@ Answers before Time reply text after = AreNone reply text × (after ≡ one_more
 Answers before (Other code) reply text after =
     IsFaultDue (next_number before) reply text × (after ≡ one_more before before.is_open)
 
--- memory was refused, which only a packet and a frame for a bridge ask for, or a packet came to a node that is damaged: all is as
--- before the frame
+-- memory was refused, or a packet came to a node that is damaged: all is as before the frame. Only a packet and a frame
+-- for a bridge ask for memory
 abbrev pub Refuses : AnsweringValue → Came → AnsweringValue → Type 0
 Refuses before (Whole packet) after = after ≡ before
 Refuses before Piece after = ⊥
 Refuses before Time after = ⊥
 Refuses before (Other code) after = after ≡ before
 
--- what is told first where no more bytes come: that the input ended within the next frame, or before it where a packet goes
--- on, if it did
+-- what is reported first when no more bytes come: that the input ended within the next frame, if it did. If a packet
+-- goes on, that it ended before that frame
 abbrev pub cut_text : (is_whole : Bool) → (frame : ℕ) → List ℕ
 cut_text true frame = []
 cut_text false frame = fault_line frame CutOff
 
--- the text that is due where no more bytes come: behind that the entries of the journals, which were handed out
+-- the text that is due when no more bytes come: after that the entries of the journals, which were handed out
 pub record EndsWith (is_whole : Bool) (behind : AnsweringValue) (after : LiveNodeValue) (text : List ℕ) : Type 0 where
   pub turned : Turns true (length behind.node.node.banks) behind.node after
   pub told : text ≡ cut_text is_whole (next_number behind) ++ journals_text true behind.node.node.banks

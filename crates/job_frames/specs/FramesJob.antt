@@ -1,4 +1,4 @@
--- The job that answers frames: what it reads, sends and tells.
+-- The job that answers frames: what it reads, sends and reports.
 use Rattle.std.specs.Prelude.{◌≡◌, ◌⊎◌, ◌&&◌, ℕ, Bool, true, false, not, List, codes}
 use Rattle.std.specs.Borrow.{Bor}
 use Rattle.job_parts.specs.Files.{Reads}
@@ -36,28 +36,28 @@ abbrev pub refusal_of : (damaged : Bool) → Fault
 refusal_of true = Damaged
 refusal_of false = NoMemory
 
--- why the job stops where a link was cut off so, by whether the node is damaged
+-- why the job stops if a link was cut off so, by whether the node is damaged
 abbrev pub IsHalt : (damaged : Bool) → Broken → Halt → Type 0
 IsHalt damaged Unread halt = (file : Bor (List ℕ)) × (halt ≡ Ended (CannotRead file)) × (file.now ≡ codes "-")
 IsHalt damaged NoRoom halt = halt ≡ Ended (refusal_of damaged)
 IsHalt damaged Unsent halt = halt ≡ Unwritten (record {})
 IsHalt damaged Untold halt = halt ≡ Unwritten (record {})
 
--- what is due where no more bytes come was told, or could not be told, and the node is then this
+-- what is due when no more bytes come was reported, or could not be reported, and the node is then this
 pub record TellsEnd {L : Type 0} (told : Moves L) (is_whole : Bool) (behind : AnsweringValue) (after : LiveNodeValue) (last to : L) : Type 0
   where
     pub text : List ℕ
     pub ends : EndsWith is_whole behind after text
     pub said : told last text to
 
--- what is due where no more bytes come was not told: memory was refused to it, and the node is as before; or the text could not
--- be told
+-- what is due when no more bytes come was not reported. Memory was refused to it, and the node is as before. Or the
+-- text could not be reported
 abbrev pub IsEndUntold : {L : Type 0} (untold : Moves L) (is_whole : Bool) (behind : AnsweringValue) (after : LiveNodeValue) (last to : L) → Halt → Type 0
 IsEndUntold untold is_whole behind after last to (Ended fault) = (fault ≡ NoMemory) × (after ≡ behind.node) × (to ≡ last)
 IsEndUntold untold is_whole behind after last to (Unwritten refused) = TellsEnd untold is_whole behind after last to
 
--- a link was held to its end: what is due for its frames was sent and told, frame for frame, and then what is due there; and
--- whether it ended between two packets
+-- a link was held to its end. What is due for its frames was sent and reported, frame for frame, and then what is due
+-- there. And whether it ended between two packets
 pub record HoldsLink {L : Type 0} (came sent told : Moves L) (start read : Reading) (before : AnsweringValue) (after : LiveNodeValue)
     (from to : L) (is_whole : Bool) : Type 0 where
   pub behind : AnsweringValue
@@ -67,7 +67,7 @@ pub record HoldsLink {L : Type 0} (came sent told : Moves L) (start read : Readi
   pub end : TellsEnd told is_whole behind after last to
 
 module _ {L : Type 0} (came sent told : Moves L) (unread : Fails L) (unsent untold : Moves L) where
-  -- bytes came to their end, and what is due there was not told
+  -- bytes came to their end, and what is due there was not reported
   pub record StopsAtEnd (start read : Reading) (before : AnsweringValue) (after : LiveNodeValue) (from to : L) (halt : Halt) :
       Type 0 where
     pub behind : AnsweringValue
@@ -84,7 +84,7 @@ module _ {L : Type 0} (came sent told : Moves L) (unread : Fails L) (unsent unto
     pub left : after ≡ behind.node
     pub is_halt : IsHalt (is_damaged after.guard (alone after.node)) why halt
 
-  -- a link was cut off, or only what is due at its end was not told
+  -- a link was cut off, or only what is due at its end was not reported
   abbrev pub StopsLink : (start read : Reading) (before : AnsweringValue) (after : LiveNodeValue) (from to : L) → Halt → Type 0
   StopsLink start read before after from to halt =
       StopsBefore start read before after from to halt ⊎ StopsAtEnd start read before after from to halt
@@ -125,21 +125,22 @@ module _ {S L : Type 0} (reads : Reads S) (came sent told : Moves L) (unread : F
     pub node : HoldsLive reads words before fresh after
     pub broken : StopsLink came sent told unread unsent untold first_reading read (first_answering fresh words.entries) left start stop halt
 
-  -- why no link was held to its end: there is no such node, and nothing came, was sent or was told; or a link was cut off
+  -- why no link was held to its end: there is no such node, and nothing came, was sent or was reported. Or a link was
+  -- cut off
   abbrev pub IsUnheld : (before after : S) (start stop : L) → Halt → Type 0
   IsUnheld before after start stop (Ended fault) =
       (IsNoLink reads words before after fault × (stop ≡ start))
       ⊎ BreaksFrames before after start stop (Ended fault)
   IsUnheld before after start stop (Unwritten refused) = BreaksFrames before after start stop (Unwritten refused)
 
-  -- a fault cut the link off, and its line was told last
+  -- a fault cut the link off, and its line was reported last
   pub record TellsFault (before after : S) (start stop : L) : Type 0 where
     pub fault : Fault
     pub broken : L
     pub unheld : IsUnheld before after start broken (Ended fault)
     pub said : TellsLast told fault broken stop
 
-  -- a fault cut the link off, and its line could not be told
+  -- a fault cut the link off, and its line could not be reported
   pub record LosesFault (before after : S) (start stop : L) : Type 0 where
     pub fault : Fault
     pub broken : L
@@ -151,15 +152,15 @@ module _ {S L : Type 0} (reads : Reads S) (came sent told : Moves L) (unread : F
   HoldsBadly lost before after start stop =
       HoldsFrames before after start stop false ⊎ (HoldsFrames before after start stop true × (lost stop ≡ true))
 
-  -- the exit status is 0 where a link was held to its end between two packets and no text was lost, and 1 where it ended within
-  -- a frame or a packet, a text was lost, or a fault cut it off
+  -- the exit status is 0 if a link was held to its end between two packets and no text was lost. It is 1 if it ended
+  -- within a frame or a packet, a text was lost, or a fault cut it off
   abbrev pub LivesFrames : (lost : L → Bool) (before after : S) (start stop : L) → Status → Type 0
   LivesFrames lost before after start stop Done = HoldsFrames before after start stop true × (lost stop ≡ false)
   LivesFrames lost before after start stop Failed =
       HoldsBadly lost before after start stop ⊎ TellsFault before after start stop
   LivesFrames lost before after start stop Misused = ⊥
 
-  -- the last bytes could not be sent, or the last text not be told: of a frame, of the end, or of a fault
+  -- the last bytes could not be sent, or the last text could not be reported: of a frame, of the end, or of a fault
   abbrev pub IsFramesUnsent : (before after : S) (start stop : L) → WriteFault → Type 0
   IsFramesUnsent before after start stop refused =
       IsUnheld before after start stop (Unwritten refused) ⊎ LosesFault before after start stop

@@ -1,4 +1,4 @@
--- The lines that are told of a frame, by its number, which is counted from 1.
+-- The lines that are reported of a frame, by its number, which is counted from 1.
 use Rattle.std.specs.Prelude.{ℕ, ◌≡◌, ◌⊎◌, ◌+◌, ◌-◌, ◌^◌, List, [], ◌∷◌, ◌++◌, Option, codes, decimal, min}
 use Rattle.std.specs.Io.KnownBytes.{Appends}
 use Rattle.frames.specs.Faults.{frame_fault_code}
@@ -22,7 +22,7 @@ discard_words frame = codes "frame " ++ decimal frame ++ codes " discard "
 abbrev pub discard_line : (frame : ℕ) → Discard → List ℕ
 discard_line frame discard = discard_words frame ++ decimal (discard_code discard) ++ 10 ∷ []
 
--- what is told of what became of a packet: that it was discarded, if it was
+-- what is reported of what became of a packet: that it was discarded, if it was
 abbrev pub served_text : (frame : ℕ) → Served → List ℕ
 served_text frame (Stopped (Discarded discard)) = discard_line frame discard
 served_text frame (Stopped (Answered status)) = []
@@ -30,6 +30,7 @@ served_text frame Unread = []
 served_text frame (Done applied) = []
 served_text frame (Window status) = []
 
--- a text is behind what was told before, or it is counted as one more that could not be told: then the talk ends with status 1
+-- a text comes after what was reported before, or it is counted as one more that could not be reported. Then the talk
+-- ends with status 1
 abbrev pub IsTold : (old new : Option (List ℕ)) → List ℕ → (before after : ℕ) → Type 0
 IsTold old new text before after = (Appends old new text × (after ≡ before)) ⊎ (after ≡ min (before + 1) (2 ^ 64 - 1))

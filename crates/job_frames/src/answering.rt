@@ -1,4 +1,4 @@
-//! The node behind a link, which answers frames.
+//! The node at the end of a link, which answers frames.
 
 ghost use Rattle.std.specs.Prelude.{◌≡◌, ◌≤◌, ◌+◌, ◌++◌, [], ℕ, IfOk, OnErr, OnOk, length};
 ghost use Rattle.std.specs.Vec.{vec_capacity, vec_len};
@@ -26,14 +26,14 @@ use std::marker::Model;
 /// The port of the node that a link is.
 const PORT: u8 = 0;
 
-/// How many bytes what is told of a packet has at most, besides the words before the number of a discard.
+/// The most bytes that are reported of a packet, besides the words before the number of a discard.
 const MOST_BESIDE: usize = MOST_OF_SCRUB + CODE;
 
 /// How many bytes the frame of the longest reply has.
 const MOST_OF_REPLY: usize = HEAD_LENGTH + MAX_REPLY;
 
-/// Puts the frame of the reply that is due behind no bytes; none where none is due. Conditions: a reply that is no longer than
-/// any ([`MAX_REPLY`]), and room for its frame ([`MOST_OF_REPLY`]).
+/// Puts the frame of the reply that is due into an empty frame; none if none is due. Conditions: a reply that is no
+/// longer than any ([`MAX_REPLY`]), and room for its frame ([`MOST_OF_REPLY`]).
 fn put_due(frame: &mut Vec<u8>, reply: &[u8])
     requires reply { length reply.now ≤ MAX_REPLY }
     requires none { frame.old.items ≡ [] }
@@ -56,8 +56,8 @@ fn discard_words(alloc: Global, frame: u64) -> io::Result<Vec<u8>>
     Ok(words)
 }
 
-/// Tells what became of a packet behind a text: that it was discarded, if it was, by these words before the number of the discard.
-/// The condition is room for them, for that number, and for the end of the line.
+/// Puts what became of a packet after a text: if the packet was discarded, these words and then the number of the
+/// discard. The condition is room for them, for that number, and for the end of the line.
 #[tactic(auto, using(crate::proofs::Told::no_more))]
 fn tell_served(text: &mut Vec<u8>, words: &[u8], served: Served)
     requires { vec_len text.old + (length words.now + CODE) ≤ vec_capacity text.old }
@@ -74,8 +74,8 @@ fn tell_served(text: &mut Vec<u8>, words: &[u8], served: Served)
     }
 }
 
-/// Serves a packet, for whose command the journal has room then, and gives the reply that is due, and what is told. Memory is
-/// taken before anything is done.
+/// Makes room in the journal for the command of a packet and serves the packet. Gives the reply that is due, and what
+/// is reported. It takes memory before it does anything.
 #[tactic(auto, using(crate::proofs::Told::packet_answered))]
 fn answer_packet(
     alloc: Global,
@@ -123,8 +123,8 @@ fn fault_due(alloc: Global, frame: u64) -> io::Result<Due>
     Ok(due)
 }
 
-/// A node behind a link, whether its entries are handed out at once, how many frames came, and whether a packet
-/// goes on with the next.
+/// A node at the end of a link, and whether its entries are handed out at once. Besides, how many frames came, and
+/// whether a packet goes on with the next.
 #[derive(Drop)]
 pub struct Answering {
     alloc: Global,
@@ -142,8 +142,8 @@ impl Model for Answering {
     ghost view = { λ a. record { node = a.node; at_once = a.at_once; count = a.count; is_open = a.is_open } };
 }
 
-/// Prints what is told first where no more bytes come: that the frame of that number was cut off, if the input did not end
-/// between two packets.
+/// Prints what is reported first when no more bytes come. If the input did not end between two packets, that is that
+/// the frame of that number was cut off.
 fn print_cut<W: Write>(out: &mut W, frame: u64, is_whole: bool) -> io::Result<()>
     ensures { OnOk result (Prints W.contents out.old out.new (cut_text is_whole frame)) }
 {
@@ -174,15 +174,20 @@ impl Answering {
         self.is_open
     }
 
-    /// Whether packets have scrubs before them, and the sizes of the node are others than they were: then no packet may be served.
+    /// Whether packets have scrubs before them, and the sizes of the node are not what they were. Then no packet may be
+    /// served.
     pub fn is_damaged(&self) -> bool
         ensures { result ≡ is_damaged self.now.node.guard (alone self.now.node.node) }
     {
         self.node.is_damaged()
     }
 
-    /// What is told where no more bytes come: that the input ended within a frame or a packet, if it did, and the entries
-    /// of the journal, which is handed out. Only memory can be refused to it, and then the node is as before.
+    /// What is reported when no more bytes come. That is that the input ended within a frame or a packet, if it did,
+    /// and the entries of the journal, which is handed out.
+    ///
+    /// # Errors
+    ///
+    /// An error if memory is refused. The node is then as before.
     pub fn end(&mut self, is_whole: bool) -> io::Result<Vec<u8>>
         ensures ends { IfOk result (λ text. EndsWith is_whole self.old self.new.node text.items) }
         ensures kept { OnErr result (self.new ≡ self.old) }

@@ -18,7 +18,7 @@ use linking::{Broken, Link, hold};
 use std::alloc::Global;
 use std::io::Write;
 
-/// The name of standard input, where the bytes cannot be read.
+/// The name of standard input, for a fault when the bytes cannot be read.
 const STANDARD_INPUT: &str = "-";
 
 /// A reader, and the node of these words, before a frame came.
@@ -47,7 +47,7 @@ fn refusal_of<'a>(is_damaged: bool) -> Fault<'a>
     Fault::NoMemory
 }
 
-/// Why the job stops, where a link was cut off so, by whether the node is damaged.
+/// Why the job stops if a link was cut off so, by whether the node is damaged.
 fn halt_of<'a>(why: Broken, is_damaged: bool) -> Halt<'a>
     ensures { IsHalt is_damaged why result }
 {
@@ -58,7 +58,7 @@ fn halt_of<'a>(why: Broken, is_damaged: bool) -> Halt<'a>
     }
 }
 
-/// Tells what is due where no more bytes come.
+/// Reports what is due when no more bytes come.
 fn tell_end<'a, L: Link>(
     answering: &mut Answering,
     is_whole: bool,
@@ -78,7 +78,7 @@ fn tell_end<'a, L: Link>(
     }
 }
 
-/// Holds a link to its end, and tells what is due there: whether it ended between two packets.
+/// Holds a link to its end, and reports what is due there. Returns whether it ended between two packets.
 fn hold_to_end<'a, L: Link>(
     reader: &mut FrameReader,
     answering: &mut Answering,
@@ -97,7 +97,7 @@ fn hold_to_end<'a, L: Link>(
     Ok(is_whole)
 }
 
-/// Holds a link on the node of these words to its end: whether it ended between two packets.
+/// Holds a link on the node of these words to its end. Returns whether it ended between two packets.
 fn hold_on<'a, F: Files, L: Link>(
     alloc: Global,
     words: &'a LiveWords,
@@ -113,7 +113,7 @@ fn hold_on<'a, F: Files, L: Link>(
     hold_to_end(&mut reader, &mut answering, link)
 }
 
-/// Tells the fault that cut a link off; where memory is refused to its line, that there is none.
+/// Reports the fault that cut a link off. If memory is refused to its line, it reports that there is none.
 fn tell<L: Link>(alloc: Global, fault: &Fault<'_>, link: &mut L) -> Result<(), WriteFault>
     ensures told { OnOk result (TellsLast L.told fault.now link.old link.new) }
     ensures lost { IfErr result (λ _. TellsLast L.untold fault.now link.old link.new) }
@@ -141,15 +141,18 @@ fn status_of(is_whole: bool, has_lost: bool) -> Status
     }
 }
 
-/// Answers the frames of a link as they come, at port 0 of the node of these words, and gives the exit status:
-/// `Failed` where the input ended within a frame or a packet, a text was lost, or a fault cut the link off, else `Done`. The
-/// reply to a packet is sent before other bytes are asked for, and what is told of it after that.
+/// Answers the frames of a link as they come, at port 0 of the node of these words, and gives the exit status. It is
+/// `Failed` if the input ended within a frame or a packet, a text was lost, or a fault cut the link off, else `Done`.
+/// The reply to a packet is sent before other bytes are asked for, and what is said of it is reported after that.
 ///
-/// What cuts it off is told last: what [`node_from`] refuses, `CannotRead` where bytes cannot be read, `NoMemory`, and
-/// `Damaged` if packets have scrubs before them and the sizes of the node are others than they were.
+/// The fault that cuts it off is reported last: what [`node_from`] refuses, `CannotRead` if bytes cannot be read, or
+/// `NoMemory`. It is `Damaged` if packets have scrubs before them and the sizes of the node are not what they were.
 ///
-/// `WriteFault` where a reply could not be sent, or a text be told; nothing is sent or told after that. Where a node's file is
-/// bad, `place` is then where, for the user.
+/// If a node's file is bad, `place` is then where, for the user.
+///
+/// # Errors
+///
+/// `WriteFault` if a reply could not be sent, or a text could not be reported. Nothing is sent or reported after that.
 #[tactic(auto, using(crate::proofs::Ended::ends))]
 pub fn live_frames<F: Files, L: Link>(
     alloc: Global,

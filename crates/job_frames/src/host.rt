@@ -6,9 +6,9 @@ ghost use Rattle.std.specs.Io.KnownBytes.{Appends};
 use linking::{Cannot, Link};
 use std::io::{self, Read, Write};
 
-/// A link over a reader and a writer, and a writer for what is told, as standard error. It asks the reader for what there is: a
-/// buffer that waits to be filled would hold a command back. If what is told cannot be written, nothing ends: how many such
-/// texts there were is counted, and the talk then ends with status 1.
+/// A link over a reader and a writer, and a writer for what is reported, as standard error. It asks the reader for what
+/// there is: a buffer that waits to be filled would hold a command back. If a text cannot be reported, nothing ends.
+/// The link counts such texts, and the talk then ends with status 1.
 #[derive(Drop)]
 pub struct HostLink<I: Read + Drop, W: Write + Drop, E: Write + Drop> {
     input: I,
@@ -27,7 +27,7 @@ fn write_through<W: Write>(output: &mut W, bytes: &[u8]) -> io::Result<()>
 }
 
 impl<I: Read + Drop, W: Write + Drop, E: Write + Drop> HostLink<I, W, E> {
-    /// The link that reads from the first, sends to the second, and tells the third.
+    /// The link that reads from the first, sends to the second, and reports to the third.
     pub fn new(input: I, output: W, errors: E) -> HostLink<I, W, E>
         ensures input { result.input ≡ input }
         ensures output { result.output ≡ output }
@@ -43,7 +43,7 @@ impl<I: Read + Drop, W: Write + Drop, E: Write + Drop> HostLink<I, W, E> {
         }
     }
 
-    /// How many texts could not be told.
+    /// How many texts could not be reported.
     pub fn untold(&self) -> u64
         ensures { result ≡ self.now.untold }
     {

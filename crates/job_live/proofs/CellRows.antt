@@ -1,4 +1,4 @@
--- Lines of cells that are printed one behind the other.
+-- Lines of cells that are printed one after the other.
 use Rattle.std.proofs.Common.{◌≡◌, ◌+◌, ℕ, List, [], ◌∷◌, ◌++◌, Option, sym, ap, subst, ◌∙◌, arith}
 use Rattle.std.specs.Io.KnownBytes.{Appends}
 use Rattle.std.specs.List.{flat_map, range_with_len}
@@ -22,7 +22,7 @@ rows_more row n =
     ∙ flat_map-append row (range_with_len 0 n) (n ∷ [])
     ∙ ap (λ (l : List ℕ). flat_map row (range_with_len 0 n) ++ l) (append-nil (row n))
 
--- Behind the texts of so many numbers the next one was printed.
+-- After the texts of `n` numbers the next one was printed.
 pub row_printed : (row : ℕ → List ℕ) (n : ℕ) (text : List ℕ) (old mid new : Option (List ℕ)) → text ≡ row n
     → Appends old mid (flat_map row (range_with_len 0 n)) → Appends mid new text
     → Appends old new (flat_map row (range_with_len 0 (n + 1)))

@@ -43,7 +43,7 @@ before_either : (b : Bool) (xs ys zs : List ℕ) (x : ℕ) → (if b then xs els
 before_either true xs ys zs x h = ap (λ rest. x ∷ rest) h
 before_either false xs ys zs x h = ap (λ rest. x ∷ rest) h
 
--- the first items, where one more comes
+-- the first items, with one more
 first_with : (n : ℕ) (xs : List ℕ) (x : ℕ) → (if nat_le (length (take (suc n) xs)) n then take (suc n) xs ++ x ∷ [] else take (suc n) xs) ≡ take (suc n) (xs ++ x ∷ [])
 first_with zero [] x = ap (λ is_few. if is_few then x ∷ [] else []) (leb-zero zero)
 first_with (suc n) [] x = ap (λ is_few. if is_few then x ∷ [] else []) (leb-zero (suc n))

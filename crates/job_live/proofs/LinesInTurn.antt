@@ -7,7 +7,7 @@ use Rattle.job_nodes.specs.LiveNodes.{LiveNodeValue}
 use Rattle.job_live.specs.Talking.{Comes, Misses, Sends}
 use Rattle.job_live.specs.LiveJob.{AnswersNext, Exchanges, IsBrokenOff, IsUnanswered, Talks}
 
--- behind false stands the other alone
+-- if the first is false, only the second counts
 or_false : (a b : Bool) → a ≡ false → (a || b) ≡ (b || false)
 or_false true b e = cc
 or_false false true e = refl
@@ -39,7 +39,7 @@ talks_more {T} came sent at_once (first ∷ lines) line count number a b c s t u
   or_more some_bad all.2 all.3 is_bad all.6,
 )
 
--- So many lines came and were answered: the number of the next is one more.
+-- Some lines came and were answered, and the number of the next is one more than how many they are.
 pub record IsUnderWay {T : Type 0} (came : Comes T) (sent : Sends T) (at_once : Bool) (number : ℕ) (before now : LiveNodeValue) (start at : T) (some_bad : Bool) : Type 0 where
   pub lines : List (List ℕ)
   pub counted : number ≡ suc (length lines)
@@ -67,7 +67,7 @@ goes_on {T} came sent at_once number a b c s t u went some_bad is_bad both way e
     let one = subst (λ (w : Option Bool). Exchanges came sent at_once number w b c t u) is exchanged in
     subst (λ (x : Bool). IsUnderWay came sent at_once (number + 1) a c s u x) (sym both_is) (next_one came sent at_once number a b c s t u one.0 some_bad is_bad way one.1)
 
--- A line that was not answered, behind those that were.
+-- A line that was not answered, after those that were.
 pub breaks_off : {T : Type 0} (came : Comes T) (sent unsent : Sends T) (missed : Misses T) (at_once : Bool) (number : ℕ) (a b c : LiveNodeValue) (s t u : T) (some_bad : Bool) (halt : Halt)
     → IsUnderWay came sent at_once number a b s t some_bad → IsUnanswered came sent unsent missed at_once number b c t u halt
     → IsBrokenOff came sent unsent missed at_once a c s u halt

@@ -43,7 +43,7 @@ abbrev AreShort : List BankValue → Type 0
 AreShort [] = Unit {0}
 AreShort (b ∷ banks) = (count b ≤ 1) × AreShort banks
 
--- those of the first so many have none
+-- the first `turned` of them have none
 abbrev AreTurned : (turned : ℕ) → List BankValue → Type 0
 AreTurned turned [] = Unit {0}
 AreTurned zero (b ∷ banks) = (count b ≤ 1) × AreTurned zero banks

@@ -1,4 +1,4 @@
--- Digits that are put behind a text.
+-- Digits that are put after a text.
 use Rattle.std.proofs.Common.{◌≡◌, ◌<◌, ◌≤◌, ◌+◌, ℕ, List, [], ◌∷◌, ◌++◌, length, take, get_or, sym, ap, ◌∙◌, arith}
 use Rattle.std.specs.Prelude.{◌/◌, ◌%◌, ◌^◌, decimal}
 use Rattle.rmap.specs.Codes.{discard_code}

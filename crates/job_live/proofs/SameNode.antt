@@ -1,4 +1,4 @@
--- What words ask of a node is asked of the same node by another name.
+-- If words ask something of a node, they ask the same of the same node by another name.
 use Rattle.std.specs.Prelude.{◌≡◌, ℕ, List}
 use Rattle.std.proofs.Common.{subst}
 use Rattle.job_parts.specs.declared.bad_lines.BadLine.{BadLine}

@@ -37,8 +37,8 @@ pub record TellsCells (before after : LiveNodeValue) (old new : Option (List ℕ
 abbrev pub MakesRoom : (before after : LiveNodeValue) → (old new : Option (List ℕ)) → Type 0
 MakesRoom before after old new = TellsJournals false before after old new
 
--- of a line that ended no packet nothing was printed, and else what came of its packet; the entries that are handed out at once
--- are among that, and their journals begin anew
+-- if a line ended no packet, nothing was printed; else what came of its packet was printed. The entries that are handed
+-- out at once are among that, and their journals begin anew
 abbrev pub PrintsTaken : (at_once : Bool) → Option Taken → (served after : LiveNodeValue) → (old new : Option (List ℕ)) → Type 0
 PrintsTaken at_once None served after old new = (after ≡ served) × (new ≡ old)
 PrintsTaken at_once (Some taken) served after old new =
@@ -59,16 +59,16 @@ pub record MeetsRoom (at_once : Bool) (line : List ℕ) (fault : Option BadLine)
   pub room : MakesRoom before ready old between
   pub taken : TakesOrRefuses at_once line fault ready after between new
 
--- the bytes of a write lie in the bank of its extended address, if there is one
+-- the bytes of a write are in the bank of its extended address, if there is one
 unfoldable pub is_inside : SingleNodeValue → Setting → Bool
 is_inside node setting = covers_in (slice_get node.banks setting.extended) setting.address (length setting.bytes.items)
 
--- the line that tells of so many bytes that they were set
+-- the line that reports how many bytes were set
 abbrev pub set_line : (count : ℕ) → List ℕ
 set_line count = codes "set " ++ decimal count ++ 10 ∷ []
 
--- the journal of the bank was handed out, and then the bytes of the write stand in its memory; the entries were printed, and
--- how many bytes were set
+-- the journal of the bank was handed out, and then the bytes of the write are in its memory. The entries were printed,
+-- and how many bytes were set
 pub record TellsSetting (setting : Setting) (before after : LiveNodeValue) (old new : Option (List ℕ)) : Type 0 where
   pub journal : JournalValue
   pub between : Option (List ℕ)
@@ -77,18 +77,18 @@ pub record TellsSetting (setting : Setting) (before after : LiveNodeValue) (old 
   pub told : Appends old between (bank_text before.node.banks setting.extended)
   pub printed : Appends between new (set_line (length setting.bytes.items))
 
--- the words write the setting, whose bytes lie in its bank
+-- the words write the setting, whose bytes are in its bank
 pub record WritesInside (words : List (List ℕ)) (node : SingleNodeValue) (setting : Setting) : Type 0 where
   pub written : WritesSetting words setting
   pub inside : is_inside node setting ≡ true
 
--- the words write a setting whose bytes do not lie in its bank
+-- the words write a setting whose bytes are not in its bank
 pub record WritesOutside (words : List (List ℕ)) (node : SingleNodeValue) : Type 0 where
   pub setting : Setting
   pub written : WritesSetting words setting
   pub outside : is_inside node setting ≡ false
 
--- why nothing was set: the words write no such thing, or the bytes do not lie in its bank
+-- why nothing was set: the words write no such thing, or the bytes are not in its bank
 abbrev pub IsUnset : (words : List (List ℕ)) → SingleNodeValue → BadLine → Type 0
 IsUnset words node fault =
     IsNoSetting words fault
@@ -106,13 +106,13 @@ abbrev pub BeginsWithPort : List (List ℕ) → Type 0
 BeginsWithPort [] = ⊥
 BeginsWithPort (first ∷ others) = IsPort first
 
--- a line that is too long has that fault where it begins with a port, and else that it has none
+-- a line that is too long has that fault if it begins with a port, and else that it has no port
 abbrev pub IsFaultByPort : List (List ℕ) → BadLine → Type 0
 IsFaultByPort words fault =
     ((fault ≡ Line TooLong) × BeginsWithPort words) ⊎ ((fault ≡ Line NoPort) × ¬ BeginsWithPort words)
 
--- the fault of a line that is longer than any packet line: its length, where it begins as a packet line or a write does,
--- and else that it has no port
+-- the fault of a line that is longer than any packet line. It is its length, if it begins as a packet line or a write
+-- does, and else that it has no port
 abbrev pub IsLongFault : List (List ℕ) → Asks → BadLine → Type 0
 IsLongFault words Set fault = fault ≡ Line TooLong
 IsLongFault words Journal fault = IsFaultByPort words fault
@@ -140,12 +140,12 @@ DoesBy at_once false asks line fault before after old new = DoesAsked at_once as
 abbrev pub fault_words : (number : ℕ) → List ℕ
 fault_words number = codes "line " ++ decimal number ++ codes " fault "
 
--- of a line that has a fault that was printed, with its number
+-- if a line has a fault, it was printed with the line's number
 abbrev pub IsFaultPrinted : (number : ℕ) → Option BadLine → (old new : Option (List ℕ)) → Type 0
 IsFaultPrinted number None old new = new ≡ old
 IsFaultPrinted number (Some fault) old new = Appends old new (fault_line (AtLine number fault))
 
--- the node took a packet line or refuses it, and behind a text stands what came of it, or its fault
+-- the node took a packet line or refuses it, and after a text is what came of it, or its fault
 pub record TakesAndTells (at_once : Bool) (line : List ℕ) (number : ℕ) (is_bad : Bool) (before after : LiveNodeValue) (old new : List ℕ) :
     Type 0 where
   pub fault : Option BadLine
@@ -163,8 +163,7 @@ pub record AnswersSetting (words : List (List ℕ)) (number : ℕ) (before after
   pub told : IsFaultPrinted number fault between new
   pub bad : is_bad ≡ is_some fault
 
--- the line, which came as the one of that number, did what it asks for, and what is due for it was printed; it is bad
--- where it has a fault
+-- the line of that number did what it asks for, and what is due for it was printed; it is bad if it has a fault
 pub record AnswersAsked (at_once is_long : Bool) (asks : Asks) (line : List ℕ) (number : ℕ) (before after : LiveNodeValue)
     (old new : Option (List ℕ)) (is_bad : Bool) : Type 0 where
   pub fault : Option BadLine

@@ -3,8 +3,8 @@ use Rattle.std.specs.Prelude.{◌≡◌, ◌≢◌, List, ℕ, [], ◌∷◌, co
 use Rattle.job_live.specs.declared.asks.Asks.{Asks}
 use Rattle.job_live.specs.declared.asks.Asks.TheVariants.{Packet, Journal, Cells, Set}
 
--- the word `journal` alone asks for the journal, `cells` alone for the words of all cells, `set` before others for a write
--- of the instrument, and every other line is a packet line
+-- `journal` as the only word asks for the journal, and `cells` as the only word for the words of all cells. `set`
+-- before others asks for a write of the instrument. Every other line is a packet line
 abbrev pub IsAsked : List (List ℕ) → Asks → Type 0
 IsAsked words Journal = words ≡ codes "journal" ∷ []
 IsAsked words Cells = words ≡ codes "cells" ∷ []

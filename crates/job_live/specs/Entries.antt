@@ -46,8 +46,8 @@ abbrev pub entries_text : (at_once : Bool) → List BankValue → List ℕ
 entries_text true banks = flat_map (left_text banks) (range_with_len 0 (length banks))
 entries_text false banks = []
 
--- the lines that report what came of a packet, with the reply that was due: first that of a scrub that did not find a program
--- whole, and then those of the entries that are handed out at once
+-- the lines that report what came of a packet, with the reply that was due. First comes that of a scrub that did not
+-- find a program whole, and then those of the entries that are handed out at once
 abbrev pub taken_text : (at_once : Bool) → Taken → JobNodeValue → List ℕ
 taken_text at_once taken node =
     found_text taken.answer.found ++ entries_text at_once node.banks

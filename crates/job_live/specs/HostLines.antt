@@ -7,11 +7,11 @@ use Rattle.job_live.specs.declared.answering.TheConstants.{MAX_LINE}
 abbrev pub given_byte : ℕ → ℕ
 given_byte byte = if nat_lt byte 128 then byte else 63
 
--- what is given of a line of these bytes: of one that is too long one byte more than the longest has
+-- what is given of a line of these bytes; if it is too long, one byte more than the longest has
 abbrev pub given_text : List ℕ → List ℕ
 given_text bytes = take (MAX_LINE + 1) (map given_byte bytes)
 
--- a text with one more byte of the line behind it, if it is not longer than the longest line
+-- a text with one more byte of the line after it, if it is not longer than the longest line
 abbrev pub text_with : List ℕ → ℕ → List ℕ
 text_with text byte = if nat_le (length text) MAX_LINE then text ++ given_byte byte ∷ [] else text
 
@@ -20,7 +20,8 @@ abbrev pub ReadsByte : (before : Option (List ℕ)) → Option ℕ → (after : 
 ReadsByte before None after = Consumes before after [] × IsAtEnd after
 ReadsByte before (Some byte) after = Consumes before after (byte ∷ [])
 
--- a line was read of what a reader had left, with the line feed behind it, or up to the end, and this text was given of it
+-- a line was read of what a reader had left, with the line feed after it, or up to the end, and this text was given of
+-- it
 pub record GivesLine (before : Option (List ℕ)) (text : List ℕ) (after : Option (List ℕ)) : Type 0 where
   pub bytes : List ℕ
   pub is_line : All (λ byte. byte ≢ 10) bytes

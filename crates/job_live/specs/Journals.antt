@@ -18,7 +18,7 @@ bank_line number first =
 abbrev pub has_several : List BankValue → Bool
 has_several banks = nat_lt 1 (length banks)
 
--- what stands before the entries of a bank: that line where there are several, and else nothing
+-- what comes before the entries of a bank: that line if there are several banks, and else nothing
 abbrev pub heading : (several : Bool) → (number first : ℕ) → List ℕ
 heading true number first = bank_line number first
 heading false number first = []
@@ -47,7 +47,7 @@ TurnsOne true number before after =
     HandsOut number before.node after.node (journal_of (slice_get before.node.banks number)) × KeepsGuard before after
 TurnsOne false number before after = after ≡ before
 
--- the journals of so many banks, from the first on, were handed out in turn: each, or those that are full
+-- the journals of the first `count` banks were handed out in turn: each, or those that are full
 abbrev pub Turns : (each : Bool) → (count : ℕ) → (before after : LiveNodeValue) → Type 0
 Turns each zero before after = after ≡ before
 Turns each (suc count) before after =

@@ -33,8 +33,8 @@ module _ {T : Type 0} (came : Comes T) (sent : Sends T) (at_once : Bool) where
       pub answered : Answers at_once line number before after (Some []) (Some text) is_bad
       pub left : sent heard text stop
 
-  -- lines came, behind so many others: each was taken on the node that those before left, and what is due for it was sent
-  -- before the next was asked for; and whether one of them is bad
+  -- lines came, after `count` others. Each was taken on the node that those before left, and what is due for it was
+  -- sent before the next was asked for. And whether one of them is bad
   abbrev pub Talks : List (List ℕ) → (count : ℕ) (before after : LiveNodeValue) (start stop : T) → (some_bad : Bool) → Type 0
   Talks [] count before after start stop some_bad = (after ≡ before) × (stop ≡ start) × (some_bad ≡ false)
   Talks (line ∷ lines) count before after start stop some_bad =
@@ -43,26 +43,26 @@ module _ {T : Type 0} (came : Comes T) (sent : Sends T) (at_once : Bool) where
       × Talks lines (suc count) next after between stop others
       × (some_bad ≡ (is_bad || others))
 
-  -- no line came any more, or one came, as the one of that number, and was answered
+  -- no more lines came; or the line of that number came and was answered
   abbrev pub Exchanges : (number : ℕ) → (went : Option Bool) → (before after : LiveNodeValue) (start stop : T) → Type 0
   Exchanges number None before after start stop = (after ≡ before) × came start None stop
   Exchanges number (Some is_bad) before after start stop =
       (line : List ℕ) × AnswersNext line number before after start stop is_bad
 
-  -- a whole talk: behind its lines no more came, or more than are counted
+  -- a whole talk: after its lines no more came, or more than are counted
   pub record IsWholeTalk (before after : LiveNodeValue) (start stop : T) (some_bad : Bool) : Type 0 where
     pub lines : List (List ℕ)
     pub last : T
     pub talks : Talks lines 0 before after start last some_bad
     pub ended : came last None stop ⊎ ((stop ≡ last) × (length lines ≡ most_lines))
 
--- where no more lines come the journals were handed out, and their entries were sent
+-- no more lines come: the journals were handed out, and their entries were sent
 pub record SendsEnd {T : Type 0} (sent : Sends T) (before after : LiveNodeValue) (start stop : T) : Type 0 where
   pub text : List ℕ
   pub told : TellsJournal before after (Some []) (Some text)
   pub left : sent start text stop
 
--- a whole talk, behind which the entries of the journal were sent
+-- a whole talk, after which the entries of the journal were sent
 pub record EndsTalk {T : Type 0} (came : Comes T) (sent : Sends T) (at_once : Bool) (before after : LiveNodeValue) (start stop : T) (some_bad : Bool) : Type 0
   where
     pub behind : LiveNodeValue
@@ -70,13 +70,14 @@ pub record EndsTalk {T : Type 0} (came : Comes T) (sent : Sends T) (at_once : Bo
     pub talk : IsWholeTalk came sent at_once before behind start last some_bad
     pub end : SendsEnd sent behind after last stop
 
--- the entries of the journal were not sent where no more lines came: memory was refused to them, and the node is as before;
--- or they could not be sent
+-- no more lines came, and the entries of the journal were not sent. Memory was refused to them, and the node is as
+-- before. Or they could not be sent
 abbrev pub IsEndUnsent : {T : Type 0} (unsent : Sends T) (before after : LiveNodeValue) (start stop : T) → Halt → Type 0
 IsEndUnsent unsent before after start stop (Ended fault) = (fault ≡ NoMemory) × (after ≡ before) × (stop ≡ start)
 IsEndUnsent unsent before after start stop (Unwritten refused) = SendsEnd unsent before after start stop
 
--- the line that is sent last, of the fault that cut a talk off; where memory was refused to it, that there is none
+-- the line that is sent last, of the fault that cut a talk off; if memory was refused to it, the line that there is
+-- none
 abbrev pub IsLastLine : Fault → List ℕ → Type 0
 IsLastLine fault text = (text ≡ fault_line fault) ⊎ (text ≡ fault_line NoMemory)
 
@@ -98,8 +99,8 @@ module _ {T : Type 0} (came : Comes T) (sent unsent : Sends T) (missed : Misses 
     pub answered : Answers at_once line number before after (Some []) (Some text) is_bad
     pub lost : unsent heard text stop
 
-  -- why no line of this number was answered: it could not be read; it came, but the node is damaged, or memory was refused to its
-  -- answer, of which nothing was sent, and the node is as before; or its answer could not be sent
+  -- why no line of this number was answered. It could not be read. It came, but the node is damaged, or memory was
+  -- refused to its answer, of which nothing was sent, and the node is as before. Or its answer could not be sent
   abbrev pub IsUnanswered : (number : ℕ) (before after : LiveNodeValue) (start stop : T) → Halt → Type 0
   IsUnanswered number before after start stop (Ended fault) =
       (after ≡ before)
@@ -117,7 +118,7 @@ module _ {T : Type 0} (came : Comes T) (sent unsent : Sends T) (missed : Misses 
     pub talks : Talks came sent at_once lines 0 before left start last some_bad
     pub unanswered : IsUnanswered (suc (length lines)) left after last stop halt
 
-  -- a whole talk, behind which the entries of the journal were not sent
+  -- a whole talk, after which the entries of the journal were not sent
   pub record StopsAtEnd (before after : LiveNodeValue) (start stop : T) (halt : Halt) : Type 0 where
     pub some_bad : Bool
     pub behind : LiveNodeValue
@@ -174,7 +175,7 @@ module _ {S T : Type 0} (reads : Reads S) (came : Comes T) (sent unsent : Sends 
       pub cut_off : IsCutOff before after start broken (Ended fault)
       pub lost : TellsLast unsent fault broken stop
 
-    -- the exit status is 0 where a whole talk was held and no line was bad, and 1 where one was, or a fault cut it off
+    -- the exit status is 0 if a whole talk was held and no line was bad, and 1 if one was, or a fault cut it off
     abbrev pub Lives : (before after : S) (start stop : T) → Status → Type 0
     Lives before after start stop Done = HoldsTalk before after start stop false
     Lives before after start stop Failed =

@@ -50,7 +50,7 @@ pub record WritesSetting (words : List (List ℕ)) (setting : Setting) : Type 0 
   pub address_written : WritesAddress address setting.address
   pub bytes_written : WritesBytes bytes setting.bytes.items
 
--- there are three words behind `set`, and they write no such thing
+-- there are three words after `set`, and they write no such thing
 pub record AreNoSetting (words : List (List ℕ)) : Type 0 where
   pub extended : List ℕ
   pub address : List ℕ
@@ -58,8 +58,8 @@ pub record AreNoSetting (words : List (List ℕ)) : Type 0 where
   pub words_are : AreSetWords words extended address bytes
   pub unwritten : (setting : Setting) → ¬ WritesSetting words setting
 
--- why words write no such thing: there are not three of them behind `set`, or they are not hexadecimal digits of the
--- right number; or memory was refused
+-- why words write no such thing: there are not three of them after `set`, or they are not hexadecimal digits of the
+-- right number. Or memory was refused
 abbrev pub IsNoSetting : List (List ℕ) → BadLine → Type 0
 IsNoSetting words (Line NoPort) = ⊥
 IsNoSetting words (Line BadHex) = AreNoSetting words

@@ -1,7 +1,7 @@
 -- What comes to a talk, and what it sends.
 use Rattle.std.specs.Prelude.{ℕ, List, Bool, true, false, Option, Some, None}
 
--- between two states of a talk: the line that came, without its line feed, or none where no more come
+-- between two states of a talk: the line that came, without its line feed, or none if no more come
 abbrev pub Comes : Type 0 → Type 1
 Comes T = T → Option (List ℕ) → T → Type 0
 
@@ -9,7 +9,7 @@ Comes T = T → Option (List ℕ) → T → Type 0
 abbrev pub Sends : Type 0 → Type 1
 Sends T = T → List ℕ → T → Type 0
 
--- between two states of a talk: what was done where the next line could not be read
+-- between two states of a talk: what was done when the next line could not be read
 abbrev pub Misses : Type 0 → Type 1
 Misses T = T → T → Type 0
 

@@ -37,6 +37,6 @@ entry_line entry = if is_whole entry then whole_line entry else damaged_line
 abbrev pub count_line : ℕ → List ℕ
 count_line count = codes "journal " ++ decimal count ++ codes " entries" ++ 10 ∷ []
 
--- the lines of the entries, oldest first, and behind them how many they are
+-- the lines of the entries, oldest first, and after them how many they are
 abbrev pub journal_text : List EntryValue → List ℕ
 journal_text entries = flat_map entry_line entries ++ count_line (length entries)

@@ -20,7 +20,7 @@ live_app =
     (with_rule (with_rule (with_source_options (new_app (codes "live"))) (option_rule (codes "scrub"))) (flag_rule (codes "entries")))
     (flag_rule (codes "frames"))
 
--- before each packet of how many a program is scrubbed: one to 2³² - 1
+-- the N of a scrub before each N-th packet: one to 2³² - 1
 abbrev pub IsScrubCount : List ℕ → Type 0
 IsScrubCount word = IsNumberWithin 1 4294967295 word
 

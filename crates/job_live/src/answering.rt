@@ -33,10 +33,14 @@ pub const MAX_LINE: usize = 16_384;
 /// How many bytes a line has after its words: a number of one digit, and the line feed.
 pub const CODE: usize = 2;
 
-/// How many bytes what is told of a packet line has at most, besides the words before the number of its fault.
+/// The most bytes that the lines on what came of a packet have, besides the words before the number of a fault.
 const MOST_OF_LINES: usize = MOST_OF_SCRUB + MOST_OF_PACKET;
 
 /// Prints the entries of the journals of the node, bank by bank, and then begins empty ones.
+///
+/// # Errors
+///
+/// The error of `out`, if it does not take all of the text. The node is then as before.
 pub fn hand_out<W: Write>(node: &mut LiveNode, out: &mut W) -> io::Result<()>
     ensures tells { OnOk result
         (TellsJournal node.old node.new (W.contents out.old) (W.contents out.new)) }
@@ -47,10 +51,12 @@ pub fn hand_out<W: Write>(node: &mut LiveNode, out: &mut W) -> io::Result<()>
     Ok(())
 }
 
-/// Hands the journals out that are full, before a packet is served: their entries are in the text then, and after them is room
-/// for so many bytes more.
+/// Hands out the journals that are full, before a packet is served. Their entries are then in the text, and after them
+/// is room for `more` bytes.
 ///
-/// If memory is refused the node is as before.
+/// # Errors
+///
+/// An error if memory is refused. The node is then as before.
 pub fn make_room(node: &mut LiveNode, more: usize, text: &mut Vec<u8>) -> io::Result<()>
     ensures made { OnOk result (MakesRoom node.old node.new
         (Some text.old.items) (Some text.new.items)) }
@@ -72,9 +78,9 @@ fn fault_words(alloc: Global, number: usize) -> io::Result<Vec<u8>>
     Ok(words)
 }
 
-/// Puts what came of a packet behind a text, with the reply that was due: the line of a scrub that did not find
-/// a program whole, those of the entries that are handed out at once, and then the packet's. The condition is
-/// room for the longest lines.
+/// Puts what came of a packet after a text, with the reply that was due. First comes the line of a scrub that did not
+/// find a program whole. Then come those of the entries that are handed out at once, and that of the packet. The
+/// condition is room for the longest lines.
 #[tactic(auto, using(crate::proofs::Taken::text_taken))]
 fn put_taken(text: &mut Vec<u8>, taken: Taken, node: &LiveNode, at_once: bool)
     requires { vec_len text.old + (MOST_OF_SCRUB + MOST_OF_PACKET + room_of at_once) ≤ vec_capacity text.old }
@@ -85,7 +91,8 @@ fn put_taken(text: &mut Vec<u8>, taken: Taken, node: &LiveNode, at_once: bool)
     put_served(text, taken.port, taken.answer.told.served, node.reply());
 }
 
-/// Puts the line of a fault behind a text, whose words before its number are these. The condition is room for them and two bytes.
+/// Puts the line of a fault after a text. Its words before the number are these. The condition is room for them and two
+/// bytes.
 #[tactic(auto, using(crate::proofs::PutText::small_number))]
 fn put_fault(text: &mut Vec<u8>, words: &[u8], fault: BadLine)
     requires { vec_len text.old + (length words.now + CODE) ≤ vec_capacity text.old }
@@ -96,8 +103,9 @@ fn put_fault(text: &mut Vec<u8>, words: &[u8], fault: BadLine)
     put_code(text, fault.number());
 }
 
-/// Takes a packet line on the node, and puts what came of it behind a text, or its fault, whose words before its number are
-/// these. Whether the line is bad. The condition is room for the longest lines, and for those words and two bytes.
+/// Takes a packet line on the node, and puts what came of it after a text. Or it puts its fault, whose words before the
+/// number are these. Returns whether the line is bad. The condition is room for the longest lines, and for those words
+/// and two bytes.
 #[tactic(auto, using(crate::proofs::Taken::packet_taken))]
 fn take_line(
     alloc: Global,
@@ -127,8 +135,8 @@ fn take_line(
     }
 }
 
-/// Takes a packet line, for whose command the journal has room then, and puts what is due for it behind a text: whether the
-/// line is bad. Memory is taken before anything is done.
+/// Makes room in the journal for the command of a packet line and takes the line. Then it puts what is due for the line
+/// after a text, and returns whether the line is bad. It takes memory before it does anything.
 #[tactic(auto, using(crate::proofs::Taken::packet_answered))]
 fn answer_packet(
     alloc: Global,
@@ -148,7 +156,7 @@ fn answer_packet(
     Ok(take_line(alloc, node, at_once, line, words.as_slice(), text))
 }
 
-/// Whether the bytes of a write lie in the bank of its extended address, if there is one.
+/// Whether the bytes of a write are in the bank of its extended address, if there is one.
 #[tactic(auto, unfolding(crate::specs::Answering::is_inside))]
 fn is_inside(node: &SingleNode, setting: &Setting) -> bool
     ensures { result ≡ is_inside node.now setting.now }
@@ -156,7 +164,7 @@ fn is_inside(node: &SingleNode, setting: &Setting) -> bool
     node.covers(setting.extended, setting.address, setting.bytes.len())
 }
 
-/// The write that these words ask for, whose bytes lie in its bank, or why there is none.
+/// The write that these words ask for, with its bytes in its bank. Or why there is none.
 fn setting_inside(alloc: Global, node: &SingleNode, words: &[&str]) -> Result<Setting, BadLine>
     requires { IsAsked (map (λ word. word.now) words.now) Set }
     ensures ok { IfOk result
@@ -171,8 +179,8 @@ fn setting_inside(alloc: Global, node: &SingleNode, words: &[&str]) -> Result<Se
     }
 }
 
-/// Puts the bytes of a write into its bank, behind which an empty journal begins. Before that it prints the entries of the one
-/// that is there, and how many bytes are set.
+/// Puts the bytes of a write into its bank, and then begins an empty journal there. Before that it prints the entries
+/// of the journal that is there, and how many bytes are set.
 #[tactic(auto, unfolding(crate::specs::Answering::is_inside))]
 fn set_bytes<W: Write>(node: &mut LiveNode, setting: &Setting, out: &mut W) -> io::Result<()>
     requires { is_inside (alone node.old.node) setting.now ≡ true }
@@ -197,7 +205,8 @@ fn print_fault<W: Write>(out: &mut W, number: usize, fault: BadLine) -> io::Resu
     writeln!(out, "{fault}")
 }
 
-/// Does the write of an instrument, and prints what is due for it, or why it is not done: whether the line is bad.
+/// Does the write of an instrument, and prints what is due for it, or why it is not done. Returns whether the line is
+/// bad.
 fn answer_setting<W: Write>(
     alloc: Global,
     node: &mut LiveNode,
@@ -245,16 +254,19 @@ fn long_fault(words: &[&str], asks: Asks) -> BadLine
     }
 }
 
-/// Does what a line asks for, which came as the one of that number, and puts what is due for it behind a text: whether the
-/// line is bad.
+/// Does what the line of this number asks for, and puts what is due for it after a text. Returns whether the line is
+/// bad.
 ///
-/// Of a bad line that is `line K fault C`: the faults are those of [`LiveNode::take_line`] and [`read_setting`],
-/// `NoPort` for bytes that do not lie in their bank, and of a line over [`MAX_LINE`] bytes `TooLong`, or
-/// `NoPort` where it begins as no packet line and no write. Before a packet line is taken the journals that are
-/// full are handed out. If entries are handed out at once, the entry that a packet leaves is before its answer,
-/// and its journal begins anew.
+/// For a bad line it puts `line K fault C`. The faults are those of [`LiveNode::take_line`] and [`read_setting`], and
+/// `NoPort` for bytes that are not in their bank. A line over [`MAX_LINE`] bytes has the fault `TooLong`. It has
+/// `NoPort` if it begins as no packet line and no write.
 ///
-/// Where memory is refused the node is as before the line.
+/// The journals that are full are handed out before a packet line is taken. If entries are handed out at once, the
+/// entry that a packet leaves is before its answer, and its journal begins anew.
+///
+/// # Errors
+///
+/// An error if memory is refused. The node is then as before the line.
 pub fn answer(
     alloc: Global,
     node: &mut LiveNode,
@@ -287,9 +299,11 @@ pub fn answer(
     }
 }
 
-/// The entries of the journals of the node, which are the last text of a talk: empty journals begin.
+/// The entries of the journals of the node, which are the last text of a talk. Empty journals begin.
 ///
-/// If memory is refused the node is as before.
+/// # Errors
+///
+/// An error if memory is refused. The node is then as before.
 pub fn last_text(alloc: Global, node: &mut LiveNode) -> io::Result<Vec<u8>>
     ensures tells { IfOk result (λ text. TellsJournal node.old node.new (Some []) (Some text.items)) }
     ensures kept { OnErr result (node.new ≡ node.old) }

@@ -12,11 +12,11 @@ pub enum Asks {
     Journal,
     /// The words of all cells: `cells`.
     Cells,
-    /// A write of the instrument: `set`, and words behind it.
+    /// A write of the instrument: `set`, and words after it.
     Set,
 }
 
-/// What a line of this first word asks for, with the others behind it.
+/// What a line of this first word asks for, with the others after it.
 fn asked_by(first: &str, others: &[&str]) -> Asks
     ensures { IsAsked (first.now ∷ map (λ word. word.now) others.now) result }
 {

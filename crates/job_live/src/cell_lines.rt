@@ -27,8 +27,8 @@ fn cells_of(sizes: &MapSizes, map: u8) -> u16
     sizes.cells(map).unwrap()
 }
 
-/// Prints the words of the cells of a map, by key, each behind a space. The conditions are a map that is there, and how many
-/// cells it has.
+/// Prints the words of the cells of a map, by key, each after a space. The conditions are a map that is there, and how
+/// many cells it has.
 fn print_words<W: Write>(out: &mut W, node: &SingleNode, map: u8, count: u16) -> io::Result<()>
     requires map { map < length (sizes_of node.now.programs).cells }
     requires count { count ≡ slice_index (sizes_of node.now.programs).cells map }
@@ -54,6 +54,10 @@ fn print_map<W: Write>(out: &mut W, node: &SingleNode, map: u8, count: u16) -> i
 }
 
 /// Prints the word of each cell of the node, a line a map, and how many maps there are: `cells N maps`.
+///
+/// # Errors
+///
+/// The error of `out`, if it does not take all of the text.
 pub fn print_cells<W: Write>(out: &mut W, node: &SingleNode) -> io::Result<()>
     ensures { OnOk result (Prints W.contents out.old out.new
         (cells_text (sizes_of node.now.programs) node.now.words)) }

@@ -11,12 +11,12 @@ use job_parts::storage::Cannot;
 use std::alloc::AllocError;
 use std::io::{self, BufRead, ErrorKind, Read, Write};
 
-/// What stands for a byte that is no ASCII character, which is in no word that a line may have.
+/// The character for a byte that is no ASCII character. No word of a line may have it.
 const FOREIGN: u8 = b'?';
 
-/// A talk over a reader and a writer. A line that comes is what the reader has up to the next line feed, or to its end, and what
-/// is sent is appended to what the writer has. A byte that is no ASCII character is read as `?`, and of a line over [`MAX_LINE`]
-/// bytes one byte more than those is kept.
+/// A talk over a reader and a writer. A line that comes is what the reader has up to the next line feed, or to its end.
+/// What is sent is appended to what the writer has. A byte that is no ASCII character is read as `?`. If a line is over
+/// [`MAX_LINE`] bytes long, one byte more than those is kept.
 ///
 /// The reader has a buffer, since bytes are taken from it one by one.
 #[derive(Drop)]
@@ -34,7 +34,7 @@ fn given_byte(byte: u8) -> u8
     if byte.is_ascii() { byte } else { FOREIGN }
 }
 
-/// Puts what is given of a byte behind the text of its line, if that is not too long already.
+/// Puts what is given of a byte after the text of its line, if that is not too long already.
 fn put_byte(line: &mut String, byte: u8) -> Result<(), AllocError>
     ensures { OnOk result (string_bytes line.new ≡ text_with (string_bytes line.old) byte) }
 {
@@ -65,7 +65,7 @@ fn read_byte<I: Read>(input: &mut I) -> io::Result<Option<u8>>
     Err(io::Error::from(ErrorKind::Interrupted))
 }
 
-/// Puts the next line of a reader in the place of what `line` holds: whether there was one.
+/// Puts the next line of a reader in the place of what `line` holds. Returns whether there was one.
 fn read_line<I: Read>(input: &mut I, line: &mut String) -> io::Result<bool>
     ensures read { IfOk result (λ is_given. ReadsLine (I.remaining input.old)
         (line_given is_given (string_bytes line.new)) (I.remaining input.new)) }

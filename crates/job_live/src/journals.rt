@@ -23,8 +23,8 @@ fn print_bank_line<W: Write>(out: &mut W, bank: u8, first: u32) -> io::Result<()
     writeln!(out)
 }
 
-/// Prints what stands before the entries of a bank: its line, if the node has several banks. The condition is a bank of the
-/// node.
+/// Prints what comes before the entries of a bank: its line, if the node has several banks. The condition is a bank of
+/// the node.
 fn print_heading<W: Write>(out: &mut W, node: &SingleNode, bank: u8) -> io::Result<()>
     requires { bank < length node.now.banks }
     ensures { OnOk result (Prints W.contents out.old out.new
@@ -38,6 +38,10 @@ fn print_heading<W: Write>(out: &mut W, node: &SingleNode, bank: u8) -> io::Resu
 
 /// Prints the entries of the journal of a bank, and before them its line, if the node has several banks. The condition is a
 /// bank of the node.
+///
+/// # Errors
+///
+/// The error of `out`, if it does not take all of the text.
 pub fn print_bank<W: Write>(out: &mut W, node: &SingleNode, bank: u8) -> io::Result<()>
     requires { bank < length node.now.banks }
     ensures { OnOk result (Prints W.contents out.old out.new (bank_text node.now.banks bank)) }
@@ -46,7 +50,7 @@ pub fn print_bank<W: Write>(out: &mut W, node: &SingleNode, bank: u8) -> io::Res
     print_journal(out, entries(node, bank))
 }
 
-/// Whether the journal of a bank is handed out, if each is, or if those are that are full. The condition is a bank of the node.
+/// Whether the journal of a bank is handed out: if each is, or if it is full. The condition is a bank of the node.
 fn is_due(node: &SingleNode, each: bool, bank: u8) -> bool
     requires { bank < length node.now.banks }
     ensures { result ≡ is_due each node.now.banks bank }
@@ -66,6 +70,10 @@ fn print_due<W: Write>(out: &mut W, node: &SingleNode, each: bool, bank: u8) -> 
 }
 
 /// Prints the entries of the journals that are handed out, bank by bank: of each, or of those that are full.
+///
+/// # Errors
+///
+/// The error of `out`, if it does not take all of the text.
 pub fn print_journals<W: Write>(out: &mut W, node: &SingleNode, each: bool) -> io::Result<()>
     ensures { OnOk result (Prints W.contents out.old out.new (journals_text each node.now.banks)) }
 {
@@ -75,7 +83,8 @@ pub fn print_journals<W: Write>(out: &mut W, node: &SingleNode, each: bool) -> i
     Ok(())
 }
 
-/// Begins an empty journal in the place of that of a bank, if it is handed out. The condition is a bank of the node.
+/// Begins an empty journal in place of the journal of a bank, if that is handed out. The condition is a bank of the
+/// node.
 fn turn_due(node: &mut LiveNode, each: bool, bank: u8)
     requires { bank < length node.old.node.banks }
     ensures turns { TurnsOne (is_due each node.old.node.banks bank) bank node.old node.new }

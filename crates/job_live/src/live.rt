@@ -16,13 +16,13 @@ use job_parts::storage::Files;
 use std::alloc::Global;
 use std::io::Write;
 
-/// The name of standard input, where the lines cannot be read.
+/// The name of standard input, for a fault when the lines cannot be read.
 const STANDARD_INPUT: &str = "-";
 
-/// The line of want of memory, which takes none.
+/// The line for refused memory. It takes no memory itself.
 pub const NO_MEMORY: &[u8] = b"no memory\n";
 
-/// Takes the next line, and sends what is due for it: whether it is bad, or `None` where no more came.
+/// Takes the next line, and sends what is due for it. Returns whether the line is bad, or `None` if no more came.
 fn exchange<'a, T: Talk>(
     alloc: Global,
     node: &mut LiveNode,
@@ -62,7 +62,7 @@ fn either(first: bool, second: bool) -> bool
     first || second
 }
 
-/// Holds a talk to its end: whether one of its lines was bad.
+/// Holds a talk to its end. Returns whether one of its lines was bad.
 fn hold<'a, T: Talk>(
     alloc: Global,
     node: &mut LiveNode,
@@ -83,7 +83,7 @@ fn hold<'a, T: Talk>(
     Ok(some_bad)
 }
 
-/// Sends what is sent last, where no more lines come: the entries of the journal, which is handed out.
+/// Sends the last text of a talk after its last line: the entries of the journals, which are handed out.
 fn send_end<'a, T: Talk>(alloc: Global, node: &mut LiveNode, talk: &mut T) -> Result<(), Halt<'a>>
     ensures sent { OnOk result (SendsEnd T.sent node.old node.new talk.old talk.new) }
     ensures stops { IfErr result (IsEndUnsent T.unsent node.old node.new talk.old talk.new) }
@@ -93,7 +93,7 @@ fn send_end<'a, T: Talk>(alloc: Global, node: &mut LiveNode, talk: &mut T) -> Re
     sent.map_err(|_| Halt::Unwritten(WriteFault))
 }
 
-/// Holds a talk to its end, and sends the entries of the journal: whether one of its lines was bad.
+/// Holds a talk to its end, and sends the entries of the journal. Returns whether one of its lines was bad.
 fn hold_to_end<'a, T: Talk>(
     alloc: Global,
     node: &mut LiveNode,
@@ -109,7 +109,7 @@ fn hold_to_end<'a, T: Talk>(
     Ok(some_bad)
 }
 
-/// Holds a talk on the node of these words to its end: whether one of its lines was bad.
+/// Holds a talk on the node of these words to its end. Returns whether one of its lines was bad.
 fn live_on<'a, F: Files, T: Talk>(
     alloc: Global,
     words: &'a LiveWords,
@@ -126,7 +126,8 @@ fn live_on<'a, F: Files, T: Talk>(
     hold_to_end(alloc, &mut node, words.entries, talk)
 }
 
-/// Sends the line of the fault that cut a talk off; where memory is refused to it, that there is none.
+/// Sends the line of the fault that cut a talk off. If memory is refused to that line, it sends that there is no
+/// memory.
 fn tell<T: Talk>(alloc: Global, fault: &Fault<'_>, talk: &mut T) -> Result<(), WriteFault>
     ensures told { OnOk result (TellsLast T.sent fault.now talk.old talk.new) }
     ensures lost { IfErr result (λ _. TellsLast T.unsent fault.now talk.old talk.new) }
@@ -150,15 +151,19 @@ fn status_of(some_bad: bool) -> Status
     }
 }
 
-/// Answers the lines of a talk as they come, on the node of these words, and gives the exit status: `Failed` where a line
-/// was bad, or a fault cut the talk off, else `Done`. What is due for a line is sent before the next is asked for. Where no
-/// more lines come the journal is handed out, and its entries are sent last.
+/// Answers the lines of a talk as they come, on the node of these words, and gives the exit status. The status is
+/// `Failed` if a line was bad or a fault cut the talk off, else `Done`. What is due for a line is sent before the next
+/// is asked for. If no more lines come, the journal is handed out, and its entries are sent last.
 ///
-/// What cuts it off is told last: what [`node_from`] refuses, `CannotRead` where a line cannot be read, `NoMemory`, and `Damaged` if
-/// packets have scrubs before them and the sizes of the node are others than they were.
+/// The fault that cuts the talk off is sent last. It is what [`node_from`] refuses, `CannotRead` if a line cannot be
+/// read, or `NoMemory`. It is `Damaged` if packets have scrubs before them and the sizes of the node are not what they
+/// were.
 ///
-/// `WriteFault` where a text could not be sent; nothing is sent after that. Where a node's file is bad, `place` is then where,
-/// for the user.
+/// If a node's file is bad, `place` is then where, for the user.
+///
+/// # Errors
+///
+/// `WriteFault` if a text could not be sent. Nothing is sent after that.
 pub fn live<F: Files, T: Talk>(
     alloc: Global,
     words: &LiveWords,

@@ -1,4 +1,4 @@
-//! Text with room behind it: what is put there takes no memory.
+//! Text with room after it: what is put there takes no memory.
 
 ghost use Rattle.hex.specs.Hex.{encode_upper};
 ghost use Rattle.job_nodes.specs.JudgeJob.{discard_line};
@@ -14,10 +14,10 @@ use rmap::{Discard, MAX_REPLY};
 /// The digits of hexadecimal numbers, with upper case letters.
 const DIGITS: [u8; 16] = *b"0123456789ABCDEF";
 
-/// How many bytes the longest line has that tells what became of a packet: `PORT HEX EOP`, with the longest reply.
+/// The most bytes of a line that reports what became of a packet: `PORT HEX EOP`, with the longest reply.
 pub const MOST_OF_PACKET: usize = 2 * MAX_REPLY + 9;
 
-/// Puts bytes behind a text. The condition is room for them.
+/// Puts bytes after a text. The condition is room for them.
 pub fn put(text: &mut Vec<u8>, bytes: &[u8])
     requires { vec_len text.old + length bytes.now ≤ vec_capacity text.old }
     ensures items { text.new.items ≡ text.old.items ++ bytes.now }
@@ -37,7 +37,7 @@ fn digits_of(byte: u8) -> [u8; 2]
     ]
 }
 
-/// Puts bytes behind a text as hexadecimal digits, in upper case. The condition is room for two digits a byte.
+/// Puts bytes after a text as hexadecimal digits, in upper case. The condition is room for two digits a byte.
 pub(crate) fn put_hex(text: &mut Vec<u8>, bytes: &[u8])
     requires { vec_len text.old + 2 * length bytes.now ≤ vec_capacity text.old }
     ensures items { text.new.items ≡ text.old.items ++ encode_upper bytes.now }
@@ -49,7 +49,7 @@ pub(crate) fn put_hex(text: &mut Vec<u8>, bytes: &[u8])
     }
 }
 
-/// Puts a number below 10 behind the words of a line, and ends it. The condition is room for two bytes.
+/// Puts a number below 10 after the words of a line, and ends it. The condition is room for two bytes.
 pub fn put_code(text: &mut Vec<u8>, code: u8)
     requires small { code < 10 }
     requires room { vec_len text.old + 2 ≤ vec_capacity text.old }
@@ -60,7 +60,7 @@ pub fn put_code(text: &mut Vec<u8>, code: u8)
     put(text, &[b'0' + code, b'\n']);
 }
 
-/// Puts the number of a discard behind the words of a line, and ends it. The condition is room for two bytes.
+/// Puts the number of a discard after the words of a line, and ends it. The condition is room for two bytes.
 #[tactic(auto, using(crate::proofs::PutText::small_discard))]
 pub fn put_discard_code(text: &mut Vec<u8>, discard: Discard)
     requires { vec_len text.old + 2 ≤ vec_capacity text.old }
@@ -71,7 +71,7 @@ pub fn put_discard_code(text: &mut Vec<u8>, discard: Discard)
     put_code(text, discard.code());
 }
 
-/// Puts a number behind a text. The condition is room for three digits.
+/// Puts a number after a text. The condition is room for three digits.
 pub(crate) fn put_port(text: &mut Vec<u8>, port: u8)
     requires { vec_len text.old + 3 ≤ vec_capacity text.old }
     ensures items { text.new.items ≡ text.old.items ++ decimal port }
@@ -88,7 +88,7 @@ pub(crate) fn put_port(text: &mut Vec<u8>, port: u8)
     }
 }
 
-/// Puts the line of a reply behind a text: `PORT HEX EOP`, or `PORT -` where none is due and it has no bytes.
+/// Puts the line of a reply after a text: `PORT HEX EOP`, or `PORT -` if none is due and it has no bytes.
 fn put_reply(text: &mut Vec<u8>, port: u8, reply: &[u8])
     requires { vec_len text.old + (2 * length reply.now + 9) ≤ vec_capacity text.old }
     ensures { text.new.items ≡ text.old.items ++ reply_line port reply.now }
@@ -103,7 +103,7 @@ fn put_reply(text: &mut Vec<u8>, port: u8, reply: &[u8])
     put(text, b" EOP\n");
 }
 
-/// Puts the line of a packet that is discarded behind a text: `PORT discard C`. The condition is room for 14 bytes.
+/// Puts the line of a packet that is discarded after a text: `PORT discard C`. The condition is room for 14 bytes.
 fn put_discard(text: &mut Vec<u8>, port: u8, discard: Discard)
     requires { vec_len text.old + 14 ≤ vec_capacity text.old }
     ensures { text.new.items ≡ text.old.items ++ discard_line port discard }
@@ -113,8 +113,8 @@ fn put_discard(text: &mut Vec<u8>, port: u8, discard: Discard)
     put_discard_code(text, discard);
 }
 
-/// Puts the line of what became of a packet behind a text, with the reply that was due. Conditions: a reply that is no longer
-/// than any ([`MAX_REPLY`]), and room for the longest line ([`MOST_OF_PACKET`]).
+/// Puts the line of what became of a packet after a text, with the reply that was due. Conditions: a reply that is no
+/// longer than any ([`MAX_REPLY`]), and room for the longest line ([`MOST_OF_PACKET`]).
 pub fn put_served(text: &mut Vec<u8>, port: u8, served: Served, reply: &[u8])
     requires reply { length reply.now ≤ MAX_REPLY }
     requires room { vec_len text.old + MOST_OF_PACKET ≤ vec_capacity text.old }

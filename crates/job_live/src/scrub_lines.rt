@@ -13,7 +13,7 @@ pub const MOST_OF_SCRUB: usize = 28;
 /// How many bytes such a line has besides its last word: its first words, a slot of three digits, a space and the line feed.
 const BESIDE_STATE: usize = 19;
 
-/// Puts the line of a slot in such a state behind a text. The condition is room for it.
+/// Puts the line of a slot in such a state after a text. The condition is room for it.
 fn put_scrub(text: &mut Vec<u8>, slot: u8, state: &[u8])
     requires { vec_len text.old + (BESIDE_STATE + length state.now) ≤ vec_capacity text.old }
     ensures items { text.new.items ≡ text.old.items ++ scrub_line slot state.now }
@@ -27,8 +27,8 @@ fn put_scrub(text: &mut Vec<u8>, slot: u8, state: &[u8])
     put(text, b"\n");
 }
 
-/// Puts the line of what a scrub found behind a text: `journal scrub SLOT mended` or `journal scrub SLOT withdrawn`; nothing for a
-/// program that was whole. The condition is room for the longest ([`MOST_OF_SCRUB`]).
+/// Puts the line of what a scrub found after a text: `journal scrub SLOT mended` or `journal scrub SLOT withdrawn`. It
+/// puts nothing for a program that was whole. The condition is room for the longest ([`MOST_OF_SCRUB`]).
 #[tactic(auto, using(crate::proofs::PutText::none_more))]
 pub fn put_found(text: &mut Vec<u8>, found: Option<Found>)
     requires { vec_len text.old + MOST_OF_SCRUB ≤ vec_capacity text.old }

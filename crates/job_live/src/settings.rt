@@ -21,7 +21,7 @@ pub struct Setting {
     pub bytes: Vec<u8>,
 }
 
-/// The fault of a word that is not of so many hexadecimal digits.
+/// The fault of a word that does not have the right number of hexadecimal digits.
 const NOT_HEX: BadLine = BadLine::Line(LineFault::BadHex);
 
 /// The byte that two hexadecimal digits write.
@@ -67,10 +67,13 @@ fn setting_of(alloc: Global, extended: &str, address: &str, bytes: &str) -> Resu
 }
 
 /// What the words of a line that begins with `set` write: an extended address in two hexadecimal digits, an address in
-/// eight, and bytes in pairs of them.
+/// eight, and bytes in pairs of them. The condition is a line that asks for such a write
+/// ([`asked`](crate::asks::asked)).
 ///
-/// The faults are found in this order: `NoEvent` for another number of words, `BadHex` for a word that is no such digits.
-/// `Memory` where memory was refused. The condition is a line that asks for such a write ([`asked`](crate::asks::asked)).
+/// # Errors
+///
+/// In this order: `NoEvent` for another number of words, and `BadHex` for a word that is no such digits. `Memory` if
+/// memory was refused.
 pub fn read_setting(alloc: Global, words: &[&str]) -> Result<Setting, BadLine>
     requires { IsAsked (map (λ word. word.now) words.now) Set }
     ensures ok { IfOk result (WritesSetting (map (λ word. word.now) words.now)) }

@@ -72,6 +72,10 @@ fn print_entry<W: Write>(out: &mut W, entry: &Entry) -> io::Result<()>
 }
 
 /// Prints the entries of a journal, oldest first, and how many they are: `journal N entries`.
+///
+/// # Errors
+///
+/// The error of `out`, if it does not take all of the text.
 pub fn print_journal<W: Write>(out: &mut W, entries: &[Entry]) -> io::Result<()>
     ensures { OnOk result (Prints W.contents out.old out.new (journal_text entries.now)) }
 {

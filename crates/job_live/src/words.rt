@@ -17,7 +17,8 @@ use std::alloc::{AllocError, Global};
 pub struct LiveWords {
     /// Where the node comes from.
     pub node: NodeSource,
-    /// Before each packet of so many the program that judges it is scrubbed, if there is a number: 1 to 4,294,967,295.
+    /// If there is a number N, from 1 to 4,294,967,295, the program that judges a packet is scrubbed before each N-th
+    /// packet.
     pub scrub: Option<u32>,
     /// Whether each entry is handed out at once, before the answer to its packet.
     pub entries: bool,
@@ -25,8 +26,12 @@ pub struct LiveWords {
     pub frames: bool,
 }
 
-/// `live [--image FILE] [--maps LIST] [--ports N] [--scrub N] [--entries] [--frames]` or
-/// `live --node FILE [--scrub N] [--entries] [--frames]`.
+/// `live [--image FILE] [--maps LIST] [--ports N] [--scrub N] [--entries] [--frames]` or `live --node FILE [--scrub N]
+/// [--entries] [--frames]`.
+///
+/// # Errors
+///
+/// An error if memory is refused.
 pub fn live_command<'a>(alloc: Global) -> Result<Command<'a>, AllocError>
     ensures shape { IfOk result (λ c. app_of c ≡ live_app) }
     ensures local { IfOk result (λ c. (fields_of c).has_globals ≡ false) }
@@ -70,8 +75,12 @@ fn scrub_count(word: &str) -> Result<u32, UsageFault>
     }
 }
 
-/// Before each packet of how many a program is scrubbed, by `--scrub`: a decimal number from 1 to 4,294,967,295, and `None` without
-/// the option. `BadOption` if its value is none such.
+/// The N of `--scrub`: a program is scrubbed before each N-th packet. It is a decimal number from 1 to 4,294,967,295,
+/// and `None` without the option.
+///
+/// # Errors
+///
+/// `BadOption` if the value of the option is no such number.
 pub fn scrub_of(found: &ArgMatches) -> Result<Option<u32>, UsageFault>
     ensures ok { IfOk result
         (GivesScrub (first_of (codes "scrub") (rows_of (found_of found.now)))) }
@@ -83,7 +92,11 @@ pub fn scrub_of(found: &ArgMatches) -> Result<Option<u32>, UsageFault>
     }
 }
 
-/// The words of `live` with these matches. `BadOption` also where frames are to come at another number of ports than one.
+/// The words of `live` with these matches.
+///
+/// # Errors
+///
+/// Those of [`source_of`] and [`scrub_of`]. `BadOption` also if frames are to come at another number of ports than one.
 pub fn live_job(alloc: Global, found: &ArgMatches) -> Result<LiveWords, UsageFault>
     ensures ok { IfOk result (NamesLive (rows_of (found_of found.now))) }
     ensures err { IfErr result (RefusesLive (rows_of (found_of found.now))) }

@@ -1,3 +1,5 @@
+mod Digits
 pub mod Joined
+mod Rows
 pub mod Sizes
 pub mod Untold

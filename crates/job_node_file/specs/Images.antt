@@ -5,7 +5,7 @@ use Rattle.bver_form.specs.Targets.{AreKept, IsNumbered}
 use Rattle.bver.specs.Justified.{AcceptedValue}
 use Rattle.job_node_file.specs.declared.images.ImageSize.{ImageSize}
 
--- at so many slots the verifier keeps what is known: slot 0, and those to which the program jumps
+-- at this many slots the verifier keeps what is known: slot 0, and those to which the program jumps
 pub record HasEntries (p : Program) (count : ℕ) : Type 0 where
   pub marks : List Bool
   pub places : List ℕ
@@ -13,7 +13,7 @@ pub record HasEntries (p : Program) (count : ℕ) : Type 0 where
   pub kept : AreKept p marks
   pub numbered : IsNumbered marks places count
 
--- the program has so many slots, and so many of these
+-- the size is how many slots the program has, and at how many of them the verifier keeps what is known
 pub record IsSizeOf (p : Program) (size : ImageSize) : Type 0 where
   pub slots : size.slots ≡ length p.slots
   pub entries : HasEntries p size.entries

@@ -34,9 +34,10 @@ abbrev pub second_of_two : (table : Option InputValue) → (node : InputValue) �
 second_of_two None node = None
 second_of_two (Some table) node = Some node
 
--- the files that the job reads
+-- the file that the job reads first
 abbrev pub first_input : NodeFileWords → Option InputValue
 first_input words = first_of_two (table_input words) (input (string_bytes words.node) Node)
 
+-- the file that it reads second, if it reads two
 abbrev pub second_input : NodeFileWords → Option InputValue
 second_input words = second_of_two (table_input words) (input (string_bytes words.node) Node)

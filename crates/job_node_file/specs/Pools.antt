@@ -8,7 +8,7 @@ use Rattle.job_config.specs.OwnNodes.{OwnNodeValue}
 use Rattle.job_node_file.specs.Images.{AreLargest}
 use Rattle.job_node_file.specs.declared.images.ImageSize.{ImageSize}
 
--- a block of so many bytes: one unit is before it
+-- a block of this many bytes: one unit is before it
 abbrev pub block : (bytes : ℕ) → ℕ
 block bytes = (bytes + 15) / 16 + 1
 
@@ -49,7 +49,7 @@ cells_units maps =
 abbrev pub maps_units : Maps → ℕ
 maps_units maps = 2 * block (24 * length maps.cells) + cells_units maps.cells
 
--- what a slot keeps of a program of so many slots: its image, its regions, its operations, its record and its loops
+-- what a slot keeps of a program of this many slots: its image, its regions, its operations, its record and its loops
 abbrev pub kept_units : (slots : ℕ) → ℕ
 kept_units slots = block (32 * slots) + block (2 * slots) + block (16 * slots) + 15
 
@@ -58,8 +58,8 @@ abbrev pub programs_units : ImageSize → ℕ
 programs_units size =
     5 * kept_units size.slots + block size.slots + block (2 * size.slots) + block (1368 * size.entries)
 
--- the gaps that programs of several sizes leave if some are published: one as long as the longest list of a program, and some more for
--- each of up to eight publishes
+-- the gaps that programs of several sizes leave if some are published. One is as long as the longest list of a program,
+-- and there is some more for each of up to eight publishes
 abbrev pub gaps_units : (publishes : ℕ) → ImageSize → ℕ
 gaps_units publishes size = min publishes 1 * block (32 * size.slots) + min publishes 8 * block (4 * size.slots)
 

@@ -8,14 +8,13 @@ use Rattle.job_config.specs.Reads.{ReadsNoNode, ReadsNode}
 use Rattle.job_parts.specs.Files.{Reads}
 use Rattle.job_parts.specs.declared.faults.Fault.{Fault}
 use Rattle.job_parts.specs.declared.faults.Fault.TheVariants.{NoMemory}
-use Rattle.job_node_file.specs.Pools.{IsPool}
-use Rattle.job_node_file.specs.Quotas.{AreAsked, AreNotAsked, ReadsAsked, ReadsNotAsked, header_end, lines_asked}
+use Rattle.job_node_file.specs.Headers.{IsHeader}
+use Rattle.job_node_file.specs.Quotas.{AreAsked, AreNotAsked, ReadsAsked, ReadsNotAsked, lines_asked}
 use Rattle.job_node_file.specs.declared.node_file.NodeFileWords.{NodeFileWords}
 
--- the text of a node ends so: a header in the bytes of its pool and the quotas of its table, lines in these quotas
+-- the text of a node: its header is exactly that of the node, and its lines end in the quotas of its table
 abbrev pub HasEnd : (header : Bool) → OwnNodeValue → AcceptedValue → Option (List Quota) → (text : List ℕ) → Type 0
-HasEnd true own program quotas text =
-    (begun : List ℕ) × (pool : ℕ) × IsPool own program pool × (text ≡ begun ++ header_end pool quotas)
+HasEnd true own program quotas text = IsHeader own program quotas text
 HasEnd false own program quotas text = (begun : List ℕ) × (text ≡ begun ++ lines_asked quotas)
 
 -- the name of the table's file, if there is one
@@ -23,8 +22,8 @@ abbrev pub table_of : NodeFileWords → Option (List ℕ)
 table_of words = option_map string_bytes words.table
 
 module _ {S : Type 0} (reads : Reads S) where
-  -- the table that is named was read, the node's file is that of a node and of a program, the table is one that it flies, and a text was
-  -- printed that ends in what is reckoned of them
+  -- the table that is named was read, the node's file is that of a node and of a program, and the node flies the table.
+  -- A text was printed that ends in what is reckoned of them
   pub record PrintsNodeFile (words : NodeFileWords) (before after : S) (old new : Option (List ℕ)) : Type 0 where
     pub own : OwnNodeValue
     pub program : AcceptedValue

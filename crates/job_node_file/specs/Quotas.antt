@@ -141,6 +141,7 @@ abbrev pub c_asked : Option (List Quota) → List ℕ
 c_asked None = []
 c_asked (Some quotas) = c_quotas quotas
 
+-- the lines of the quotas of a table, if one was named
 abbrev pub lines_asked : Option (List Quota) → List ℕ
 lines_asked None = []
 lines_asked (Some quotas) = flat_map quota_line quotas

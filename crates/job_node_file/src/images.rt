@@ -55,6 +55,10 @@ fn size_of_publish(alloc: Global, publish: &(u8, Accepted)) -> Result<ImageSize,
 }
 
 /// The most slots of the program and of the programs that are published, and the most at which the verifier keeps what is known.
+///
+/// # Errors
+///
+/// An error if memory is refused.
 pub fn largest(
     alloc: Global,
     program: &Accepted,

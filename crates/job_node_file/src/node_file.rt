@@ -4,16 +4,15 @@ ghost use Rattle.std.specs.Prelude.{◌≡◌, ◌++◌, ℕ, List, IfErr, IfOk,
 ghost use Rattle.clap.specs.Walk.{first_of};
 ghost use Rattle.job_parts.specs.Matched.{app_of, fields_of, found_of, rows_of};
 ghost use Rattle.job_node_file.specs.NodeFileJob.{NamesNodeFile, first_input, node_file_app, second_input};
-ghost use Rattle.job_node_file.specs.Pools.{IsPool};
 ghost use Rattle.job_node_file.specs.Printed.{HasEnd, IsNotTold, PrintsNodeFile};
-ghost use Rattle.job_node_file.specs.Quotas.{header_end, lines_asked};
+ghost use Rattle.job_node_file.specs.Quotas.{lines_asked};
 ghost use Rattle.job_parts.specs.Arguments.{Lacks};
 ghost use Rattle.job_parts.specs.Statuses.{IsDoneWith};
 ghost use Rattle.job_parts.specs.Stops.{StopsBy};
 ghost use Rattle.job_parts.specs.Inputs.{AreInputs};
 
-use crate::pool::pool_of;
-use crate::quotas::{add_header_end, add_quota_lines, asked_quotas, asked_text};
+use crate::header::whole_header;
+use crate::quotas::{add_quota_lines, asked_quotas, asked_text};
 use bver::Accepted;
 use clap::{ArgMatches, Command};
 use job_config::own_node::OwnNode;
@@ -31,147 +30,8 @@ use policy_table::Quota;
 use std::alloc::{AllocError, Global};
 use std::io::Write;
 
-/// How many bytes stand in a row.
-const ROW: usize = 16;
-
-/// Adds a byte, `0xHH,`, and behind it a line feed where its row ends, and else a space.
-fn add_byte(text: &mut String, byte: u8, ends: bool) -> Result<(), AllocError> {
-    let behind = if ends { '\n' } else { ' ' };
-    write!(text, "0x{byte:02X},{behind}")
-}
-
-/// Adds the bytes of an array, 16 in a row, and its end. An array of C is not empty: no bytes are a zero.
-fn add_c_bytes(text: &mut String, bytes: &[u8]) -> Result<(), AllocError> {
-    if bytes.is_empty() {
-        text.push_str("0\n")?;
-    }
-    for place in 0..bytes.len() {
-        let ends = place % ROW == ROW - 1 || place + 1 == bytes.len();
-        add_byte(text, bytes[place], ends)?;
-    }
-    text.push_str("};\n")
-}
-
-/// What stands before all else.
-const HEAD: &str = "\
-/* Made by rmapctl node --c. */
-#ifndef NODE_FILE_H
-#define NODE_FILE_H
-
-#include <sandbarstove.h>
-
-";
-
-/// Adds the address of the node, and how many ports, banks, maps and publishes it has.
-fn add_c_numbers(text: &mut String, node: &OwnNode) -> Result<(), AllocError> {
-    let (address, ports, banks) = (node.address(), node.ports(), node.banks().len());
-    let (maps, publishes) = (node.sizes().maps(), node.publishes().len());
-    write!(
-        text,
-        "#define NODE_ADDRESS 0x{address:02X}\n#define NODE_PORTS {ports}\n#define NODE_BANKS {banks}\n"
-    )?;
-    write!(
-        text,
-        "#define NODE_MAPS {maps}\n#define NODE_PUBLISHES {publishes}\n"
-    )
-}
-
-/// Adds the banks, by their extended address.
-fn add_c_banks(text: &mut String, banks: &[BankConfig]) -> Result<(), AllocError> {
-    text.push_str("\nstatic const struct sandbar_bank node_banks[] = {\n")?;
-    for bank in banks {
-        let (base, size, room) = (bank.base, bank.size, bank.room);
-        writeln!(text, "  {{0x{base:08X}u, {size}u, {room}u}},")?;
-    }
-    text.push_str("};\n")
-}
-
-/// Adds the maps; one without cells where there is none, since an array of C is not empty.
-fn add_c_maps(text: &mut String, sizes: &MapSizes) -> Result<(), AllocError> {
-    text.push_str("\nstatic const struct sandbar_map node_maps[] = {\n")?;
-    for map in 0..sizes.maps() {
-        let cells = sizes.cells(map).unwrap_or(0);
-        let peak = match sizes.kind(map) {
-            Some(MapKind::Peak) => 1,
-            Some(MapKind::Counter) | None => 0,
-        };
-        writeln!(text, "  {{{cells}, {peak}}},")?;
-    }
-    if sizes.maps() == 0 {
-        text.push_str("  {0, 0},\n")?;
-    }
-    text.push_str("};\n")
-}
-
-/// Adds the bytes that banks begin with, and a row for each bank.
-fn add_contents(text: &mut String, node: &OwnNode) -> Result<(), AllocError> {
-    let contents = node.contents();
-    for place in 0..contents.len() {
-        writeln!(text, "\nstatic const uint8_t node_contents_{place}[] = {{")?;
-        add_c_bytes(text, contents[place].bytes())?;
-    }
-    text.push_str("\nstatic const struct { const uint8_t *bytes; size_t length; } ")?;
-    text.push_str("node_contents[] = {\n")?;
-    for place in 0..contents.len() {
-        let count = contents[place].bytes().len();
-        writeln!(text, "  {{node_contents_{place}, {count}}},")?;
-    }
-    text.push_str("};\n")
-}
-
-/// Adds the images that are published, and a row for each publish.
-fn add_publishes(text: &mut String, node: &OwnNode) -> Result<(), AllocError> {
-    let publishes = node.publishes();
-    for place in 0..publishes.len() {
-        let image = publishes[place].1.image().write()?;
-        writeln!(text, "\nstatic const uint8_t node_publish_{place}[] = {{")?;
-        add_c_bytes(text, image.as_slice())?;
-    }
-    text.push_str("\nstatic const struct { uint8_t slot; const uint8_t *image; ")?;
-    text.push_str("size_t length; } node_publishes[] = {\n")?;
-    for place in 0..publishes.len() {
-        let (slot, image) = (publishes[place].0, publishes[place].1.image().write()?);
-        let count = image.len();
-        writeln!(text, "  {{{slot}, node_publish_{place}, {count}}},")?;
-    }
-    if publishes.is_empty() {
-        text.push_str("  {0, 0, 0},\n")?;
-    }
-    text.push_str("};\n")
-}
-
-/// The header of a node up to its end, with the image that judges in all slots at first.
-fn header_text(alloc: Global, node: &OwnNode, program: &Accepted) -> Result<String, AllocError> {
-    let image = program.image().write()?;
-    let mut text = String::from_str(alloc, HEAD)?;
-    add_c_numbers(&mut text, node)?;
-    add_c_banks(&mut text, node.banks())?;
-    add_c_maps(&mut text, &node.sizes())?;
-    text.push_str("\nstatic const uint8_t node_image[] = {\n")?;
-    add_c_bytes(&mut text, image.as_slice())?;
-    add_contents(&mut text, node)?;
-    add_publishes(&mut text, node)?;
-    Ok(text)
-}
-
-/// The header of a node, with the bytes of its pool and the quotas of its table.
-fn whole_header(
-    alloc: Global,
-    node: &OwnNode,
-    program: &Accepted,
-    quotas: &Option<Vec<Quota>>,
-) -> Result<String, AllocError>
-    ensures { IfOk result (λ text. (begun : List ℕ) × (pool : ℕ) × IsPool node.now program.now pool
-        × (string_bytes text ≡ begun ++ header_end pool (option_map (λ q. q.items) quotas.now))) }
-{
-    let mut text = header_text(alloc, node, program)?;
-    let pool = pool_of(alloc, node, program)?;
-    add_header_end(&mut text, pool, quotas)?;
-    Ok(text)
-}
-
-/// Adds where a bank lies, and what its journal has room for: `bank EXTENDED FIRST LAST size N journal N`, and `contents N`
-/// behind that where it begins with bytes.
+/// Adds where a bank is, and what its journal has room for: `bank EXTENDED FIRST LAST size N journal N`. If the bank
+/// begins with bytes, `contents N` comes after that.
 fn add_bank(
     text: &mut String,
     number: u8,
@@ -200,7 +60,8 @@ fn add_banks(text: &mut String, node: &OwnNode) -> Result<(), AllocError> {
     Ok(())
 }
 
-/// Adds how many cells each map has, a line each: `map N cells N`, and `peak` behind that of a map of the greatest numbers.
+/// Adds how many cells each map has, a line each: `map N cells N`. For a map of the greatest numbers, `peak` comes
+/// after that.
 fn add_maps(text: &mut String, sizes: &MapSizes) -> Result<(), AllocError> {
     for map in 0..sizes.maps() {
         let cells = sizes.cells(map).unwrap_or(0);
@@ -223,8 +84,8 @@ fn add_publish(
     writeln!(text, "publish {generation} slot {slot} weight {weight}")
 }
 
-/// The lines of a node: its logical address, how many ports it has, its banks and maps, what the program costs at most that judges
-/// at first, and the programs that are published before the first packet.
+/// The lines of a node: its logical address, how many ports it has, and its banks and maps. Then come what the program
+/// that judges at first costs at most, and the programs that are published before the first packet.
 fn node_text(alloc: Global, node: &OwnNode, program: &Accepted) -> Result<String, AllocError> {
     let mut text = String::new(alloc);
     let (address, ports) = (node.address(), node.ports());
@@ -286,7 +147,7 @@ pub struct NodeFileWords {
 }
 
 impl NodeFileWords {
-    /// What the job reads: the table, if one is named, and then the node's file; files beside the node's are named there.
+    /// What the job reads: the table, if one is named, and then the node's file. The node's file names the other files.
     pub fn inputs(&self) -> Inputs<'_>
         ensures { AreInputs (first_input self.now) (second_input self.now) None result }
     {
@@ -302,6 +163,10 @@ impl NodeFileWords {
 }
 
 /// `node FILE [--c] [--table TABLE]`.
+///
+/// # Errors
+///
+/// An error if memory is refused.
 pub fn node_file_command<'a>(alloc: Global) -> Result<Command<'a>, AllocError>
     ensures shape { IfOk result (λ c. app_of c ≡ node_file_app) }
     ensures local { IfOk result (λ c. (fields_of c).has_globals ≡ false) }
@@ -320,7 +185,7 @@ pub fn node_file_command<'a>(alloc: Global) -> Result<Command<'a>, AllocError>
         .arg(table)
 }
 
-/// The name of the file of the table by `--table`, where the option is given.
+/// The name of the file of the table by `--table`, if the option is given.
 fn table_of(alloc: Global, found: &ArgMatches) -> Result<Option<String>, AllocError>
     ensures { IfOk result (λ table. first_of (codes "table") (rows_of (found_of found.now))
         ≡ option_map string_bytes table) }
@@ -332,6 +197,10 @@ fn table_of(alloc: Global, found: &ArgMatches) -> Result<Option<String>, AllocEr
 }
 
 /// The words of `node` with these matches.
+///
+/// # Errors
+///
+/// `BadOption` if the matches name no node's file, or `Memory` if memory is refused.
 pub fn node_file_job(alloc: Global, found: &ArgMatches) -> Result<NodeFileWords, UsageFault>
     ensures ok { IfOk result (NamesNodeFile (rows_of (found_of found.now))) }
     ensures err { IfErr result (Lacks (codes "node") (rows_of (found_of found.now))) }
@@ -346,10 +215,13 @@ pub fn node_file_job(alloc: Global, found: &ArgMatches) -> Result<NodeFileWords,
     })
 }
 
-/// Prints the node of a node's file: its lines, or a header of C; with the limits of the quotas of the table that is named. Nothing is
-/// printed of a file with a fault.
+/// Prints the node of a node's file: its lines, or a header of C, with the limits of the quotas of the table that is
+/// named. Nothing is printed of a file with a fault.
 ///
-/// Faults are those of [`asked_text`], then those of [`node_in`], and then those of [`asked_quotas`].
+/// # Errors
+///
+/// Those of [`asked_text`], then those of [`node_in`], and then those of [`asked_quotas`]. Then `NoMemory` if memory is
+/// refused to the text, or the error of `out`.
 pub fn print_node_file<'a, F: Files, W: Write>(
     alloc: Global,
     words: &'a NodeFileWords,

@@ -1,4 +1,5 @@
-//! The least pool of a node: how many bytes of memory it needs in a C program, so that no packet and no load is refused it.
+//! The least pool of a node: how many bytes of memory it needs in a C program. With these, memory is refused to no
+//! packet and no load.
 
 ghost use Rattle.std.specs.Prelude.{◌≡◌, ◌≤◌, ◌<◌, ◌^◌, ◌*◌, IfOk, length};
 ghost use Rattle.job_node_file.specs.Pools.{IsPool, bank_units, banks_units, block, cells_units, gaps_units, journal_units, kept_units, map_units, maps_units, memory_units, node_units, ports_units, programs_units};
@@ -13,7 +14,7 @@ use std::alloc::{AllocError, Global};
 /// How many bytes a block of a bank's memory has.
 const PAGE: u32 = 4096;
 
-/// The units of a block of so many bytes: 16 bytes each, and one before it.
+/// The units of a block of this many bytes: 16 bytes each, and one before it.
 fn block(bytes: u64) -> u64
     requires { bytes < 2 ^ 48 }
     ensures { result ≡ block bytes }
@@ -21,7 +22,7 @@ fn block(bytes: u64) -> u64
     (bytes + 15) / 16 + 1
 }
 
-/// The units of the memory of a bank of so many bytes, once.
+/// The units of the memory of a bank of this many bytes, once.
 fn memory_units(size: u32) -> u64
     ensures units { result ≡ memory_units size }
     ensures few { result < 2 ^ 30 }
@@ -29,7 +30,7 @@ fn memory_units(size: u32) -> u64
     263 * u64::from(size / PAGE) + block(u64::from(size % PAGE)) + 13
 }
 
-/// The units of a journal with room for so many entries, each with the longest packet.
+/// The units of a journal with room for this many entries, each with the longest packet.
 fn journal_units(room: u32) -> u64
     ensures units { result ≡ journal_units room }
     ensures few { result < 2 ^ 42 }
@@ -63,7 +64,7 @@ fn banks_units(ports: u8, banks: &[BankConfig]) -> u64
     units
 }
 
-/// The units of so many ports, at so many banks.
+/// The units of this many ports, at this many banks.
 fn ports_units(ports: u8, banks: usize) -> u64
     requires { banks ≤ 8 }
     ensures units { result ≡ ports_units ports banks }
@@ -108,7 +109,7 @@ fn maps_units(sizes: &MapSizes) -> u64
     2 * block(24 * maps) + cells_units(sizes)
 }
 
-/// The units of what a slot keeps of a program of so many slots.
+/// The units of what a slot keeps of a program of this many slots.
 fn kept_units(slots: u64) -> u64
     requires { slots < 2 ^ 16 }
     ensures units { result ≡ kept_units slots }
@@ -149,8 +150,12 @@ fn node_bytes(node: &OwnNode, size: ImageSize) -> u64
     16 * units
 }
 
-/// How many bytes the pool of a node has, of which no packet and no load is refused memory: each journal is full of the longest
-/// packets there are, and in each slot is a program as large as the largest of its file.
+/// How many bytes the pool of a node has, so that memory is refused to no packet and no load. Then each journal may be
+/// full of the longest packets there are. In each slot may be a program as large as the largest of its file.
+///
+/// # Errors
+///
+/// An error if memory is refused.
 pub fn pool_of(alloc: Global, node: &OwnNode, program: &Accepted) -> Result<u64, AllocError>
     ensures { IfOk result (IsPool node.now program.now) }
 {

@@ -115,7 +115,9 @@ fn quotas_of<'a>(
 
 /// The text of the file of the table that is named, if one is.
 ///
-/// The fault is `CannotRead`, also where the file is not UTF-8.
+/// # Errors
+///
+/// `CannotRead` if the file cannot be read, or is not UTF-8.
 pub fn asked_text<'a, F: Files>(
     alloc: Global,
     files: &mut F,
@@ -132,11 +134,13 @@ pub fn asked_text<'a, F: Files>(
     }
 }
 
-/// The quotas of the table that a text writes, if there is one, and a node flies: its own program or a publish is the image to which the
-/// table compiles on the node's maps.
+/// The quotas of the table that a text writes, if there is one, and a node flies. The node flies the table if its own
+/// program or a publish is the image to which the table compiles on the node's maps.
 ///
-/// Faults: the table (`BadTable`, also where memory is refused to it or to its image), and `BadNode` of the program where the node's
-/// file names no such image.
+/// # Errors
+///
+/// `BadTable` for the table, also if memory is refused to it or to its image. `BadNode` of the program if the node's
+/// file names no such image. `NoMemory` if memory is refused after the table.
 pub fn asked_quotas<'a>(
     alloc: Global,
     text: Option<&str>,
@@ -167,6 +171,10 @@ fn add_lines(text: &mut String, quotas: &[Quota]) -> Result<(), AllocError>
 }
 
 /// Adds the lines of the quotas of a table, if one was named.
+///
+/// # Errors
+///
+/// An error if memory is refused.
 pub fn add_quota_lines(text: &mut String, quotas: &Option<Vec<Quota>>) -> Result<(), AllocError>
     ensures { OnOk result (string_bytes text.new
         ≡ string_bytes text.old ++ lines_asked (option_map (λ q. q.items) quotas.now)) }
@@ -235,6 +243,10 @@ fn add_c_asked(text: &mut String, quotas: &Option<Vec<Quota>>) -> Result<(), All
 }
 
 /// Adds the end of a header: the bytes of the pool, and the quotas.
+///
+/// # Errors
+///
+/// An error if memory is refused.
 pub fn add_header_end(
     text: &mut String,
     pool: u64,

@@ -1,4 +1,4 @@
--- The banks of a node, and its ports, before and behind a packet and a journal that is handed out.
+-- The banks of a node, and its ports, before and after a packet and a journal that is handed out.
 use Rattle.std.proofs.Common.{◌≡◌, ◌<◌, ◌≤◌, ℕ, zero, suc, Bool, true, false, List, ◌∷◌, [], length, Some, None, set, refl, sym, ap, subst, arith, ◌∙◌}
 use Rattle.std.specs.Prelude.{◌&&◌, not, nat_le, map, slice_get, if◌then◌else◌}
 use Rattle.std.specs.Cmp.Derive.{both_true}
@@ -37,7 +37,7 @@ by_room false b share judged = refl
 rooms_stay : (banks : List BankValue) (k : ℕ) (b new : BankValue) → slice_get banks k ≡ Some b → room new ≡ room b → rooms_of (set banks k new) ≡ rooms_of banks
 rooms_stay banks k b new at same = map-set_same room banks k new b (same ∙ ap room (sym (get_or_from_slice_get banks k b b at)))
 
--- the banks behind a packet
+-- the banks after a packet
 pub answered_rooms : (served : Served) (p : Cargo) (old new : PartsValue) (h after : PassValue) (reply : List ℕ) → IsAnswered served p old new h after reply
     → rooms_of new.banks ≡ rooms_of old.banks
 answered_rooms (Stopped stop) p old new h after reply s = ap (λ (x : PartsValue). rooms_of x.banks) s.1.node
@@ -97,7 +97,7 @@ some_room [] k rooms low = absurd (omega (arith, low))
 some_room (b ∷ banks) zero rooms low = leb-true 1 (room b) (and_parts _ _ rooms).0
 some_room (b ∷ banks) (suc k) rooms low = some_room banks k (and_parts _ _ rooms).1 (omega (arith, low))
 
--- bytes that lie in a bank lie in one that is there
+-- bytes that are in a bank are in one that is there
 pub covered_bank : (banks : List BankValue) (k address count : ℕ) → covers_in (slice_get banks k) address count ≡ true → k < length banks
 covered_bank [] k address count inside = absurd cc
 covered_bank (b ∷ banks) zero address count inside = omega arith

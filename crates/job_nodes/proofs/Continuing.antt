@@ -1,4 +1,4 @@
--- Pieces that a port takes, as they stand when it took them: its number is the place of its feed among all.
+-- Pieces that a port takes, as they are when it took them: its number is the place of its feed among all.
 use Rattle.std.proofs.Common.{◌≡◌, ◌<◌, ◌≤◌, ◌+◌, ℕ, List, [], ◌++◌, length, get_or, Option, Some, None, refl, sym, ap, subst, arith, ◌∙◌, inr}
 use Rattle.std.specs.Prelude.{slice_get, slice_set}
 use Rattle.std.proofs.Math.Nat.{lt_of_not-le}

@@ -1,4 +1,4 @@
--- The world of a configuration behind no event.
+-- The world of a configuration after no event.
 use Rattle.std.proofs.Common.{◌≡◌, List, ℕ, map, refl, subst}
 use Rattle.bpf.specs.Program.{Program}
 use Rattle.bver.specs.Justified.{AcceptedValue}

@@ -57,7 +57,7 @@ filled_few own program node publishes filled is few =
     let count : length publishes ≡ length own.publishes = ap length is in
     omega (arith, one, count, few)
 
--- one publish more, behind the others
+-- one publish more, after the others
 pub publishes_behind : (node : JobNodeValue) (publishes : List (ℕ × AcceptedValue)) (slot : ℕ) (program : AcceptedValue)
     → with_publishes node (publishes ++ (slot, program) ∷ []) ≡ with_publish (with_publishes node publishes) slot program
 publishes_behind node [] slot program = refl

@@ -19,7 +19,7 @@ use Rattle.job_parts.specs.declared.options.NodeWords.{NodeWords}
 pub regroup : (a b c : List ℕ) → (a ++ b) ++ c ≡ a ++ (b ++ c)
 regroup a b c = simp append_assoc
 
--- what was printed before and behind
+-- what was printed before and after
 pub appends_both : (old mid new : Option (List ℕ)) (front back : List ℕ) → Appends old mid front → Appends mid new back → Appends old new (front ++ back)
 appends_both None mid new front back one two = tt
 appends_both (Some xs) None new front back one two = absurd one
@@ -32,7 +32,7 @@ pub appends_nothing : (old : Option (List ℕ)) → Appends old old []
 appends_nothing None = tt
 appends_nothing (Some xs) = sym (append-nil xs)
 
--- lines that the world took in turn are simulated behind each history of which it was the world
+-- lines that the world took in turn are simulated after each history whose world it was
 pub simulates_from : (n : Node) (h : History) (lines : List (List ℕ)) (before after : WorldValue) (old new : Option (List ℕ))
     → IsLawfulWorld n h before → AreTaken Steps lines before after old new → SimulatesFrom n h lines after old new
 simulates_from n h [] before after old new lawful all = record {

@@ -1,4 +1,4 @@
--- Where the schedules of a node begin: behind no event.
+-- Where the schedules of a node begin: after no event.
 use Rattle.std.specs.Prelude.{◌≡◌, ◌⊎◌, ℕ, List, [], ◌∷◌, ◌++◌, map, Option, None, Some, MatchOption, codes, string_bytes}
 use Rattle.std.specs.Io.KnownBytes.{Appends}
 use Rattle.std.specs.List.{All}
@@ -48,11 +48,11 @@ own_schedule own program = record {
 
 -- ---- from words or a file
 
--- no bank begins with other bytes than zeros, which nothing has to say
+-- each bank begins with zeros, for which no bytes are given
 abbrev pub AreEmpty : List (List ℕ) → Type 0
 AreEmpty contents = All (λ (bytes : List ℕ). bytes ≡ []) contents
 
--- the world is that of a node behind no event, of which that is said
+-- the world is that of a node with this property, after no event
 pub record IsBegun (begins : Node → Type 0) (world : WorldValue) : Type 0 where
   pub node : Node
   pub begun : begins node
@@ -81,7 +81,7 @@ module _ {S : Type 0} (reads : Reads S) where
   BeginsAt (Words words) before n after = IsPlainBeginning words before n after
   BeginsAt (File name) before n after = IsFileBeginning (string_bytes name) before n after
 
-  -- the world is that of such a node behind no event
+  -- the world is that of such a node after no event
   abbrev pub HoldsWorld : NodeSource → (before : S) → WorldValue → (after : S) → Type 0
   HoldsWorld source before world after =
       IsBegun (λ (n : Node). BeginsAt source before n after) world
@@ -111,8 +111,8 @@ module _ {S : Type 0} (reads : Reads S) where
 -- ---- with the lines of a schedule
 
 module _ {S : Type 0} (reads : Reads S) (args : NodeLines) where
-  -- the text is that of the file of lines, which is UTF-8, and behind it the world of these arguments was made; or there is
-  -- none, since a bank begins with bytes
+  -- the text is that of the file of lines, which is UTF-8, and after it the world of these arguments was made. Or there
+  -- is none, since a bank begins with bytes
   pub record GivesSchedule (before : S) (text : List ℕ) (made : Option WorldValue) (after : S) : Type 0 where
     pub between : S
     pub read : reads before (string_bytes args.lines) (Some text) between

@@ -10,7 +10,7 @@ use Rattle.sched.specs.declared.event.Event.TheVariants.{Take, Count, Ticket, Pe
 use Rattle.job_parts.specs.declared.bad_lines.BadLine.{BadLine}
 use Rattle.job_parts.specs.declared.bad_lines.BadLine.TheVariants.{Line, NoPort as NoSuchPort, NoEvent, NoRoom}
 
--- the first word of the line is this one, and behind it stand the words of the text
+-- the first word of the line is this one, and the words of the text come after it
 abbrev pub Begins : (word line text : List ℕ) → Type 0
 Begins word line text = words_of line ≡ word ∷ words_of text
 
@@ -42,11 +42,11 @@ IsTakeLine text (Peak port) = ⊥
 IsTakeLine text (Effect port) = ⊥
 IsTakeLine text (Publish port) = ⊥
 
--- the line is this word, and behind it a port alone
+-- the line is this word, and after it only a port
 abbrev pub IsPortLine : (word line : List ℕ) → ℕ → Type 0
 IsPortLine word line port = (text : List ℕ) × Begins word line text × WritesLonePort text port
 
--- the line writes the event: the word of the event, and behind it a packet line or a port
+-- the line writes the event: the word of the event, and after it a packet line or a port
 abbrev pub IsEventLine : List ℕ → Event → Type 0
 IsEventLine line (Take port packet) =
     (text : List ℕ) × Begins (codes "take") line text × IsTakeLine text (Take port packet)
@@ -67,7 +67,7 @@ IsNoTake text NoSuchPort = ⊥
 IsNoTake text NoEvent = ⊥
 IsNoTake text NoRoom = ⊥
 
--- why a text is no port alone: its first word is none, there are more words, or memory was refused
+-- why a text is not one port: its first word is none, there are more words, or memory was refused
 abbrev pub IsNoLonePort : List ℕ → BadLine → Type 0
 IsNoLonePort text (Line NoPort) = ¬ HasPort text
 IsNoLonePort text (Line BadHex) = ⊥
@@ -78,11 +78,11 @@ IsNoLonePort text NoSuchPort = ⊥
 IsNoLonePort text NoEvent = HasMoreWords text
 IsNoLonePort text NoRoom = ⊥
 
--- the line is of an event that takes a packet, and the packet line behind the word has this fault
+-- the line is of an event that takes a packet, and the packet line after the word has this fault
 abbrev pub IsBadTake : List ℕ → LineFault → Type 0
 IsBadTake line fault = (text : List ℕ) × Begins (codes "take") line text × HasFault marker_word text fault
 
--- the first word is that of an event, and behind it stand the words of the text
+-- the first word is that of an event, and the words of the text come after it
 abbrev pub IsOfEvent : (line text : List ℕ) → Type 0
 IsOfEvent line text = (word : List ℕ) × IsEventWord word × Begins word line text
 
@@ -102,14 +102,14 @@ IsNoEvent line NoSuchPort = ⊥
 IsNoEvent line NoEvent = ((text : List ℕ) → ¬ IsOfEvent line text) ⊎ HasTooMany line
 IsNoEvent line NoRoom = ⊥
 
--- the line writes the event, at one of so many ports
+-- the line writes the event, at one of this many ports
 abbrev pub IsEventOf : (ports : ℕ) → List ℕ → Event → Type 0
 IsEventOf ports line event = IsEventLine line event × (port_of event < ports)
 
--- the line writes an event at a port that is none of so many
+-- the line writes an event at a port that is none of this many
 abbrev pub HasOtherPort : (ports : ℕ) → List ℕ → Type 0
 HasOtherPort ports line = (event : Event) × IsEventLine line event × (ports ≤ port_of event)
 
--- the line writes no event at one of so many ports, and this is what is wrong with it
+-- the line writes no event at one of this many ports, and this is what is wrong with it
 abbrev pub IsBadEvent : (ports : ℕ) → List ℕ → BadLine → Type 0
 IsBadEvent ports line fault = IsNoEvent line fault ⊎ ((fault ≡ NoSuchPort) × HasOtherPort ports line)

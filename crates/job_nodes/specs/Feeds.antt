@@ -35,8 +35,8 @@ Overfills line held =
     (port : ℕ) × (bytes : List ℕ) × (mark : Option End) × Continues line held port bytes mark
     × (MAX_PACKET < length bytes)
 
--- why a piece ends no packet, of what its port held before, the piece, and what it holds after: they are too long for a
--- packet, and what was held stays; or memory was refused, and all of the bytes are held
+-- why a piece ends no packet, by what its port held before, the piece, and what it holds after. They are too long for a
+-- packet, and what was held stays. Or memory was refused, and all of the bytes are held
 abbrev pub IsUnended : (before piece after : List ℕ) → LineFault → Type 0
 IsUnended before piece after NoPort = ⊥
 IsUnended before piece after BadMarker = ⊥
@@ -60,8 +60,8 @@ pub record HasNoPort (line : List ℕ) (held : List (List ℕ)) : Type 0 where
   pub short : length piece ≤ MAX_PACKET
   pub other : length held ≤ port
 
--- why a line brings nothing: it has a fault, its piece is too long for its port, or memory was refused; what is
--- held is as before, but where the packet has all of its bytes
+-- why a line brings nothing: it has a fault, its piece is too long for its port, or memory was refused. What is held is
+-- as before, except if memory was refused to a packet that ends: its port then holds all of its bytes
 abbrev pub IsNotRead : List ℕ → (before after : List (List ℕ)) → LineFault → Type 0
 IsNotRead line before after NoPort = HasFault mark_word line NoPort × (after ≡ before)
 IsNotRead line before after BadMarker = HasFault mark_word line BadMarker × (after ≡ before)

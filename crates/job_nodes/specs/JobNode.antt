@@ -21,8 +21,8 @@ pub use Rattle.job_config.specs.OwnNodes.{own_bank}
 use Rattle.job_config.specs.declared.own_node.TheConstants.{NODE_ADDRESS}
 use Rattle.job_parts.specs.declared.bad_lines.BadLine.{BadLine}
 
--- the node's banks, the words of its cells, the programs that were published of it, what each port has of it, the bytes
--- that each port holds of a packet that has not ended, and the reply to the last packet
+-- the parts of the node: its banks, the words of its cells, the programs that were published of it, and what each port
+-- has of it. Then the bytes that each port holds of a packet that has not ended, and the reply to the last packet
 pub record JobNodeValue : Type 0 where
   pub banks : List BankValue
   pub words : List (List ℕ)
@@ -47,25 +47,25 @@ pub record IsJobNode (s : JobNodeValue) : Type 0 where
   pub rooms : list_all (λ room. nat_le 1 room) (rooms_of s.banks) ≡ true
   pub ports : length s.held ≡ length s.passes
 
--- the configuration of the node with so many ports, and maps of these sizes
+-- the configuration of the node with this many ports, and maps of these sizes
 pub record IsConfig (ports : ℕ) (sizes : Maps) (config : NodeConfig) : Type 0 where
   pub address : config.address ≡ NODE_ADDRESS
   pub ports_are : config.ports ≡ ports
   pub banks : config.banks.now ≡ own_bank ∷ []
   pub sizes_are : config.sizes ≡ sizes
 
--- a fresh node of that configuration, with cells of 0, at each of whose ports the program judges, and which hold nothing
+-- a fresh node of that configuration, with cells of 0: the program judges at each of its ports, which hold nothing
 abbrev pub IsFreshOf : NodeConfig → AcceptedValue → JobNodeValue → Type 0
 IsFreshOf config program node =
     node
     ≡ job_node (fresh_banks config) (zero_words program.sizes) (first_programs program)
     (all_first_passes config program gnil) (replicate config.ports []) []
 
--- what each of so many ports has of a fresh node at first, with seats at those cells
+-- what each of this many ports has of a fresh node at first, with seats at those cells
 abbrev pub first_passes : (ports : ℕ) → AcceptedValue → (home : Gv) → List PassValue
 first_passes ports program home = map (first_pass NODE_ADDRESS (own_bank ∷ []) program home) (range_with_len 0 ports)
 
--- the same of the node with so many ports that has logical address FE and that one bank
+-- the same of the node with this many ports that has logical address FE and that one bank
 abbrev pub IsFresh : (ports : ℕ) → AcceptedValue → JobNodeValue → Type 0
 IsFresh ports program node =
     node
@@ -76,8 +76,8 @@ IsFresh ports program node =
 abbrev pub alone : JobNodeValue → SingleNodeValue
 alone s = single_node s.banks s.words s.programs s.passes
 
--- this became of the packet that came in at the port, by the last program that was published for its slot; the node
--- has the reply that is due, and no other port changed
+-- this became of the packet that came in at the port, by the last program that was published for its slot. The node has
+-- the reply that is due, and no other port changed
 pub record Serves (served : Served) (port : ℕ) (packet : Cargo) (before after : JobNodeValue) : Type 0 where
   pub served_alone : ServesAlone served port packet (alone before) (alone after) after.reply
   pub held : after.held ≡ before.held
@@ -113,7 +113,7 @@ abbrev pub TakesLine : List ℕ → Option (ℕ × Served) → (before after : J
 TakesLine line None before after = HoldsLine line before after
 TakesLine line (Some came) before after = ServesLine line came.0 came.1 before after
 
--- nothing came of a line, which has this fault, but what its port may hold
+-- nothing came of a line, which has this fault, except what its port may hold
 pub record RefusesLine (line : List ℕ) (fault : BadLine) (before after : JobNodeValue) : Type 0 where
   pub held : List (List ℕ)
   pub unfed : IsNotFed line before.held held fault
@@ -143,14 +143,14 @@ pub record AreKept (before after : JobNodeValue) : Type 0 where
   pub held : after.held ≡ before.held
   pub reply : after.reply ≡ before.reply
 
--- the journal of the bank of that number came out, whose replay is the memory of now, and an empty one with as much room
+-- the journal of the bank of that number came out, whose replay is the memory of now. An empty one with as much room
 -- began; nothing else changed
 pub record HandsOut (number : ℕ) (before after : JobNodeValue) (old : JournalValue) : Type 0 where
   pub rotated : Rotates number (emptied before number) (alone before) (alone after) old
   pub kept : AreKept before after
 
--- the journal of the bank of that number came out, whose replay is the memory before, and an empty one with as much room
--- began behind those bytes at that address; nothing else changed
+-- the journal of the bank of that number came out, whose replay is the memory before. An empty one with as much room
+-- began after those bytes were put at that address; nothing else changed
 pub record SetsBytes (number address : ℕ) (bytes : List ℕ) (before after : JobNodeValue) (old : JournalValue) : Type 0
   where
     pub set : SetsMemory number address bytes (emptied before number) (alone before) (alone after) old

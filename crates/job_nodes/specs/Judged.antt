@@ -12,7 +12,8 @@ use Rattle.job_nodes.specs.Lines.{IsBadLine, Judges}
 use Rattle.job_nodes.specs.Sources.{HoldsNoNode, HoldsNode}
 
 module _ {S : Type 0} (reads : Reads S) (args : NodeLines) where
-  -- the text is that of the file of lines, which is UTF-8, and the node, which was read behind it, is that of these arguments
+  -- the text is that of the file of lines, which is UTF-8, and the node, which was read after it, is that of these
+  -- arguments
   pub record IsReady (before : S) (text : List ℕ) (node : JobNodeValue) (after : S) : Type 0 where
     pub between : S
     pub read : reads before (string_bytes args.lines) (Some text) between
@@ -48,7 +49,7 @@ module _ {S : Type 0} (reads : Reads S) (args : NodeLines) where
     pub ready : IsReady before text fresh after
     pub bad : StopsIn Judges IsBadLine (lines_of text) fresh left old new fault
 
-  -- why not all lines were judged: nothing was printed where lines or node cannot be read
+  -- why not all lines were judged: nothing was printed if lines or node cannot be read
   abbrev pub IsNotJudged : (before after : S) → (old new : Option (List ℕ)) → Fault → Type 0
   IsNotJudged before after old new fault =
       ((new ≡ old) × IsNotReady before after fault) ⊎ StopsAtLine before after old new fault

@@ -18,7 +18,7 @@ served_line port Unread reply = reply_line port reply
 served_line port (Done applied) reply = reply_line port reply
 served_line port (Window status) reply = reply_line port reply
 
--- of a line of which no packet came nothing was printed, and else what became of its packet
+-- if no packet came of a line, nothing was printed, and else what became of its packet
 abbrev pub IsPrinted : Option (ℕ × Served) → (reply : List ℕ) → (old new : Option (List ℕ)) → Type 0
 IsPrinted None reply old new = new ≡ old
 IsPrinted (Some came) reply old new = Appends old new (served_line came.0 came.1 reply)

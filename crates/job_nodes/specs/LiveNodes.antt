@@ -36,13 +36,14 @@ KeepsGuard before after = after.guard ≡ before.guard
 abbrev pub silent : JobNodeValue → JobNodeValue
 silent node = job_node node.banks node.words node.programs node.passes node.held []
 
--- the node before a packet, with a guard that scrubs a program before each packet of so many; without a number it has none
+-- the node before a packet. With a number N it has a guard that scrubs a program before each N-th packet; without one
+-- it has none
 pub record IsLive (scrub : Option ℕ) (node : JobNodeValue) (live : LiveNodeValue) : Type 0 where
   pub node_is : live.node ≡ silent node
   pub begins : BeginsGuard scrub (alone node) live.guard
 
--- this became of the packet that came in at the port (`ServesGuarded`); the reply that is due is what was put at the front of
--- a room for it, and no port holds other bytes
+-- this became of the packet that came in at the port (`ServesGuarded`). The reply that is due is what was put at the
+-- front of a room for it, and no port holds other bytes
 pub record ServesLive (answer : Answer) (port : ℕ) (packet : Cargo) (before after : LiveNodeValue) : Type 0 where
   pub room : List ℕ
   pub left : List ℕ

@@ -11,20 +11,20 @@ use Rattle.job_nodes.specs.JobNode.{IsFreshOf, JobNodeValue, SetsBytes, first_of
 
 -- ---- contents
 
--- bytes stand at the beginning of the bank of that number, if they lie in it
+-- the bytes are at the beginning of the bank of that number, if they fit in it
 abbrev pub Begins : (covers : Bool) → (number : ℕ) → (bytes : List ℕ) → (before after : JobNodeValue) → Type 0
 Begins true number bytes before after =
     (journal : JournalValue) × SetsBytes number (first_of (slice_get before.banks number)) bytes before after journal
 Begins false number bytes before after = after ≡ before
 
--- the same, where there are bytes; no bytes change nothing
+-- the same, if there are bytes; no bytes change nothing
 abbrev pub FillsOne : (number : ℕ) → (bytes : List ℕ) → (before after : JobNodeValue) → Type 0
 FillsOne number [] before after = after ≡ before
 FillsOne number (byte ∷ bytes) before after =
     Begins (covers_in (slice_get before.banks number) (first_of (slice_get before.banks number)) (length (byte ∷ bytes)))
     number (byte ∷ bytes) before after
 
--- so many banks, from the first on, begin with the bytes of their number, in turn
+-- the first `count` banks begin with the bytes of their number, in turn
 abbrev pub Fills : (contents : List (List ℕ)) → (count : ℕ) → (before after : JobNodeValue) → Type 0
 Fills contents zero before after = after ≡ before
 Fills contents (suc count) before after =
@@ -33,14 +33,15 @@ Fills contents (suc count) before after =
 
 -- ---- publishes
 
--- the node with those programs published in order behind the others, each for its slot; all else is the same
+-- the node with those programs published in order after the others, each for its slot; all else is the same
 abbrev pub with_publishes : JobNodeValue → List (ℕ × AcceptedValue) → JobNodeValue
 with_publishes node [] = node
 with_publishes node (publish ∷ publishes) = with_publishes (with_publish node publish.0 publish.1) publishes
 
 -- ---- the whole
 
--- the banks of a fresh node of that configuration, at each of whose ports the program judges, begin with their contents
+-- the banks of a fresh node of that configuration begin with their contents, and the program judges at each of its
+-- ports
 pub record IsFilled (own : OwnNodeValue) (program : AcceptedValue) (node : JobNodeValue) : Type 0 where
   pub config : NodeConfig
   pub fresh : JobNodeValue
@@ -48,8 +49,8 @@ pub record IsFilled (own : OwnNodeValue) (program : AcceptedValue) (node : JobNo
   pub is_fresh : IsFreshOf config program fresh
   pub fills : Fills own.contents (length fresh.banks) fresh node
 
--- the node is that of the configuration: its banks begin with their contents, the program is in all slots, and behind that its
--- programs were published in order
+-- the node is that of the configuration: its banks begin with their contents, and the program is in all slots. After
+-- that its programs were published in order
 pub record IsNodeOf (own : OwnNodeValue) (program : AcceptedValue) (node : JobNodeValue) : Type 0 where
   pub first : JobNodeValue
   pub filled : IsFilled own program first

@@ -22,15 +22,15 @@ use Rattle.job_nodes.specs.SimJob.{outcome_line, outcome_lines}
 
 -- ---- lines and events
 
--- each line writes the event of its place, at one of so many ports, and there are no more events
+-- each line writes the event of its place, at one of this many ports, and there are no more events
 abbrev pub WriteEvents : (ports : ℕ) → List (List ℕ) → List Event → Type 0
 WriteEvents ports [] [] = Unit {0}
 WriteEvents ports [] (event ∷ events) = ⊥
 WriteEvents ports (line ∷ lines) [] = ⊥
 WriteEvents ports (line ∷ lines) (event ∷ events) = IsEventOf ports line event × WriteEvents ports lines events
 
--- the lines write events of the node, which has that history; these outcomes, one for each, are lawful behind it, and lead
--- to the world that is left; and the lines of the outcomes were printed
+-- the lines write events of the node, which has that history. These outcomes, one for each, are lawful after it, and
+-- lead to the world that is left; and the lines of the outcomes were printed
 pub record SimulatesFrom (n : Node) (h : History) (lines : List (List ℕ)) (left : WorldValue) (old new : Option (List ℕ)) :
     Type 0 where
   pub events : List Event
@@ -40,13 +40,13 @@ pub record SimulatesFrom (n : Node) (h : History) (lines : List (List ℕ)) (lef
   pub lawful : IsLawfulWorld n (history_from h events outcomes) left
   pub printed : Appends old new (outcome_lines outcomes)
 
--- why a line is not simulated: it writes no event at one of so many ports, and this is what is wrong with it; or memory was
--- refused to its event
+-- why a line is not simulated: it writes no event at one of this many ports, and this is what is wrong with it. Or
+-- memory was refused to its event
 abbrev pub IsNotStepped : (ports : ℕ) → List ℕ → LineEnd → Type 0
 IsNotStepped ports line (Bad fault) = IsBadEvent ports line fault
 IsNotStepped ports line NoMemory = Unit {0}
 
--- the lines before one were simulated behind a history, and that one, which is counted from 1, ends the job with this fault:
+-- the lines before one were simulated after a history. That one, which is counted from 1, ends the job with this fault:
 -- nothing was printed of it
 pub record IsCutShort (n : Node) (h : History) (lines : List (List ℕ)) (old new : Option (List ℕ)) (fault : Fault) :
     Type 0 where
@@ -85,7 +85,7 @@ module _ {S : Type 0} (reads : Reads S) (args : NodeLines) where
     pub scheduled : IsScheduled reads args before text node after
     pub all : SimulatesFrom node Start (lines_of text) left old new
 
-  -- what `sim` reads and prints where no fault ends it, with its exit status: 2 where a bank begins with bytes
+  -- what `sim` reads and prints if no fault ends it, with its exit status: 2 if a bank begins with bytes
   abbrev pub DoesSim : (before after : S) → (old new : Option (List ℕ)) → Status → Type 0
   DoesSim before after old new Done = SimulatesFile before after old new
   DoesSim before after old new Failed = ⊥
@@ -98,7 +98,7 @@ module _ {S : Type 0} (reads : Reads S) (args : NodeLines) where
     pub scheduled : IsScheduled reads args before text node after
     pub cut_short : IsCutShort node Start (lines_of text) old new fault
 
-  -- why not all lines were simulated: nothing was printed where lines or node cannot be read
+  -- why not all lines were simulated: nothing was printed if lines or node cannot be read
   abbrev pub IsNotSimulated : (before after : S) → (old new : Option (List ℕ)) → Fault → Type 0
   IsNotSimulated before after old new fault =
       ((new ≡ old) × IsUnscheduled reads args before after fault) ⊎ StopsShort before after old new fault

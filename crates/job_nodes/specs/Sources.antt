@@ -17,8 +17,8 @@ use Rattle.job_nodes.specs.JobNode.{IsFresh, JobNodeValue}
 use Rattle.job_nodes.specs.Making.{IsNodeOf}
 
 module _ {S : Type 0} (reads : Reads S) where
-  -- the node is a fresh one of these words, whose commands the program judges that its files give, which is justified on it,
-  -- and so safe
+  -- the node is a fresh one of these words. The program that its files give judges its commands; it is justified on the
+  -- node, and so safe
   pub record IsPlainNode (words : NodeWords) (before : S) (node : JobNodeValue) (after : S) : Type 0 where
     pub program : AcceptedValue
     pub given : HoldsProgram reads before (image_name words) program.program after
@@ -33,7 +33,7 @@ module _ {S : Type 0} (reads : Reads S) where
     pub given : HoldsProgram reads before (image_name words) program after
     pub is_fault : fault ≡ NoMemory
 
-  -- there is no node of these words: there is no program, or memory was refused behind it
+  -- there is no node of these words: there is no program, or memory was refused after it was read
   abbrev pub IsNoPlainNode : NodeWords → (before after : S) → Fault → Type 0
   IsNoPlainNode words before after fault =
       HoldsNoProgram reads before (image_name words) words.sizes after fault ⊎ IsPlainUnmade words before after fault

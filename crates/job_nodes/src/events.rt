@@ -8,7 +8,7 @@ use sched::Event;
 use spw::{LineFault, first_word, read_line, read_port, words_of};
 use std::alloc::Global;
 
-/// The packet that is taken, by the text behind the word `take`.
+/// The packet that is taken, by the text after the word `take`.
 pub(crate) fn taken(alloc: Global, text: &str) -> Result<Event, BadLine>
     ensures { MatchResult result (IsTakeLine text.now) (IsNoTake text.now) }
 {
@@ -32,12 +32,14 @@ fn lone_port(alloc: Global, text: &str) -> Result<u8, BadLine>
     }
 }
 
-/// The event that a line writes: `take` and a packet line behind it, or `count`, `ticket`, `peak`, `effect` or `publish`
-/// and a port behind it. Words are what stands between spaces, as in packet lines.
+/// The event that a line writes: `take` and a packet line after it, or `count`, `ticket`, `peak`, `effect` or `publish`
+/// and a port after it. Words are what spaces separate, as in packet lines.
 ///
-/// The faults are tested in this order: `NoEvent` where the first word is that of no event, or there is none; the port;
-/// behind `take` the rest of the packet line, as [`read_line`] does; `NoEvent` where there are words too many. `Memory`
-/// of a line comes where memory was refused.
+/// # Errors
+///
+/// The first of these, in this order. `NoEvent` if the first word is that of no event, or there is none. The fault of
+/// the port. After `take` those of the rest of the packet line, as [`read_line`] has them. `NoEvent` if there are too
+/// many words. `Memory` of a line if memory was refused.
 pub fn read_event(alloc: Global, line: &str) -> Result<Event, BadLine>
     ensures { MatchResult result (IsEventLine line.now) (IsNoEvent line.now) }
 {

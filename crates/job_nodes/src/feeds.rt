@@ -25,7 +25,11 @@ impl Model for Feeds {
 }
 
 impl Feeds {
-    /// So many ports that hold nothing.
+    /// This many ports that hold nothing.
+    ///
+    /// # Errors
+    ///
+    /// An error if memory is refused.
     pub fn new(alloc: Global, ports: u8) -> Result<Feeds, AllocError>
         ensures { IfOk result (λ feeds. feeds ≡ replicate ports []) }
     {
@@ -37,12 +41,14 @@ impl Feeds {
         Ok(Feeds { feeds })
     }
 
-    /// Gives the piece that a line writes to its port: the port and the packet that ends with it, or `None` where
-    /// the packet goes on. Lines are read by [`read_part`].
+    /// Gives the piece that a line writes to its port. Returns the port and the packet that ends with the piece, or
+    /// `None` if the packet goes on. [`read_part`] reads the line.
     ///
-    /// The faults are found in this order: those of the line, `NoPort` for a port that does not exist, `TooLong` where the
-    /// piece and what its port holds are over [`MAX_PACKET`](spw::MAX_PACKET) bytes. `Memory` comes where memory was
-    /// refused: to a packet that ends, it leaves its bytes with the port.
+    /// # Errors
+    ///
+    /// The first of these, in this order: the faults of the line, and `NoPort` for a port that does not exist. Then
+    /// `TooLong` if the piece and what its port holds are over [`MAX_PACKET`](spw::MAX_PACKET) bytes. `Memory` if
+    /// memory was refused. If it was refused to a packet that ends, the port still holds its bytes.
     pub fn take_line(&mut self, alloc: Global, line: &str) -> Result<Option<(u8, Packet)>, BadLine>
         ensures fed { IfOk result (IsFed line.now self.old self.new) }
         ensures own_port { IfOk result (λ came. IfSome came (λ own. own.0 < length self.old)) }
@@ -64,9 +70,9 @@ impl Feeds {
     }
 }
 
-/// The packet that ends with a piece, of what its port holds and the piece; nothing is held then. Where nothing was
-/// held the piece is the packet as it is, and no memory is wanted. The faults are those of [`Feed::piece`] and
-/// [`Feed::close`], and what is held is then as they leave it.
+/// The packet that ends with a piece: what its port holds, and the piece. The port then holds nothing. If it held
+/// nothing before, the piece is the packet as it is, and needs no memory. The faults are those of [`Feed::piece`] and
+/// [`Feed::close`], which also say what is held then.
 fn ended(feed: &mut Feed, piece: Vec<u8>, end: End) -> Result<Packet, LineFault>
     ensures ok { IfOk result (λ p. p ≡ record { bytes = feed.old ++ piece.items; end = end }) }
     ensures short { OnOk result (length feed.old + length piece.items ≤ MAX_PACKET) }

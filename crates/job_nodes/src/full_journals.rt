@@ -18,7 +18,7 @@ impl FullJournals {
         }
     }
 
-    /// Notes that the command of this line, counted from 1, found the journal of that bank full, if it is the first.
+    /// Notes that the command of this line found the journal of that bank full, if it is the first. Lines count from 1.
     pub fn note(&mut self, bank: u8, line: usize) {
         let place = usize::from(bank);
         if place < MAX_BANKS && self.lines[place].is_none() {
@@ -26,7 +26,7 @@ impl FullJournals {
         }
     }
 
-    /// The first line whose command found the journal of that bank full, counted from 1.
+    /// The first line whose command found the journal of that bank full. Lines count from 1.
     pub fn line(&self, bank: u8) -> Option<usize> {
         self.lines.get(usize::from(bank)).copied().flatten()
     }

@@ -22,8 +22,8 @@ pub fn entries(node: &SingleNode, bank: u8) -> &[Entry]
     node.bank(bank).entries()
 }
 
-/// Whether the journal of a bank has room for no more entries: a command for the bank is then answered with a general error, and
-/// leaves none, until an empty journal begins. The condition is a number below [`SingleNode::banks`].
+/// Whether the journal of a bank has no room for another entry. A command for the bank is then answered with a general
+/// error, and leaves none, until an empty journal begins. The condition is a number below [`SingleNode::banks`].
 pub fn is_full(node: &SingleNode, bank: u8) -> bool
     requires { bank < length node.now.banks }
     ensures { result ≡ is_full (slice_get node.now.banks bank) }

@@ -31,6 +31,10 @@ use std::io::{self, Write};
 use std::marker::Model;
 
 /// `judge LINES [--image FILE] [--maps LIST] [--ports N]` or `judge LINES --node FILE`.
+///
+/// # Errors
+///
+/// An error if memory is refused.
 pub fn judge_command<'a>(alloc: Global) -> Result<Command<'a>, AllocError>
     ensures shape { IfOk result (λ c. app_of c ≡ judge_app) }
     ensures local { IfOk result (λ c. (fields_of c).has_globals ≡ false) }
@@ -41,6 +45,10 @@ pub fn judge_command<'a>(alloc: Global) -> Result<Command<'a>, AllocError>
 }
 
 /// Prints that a packet was discarded: `PORT discard C`.
+///
+/// # Errors
+///
+/// The error of `out`, if it does not take all of the line.
 pub fn print_discard<W: Write>(out: &mut W, port: u8, discard: Discard) -> io::Result<()>
     ensures { OnOk result (Prints W.contents out.old out.new (discard_line port discard)) }
 {
@@ -49,6 +57,10 @@ pub fn print_discard<W: Write>(out: &mut W, port: u8, discard: Discard) -> io::R
 }
 
 /// Prints what became of a packet, with the reply that was due.
+///
+/// # Errors
+///
+/// The error of `out`, if it does not take all of the line.
 pub fn print_served<W: Write>(out: &mut W, port: u8, served: Served, reply: &[u8]) -> io::Result<()>
     ensures { OnOk result (Prints W.contents out.old out.new (served_line port served reply.now)) }
 {
@@ -104,8 +116,8 @@ impl Judging {
         }
     }
 
-    /// Takes a line, and serves the packet that it ends: its port and what became of it, or `None` if the line ends none.
-    /// Nothing is served if the line has a fault.
+    /// Takes a line, and serves the packet that it ends. Returns its port and what became of it, or `None` if the line
+    /// ends none. It serves nothing if the line has a fault.
     fn take_line(&mut self, alloc: Global, line: &str) -> Result<Option<(u8, Served)>, BadLine>
         ensures taken { IfOk result (λ came. TakesLine line.now came self.old self.new) }
         ensures refused { IfErr result (λ fault. RefusesLine line.now fault self.old self.new) }
@@ -158,8 +170,10 @@ fn lines_and_node<'a, F: Files>(
 
 /// Judges the packet lines of a file on the node of these arguments. `full` is then which journals were found full.
 ///
-/// Faults are found in this order: the file of lines (`CannotRead`, also where it is not UTF-8), those of the node
-/// ([`node_from`]), and then each line.
+/// # Errors
+///
+/// Faults are found in this order: those of the file of lines (`CannotRead`, also if it is not UTF-8), those of the
+/// node ([`node_from`]), and then those of each line.
 pub fn judge_file<'a, F: Files, W: Write>(
     alloc: Global,
     args: &'a NodeLines,

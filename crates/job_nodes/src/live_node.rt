@@ -16,8 +16,8 @@ use spw::Packet;
 use std::alloc::Global;
 use std::marker::Model;
 
-/// The node of a talk: a node whose programs may be scrubbed, each port with what it holds of a packet that has not ended, and room
-/// for one reply. Contracts see a node as the other jobs have it, and its guard, if it has one.
+/// The node of a talk: a node whose programs may be scrubbed, with room for one reply. Each port has what it holds of a
+/// packet that has not ended. Contracts see a node as the other jobs have it, and its guard, if it has one.
 #[derive(Drop)]
 pub struct LiveNode {
     guarded: GuardedNode,
@@ -49,8 +49,8 @@ pub struct Taken {
 }
 
 impl LiveNode {
-    /// A node before a packet came. Before each packet of so many the program that judges it is scrubbed; before none without a
-    /// number. No reply is due.
+    /// A node before a packet came. With a number N, the program that judges a packet is scrubbed before each N-th
+    /// packet; without one, before none. No reply is due.
     pub fn new(node: JobNode, scrub: Option<u32>) -> LiveNode
         ensures { IsLive scrub node result }
     {
@@ -63,7 +63,7 @@ impl LiveNode {
         }
     }
 
-    /// The node of one thread that it is.
+    /// The node of one thread that it has.
     pub fn single(&self) -> &SingleNode
         ensures { result.now ≡ alone self.now.node }
     {
@@ -78,15 +78,16 @@ impl LiveNode {
         self.guarded.node.ports()
     }
 
-    /// Whether packets have scrubs before them, and the sizes of the node are others than they were: then no packet may be served.
+    /// Whether packets have scrubs before them, and the sizes of the node are not what they were. Then no packet may be
+    /// served.
     pub fn is_damaged(&self) -> bool
         ensures { result ≡ is_damaged self.now.guard (alone self.now.node) }
     {
         self.guarded.is_damaged()
     }
 
-    /// What becomes of a packet that comes in at a port, and what a scrub before it found, if one was due; the reply that is due
-    /// is then [`LiveNode::reply`]. The condition is a port of the node.
+    /// What becomes of a packet that comes in at a port, and what a scrub before it found, if one was due. The reply
+    /// that is due is then [`LiveNode::reply`]. The condition is a port of the node.
     pub fn serve(&mut self, alloc: Global, port: u8, packet: Packet) -> Answer
         requires { port < length self.old.node.passes }
         ensures { ServesLive result port packet self.old self.new }
@@ -98,8 +99,11 @@ impl LiveNode {
         answer
     }
 
-    /// Takes a packet line, and serves the packet that it ends, if it ends one. Nothing is served if the line has a fault
-    /// ([`Feeds::take_line`]).
+    /// Takes a packet line, and serves the packet that it ends, if it ends one.
+    ///
+    /// # Errors
+    ///
+    /// Those of [`Feeds::take_line`]. Nothing is then served.
     pub fn take_line(&mut self, alloc: Global, line: &str) -> Result<Option<Taken>, BadLine>
         ensures taken { IfOk result (λ taken. TakesLine line.now taken self.old self.new) }
         ensures refused { IfErr result (λ fault. RefusesLine line.now fault self.old.node self.new.node) }
@@ -112,7 +116,8 @@ impl LiveNode {
         Ok(Some(Taken { port, answer }))
     }
 
-    /// Takes a line, and serves nothing: the packet that it ends, and its port, or `None` if the line ends none.
+    /// Takes a line, and serves nothing. Returns the packet that it ends, and its port, or `None` if the line ends
+    /// none.
     fn feed_line(&mut self, alloc: Global, line: &str) -> Result<Option<(u8, Packet)>, BadLine>
         ensures fed { IfOk result (λ came. FeedsLine line.now came self.old.node self.new.node) }
         ensures port { IfOk result
@@ -133,8 +138,8 @@ impl LiveNode {
         &all[..self.size]
     }
 
-    /// Begins an empty journal at a bank: the entries of the one before are gone then, and what they say is the memory of now.
-    /// Memory, counts, and what ports hold stay. It takes no memory. The condition is a bank of the node.
+    /// Begins an empty journal at a bank. The entries of the one before are then gone, and what they say is the memory
+    /// of now. Memory, counts, and what ports hold stay. It takes no memory. The condition is a bank of the node.
     pub fn turn(&mut self, bank: u8)
         requires { bank < length self.old.node.banks }
         ensures out { HandsOut bank self.old.node self.new.node
@@ -146,8 +151,8 @@ impl LiveNode {
         self.guarded.node.turn(bank, room);
     }
 
-    /// Puts bytes at an address of a bank without a command, as [`JobNode::set`] does: an empty journal begins with the memory that
-    /// is then there. The condition is that the bytes lie in the bank.
+    /// Puts bytes at an address of a bank without a command, as [`JobNode::set`] does: an empty journal begins with the
+    /// memory that is then there. The condition is that the bytes are in the bank.
     pub fn set(&mut self, bank: u8, address: u32, bytes: &[u8])
         requires { covers_in (slice_get self.old.node.banks bank) address (length bytes.now) ≡ true }
         ensures set { SetsBytes bank address bytes.now self.old.node self.new.node

@@ -11,7 +11,7 @@ use bver::Accepted;
 use job_config::own_node::{Contents, OwnNode};
 use std::alloc::{AllocError, Global};
 
-/// Puts bytes at the beginning of a bank, if they lie in it. The condition is a bank of the node.
+/// Puts bytes at the beginning of a bank, if they fit in it. The condition is a bank of the node.
 fn fill_one(node: &mut JobNode, bank: u8, bytes: &[u8])
     requires { bank < length node.old.banks }
     ensures fills { FillsOne bank bytes.now node.old node.new }
@@ -48,8 +48,8 @@ fn fill(node: &mut JobNode, contents: &[Contents])
     }
 }
 
-/// A fresh node of that configuration whose banks begin with their contents, at each of whose ports this program judges. The
-/// condition is a program that was accepted for its maps.
+/// A fresh node of that configuration. Its banks begin with their contents, and this program judges at each of its
+/// ports. The condition is a program that was accepted for its maps.
 fn filled(alloc: Global, own: &OwnNode, program: Accepted) -> Result<JobNode, AllocError>
     requires { program.sizes ≡ own.now.sizes }
     ensures { IfOk result (IsFilled own.now program) }
@@ -76,12 +76,14 @@ fn publish_all(node: &mut JobNode, publishes: &[(u8, Accepted)]) -> Result<(), A
 }
 
 impl JobNode {
-    /// The node of that configuration: banks of zeros that begin with their contents, this program in all slots, and then the
-    /// programs that are published before the first packet, each in its slot with the next generation, the first with 1.
-    /// Stagings, load results and cells are those of a fresh node. The condition is a program that was accepted for the maps of the
-    /// configuration.
+    /// The node of that configuration: banks of zeros that begin with their contents, and this program in all slots.
+    /// Then come the programs that are published before the first packet. Each of those is in its slot with the next
+    /// generation, the first with 1. Stagings, load results and cells are those of a fresh node. The condition is a
+    /// program that was accepted for the maps of the configuration.
     ///
-    /// `AllocError` where memory was refused, and where [`JobNode::fresh`] refuses the configuration: there is no node then.
+    /// # Errors
+    ///
+    /// `AllocError` if memory was refused, or if [`JobNode::fresh`] refuses the configuration. There is then no node.
     #[tactic(auto, using(crate::proofs::Made::plain_fresh))]
     pub fn of(alloc: Global, own: &OwnNode, program: Accepted) -> Result<JobNode, AllocError>
         requires { program.sizes ≡ own.now.sizes }
@@ -95,7 +97,12 @@ impl JobNode {
         Ok(node)
     }
 
-    /// The node of which no file says anything: with so many ports, of zero bytes, at each of which this program judges at first.
+    /// The node of which no file says anything: with this many ports, of zero bytes. This program judges at each port
+    /// at first.
+    ///
+    /// # Errors
+    ///
+    /// `AllocError` if memory was refused, or if the node refuses this number of ports.
     pub fn new(alloc: Global, ports: u8, program: Accepted) -> Result<JobNode, AllocError>
         ensures { IfOk result (IsFresh ports program) }
     {

@@ -18,7 +18,7 @@ use spw::Packet;
 use std::alloc::{AllocError, Global};
 use std::marker::Model;
 
-/// The configuration of the node of the jobs, with so many ports and with maps of these sizes.
+/// The configuration of the node of the jobs, with this many ports and with maps of these sizes.
 pub fn node_config(ports: u8, sizes: MapSizes) -> NodeConfig<'static>
     ensures { IsConfig ports sizes result }
 {
@@ -30,8 +30,8 @@ pub fn node_config(ports: u8, sizes: MapSizes) -> NodeConfig<'static>
     }
 }
 
-/// A node of one thread with some banks and some ports, each port with what it holds of a packet that has not ended, and with
-/// room for one reply. Nothing of it waits.
+/// A node of one thread with some banks and some ports, and with room for one reply. Each port has what it holds of a
+/// packet that has not ended. Nothing of it waits.
 #[derive(Drop)]
 pub struct JobNode {
     node: SingleNode,
@@ -50,10 +50,12 @@ impl Model for JobNode {
 }
 
 impl JobNode {
-    /// A node of that configuration, of zero bytes, at each of whose ports this program judges at first. The condition is a
-    /// program that was accepted for the maps of the configuration.
+    /// A node of that configuration, of zero bytes. This program judges at each of its ports at first. The condition is
+    /// a program that was accepted for the maps of the configuration.
     ///
-    /// `AllocError` where memory was refused, and where [`SingleNode::new`] refuses the configuration.
+    /// # Errors
+    ///
+    /// `AllocError` if memory was refused, or if [`SingleNode::new`] refuses the configuration.
     pub fn fresh(
         alloc: Global,
         config: &NodeConfig,
@@ -81,8 +83,8 @@ impl JobNode {
         self.node.ports()
     }
 
-    /// What becomes of a packet that comes in at a port; the reply that is due is then [`JobNode::reply`]. It takes memory
-    /// only where it loads. The condition is a port below [`JobNode::ports`].
+    /// What becomes of a packet that comes in at a port. The reply that is due is then [`JobNode::reply`]. It takes
+    /// memory only if it loads. The condition is a port below [`JobNode::ports`].
     pub fn serve(&mut self, alloc: Global, port: u8, packet: Packet) -> Served
         requires { port < length self.old.passes }
         ensures { Serves result port packet self.old self.new }
@@ -92,7 +94,8 @@ impl JobNode {
         node.serve(alloc, port, packet, reply)
     }
 
-    /// Takes a line, and serves nothing: the packet that it ends, and its port, or `None` where the line ends none.
+    /// Takes a line, and serves nothing. Returns the packet that it ends, and its port, or `None` if the line ends
+    /// none.
     pub(crate) fn feed_line(
         &mut self,
         alloc: Global,
@@ -106,7 +109,7 @@ impl JobNode {
         Ok(came)
     }
 
-    /// The reply to the last packet that was served; no bytes where none is due.
+    /// The reply to the last packet that was served; no bytes if none is due.
     pub fn reply(&self) -> &[u8]
         ensures value { result.now ≡ self.now.reply }
         ensures few { length result.now ≤ MAX_REPLY }
@@ -130,7 +133,7 @@ impl JobNode {
         first(&self.node, bank)
     }
 
-    /// Whether the journal of a bank has room for no more entries: a command for the bank is then answered with a
+    /// Whether the journal of a bank has no room for another entry. A command for the bank is then answered with a
     /// general error, and leaves none. The condition is a number below [`JobNode::banks`].
     pub fn is_full(&self, bank: u8) -> bool
         requires { bank < length self.now.banks }
@@ -139,17 +142,17 @@ impl JobNode {
         is_full(&self.node, bank)
     }
 
-    /// Whether so many bytes from the address on lie in the bank of that number; not if there is no such bank.
+    /// Whether this many bytes from the address on are in the bank of that number; not if there is no such bank.
     pub fn covers(&self, bank: u8, address: u32, count: usize) -> bool
         ensures { result ≡ covers_in (slice_get self.now.banks bank) address count }
     {
         self.node.covers(bank, address, count)
     }
 
-    /// Puts bytes at an address of a bank without a command: the write of an instrument, of which no entry tells. So an
-    /// empty journal begins with the memory that is then there, and the entries of the one before are gone. Counts, and what
-    /// ports hold, stay. It takes no memory, and costs a copy of the bank's. The condition is that the bytes lie in the bank
-    /// ([`JobNode::covers`]).
+    /// Puts bytes at an address of a bank without a command: the write of an instrument, which no entry has. So an
+    /// empty journal begins with the memory that is then there, and the entries of the one before are gone. Counts, and
+    /// what ports hold, stay. It takes no memory, and costs a copy of the bank's. The condition is that the bytes are
+    /// in the bank ([`JobNode::covers`]).
     pub fn set(&mut self, bank: u8, address: u32, bytes: &[u8])
         requires { covers_in (slice_get self.old.banks bank) address (length bytes.now) ≡ true }
         ensures { SetsBytes bank address bytes.now self.old self.new
@@ -159,7 +162,7 @@ impl JobNode {
         self.node.turn_and_set(bank, address, bytes, room);
     }
 
-    /// The node alone, and what its ports hold. The last reply ends.
+    /// The node by itself, and what its ports hold. The last reply ends.
     pub fn into_parts(self) -> (SingleNode, Feeds)
         ensures node { result.0 ≡ alone self }
         ensures held { result.1 ≡ self.held }
@@ -180,7 +183,7 @@ impl JobNode {
         requires few { length self.old.programs < 4294967296 }
         ensures { OnOk result (self.new ≡ with_publish self.old slot program) }
     {
-        // Memory alone can be refused to it: a generation is left.
+        // Only memory can be refused to it: a generation is left.
         match self.node.publish(slot, program) {
             Ok(_generation) => Ok(()),
             Err(_) => Err(AllocError),

@@ -19,7 +19,7 @@ pub fn answered_by(helper: Helper, port: u8) -> Event
     }
 }
 
-/// The event that ends the command at a port, where its bytes lie there.
+/// The event that ends the command at a port, if its bytes are there.
 pub fn ending(port: u8, place: Place) -> Event
     ensures { IsEnd port result }
 {

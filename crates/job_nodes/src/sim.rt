@@ -24,6 +24,10 @@ use std::io::{self, Write};
 use std::marker::Model;
 
 /// `sim LINES [--image FILE] [--maps LIST] [--ports N]` or `sim LINES --node FILE`.
+///
+/// # Errors
+///
+/// An error if memory is refused.
 pub fn sim_command<'a>(alloc: Global) -> Result<Command<'a>, AllocError>
     ensures shape { IfOk result (λ c. app_of c ≡ sim_app) }
     ensures local { IfOk result (λ c. (fields_of c).has_globals ≡ false) }
@@ -33,7 +37,7 @@ pub fn sim_command<'a>(alloc: Global) -> Result<Command<'a>, AllocError>
     node_lines_command(alloc, "sim", about, help)
 }
 
-/// Prints a status and a reply: `WHAT S HEX`, or `WHAT S -` where no reply is due and it has no bytes.
+/// Prints a status and a reply: `WHAT S HEX`, or `WHAT S -` if no reply is due and it has no bytes.
 fn print_status<W: Write>(
     out: &mut W,
     what: &str,
@@ -66,7 +70,7 @@ fn print_outcome<W: Write>(out: &mut W, outcome: &Outcome) -> io::Result<()>
     }
 }
 
-/// The event that a line writes, at one of so many ports.
+/// The event that a line writes, at one of this many ports.
 fn event_at(alloc: Global, ports: u8, line: &str) -> Result<Event, BadLine>
     ensures { MatchResult result (IsEventOf ports line.now) (IsBadEvent ports line.now) }
 {
@@ -100,7 +104,7 @@ impl TakesLines for Simulating {
     /// Takes one line: the world steps by its event, and what that comes to is printed.
     fn take<W: Write>(&mut self, alloc: Global, line: &str, out: &mut W) -> Result<(), LineHalt> {
         let event = event_at(alloc, self.world.ports(), line)?;
-        // Memory alone can be refused to it: the port of the event is one of the world.
+        // Only memory can be refused to it: the port of the event is one of the world.
         let Ok(outcome) = step(alloc, &mut self.world, event) else {
             return Err(LineHalt::Ended(LineEnd::NoMemory));
         };
@@ -109,10 +113,12 @@ impl TakesLines for Simulating {
 }
 
 /// Steps through the events of a file, in order, from the beginning of the node of these arguments, after what its file
-/// publishes. What each event comes to is printed before the next line is read. `Misused`, and nothing is printed, if a bank
-/// begins with bytes, which no schedule does.
+/// publishes. It prints what each event comes to before it reads the next line. If a bank begins with bytes, which no
+/// schedule has, it returns `Misused` and prints nothing.
 ///
-/// Faults are found in the order of [`lines_and_world`], and then each line.
+/// # Errors
+///
+/// Those of [`lines_and_world`], in its order, and then those of each line.
 #[tactic(auto, using(crate::proofs::Scheduled::refuses_contents))]
 pub fn sim_file<'a, F: Files, W: Write>(
     alloc: Global,

@@ -18,7 +18,7 @@ use job_parts::storage::Files;
 use sched::World;
 use std::alloc::{AllocError, Global};
 
-/// A fresh node of these words, whose commands the program of its image file, or the factory program, judges.
+/// A fresh node of these words. The program of its image file, or the factory program, judges its commands.
 fn plain_node<'a, F: Files>(
     alloc: Global,
     words: &'a NodeWords,
@@ -32,7 +32,7 @@ fn plain_node<'a, F: Files>(
     Ok(JobNode::new(alloc, words.ports, program)?)
 }
 
-/// Where the node's file is bad that ended a job, for the user, if one did.
+/// Where the node's file is bad, for the user, if that ended a job.
 pub fn place_of(fault: Fault<'_>) -> Option<String> {
     if let Fault::BadNode { place, .. } = fault {
         Some(place)
@@ -56,6 +56,8 @@ fn file_node<'a, F: Files>(
 
 /// The node of the words or of the file that a command line names.
 ///
+/// # Errors
+///
 /// Faults of words are those of [`judging_program`], those of a file those of [`node_in`]; and `NoMemory`.
 pub fn node_from<'a, F: Files>(
     alloc: Global,
@@ -71,8 +73,8 @@ pub fn node_from<'a, F: Files>(
     }
 }
 
-/// The world of the node of these words at its beginning, whose commands the program of its image file, or the factory
-/// program, judges.
+/// The world of the node of these words at its beginning. The program of its image file, or the factory program, judges
+/// its commands.
 fn plain_world<'a, F: Files>(
     alloc: Global,
     words: &'a NodeWords,
@@ -85,14 +87,14 @@ fn plain_world<'a, F: Files>(
     let image = words.image.as_deref();
     let program = judging_program(alloc, files, image, words.sizes)?;
     let config = node_config(words.ports, words.sizes);
-    // Memory alone can be refused to it: the command line gives no other number of ports than a node has.
+    // Only memory can be refused to it: the command line gives no number of ports that a node cannot have.
     match World::with_factory(alloc, &config, program) {
         Ok(world) => Ok(world),
         Err(_) => Err(Fault::NoMemory),
     }
 }
 
-/// The world of the node's file of this name behind what it publishes, or `None` where a bank begins with bytes.
+/// The world of the node's file of this name after what it publishes, or `None` if a bank begins with bytes.
 #[tactic(auto, using(crate::proofs::FirstWorlds::file_begun))]
 fn file_world<'a, F: Files>(
     alloc: Global,
@@ -115,8 +117,8 @@ fn file_world<'a, F: Files>(
     }
 }
 
-/// The world of the words or of the file that a command line names, behind what the file publishes; or `None` where a bank
-/// begins with bytes, which no world does.
+/// The world of the words or of the file that a command line names, after what the file publishes. Or `None` if a bank
+/// begins with bytes, which no world has.
 ///
 /// Faults are those of [`node_from`].
 fn world_from<'a, F: Files>(
@@ -135,10 +137,14 @@ fn world_from<'a, F: Files>(
     }
 }
 
-/// The text of the file of lines, and the world of these arguments: that of their words at its beginning, or that of a file
-/// after what it publishes. `None` in place of a world where a bank begins with bytes, which no world does.
+/// The text of the file of lines, and the world of these arguments. The world is that of their words at its beginning,
+/// or that of a file after what it publishes. `None` in place of a world if a bank begins with bytes, which no world
+/// has.
 ///
-/// Faults are found in this order: the file of lines (`CannotRead`, also where it is not UTF-8), and those of [`node_from`].
+/// # Errors
+///
+/// Faults are found in this order: those of the file of lines (`CannotRead`, also if it is not UTF-8), and those of
+/// [`node_from`].
 pub fn lines_and_world<'a, F: Files>(
     alloc: Global,
     args: &'a NodeLines,

@@ -10,10 +10,12 @@ use job_config::own_node::{Contents, OwnNode};
 use sched::World;
 use std::alloc::{AllocError, Global};
 
-/// The world of that configuration before its first event: this program is in all slots, and then the programs of the configuration
-/// are published. The condition is a program that was accepted for its maps.
+/// The world of that configuration before its first event: this program is in all slots, and then the programs of the
+/// configuration are published. The condition is a program that was accepted for its maps.
 ///
-/// `AllocError` where memory was refused, and where a world refuses the configuration.
+/// # Errors
+///
+/// `AllocError` if memory was refused, or if a world refuses the configuration.
 #[tactic(auto, using(crate::proofs::FirstWorlds::own_start))]
 pub fn world_of(alloc: Global, own: &OwnNode, program: Accepted) -> Result<World, AllocError>
     requires { program.sizes ≡ own.now.sizes }

@@ -13,7 +13,7 @@ use Rattle.job_packets.specs.HexWords.{Has, WritesBytes, WritesDigits, fault_of_
 use Rattle.job_packets.specs.Slips.{IsWordFault}
 use Rattle.job_packets.specs.declared.slips.PacketWord.{PacketWord}
 
--- so many digits write a number below a power of 16, and so one of 32 bits
+-- at most `most` digits write a number below 16 to that power, and so one of 32 bits
 low_digits : (most : ℕ) (digits : List ℕ) → IsNumeral 16 digits → length digits ≤ most → digits_value 16 digits < 16 ^ most
 low_digits most digits numeral short =
     let below : digits_value 16 digits < 16 ^ length digits = digits_value-lt 16 digits numeral.1 in
@@ -44,7 +44,7 @@ stays_low : {E : Type 0} (most : ℕ) (word : List ℕ) (r : Result ℕ E) → l
 stays_low most word (Ok x) short h = subst (λ (n : ℕ). n < 16 ^ most) (sym h.1) (low_digits most word h.0.0 short)
 stays_low most word (Err e) short h = tt
 
--- digits without a sign, at most so many, are read
+-- digits without a sign, at most `most`, are read
 pub reads_digits : {E : Type 0} (most : ℕ) (word : List ℕ) (r : Result ℕ E) → most ≤ 8 → length word ≤ most → get_or word 0 0 ≢ 43
     → ParsesUnsigned 32 16 word r → MatchOption (result_ok r) ((n : ℕ) → ¬ WritesDigits most word n) (WritesDigits most word)
 reads_digits most word r small short front parses = reads most word r small short (plain word r front parses)

@@ -27,7 +27,7 @@ same_command h r f body target instruction key reply initiator transaction exten
 joined : (port digits : List ℕ) → port ++ 32 ∷ [] ++ digits ++ 32 ∷ 69 ∷ 79 ∷ 80 ∷ [] ++ 10 ∷ [] ≡ (port ++ 32 ∷ digits ++ 32 ∷ 69 ∷ 79 ∷ 80 ∷ []) ++ 10 ∷ []
 joined port digits = simp append_assoc
 
--- the line of these digits is that of the request, where they are those of its command
+-- the line of these digits is that of the request, if they are those of its command
 pub line_is : (h : HeaderWords) (r : Request) (f : CommandFields) (body bytes digits : List ℕ) → digits ≡ encode_upper bytes
     → bytes ≡ bytes_of (command_with f body) → command_with f body ≡ command_with (fields_with h r) body
     → marked_line h.port digits ≡ line_of h r body

@@ -1,4 +1,4 @@
--- Words that write nothing of which something can be made.
+-- Words that write nothing that can be made.
 use Rattle.std.proofs.Common.{◌≡◌, ◌≢◌, ◌∷◌, ℕ, List, Some, Option, inl, inr, get_or, string_bytes, codes, arith, rules}
 use Rattle.clap.specs.Walk.{Row, first_of}
 use Rattle.job_packets.specs.HexWords.{Has, WritesBytes}

@@ -13,17 +13,17 @@ use Rattle.job_packets.specs.declared.slips.PacketWord.{PacketWord}
 abbrev pub Has : {V : Type 0} → (V → Type 0) → Type 0
 Has {V} P = (v : V) × P v
 
--- hexadecimal digits, in either case and at most so many, write the number
+-- hexadecimal digits, in either case and at most `most`, write the number
 abbrev pub WritesDigits : (most : ℕ) → List ℕ → ℕ → Type 0
 WritesDigits most digits n = IsNumeral 16 digits × (length digits ≤ most) × (n ≡ digits_value 16 digits)
 
--- so do they behind `0x`
+-- so do they after `0x`
 pub record WritesPrefixed (most : ℕ) (word : List ℕ) (n : ℕ) : Type 0 where
   pub digits : List ℕ
   pub prefix : word ≡ codes "0x" ++ digits
   pub written : WritesDigits most digits n
 
--- at most so many hexadecimal digits, with or without `0x` before them, write the number
+-- at most `most` hexadecimal digits, with or without `0x` before them, write the number
 abbrev pub WritesHex : (most : ℕ) → List ℕ → ℕ → Type 0
 WritesHex most word n = WritesDigits most word n ⊎ WritesPrefixed most word n
 

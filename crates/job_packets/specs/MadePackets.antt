@@ -22,7 +22,7 @@ use Rattle.job_packets.specs.declared.orders.Source.TheVariants.{Bytes, File}
 use Rattle.job_packets.specs.declared.packet.PacketWords.{PacketWords}
 use Rattle.job_packets.specs.declared.packet_options.HeaderWords.{HeaderWords}
 
--- a packet with so many bytes of data is not too long: the header with its reply address, the data and their CRC
+-- a packet with this many bytes of data is not too long: the header with its reply address, the data and their CRC
 abbrev pub is_short : HeaderWords → (count : ℕ) → Bool
 is_short h count = nat_le (DATA_OVERHEAD + length h.reply_address.items + count) MAX_PACKET
 
@@ -44,7 +44,7 @@ fits h (Write code address source) content = nat_lt code 16 && is_short h (lengt
 fits h (Rmw address bytes) content = is_short h (length content)
 fits h (Load image slots) content = nat_le (length content) STAGING_SIZE
 
--- the lines of the packets behind others, with the data or the image that was given
+-- the lines of the packets after others, with the data or the image that was given
 abbrev pub with_text : (front : List ℕ) → HeaderWords → Order → (content : List ℕ) → List ℕ
 with_text front h (Read code address count) content = front ++ line_of h (own_request h code address count) []
 with_text front h (Write code address source) content =
@@ -53,7 +53,7 @@ with_text front h (Rmw address bytes) content =
     front ++ line_of h (own_request h RMW_CODE address (length content)) (with_crc content)
 with_text front h (Load image slots) content = with_loads front h h.transaction slots.items content
 
--- the lines, where there are such packets
+-- the lines, if there are such packets
 abbrev pub made_text : PacketWords → (content : List ℕ) → Option (List ℕ)
 made_text words content =
     if has_reply_address words.header && fits words.header words.order content
@@ -68,7 +68,7 @@ file_of (Write code address (File name)) = Some (string_bytes name)
 file_of (Rmw address bytes) = None
 file_of (Load image slots) = Some (string_bytes image)
 
--- the data that stand in the words
+-- the data that the words have
 abbrev pub own_data : Order → List ℕ
 own_data (Read code address count) = []
 own_data (Write code address (Bytes bytes)) = bytes.items
@@ -77,7 +77,7 @@ own_data (Rmw address bytes) = bytes.items
 own_data (Load image slots) = []
 
 module _ {S : Type 0} (reads : Reads S) where
-  -- the data are those of the file, or where there is none those that stand in the words
+  -- the data are those of the file, or, if there is none, those that the words have
   abbrev pub IsContentOf : Option (List ℕ) → (own : List ℕ) → (before : S) → (content : List ℕ) → (after : S) → Type 0
   IsContentOf None own before content after = (content ≡ own) × (after ≡ before)
   IsContentOf (Some name) own before content after = reads before name (Some content) after
@@ -86,7 +86,7 @@ module _ {S : Type 0} (reads : Reads S) where
   abbrev pub IsContent : Order → (before : S) → (content : List ℕ) → (after : S) → Type 0
   IsContent order before content after = IsContentOf (file_of order) (own_data order) before content after
 
-  -- the lines of the packets, or none where there are no such packets, with the data or the image that was given
+  -- the lines of the packets, or none if there are no such packets, with the data or the image that was given
   pub record IsMade (words : PacketWords) (before : S) (made : Option (List ℕ)) (after : S) : Type 0 where
     pub content : List ℕ
     pub given : IsContent words.order before content after
@@ -109,7 +109,7 @@ module _ {S : Type 0} (reads : Reads S) where
     pub named : file_of words.order ≡ Some name
     pub unread : IsUnread reads before name after fault
 
-  -- the data or the image was given, but memory was refused behind it
+  -- the data or the image was given, but memory was refused after that
   pub record IsUnmade (words : PacketWords) (before after : S) (fault : Fault) : Type 0 where
     pub content : List ℕ
     pub given : IsContent words.order before content after
@@ -119,7 +119,7 @@ module _ {S : Type 0} (reads : Reads S) where
   abbrev pub IsNotMade : PacketWords → (before after : S) → Fault → Type 0
   IsNotMade words before after fault = ContentUnread words before after fault ⊎ IsUnmade words before after fault
 
-  -- what `packet` reads and prints where no fault ends it, by its exit status
+  -- what `packet` reads and prints if no fault ends it, by its exit status
   abbrev pub MakesFile : PacketWords → (before after : S) → (old new : Option (List ℕ)) → Status → Type 0
   MakesFile words before after old new Done = MakesPackets words before after old new
   MakesFile words before after old new Failed = ⊥

@@ -35,24 +35,24 @@ write_code rows =
 abbrev pub is_plain : List Row → Bool
 is_plain rows = not (is_set (codes "verify") rows) && not (is_set (codes "no-reply") rows)
 
--- there are no words but those of a read
+-- there are only the words of a read
 abbrev pub is_read_alone : List Row → Bool
 is_read_alone rows =
     is_plain rows && not (is_given (codes "mask") rows) && not (is_given (codes "slot") rows)
     && not (is_set (codes "final") rows)
 
--- there are no words but those of a write
+-- there are only the words of a write
 abbrev pub is_write_alone : List Row → Bool
 is_write_alone rows =
     not (is_given (codes "mask") rows) && not (is_given (codes "slot") rows) && not (is_set (codes "final") rows)
 
--- there are no words but those of a read-modify-write
+-- there are only the words of a read-modify-write
 abbrev pub is_rmw_alone : List Row → Bool
 is_rmw_alone rows =
     is_plain rows && not (is_set (codes "no-increment") rows) && not (is_given (codes "slot") rows)
     && not (is_set (codes "final") rows)
 
--- there are no words but those of a load
+-- there are only the words of a load
 abbrev pub is_load_alone : List Row → Bool
 is_load_alone rows =
     is_plain rows && not (is_set (codes "no-increment") rows) && not (is_given (codes "data") rows)
@@ -81,7 +81,7 @@ pub record OrdersWrite (rows : List Row) (code address : ℕ) (source : Source) 
   pub place : GivesPlace rows address
   pub bytes : Gives WritesSource (first_of (codes "data") rows) source
 
--- two words write data, and a mask of as many bytes behind them, at most 4 (ECSS-E-ST-50-52C, read-modify-write command
+-- two words write data, and a mask of as many bytes after them, at most 4 (ECSS-E-ST-50-52C, read-modify-write command
 -- format)
 pub record AreMasked (word mask : List ℕ) (bytes : List ℕ) : Type 0 where
   pub front : List ℕ

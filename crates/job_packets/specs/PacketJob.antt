@@ -10,7 +10,7 @@ use Rattle.job_packets.specs.declared.packet.PacketWords.{PacketWords}
 use Rattle.job_parts.specs.declared.usage.UsageFault.{UsageFault}
 use Rattle.job_parts.specs.declared.usage.UsageFault.TheVariants.{Parse, BadOption, Memory}
 
--- a subcommand with what is made and where: `KIND ADDRESS [DATA] [MASK]`
+-- a subcommand with what is made and at which address: `KIND ADDRESS [DATA] [MASK]`
 abbrev pub with_order_words : App → App
 with_order_words app =
     with_rule (with_rule (with_rule (with_rule app (file_rule (codes "kind"))) (file_rule (codes "address")))

@@ -14,7 +14,7 @@ with_field_options app =
     (option_rule (codes "key"))) (option_rule (codes "initiator"))) (option_rule (codes "transaction")))
     (option_rule (codes "extended"))) (option_rule (codes "reply-address"))
 
--- the number is what the option's value writes in so many hexadecimal digits; without the option it is this one
+-- the number is what the option's value writes in at most `most` hexadecimal digits; without the option it is this one
 abbrev pub GivesHex : (most default : ℕ) → Option (List ℕ) → ℕ → Type 0
 GivesHex most default None n = n ≡ default
 GivesHex most default (Some word) n = WritesHex most word n
@@ -24,7 +24,7 @@ abbrev pub GivesPort : Option (List ℕ) → ℕ → Type 0
 GivesPort None port = port ≡ 0
 GivesPort (Some word) port = WritesPort word port
 
--- how many zeros a reply address of so many bytes has in front: as many as it lacks to 0, 4, 8 or 12 bytes
+-- how many zeros a reply address of this many bytes has in front: as many as it lacks to 0, 4, 8 or 12 bytes
 -- (ECSS-E-ST-50-52C, reply address field)
 abbrev pub zeros_before : ℕ → ℕ
 zeros_before count = (4 - count % 4) % 4

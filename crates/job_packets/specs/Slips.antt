@@ -62,7 +62,7 @@ word_of (Missing word) = word
 word_of (Bad word) = word
 word_of (Foreign word) = word
 
--- the fault of a word that is none that it may be
+-- the fault of a word that is not one that it may be
 abbrev pub bad_word : PacketWord → PacketFault
 bad_word word = Words (Bad word)
 
@@ -79,11 +79,11 @@ IsBadWord right fault = IsSlip fault × ¬ right
 abbrev pub IsWordFault : (right : Type 0) → PacketFault → Type 0
 IsWordFault right fault = (fault ≡ Memory) ⊎ IsBadWord right fault
 
--- the slip of words of which the one of this name is not there
+-- the slip if the word of this name is not there
 abbrev pub LacksWord : (name : Text) → List Row → PacketFault → Type 0
 LacksWord name rows fault = IsSlip fault × (first_of name rows ≡ None)
 
--- the fault of a command line: a slip is an option that is none
+-- the fault of a command line: a slip is a bad option
 abbrev pub usage_fault_of : PacketFault → UsageFault
 usage_fault_of (Words slip) = BadOption
 usage_fault_of Memory = WantsMemory

@@ -8,7 +8,7 @@ use crate::slips::{PacketFault, PacketWord};
 use hex::FromHexError;
 use std::alloc::Global;
 
-/// The number that hexadecimal digits write, at most so many.
+/// The number that hexadecimal digits write, at most `most` of them.
 fn digits_written(digits: &str, most: usize) -> Option<u32>
     requires { most ≤ 8 }
     ensures writes { MatchOption result ((n : ℕ) → ¬ WritesDigits most digits.now n)
@@ -21,7 +21,7 @@ fn digits_written(digits: &str, most: usize) -> Option<u32>
     u32::from_str_radix(digits, 16).ok()
 }
 
-/// The number that a word writes in at most so many hexadecimal digits, with or without `0x` before them.
+/// The number that a word writes in at most `most` hexadecimal digits, with or without `0x` before them.
 pub fn hex_written(word: &str, most: usize) -> Option<u32>
     requires { most ≤ 8 }
     ensures writes { MatchOption result ((n : ℕ) → ¬ WritesHex most word.now n)
@@ -34,7 +34,7 @@ pub fn hex_written(word: &str, most: usize) -> Option<u32>
     }
 }
 
-/// What it means that a text is not decoded, where it is this word: it writes no bytes, or memory was refused.
+/// The fault if the text of this word is not decoded: it writes no bytes, or memory was refused.
 fn fault_of(refused: FromHexError, word: PacketWord) -> PacketFault
     ensures { result ≡ fault_of_hex word refused }
 {
@@ -46,7 +46,11 @@ fn fault_of(refused: FromHexError, word: PacketWord) -> PacketFault
     }
 }
 
-/// The bytes that a text writes, which is this word: pairs of hexadecimal digits, one at least, or `-` for none.
+/// The bytes that the text of this word writes: pairs of hexadecimal digits, one at least, or `-` for none.
+///
+/// # Errors
+///
+/// The slip that the word is bad, or `Memory` if memory was refused.
 pub fn bytes_written(alloc: Global, text: &str, word: PacketWord) -> Result<Vec<u8>, PacketFault>
     ensures ok { IfOk result (λ bytes. WritesBytes text.now bytes.items) }
     ensures err { IfErr result (IsWordFault (Has (WritesBytes text.now))) }

@@ -11,7 +11,7 @@ use initiator::{
 };
 use std::alloc::{AllocError, Global};
 
-/// Adds the write of a part to the staging, where the image has such a part.
+/// Adds the write of a part to the staging, if the image has such a part.
 #[tactic(auto, unfolding(crate::specs::Loads::part_text))]
 fn add_part(
     text: &mut String,
@@ -60,7 +60,7 @@ fn add_load(
     add_line(text, alloc, header, result, &[])
 }
 
-/// The transaction identifier behind those of a load that begins with this one.
+/// The transaction identifier after those of a load that begins with this one.
 fn behind_load(transaction: u16, image: &[u8]) -> u16
     requires { length image.now ≤ 16384 }
     ensures { result ≡ behind_load transaction image.now }
@@ -71,6 +71,10 @@ fn behind_load(transaction: u16, image: &[u8]) -> u16
 }
 
 /// Adds the packets of the loads of an image into these slots, in this order.
+///
+/// # Errors
+///
+/// An error if memory is refused.
 pub fn add_loads(
     text: &mut String,
     alloc: Global,

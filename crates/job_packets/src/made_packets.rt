@@ -23,7 +23,7 @@ use spw::MAX_PACKET;
 use std::alloc::{AllocError, Global};
 use std::io::Write;
 
-/// The data or the image of an order: those of its file, or those that stand in the words.
+/// The data or the image of an order: those of its file, or those that the words have.
 fn content_of<'a, F: Files>(
     alloc: Global,
     words: &'a PacketWords,
@@ -69,7 +69,7 @@ fn has_reply_address(header: &HeaderWords) -> bool
     bytes % 4 == 0 && bytes <= 12
 }
 
-/// Whether a packet with so many bytes of data is not too long.
+/// Whether a packet with this many bytes of data is not too long.
 fn is_short(header: &HeaderWords, count: usize) -> bool
     requires { has_reply_address header.now ≡ true }
     ensures { result ≡ is_short header.now count }
@@ -141,7 +141,11 @@ fn add_packets(
     }
 }
 
-/// The lines of the packets that are ordered, or `None` where there are no such packets.
+/// The lines of the packets that are ordered, or `None` if there are no such packets.
+///
+/// # Errors
+///
+/// An error if memory is refused.
 pub fn made_text(
     alloc: Global,
     words: &PacketWords,
@@ -172,10 +176,12 @@ fn packets<'a, F: Files>(
     Ok(made_text(alloc, words, content.as_slice())?)
 }
 
-/// Prints the packet lines of the packets that the words order. `Misused`, and nothing is printed, where there are no
-/// such packets: one would be longer than 4,200 bytes, or an image is larger than the staging.
+/// Prints the packet lines of the packets that the words order. If there are no such packets, it returns `Misused` and
+/// prints nothing: one would be longer than 4,200 bytes, or an image is larger than the staging.
 ///
-/// The faults are `CannotRead` of the file of the data or the image, and `NoMemory`.
+/// # Errors
+///
+/// `CannotRead` of the file of the data or the image, `NoMemory`, or that the writer failed.
 pub fn packet_file<'a, F: Files, W: Write>(
     alloc: Global,
     words: &'a PacketWords,

@@ -36,6 +36,10 @@ fn slot_written(part: &str) -> Option<u8>
 }
 
 /// Each of the four slots.
+///
+/// # Errors
+///
+/// An error if memory is refused.
 pub fn every_slot(alloc: Global) -> Result<Vec<u8>, AllocError>
     ensures { IfOk result (λ slots. slots.items ≡ every_slot) }
 {
@@ -58,6 +62,10 @@ fn listed_slots(alloc: Global, list: &str) -> Result<Vec<u8>, PacketFault>
 }
 
 /// The slots that a word writes: `all`, or decimal numbers from 0 to 3 with commas between them.
+///
+/// # Errors
+///
+/// The slip that the slots are bad, or `Memory` if memory was refused.
 pub fn slots_written(alloc: Global, word: &str) -> Result<Vec<u8>, PacketFault>
     ensures ok { IfOk result (λ slots. WritesSlots word.now slots.items) }
     ensures err { IfErr result (IsWordFault (Has (WritesSlots word.now))) }

@@ -55,7 +55,7 @@ pub enum Order {
     Rmw {
         /// The address.
         address: u32,
-        /// The data, and the mask behind them.
+        /// The data, and the mask after them.
         bytes: Vec<u8>,
     },
     /// The packets of loads.
@@ -98,7 +98,7 @@ fn is_plain(found: &ArgMatches) -> bool
     !is_set(found, "verify") && !is_set(found, "no-reply")
 }
 
-/// Whether there are no words but those of a read.
+/// Whether there are only the words of a read.
 fn is_read_alone(found: &ArgMatches) -> bool
     ensures { result ≡ is_read_alone (rows_of (found_of found.now)) }
 {
@@ -108,14 +108,14 @@ fn is_read_alone(found: &ArgMatches) -> bool
         && !is_set(found, "final")
 }
 
-/// Whether there are no words but those of a write.
+/// Whether there are only the words of a write.
 fn is_write_alone(found: &ArgMatches) -> bool
     ensures { result ≡ is_write_alone (rows_of (found_of found.now)) }
 {
     !is_given(found, "mask") && !is_given(found, "slot") && !is_set(found, "final")
 }
 
-/// Whether there are no words but those of a read-modify-write.
+/// Whether there are only the words of a read-modify-write.
 fn is_rmw_alone(found: &ArgMatches) -> bool
     ensures { result ≡ is_rmw_alone (rows_of (found_of found.now)) }
 {
@@ -125,7 +125,7 @@ fn is_rmw_alone(found: &ArgMatches) -> bool
         && !is_set(found, "final")
 }
 
-/// Whether there are no words but those of a load.
+/// Whether there are only the words of a load.
 fn is_load_alone(found: &ArgMatches) -> bool
     ensures { result ≡ is_load_alone (rows_of (found_of found.now)) }
 {
@@ -145,7 +145,7 @@ fn is_there(found: &ArgMatches, word: PacketWord) -> bool {
     }
 }
 
-/// That the first of these words that is there, or else the last, is none of what is to be made.
+/// The slip that a word does not belong to what is to be made: the first of these that is there, or else the last.
 fn foreign(found: &ArgMatches, words: &[PacketWord], last: PacketWord) -> PacketFault
     ensures { IsSlip result }
 {
@@ -157,7 +157,7 @@ fn foreign(found: &ArgMatches, words: &[PacketWord], last: PacketWord) -> Packet
     PacketFault::Words(Slip::Foreign(last))
 }
 
-/// The text of a word that has to be there.
+/// The text of a word that must be there.
 fn text_in<'a>(found: &ArgMatches<'a>, name: &str, word: PacketWord) -> Result<&'a str, PacketFault>
     ensures ok { IfOk result
         (λ text. first_of name.now (rows_of (found_of found.now)) ≡ Some text.now) }
@@ -304,7 +304,7 @@ fn rmw_named(alloc: Global, found: &ArgMatches) -> Result<(u32, Vec<u8>), Packet
     Ok((address, bytes))
 }
 
-/// That words of a load are there that it has not.
+/// The slip that words are there that no load has.
 fn foreign_to_load(found: &ArgMatches) -> PacketFault
     ensures { IsSlip result }
 {
@@ -342,7 +342,11 @@ fn load_named<'a>(alloc: Global, found: &ArgMatches<'a>) -> Result<(&'a str, Vec
     Ok((image, slots))
 }
 
-/// What the words order. A slip where they order nothing that can be made: the first word that is wrong.
+/// What the words order.
+///
+/// # Errors
+///
+/// The slip of the first word that is wrong, if they order nothing that can be made, or `Memory` if memory was refused.
 pub fn order_of(alloc: Global, found: &ArgMatches) -> Result<Order, PacketFault>
     ensures ok { IfOk result (NamesOrder (rows_of (found_of found.now))) }
     ensures err { IfErr result (IsWordFault (Has (NamesOrder (rows_of (found_of found.now))))) }

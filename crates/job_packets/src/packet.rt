@@ -26,12 +26,12 @@ pub struct PacketWords {
     pub header: HeaderWords,
     /// What is made.
     pub order: Order,
-    /// Whether a load is meant to be the last, so that nothing is said if its program denies the same load after it.
+    /// Whether a load is meant to be the last. Then nothing is said if its program denies the same load after it.
     pub is_final: bool,
 }
 
 impl PacketWords {
-    /// What the job reads: of a load the image, and of a write the data, if a file has them.
+    /// What the job reads: the image of a load, or the data of a write, if a file has them.
     pub fn inputs(&self) -> Inputs<'_>
         ensures file { option_map (λ file. file.name) (option_map input_value result.first)
             ≡ file_of self.now.order }
@@ -52,7 +52,7 @@ impl PacketWords {
     }
 }
 
-/// The subcommand with what is made and where.
+/// The subcommand with what is made and at which address.
 fn order_words<'a>(alloc: Global, command: Command<'a>) -> Result<Command<'a>, AllocError>
     requires { (fields_of command).has_globals ≡ false }
     ensures shape { IfOk result (λ c. app_of c ≡ with_order_words (app_of command.entry)) }
@@ -98,6 +98,10 @@ fn order_options<'a>(alloc: Global, command: Command<'a>) -> Result<Command<'a>,
 }
 
 /// `packet KIND ADDRESS [DATA] [MASK]` with its options.
+///
+/// # Errors
+///
+/// An error if memory is refused.
 pub fn packet_command<'a>(alloc: Global) -> Result<Command<'a>, AllocError>
     ensures shape { IfOk result (λ c. app_of c ≡ packet_app) }
     ensures local { IfOk result (λ c. (fields_of c).has_globals ≡ false) }
@@ -115,8 +119,11 @@ pub fn packet_command<'a>(alloc: Global) -> Result<Command<'a>, AllocError>
     field_arguments(alloc, chosen)
 }
 
-/// The words of `packet` with these matches. A slip where they are none: of the options of a header, and then of what is
-/// ordered, the first.
+/// The words of `packet` with these matches.
+///
+/// # Errors
+///
+/// The first slip: of the options of a header, and then of what is ordered. Or `Memory` if memory was refused.
 pub fn packet_words(alloc: Global, found: &ArgMatches) -> Result<PacketWords, PacketFault>
     ensures ok { IfOk result (NamesPacket (rows_of (found_of found.now))) }
     ensures err { IfErr result (IsWordFault (Has (NamesPacket (rows_of (found_of found.now))))) }
@@ -131,7 +138,11 @@ pub fn packet_words(alloc: Global, found: &ArgMatches) -> Result<PacketWords, Pa
     })
 }
 
-/// The same, with a slip as `BadOption`.
+/// The same, for the command line.
+///
+/// # Errors
+///
+/// `BadOption` for a slip, or `Memory` if memory was refused.
 pub fn packet_job(alloc: Global, found: &ArgMatches) -> Result<PacketWords, UsageFault>
     ensures ok { IfOk result (NamesPacket (rows_of (found_of found.now))) }
     ensures err { IfErr result (RefusesPacket (rows_of (found_of found.now))) }

@@ -27,15 +27,19 @@ pub struct HeaderWords {
     pub key: u8,
     /// The initiator logical address; 67 without `--initiator`.
     pub initiator: u8,
-    /// The transaction identifier, of a load that of its first packet; 0000 without `--transaction`.
+    /// The transaction identifier, for a load that of its first packet; 0000 without `--transaction`.
     pub transaction: u16,
     /// The extended address; 00 without `--extended`.
     pub extended: u8,
-    /// The reply address, 0, 4, 8 or 12 bytes, of which the first may be zeros; none without `--reply-address`.
+    /// The reply address, 0, 4, 8 or 12 bytes, which may begin with zeros; none without `--reply-address`.
     pub reply_address: Vec<u8>,
 }
 
 /// The subcommand with the options of a packet's fields.
+///
+/// # Errors
+///
+/// An error if memory is refused.
 pub fn field_arguments<'a>(alloc: Global, command: Command<'a>) -> Result<Command<'a>, AllocError>
     requires { (fields_of command).has_globals ≡ false }
     ensures shape { IfOk result (λ c. app_of c ≡ with_field_options (app_of command.entry)) }
@@ -66,7 +70,11 @@ pub fn field_arguments<'a>(alloc: Global, command: Command<'a>) -> Result<Comman
         .arg(reply_address)
 }
 
-/// The port by `--port`; 0 without it. A slip where its value writes none.
+/// The port by `--port`; 0 without it.
+///
+/// # Errors
+///
+/// The slip that the port is bad, if the value writes none.
 pub fn port_of(found: &ArgMatches) -> Result<u8, PacketFault>
     ensures { MatchResult result
         (GivesPort (first_of (codes "port") (rows_of (found_of found.now))))
@@ -78,8 +86,11 @@ pub fn port_of(found: &ArgMatches) -> Result<u8, PacketFault>
     }
 }
 
-/// The byte by the option of this name, of two hexadecimal digits; the default without it. A slip of this word where its value
-/// writes none.
+/// The byte by the option of this name, of at most two hexadecimal digits; the default without it.
+///
+/// # Errors
+///
+/// The slip that this word is bad, if the value writes no byte.
 pub fn byte_of(
     found: &ArgMatches,
     name: &str,
@@ -119,7 +130,7 @@ fn pair_of(
     }
 }
 
-/// A reply address of at most 12 bytes, with the zeros that stand before it.
+/// A reply address of at most 12 bytes, with the zeros that come before it.
 fn padded(alloc: Global, bytes: &[u8]) -> Result<Vec<u8>, AllocError>
     ensures { IfOk result (λ address. address.items ≡ padded bytes.now) }
 {
@@ -146,7 +157,11 @@ fn reply_address_of(alloc: Global, found: &ArgMatches) -> Result<Vec<u8>, Packet
     Ok(padded(alloc, bytes.as_slice())?)
 }
 
-/// The words of a header by the options. A slip where one has a value that it may not have: the first such.
+/// The words of a header by the options.
+///
+/// # Errors
+///
+/// The slip of the first option that has a value that it may not have, or `Memory` if memory was refused.
 pub fn header_words(alloc: Global, found: &ArgMatches) -> Result<HeaderWords, PacketFault>
     ensures ok { IfOk result (GivesHeader (rows_of (found_of found.now))) }
     ensures err { IfErr result (IsWordFault (Has (GivesHeader (rows_of (found_of found.now))))) }

@@ -44,6 +44,10 @@ fn add_marked(text: &mut String, port: u8, digits: &str) -> Result<(), AllocErro
 
 /// The bytes of the command that is requested, with that body. Conditions: the reply address has 0, 4, 8 or 12 bytes, and code and
 /// length fit their fields.
+///
+/// # Errors
+///
+/// An error if memory is refused.
 pub fn command_bytes(
     alloc: Global,
     header: &HeaderWords,
@@ -63,6 +67,10 @@ pub fn command_bytes(
 }
 
 /// Adds the packet line of the command that is requested, with that body.
+///
+/// # Errors
+///
+/// An error if memory is refused.
 pub fn add_line(
     text: &mut String,
     alloc: Global,

@@ -49,7 +49,7 @@ pub enum PacketWord {
 }
 
 impl PacketWord {
-    /// By which name the command line has it.
+    /// The name that the command line has for it.
     pub fn id(self) -> &'static str
         ensures { result.now ≡ word_id self }
     {
@@ -73,7 +73,7 @@ impl PacketWord {
         }
     }
 
-    /// What it stands for, as the usage of the job names it.
+    /// What it means, as the usage of the job names it.
     pub fn title(self) -> &'static str {
         match self {
             PacketWord::Kind => "KIND",
@@ -96,7 +96,7 @@ impl PacketWord {
         }
     }
 
-    /// The form that it has to have.
+    /// The form that it must have.
     fn form(self) -> &'static str {
         match self {
             PacketWord::Kind => "read, write, rmw or load",
@@ -121,7 +121,7 @@ impl PacketWord {
         }
     }
 
-    /// What has such a word, where not all that is made has one.
+    /// What has such a word, if not all that is made has one.
     fn owner(self) -> &'static str {
         match self {
             PacketWord::Mask => "only an rmw has one, and DATA is one word",
@@ -160,7 +160,7 @@ impl PacketWord {
 pub enum Slip {
     /// There is no such word, and one is wanted.
     Missing(PacketWord),
-    /// The word is none that it may be.
+    /// The word is not one that it may be.
     Bad(PacketWord),
     /// What is to be made has no such word.
     Foreign(PacketWord),
@@ -195,7 +195,7 @@ pub enum PacketFault {
 }
 
 impl PacketFault {
-    /// The word is none that it may be.
+    /// The fault that the word is not one that it may be.
     pub fn bad(word: PacketWord) -> PacketFault
         ensures { result ≡ bad_word word }
     {

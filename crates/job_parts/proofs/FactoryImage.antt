@@ -22,7 +22,7 @@ outcome (Err fault) = 1
 no_fault : (fault : ImageFault) → parts_reading One factory_insns [] 2 ≡ Err fault → ⊥
 no_fault fault h = omega (arith, ap outcome (sym factory_reading ∙ h))
 
--- memory alone can be refused to the factory image
+-- only memory can be refused to the factory image
 pub memory_alone : (fault : ImageFault) → Fails fault (parts_reading One factory_insns [] 2) → fault ≡ faults.Memory
 memory_alone faults.Memory h = refl
 memory_alone faults.Magic h = absurd (no_fault _ h)

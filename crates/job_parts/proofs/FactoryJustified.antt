@@ -33,7 +33,7 @@ use Rattle.absdom.proofs.KindLists.{number, each_below, same_range, each_proper,
 no_marks : List Bool
 no_marks = replicate 512 false
 
--- nothing is known of any register but r0
+-- nothing is known of any register except r0
 answer_kinds : AbsKind → List AbsKind
 answer_kinds answer = answer ∷ Unset ∷ Unset ∷ Unset ∷ Unset ∷ Unset ∷ Unset ∷ Unset ∷ Unset ∷ Unset ∷ Unset ∷ []
 
@@ -125,7 +125,7 @@ factory_justified maps limits = record {
   heads = All-nil (λ l. IfSome (table l.head) (IsHead factory l));
 }
 
--- a code that is not other than want of memory is that
+-- a code that is no other than the refusal of memory is that one
 memory_alone : (code : Refusal) → (code ≢ refusals.Memory → ⊥) → code ≡ refusals.Memory
 memory_alone refusals.Memory h = refl
 memory_alone refusals.Target h = absurd (h (λ e. cc e))
@@ -146,7 +146,7 @@ memory_alone refusals.Budget h = absurd (h (λ e. cc e))
 memory_alone refusals.Unsupported h = absurd (h (λ e. cc e))
 memory_alone refusals.MapKind h = absurd (h (λ e. cc e))
 
--- The verifier refuses it for want of memory alone.
+-- The verifier refuses it only if memory is refused.
 pub refused_for_memory : (maps : Maps) (p : Program) (refused : Refused) → p ≡ factory → IsProgram p → TellsUnjustified p maps refused → refused.code ≡ refusals.Memory
 refused_for_memory maps p refused is limits told =
     memory_alone refused.code (λ other. told other (subst (λ (q : Program). IsJustified q maps) (sym is) (factory_justified maps (subst IsProgram is limits))))

@@ -100,7 +100,7 @@ pub block_text : (v high low : List ℕ) → length v ≡ 16 → Each1 (Fits w8)
     → low ≡ map digit_of (zip2 bit_and v (replicate 16 15)) → in_turn high low ≡ encode_upper v
 block_text v high low long fit is_high is_low = ap₂ in_turn is_high is_low ∙ text_in_turn 16 v long fit
 
--- ---- the blocks of bytes, and what is behind them
+-- ---- the blocks of bytes, and what is after them
 
 pub blocks_and_rest : (k : ℕ) (bytes : List ℕ) → k * 16 ≤ length bytes → concat (first_chunks 16 k bytes) ++ drop (k * 16) bytes ≡ bytes
 blocks_and_rest zero bytes fits = refl

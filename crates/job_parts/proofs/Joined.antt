@@ -58,7 +58,7 @@ module _ (bytes rest : List ℕ) (blocks : List (List ℕ)) (parts : concat bloc
     all_parts : concat done ++ rest ≡ bytes
     all_parts = ap (λ (bs : List (List ℕ)). concat bs ++ rest) whole ∙ parts
 
-    -- there is room for what is behind the blocks
+    -- there is room for what is after the blocks
     pub room_behind : (before after : List ℕ) → after ≡ before ++ encode_upper (concat done) → length before + 2 * length bytes ≤ 144
         → length after + 2 * length rest ≤ 144
     room_behind before after was room =
@@ -96,7 +96,7 @@ pub chunk_long : (bytes : List ℕ) (chunks : List (List ℕ)) (i : ℕ) → chu
 chunk_long bytes chunks i cut many below =
     ap (λ (bs : List (List ℕ)). length (get_or bs i [])) cut ∙ each_chunk (length bytes / 64) i bytes (omega arith) (omega (arith, many, below))
 
--- the end of the text fits behind what is left
+-- the end of the text fits after what is left
 pub end_fits : (waits text rest behind : List ℕ) → length waits ≤ 4 → length rest < 64 → length behind ≤ 5 → text ≡ waits ++ encode_upper rest
     → length text + length behind ≤ 144
 end_fits waits text rest behind few short end is =
@@ -112,7 +112,7 @@ chunks_and_rest (suc k) bytes fits =
     ∙ ap (λ (rest : List ℕ). take 64 bytes ++ rest) (chunks_and_rest k (drop 64 bytes) (omega (arith, fits, length-drop 64 bytes)))
     ∙ take-append-drop 64 bytes
 
--- of a text that begins with the front and the digits of chunks, something was printed, and the rest waits
+-- the text begins with the front and the digits of chunks: some of it was printed, and the rest waits
 pub record IsUnderWay (front : List ℕ) (i : ℕ) (chunks : List (List ℕ)) (old new : Option (List ℕ)) (waits : List ℕ) : Type 0 where
   pub printed : List ℕ
   pub appends : Appends old new printed
@@ -135,7 +135,7 @@ one_printed front i chunks old mid new waits text left below was is one none =
           ∙ ap (λ (t : List ℕ). was.printed ++ t) is ∙ sym (append_assoc was.printed waits (encode_upper chunk)));
     }
 
--- all chunks, what is behind them, and the end
+-- all chunks, what is after them, and the end
 pub all_printed : {E : Type 0} (front bytes rest behind waits text whole : List ℕ) (i : ℕ) (chunks : List (List ℕ)) (old mid new : Option (List ℕ)) (answer : Result (Unit {0}) E)
     → concat chunks ++ rest ≡ bytes → take i chunks ≡ chunks → IsUnderWay front i chunks old mid waits → text ≡ waits ++ encode_upper rest → whole ≡ text ++ behind
     → OnOk answer (Appends mid new whole) → OnOk answer (Appends old new (front ++ encode_upper bytes ++ behind))

@@ -30,11 +30,11 @@ pub unmapped : {X : Type 0} (P : List ℕ → Type 0) (f : X → List ℕ) (xs :
 unmapped P f [] h = All-nil (λ x. P (f x))
 unmapped P f (x ∷ xs) h = All-cons (λ x. P (f x)) x xs (All-head P (f x) (map f xs) h) (unmapped P f xs (All-tail P (f x) (map f xs) h))
 
--- the texts are of maps where the parts of the list are
+-- the texts are of maps if the parts of the list are
 pub are_maps : {X : Type 0} (f : X → List ℕ) (xs : List X) (text : List ℕ) → map f xs ≡ list_parts text → IsMapList text → All (λ x. IsMap (f x)) xs
 are_maps f xs text are list = unmapped (λ part. IsMap part) f xs (subst (All (λ part. IsMap part)) (sym are) list.0)
 
--- parts that are of maps, and what they write where a node may have it, make a list
+-- parts that are of maps, and what they write, if a node may have it, make a list
 pub map_list : {X : Type 0} (f : X → List ℕ) (xs : List X) (text : List ℕ) (maps : List (ℕ × MapKind)) → map f xs ≡ list_parts text → All (λ x. IsMap (f x)) xs
     → maps ≡ map (λ x. map_of (f x)) xs → AreSizes (listed_maps maps) → IsMapList text × (listed_maps maps ≡ written_maps text)
 map_list f xs text maps are all written allowed =
@@ -43,13 +43,13 @@ map_list f xs text maps are all written allowed =
       sizes,
     )
 
--- behind some digits the last letter is the letter p
+-- after some digits the last letter is the letter p
 last_p : (xs : List ℕ) → is_of_peaks (xs ++ 112 ∷ []) ≡ true
 last_p [] = refl
 last_p (x ∷ []) = refl
 last_p (x ∷ y ∷ xs) = last_p (y ∷ xs)
 
--- and before it stand the digits
+-- and the digits are before it
 front_of : (xs : List ℕ) → without_last (xs ++ 112 ∷ []) ≡ xs
 front_of [] = refl
 front_of (x ∷ []) = refl
@@ -74,7 +74,7 @@ peaks_of part digits is = rw is (joined digits)
         let last : is_of_peaks (digits ++ 112 ∷ []) ≡ true = last_p digits in
         (rw last (sym (front_of digits)), rw last refl)
 
--- a part without that letter at its end is of a counter map, and is digits alone
+-- a part without that letter at its end is of a counter map, and has only digits
 pub counters_of : (part : List ℕ) → ((front : List ℕ) → part ≢ front ++ 112 ∷ []) → (part ≡ size_word part) × (Counter ≡ kind_of part)
 counters_of part none =
     let other : is_of_peaks part ≡ false = not_p part none in

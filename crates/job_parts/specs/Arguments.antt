@@ -8,7 +8,7 @@ use Rattle.clap.specs.declared.builder.action.ArgAction.TheVariants.{SetTrue}
 use Rattle.job_parts.specs.declared.usage.UsageFault.{UsageFault}
 use Rattle.job_parts.specs.declared.usage.UsageFault.TheVariants.{Parse, BadOption, Memory}
 
--- a file that has to be given
+-- a file that must be given
 abbrev pub file_rule : Text → Rule
 file_rule id = record (new_rule id) { value_names = 1; required = true }
 
@@ -45,7 +45,7 @@ HasName file rows name = first_of file rows ≡ Some (string_bytes name)
 abbrev pub name_in : Option (Bor (List ℕ)) → Option (List ℕ)
 name_in name = option_map (λ lent. lent.now) name
 
--- matches without a file that has to be given, or memory was refused
+-- matches without a file that must be given, or memory was refused
 abbrev pub Lacks : (file : Text) → List Row → UsageFault → Type 0
 Lacks file rows Memory = Unit {0}
 Lacks file rows BadOption = first_of file rows ≡ None

@@ -19,8 +19,8 @@ use Rattle.job_parts.specs.declared.faults.Fault.TheVariants.{BadImage, Refused 
 abbrev pub factory_insns : List Insn
 factory_insns = Alu Mov Bits64 0 (Immediate (pos 0)) ∷ Exit ∷ []
 
--- the program that judges where no image is named, which is yes to every command: these two
--- instructions, no loops, and a budget for two steps
+-- the program that judges if no image is named, which is yes to every command: these two instructions, no loops, and a
+-- budget for two steps
 abbrev pub factory : Program
 factory = program One 2 [] (flat_map placed_slots factory_insns)
 

@@ -1,4 +1,4 @@
--- What a file is that is no image, and the line that tells it.
+-- What a file is if it is no image, and the line that says so.
 use Rattle.std.specs.Prelude.{◌≡◌, ◌≢◌, ◌⊎◌, ℕ, List, [], Option, codes}
 use Rattle.std.specs.Io.KnownBytes.{Appends}
 use Rattle.std.specs.Str.{IsUtf8}
@@ -20,7 +20,7 @@ pub record ArePolicyTable (bytes : List ℕ) : Type 0 where
   pub table : WritesPolicy (lines_of bytes) policy
   pub some : policy.rules ≢ []
 
--- the line that tells what the bytes are, or no line
+-- the line that says what the bytes are, or no line
 abbrev pub IsFormLine : (bytes line : List ℕ) → Type 0
 IsFormLine bytes line =
     (line ≡ []) ⊎ ((AreProgramText bytes × (line ≡ codes "this is the text of a program\n"))

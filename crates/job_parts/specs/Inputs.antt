@@ -7,12 +7,12 @@ use Rattle.job_parts.specs.declared.inputs.InputFile.{InputFile}
 use Rattle.job_parts.specs.declared.inputs.Inputs.{Inputs}
 use Rattle.job_parts.specs.declared.options.NodeWords.{NodeWords}
 
--- a file that a job reads: its name, and what it has to be
+-- a file that a job reads: its name, and what it must be
 pub record InputValue : Type 0 where
   pub name : List ℕ
   pub content : Content
 
--- the file of this name, which has to be that
+-- the file of this name, which must be that
 abbrev pub input : List ℕ → Content → InputValue
 input name content = record { name = name; content = content }
 

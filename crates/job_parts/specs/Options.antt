@@ -15,7 +15,7 @@ use Rattle.job_parts.specs.declared.options.NodeWords.{NodeWords}
 use Rattle.job_parts.specs.declared.usage.UsageFault.{UsageFault}
 use Rattle.job_parts.specs.declared.usage.UsageFault.TheVariants.{Parse, BadOption, Memory}
 
--- decimal digits, leading zeros among them, that write a number from the one to the other
+-- decimal digits, leading zeros among them, that write a number from `least` to `most`
 abbrev pub IsNumberWithin : (least most : ℕ) → List ℕ → Type 0
 IsNumberWithin least most word = IsNumeral 10 word × (least ≤ digits_value 10 word) × (digits_value 10 word ≤ most)
 
@@ -47,11 +47,11 @@ without_last [] = []
 without_last (letter ∷ []) = []
 without_last (letter ∷ next ∷ part) = letter ∷ without_last (next ∷ part)
 
--- the digits of a part: all of it, but for the letter of a peak map
+-- the digits of a part: all of it, except the letter of a peak map
 abbrev pub size_word : List ℕ → List ℕ
 size_word part = if is_of_peaks part then without_last part else part
 
--- a part writes a map: how many cells it has, and for a peak map the letter p behind it
+-- a part writes a map: how many cells it has, and for a peak map the letter p after it
 abbrev pub IsMap : List ℕ → Type 0
 IsMap part = IsSize (size_word part)
 
@@ -71,7 +71,7 @@ WritesMap part m = IsMap part × (m ≡ map_of part)
 abbrev pub WriteMaps : List (Bor (List ℕ)) → List (ℕ × MapKind) → Type 0
 WriteMaps parts maps = All (λ part. IsMap part.now) parts × (maps ≡ map (λ part. map_of part.now) parts)
 
--- what stands between the commas (44) of a list
+-- the parts of a list, which commas (44) separate
 abbrev pub list_parts : List ℕ → List (List ℕ)
 list_parts text = slice_split (λ code. code == 44) text
 
@@ -125,7 +125,7 @@ with_node_options app =
     with_rule (with_rule (with_rule app (option_rule (codes "image"))) (option_rule (codes "maps")))
     (option_rule (codes "ports"))
 
--- the name of the file of the image that judges, where the words of a node have one
+-- the name of the file of the image that judges, if the words of a node have one
 abbrev pub image_name : NodeWords → Option (List ℕ)
 image_name node = option_map string_bytes node.image
 

@@ -13,11 +13,11 @@ use Rattle.job_parts.specs.declared.faults.Fault.{Fault}
 use Rattle.job_parts.specs.declared.faults.Fault.TheVariants.{CannotRead, CannotWrite, NoMemory, Damaged, BadText, BadTable}
 use Rattle.job_parts.specs.declared.faults.Fault.TheVariants.{BadImage, Refused, BadNode, BadLine}
 
--- the line was printed, behind what the writer holds where that is known
+-- the line was printed, after what the writer holds, if that is known
 abbrev pub Prints : {W : Type 0} → (contents : W → Option (List ℕ)) → (old new : W) → List ℕ → Type 0
 Prints contents old new line = Appends (contents old) (contents new) line
 
--- more was printed, behind what the writer holds where that is known
+-- more was printed, after what the writer holds, if that is known
 abbrev pub PrintsMore : (old new : Option (List ℕ)) → Type 0
 PrintsMore old new = (more : List ℕ) × Appends old new more
 

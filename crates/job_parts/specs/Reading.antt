@@ -39,8 +39,8 @@ module _ {S : Type 0} (reads : Reads S) where
       IsUnread before name after fault
       ⊎ ((bad : ImageFault) × (fault ≡ BadImage bad) × HoldsFault before name after bad)
 
-  -- the file was read, and gave the image of a program that the verifier refuses so: for what is wrong at the slot;
-  -- and, but for want of memory, nothing justifies the program on a node with these maps
+  -- the file was read, and gave the image of a program that the verifier refuses so, for what is wrong at the slot.
+  -- Except if memory was refused, nothing justifies the program on a node with these maps
   pub record HoldsRefused (before : S) (name : List ℕ) (maps : Maps) (after : S) (refused : Refused) : Type 0 where
     pub program : Program
     pub image : HoldsImage reads before name program after

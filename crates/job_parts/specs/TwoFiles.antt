@@ -20,7 +20,7 @@ pub record NamesOneInput (rows : List Row) : Type 0 where
   pub new_name : first_of (codes "new") rows ≡ Some new
   pub one : are_one_input old new ≡ true
 
--- the line of a table's fault was printed, and behind it a line with the name of its file and the place
+-- the line of a table's fault was printed, and after it a line with the name of its file and the place
 pub record TellsNamedFault (name : List ℕ) (fault : TextFault) (old new : Option (List ℕ)) : Type 0 where
   pub told : Option (List ℕ)
   pub named : Option (List ℕ)

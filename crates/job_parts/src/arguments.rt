@@ -9,7 +9,7 @@ use crate::usage::UsageFault;
 use clap::{Arg, ArgAction, ArgMatches, Command};
 use std::alloc::{AllocError, Global};
 
-/// The name of a file that has to be given.
+/// The name of a file that must be given.
 pub fn file<'a>(alloc: Global, id: &'a str, name: &'a str, help: &'a str) -> Arg<'a>
     ensures rule { rule_of result ≡ file_rule id.now }
     ensures local { result.global ≡ false }
@@ -51,6 +51,10 @@ pub fn flag<'a>(alloc: Global, name: &'a str, help: &'a str) -> Arg<'a>
 }
 
 /// A subcommand with the file of a BPF image: `NAME FILE`.
+///
+/// # Errors
+///
+/// An error if memory is refused.
 pub fn image_command<'a>(
     alloc: Global,
     name: &'a str,
@@ -71,7 +75,11 @@ pub fn text_of<'a>(found: &ArgMatches<'a>, id: &str) -> Option<&'a str>
     found.get_str(id)
 }
 
-/// The name of a file that has to be given.
+/// The name of a file that must be given.
+///
+/// # Errors
+///
+/// `BadOption` if the matches have no such name, or `Memory` if memory is refused.
 pub fn name_of(alloc: Global, found: &ArgMatches, id: &str) -> Result<String, UsageFault>
     ensures ok { IfOk result (HasName id.now (rows_of (found_of found.now))) }
     ensures err { IfErr result (Lacks id.now (rows_of (found_of found.now))) }

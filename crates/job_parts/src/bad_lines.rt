@@ -28,7 +28,7 @@ pub enum BadLine {
     /// The node has no such port.
     #[error("no such port, or no such event")]
     NoPort,
-    /// The first word is that of no event, there is none, or there are words too many.
+    /// The first word is that of no event, there is none, or there are too many words.
     #[error("no such port, or no such event")]
     NoEvent,
     /// The port has no room for the packet that the line ends.
@@ -37,8 +37,8 @@ pub enum BadLine {
 }
 
 impl BadLine {
-    /// The number that is printed of it: 1 to 5 as of a packet line, 6 of a port or an event that does not exist, and
-    /// 7 of a packet too many.
+    /// The number that is printed of it: 1 to 5 as of a packet line, and 6 for a port or an event that does not exist.
+    /// It is 7 for one packet too many.
     pub fn number(self) -> u8
         ensures { result ≡ bad_line_number self }
     {
@@ -49,7 +49,7 @@ impl BadLine {
         }
     }
 
-    /// What is wrong with a line of which this number is printed; of 6 it is the port. `None` where nothing has the
+    /// What is wrong with a line if this number is printed of it; for 6 it is the port. `None` if nothing has the
     /// number.
     pub fn from_number(number: u8) -> Option<BadLine>
         ensures value { result ≡ bad_line_of_number number }
@@ -63,7 +63,7 @@ impl BadLine {
         }
     }
 
-    /// What it is and what is wanted, in a few words that stand after its number.
+    /// What it is and what is wanted, in a few words that come after its number.
     pub fn title(self) -> &'static str {
         match self {
             BadLine::Line(LineFault::NoPort) => "no port: a decimal number, 0 to 31, comes first",

@@ -35,7 +35,11 @@ fn factory_insns() -> [Insn; 2]
     [yes, Insn::Exit]
 }
 
-/// The factory program, which judges where no image is named.
+/// The factory program, which judges if no image is named.
+///
+/// # Errors
+///
+/// `BadImage` or `Refused`, each with its `Memory`, if memory was refused. There is no other error.
 pub fn factory_program<'a>(alloc: Global, sizes: MapSizes) -> Result<Accepted, Fault<'a>>
     ensures program { IfOk result (λ program. program.program ≡ factory) }
     ensures sizes { IfOk result (λ program. program.sizes ≡ sizes) }
@@ -53,7 +57,11 @@ pub fn factory_program<'a>(alloc: Global, sizes: MapSizes) -> Result<Accepted, F
     Ok(verify(alloc, image, &sizes)?)
 }
 
-/// The program of the image file of this name, or the factory program where there is no name.
+/// The program of the image file of this name, or the factory program if there is no name.
+///
+/// # Errors
+///
+/// Those of [`program_in`] if there is a name, else those of [`factory_program`].
 pub fn judging_program<'a, F: Files>(
     alloc: Global,
     files: &mut F,

@@ -16,13 +16,13 @@ use std::fmt;
 /// What ends a job before its end. It is the last line that the job prints.
 #[derive(Debug, Drop)]
 pub enum Fault<'a> {
-    /// The file of this name cannot be read, or is no text where it has to be one.
+    /// The file of this name cannot be read, or is no text but must be one.
     CannotRead(&'a str),
     /// The file of this name cannot be written.
     CannotWrite(&'a str),
-    /// Memory was refused where that has no number of its own.
+    /// Memory was refused, and that has no number of its own.
     NoMemory,
-    /// What a node is made of is no more as it was when it was opened: memory changed.
+    /// What a node is made of is no longer what it was when it was opened: memory changed.
     Damaged,
     /// A text is no image.
     BadText(AsmFault),

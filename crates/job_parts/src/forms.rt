@@ -1,4 +1,4 @@
-//! What a file is that is no image.
+//! What a file is if it is no image.
 
 ghost use Rattle.job_parts.specs.Forms.{IsFormLine};
 
@@ -6,7 +6,7 @@ use basm::assemble;
 use policy::Policy;
 use std::alloc::Global;
 
-/// The line that tells whether bytes are the text of a program, or a table that has a rule. There is none where they are
+/// The line that says that bytes are the text of a program, or a table that has a rule. There is none if they are
 /// neither, or memory was refused.
 pub fn form_line(alloc: Global, bytes: &[u8]) -> &'static str
     ensures { IsFormLine bytes.now result.now }

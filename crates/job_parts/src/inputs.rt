@@ -3,7 +3,7 @@
 ghost use Rattle.std.specs.Prelude.{◌≡◌, None, Some, option_map};
 ghost use Rattle.job_parts.specs.Inputs.{AreInputs, input, input_value};
 
-/// What a file that a job reads has to be.
+/// What a file that a job reads must be.
 #[derive(Clone, Copy, Debug, PartialEq, Eq)]
 pub enum Content {
     /// Lines of packets or of events, as many as there are.
@@ -18,7 +18,7 @@ pub enum Content {
     Image,
     /// A BPF image, or a text in place of one.
     ImageOrText,
-    /// Bytes of any kind, of which so many are enough to show that there are too many.
+    /// Bytes of any kind. This many are enough to show that there are too many.
     Bytes(u64),
 }
 
@@ -27,12 +27,12 @@ pub enum Content {
 pub struct InputFile<'a> {
     /// Its name.
     pub name: &'a str,
-    /// What it has to be.
+    /// What it must be.
     pub content: Content,
 }
 
 impl<'a> InputFile<'a> {
-    /// A file of this name, which has to be that.
+    /// A file of this name, which must be that.
     pub fn new(name: &'a str, content: Content) -> InputFile<'a>
         ensures { input_value result ≡ input name.now content }
     {
@@ -64,7 +64,7 @@ impl<'a> Inputs<'a> {
         }
     }
 
-    /// The one file of this name, which has to be that.
+    /// The one file of this name, which must be that.
     pub fn one(name: &'a str, content: Content) -> Inputs<'a>
         ensures { AreInputs (Some (input name.now content)) None None result }
     {

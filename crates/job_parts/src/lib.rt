@@ -1,5 +1,5 @@
-//! What the jobs of `rmapctl` share: files and what is read of them, the words of a command line, faults and what is
-//! printed of them, the lines of a text, and the program that judges.
+//! What the jobs of `rmapctl` share: files and what is read of them, the words of a command line, and faults and what
+//! is printed of them. Besides, the lines of a text, and the program that judges.
 #![tactic(auto)]
 
 pub mod arguments;

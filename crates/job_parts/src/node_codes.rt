@@ -55,10 +55,10 @@ pub enum NodeCode {
     /// Its text is no TOML.
     #[error("the node's file is no TOML")]
     Text,
-    /// It has a key that a node has not.
+    /// It has a key that no node has.
     #[error("an unknown key in a node's file")]
     Key,
-    /// The logical address is none.
+    /// The logical address is not valid.
     #[error("bad logical address of a node")]
     Address,
     /// The number of ports is outside its limits.
@@ -70,7 +70,7 @@ pub enum NodeCode {
     /// The maps are outside their limits.
     #[error("bad map of a node")]
     Map,
-    /// The bytes that a bank begins with are none.
+    /// The bytes that a bank begins with are not valid.
     #[error("bad contents of a bank")]
     Contents,
     /// The program may not judge.
@@ -99,7 +99,7 @@ impl NodeCode {
         }
     }
 
-    /// What is wrong with a node's file of which this number is printed. `None` where nothing has the number.
+    /// What is wrong with a node's file if this number is printed of it. `None` if nothing has the number.
     pub fn from_number(number: u8) -> Option<NodeCode>
         ensures value { result ≡ node_code_of number }
         ensures number { IfSome result (λ code. node_code code ≡ number) }

@@ -25,7 +25,7 @@ pub struct NodeWords {
     pub image: Option<String>,
     /// How many cells each map of the node has, and of which kind it is.
     pub sizes: MapSizes,
-    /// How many ports the node has: 1 to 32. With any other number the job ends as for want of memory.
+    /// How many ports the node has: 1 to 32. With any other number the job ends as if memory were refused.
     pub ports: u8,
 }
 
@@ -102,7 +102,7 @@ fn maps_written(alloc: Global, parts: &[&str]) -> Result<Vec<(u16, MapKind)>, Us
     Ok(maps)
 }
 
-/// The parts of a list: what stands between its commas.
+/// The parts of a list, which commas separate.
 fn parts_of(alloc: Global, text: &str) -> Result<Vec<&str>, AllocError>
     ensures { IfOk result (λ parts. texts parts.items ≡ list_parts text.now) }
 {
@@ -138,9 +138,12 @@ fn port_count(word: &str) -> Result<u8, UsageFault>
     }
 }
 
-/// The maps by `--maps`: decimal numbers of cells with commas between them, at most 8 and at most 256 in all, each
-/// with a `p` behind it where it is of a peak map. Without the option there are no maps. `BadOption` where its value
-/// is none such.
+/// The maps of `--maps`: decimal numbers of cells with commas between them, at most 8 and at most 256 in all. The
+/// number of a peak map has a `p` after it. Without the option there are no maps.
+///
+/// # Errors
+///
+/// `BadOption` if the value is no such list, or `Memory` if memory is refused.
 pub fn sizes_of(alloc: Global, found: &ArgMatches) -> Result<MapSizes, UsageFault>
     ensures ok { IfOk result (GivesSizes (first_of (codes "maps") (rows_of (found_of found.now)))) }
     ensures err { IfErr result (RefusesList (rows_of (found_of found.now))) }
@@ -151,8 +154,11 @@ pub fn sizes_of(alloc: Global, found: &ArgMatches) -> Result<MapSizes, UsageFaul
     }
 }
 
-/// How many ports by `--ports`: a decimal number from 1 to 32, and 1 without the option. `BadOption` where its
-/// value is none such.
+/// The number of ports of `--ports`: a decimal number from 1 to 32, and 1 without the option.
+///
+/// # Errors
+///
+/// `BadOption` if the value is no such number.
 pub fn ports_of(found: &ArgMatches) -> Result<u8, UsageFault>
     ensures ok { IfOk result
         (GivesPorts (first_of (codes "ports") (rows_of (found_of found.now)))) }
@@ -175,6 +181,10 @@ pub fn maps_option<'a>(alloc: Global) -> Arg<'a>
 }
 
 /// The subcommand with the options of a node: `[--image FILE] [--maps LIST] [--ports N]`.
+///
+/// # Errors
+///
+/// An error if memory is refused.
 pub fn node_arguments<'a>(alloc: Global, command: Command<'a>) -> Result<Command<'a>, AllocError>
     requires { (fields_of command).has_globals ≡ false }
     ensures shape { IfOk result (λ c. app_of c ≡ with_node_options (app_of command.entry)) }
@@ -188,7 +198,7 @@ pub fn node_arguments<'a>(alloc: Global, command: Command<'a>) -> Result<Command
     command.arg(image)?.arg(maps)?.arg(ports)
 }
 
-/// The name of the file of an image by `--image`, where the option is given.
+/// The name of the file of an image by `--image`, if the option is given.
 fn image_of(alloc: Global, found: &ArgMatches) -> Result<Option<String>, AllocError>
     ensures { IfOk result (λ image. first_of (codes "image") (rows_of (found_of found.now))
         ≡ option_map string_bytes image) }
@@ -200,6 +210,10 @@ fn image_of(alloc: Global, found: &ArgMatches) -> Result<Option<String>, AllocEr
 }
 
 /// The words of a node with these matches.
+///
+/// # Errors
+///
+/// Those of [`sizes_of`] and [`ports_of`], and `Memory` if memory is refused.
 pub fn node_words(alloc: Global, found: &ArgMatches) -> Result<NodeWords, UsageFault>
     ensures ok { IfOk result (GivesNode (rows_of (found_of found.now))) }
     ensures err { IfErr result (RefusesNode (rows_of (found_of found.now))) }

@@ -1,4 +1,5 @@
-//! Text that is put together before it is printed: the digits of bytes, with what stands before them or behind them in a line.
+//! Text that is put together before it is printed: the digits of bytes, with what comes before and after them in a
+//! line.
 
 ghost use Rattle.std.specs.Prelude.{◌≡◌, ◌≤◌, ◌<◌, ◌+◌, ◌*◌, [], ◌∷◌, ◌++◌, OnOk, decimal, length};
 ghost use Rattle.hex.specs.Hex.{encode_upper};
@@ -11,7 +12,7 @@ use arrayvec::ArrayVec;
 use spw::put_front;
 use std::io::{self, Write};
 
-/// Of how many bytes the digits are printed at once.
+/// How many bytes have their digits printed at once.
 const CHUNK: usize = 64;
 
 /// How many characters can wait: the digits of a chunk, and sixteen more.
@@ -118,7 +119,7 @@ fn push_number(text: &mut Pending, number: u8)
     push_three(text, number);
 }
 
-/// The decimal digits of a number, and a space behind them.
+/// The decimal digits of a number, and a space after them.
 #[inline(always)]
 pub(crate) fn number_text(number: u8) -> Pending
     ensures text { result.items ≡ decimal number ++ 32 ∷ [] }
@@ -130,9 +131,9 @@ pub(crate) fn number_text(number: u8) -> Pending
     text
 }
 
-/// Prints what waits, the digits of some bytes in upper case, and what stands behind them. What it writes it writes in pieces
-/// of [`ROOM`] bytes at most: one of them, if the bytes are no more than a chunk. Conditions: at most 4 bytes wait, and at most 5
-/// stand behind the digits.
+/// Prints what waits, the digits of some bytes in upper case, and what comes after them. It writes in pieces of at most
+/// [`ROOM`] bytes: one of them, if the bytes are no more than a chunk. Conditions: at most 4 bytes wait, and at most 5
+/// come after the digits.
 pub(crate) fn print_joined<W: Write>(
     out: &mut W,
     front: Pending,

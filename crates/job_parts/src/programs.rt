@@ -14,7 +14,11 @@ use bpf::Image;
 use bver::{Accepted, MapSizes, verify};
 use std::alloc::Global;
 
-/// The bytes of the file of this name, or `CannotRead`.
+/// The bytes of the file of this name.
+///
+/// # Errors
+///
+/// `CannotRead` if the file cannot be read.
 pub fn bytes_in<'a, F: Files>(
     alloc: Global,
     files: &mut F,
@@ -29,6 +33,10 @@ pub fn bytes_in<'a, F: Files>(
 }
 
 /// The text of the file of this name.
+///
+/// # Errors
+///
+/// `CannotRead` if the file cannot be read, or is not UTF-8.
 pub fn text_in<'a, F: Files>(
     alloc: Global,
     files: &mut F,
@@ -48,6 +56,10 @@ pub fn text_in<'a, F: Files>(
 }
 
 /// The image in the file of this name.
+///
+/// # Errors
+///
+/// `CannotRead` if the file cannot be read, or `BadImage` if its bytes are no image.
 pub fn image_in<'a, F: Files>(
     alloc: Global,
     files: &mut F,
@@ -61,6 +73,10 @@ pub fn image_in<'a, F: Files>(
 }
 
 /// The program of the image file of this name, for a node with maps of these sizes.
+///
+/// # Errors
+///
+/// Those of [`image_in`], or `Refused` if the verifier refuses the image.
 pub fn program_in<'a, F: Files>(
     alloc: Global,
     files: &mut F,

@@ -8,9 +8,9 @@ ghost use Rattle.job_parts.specs.Statuses.{status_code};
 pub enum Status {
     /// 0: the job was done.
     Done,
-    /// 1: a fault of what the job was given was printed.
+    /// 1: the job printed a fault of what it was given.
     Failed,
-    /// 2: the words ask for what there is not.
+    /// 2: the words ask for what does not exist.
     Misused,
 }
 

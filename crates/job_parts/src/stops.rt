@@ -34,7 +34,9 @@ pub enum Halt<'a> {
 impl<'a> Halt<'a> {
     /// The fault that is still to be printed.
     ///
-    /// `WriteFault` where the writer failed.
+    /// # Errors
+    ///
+    /// `WriteFault` if the writer failed.
     pub fn fault(self) -> Result<Fault<'a>, WriteFault>
         ensures { MatchResult result
             (λ fault. self.entry ≡ Ended fault)
@@ -81,7 +83,7 @@ pub enum LineEnd {
 }
 
 impl LineEnd {
-    /// The fault that ends the job, where the line is the one of that number, from 1.
+    /// The fault that ends the job, if the line is the one of that number, from 1.
     pub fn at<'a>(self, number: usize) -> Fault<'a>
         ensures { result ≡ fault_at number self }
     {
@@ -102,7 +104,7 @@ pub enum LineHalt {
 }
 
 impl LineHalt {
-    /// Why the job stops, where the line is the one of that number, from 1.
+    /// Why the job stops, if the line is the one of that number, from 1.
     pub fn at<'a>(self, number: usize) -> Halt<'a>
         ensures { result ≡ halt_at number self }
     {

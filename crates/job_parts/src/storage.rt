@@ -8,7 +8,7 @@ use std::alloc::Global;
 #[derive(Clone, Copy, Debug, PartialEq, Eq)]
 pub struct Cannot;
 
-/// Files by their names. What a read gives and a write does is each implementer's own to say.
+/// Files by their names. Each implementer says what a read gives and what a write does.
 pub trait Files {
     /// What a read of a name gave, between the state before and the state after: its bytes, or
     /// none.
@@ -17,13 +17,21 @@ pub trait Files {
     /// What a write of a name was given, between those states, and whether it was taken.
     ghost writes: { Self → List ℕ → List ℕ → Bool → Self → Type 0 };
 
-    /// The bytes of the file `name`; `Cannot` where it cannot be read, or memory is refused.
+    /// The bytes of the file `name`.
+    ///
+    /// # Errors
+    ///
+    /// `Cannot` if the file cannot be read, or memory is refused.
     fn read(&mut self, alloc: Global, name: &str) -> Result<Vec<u8>, Cannot>
         ensures gave { MatchResult result
             (λ bytes. reads self.old name.now (Some bytes.items) self.new)
             (λ _. reads self.old name.now None self.new) };
 
-    /// Makes `bytes` the content of the file `name`; `Cannot` where it cannot be written.
+    /// Makes `bytes` the content of the file `name`.
+    ///
+    /// # Errors
+    ///
+    /// `Cannot` if the file cannot be written.
     fn write(&mut self, name: &str, bytes: &[u8]) -> Result<(), Cannot>
         ensures took { MatchResult result
             (λ _. writes self.old name.now bytes.now true self.new)

@@ -45,7 +45,11 @@ fn take_line<'a, T: TakesLines, W: Write>(
     }
 }
 
-/// Takes each line of a text in turn. The first line at which the job stops is told, by its number.
+/// Takes each line of a text in turn.
+///
+/// # Errors
+///
+/// Why the job stops at a line, with the number of the line. No line after it is taken.
 pub fn take_lines<'a, T: TakesLines, W: Write>(
     alloc: Global,
     taker: &mut T,

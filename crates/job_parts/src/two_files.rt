@@ -9,7 +9,7 @@ use std::io::{self, Write};
 /// The name of standard input.
 const STANDARD_INPUT: &str = "-";
 
-/// Whether both files would be read of standard input, which one read ends.
+/// Whether both files would be read from standard input, which one read ends.
 pub fn are_one_input(old: &str, new: &str) -> bool
     ensures { result ≡ are_one_input old.now new.now }
 {
@@ -17,6 +17,10 @@ pub fn are_one_input(old: &str, new: &str) -> bool
 }
 
 /// Prints the fault of a table: its line, and a line with the name of its file and the place.
+///
+/// # Errors
+///
+/// The error of `out`, if it does not take all of the text.
 pub fn print_named_fault<W: Write>(out: &mut W, name: &str, fault: &TextFault) -> io::Result<()>
     ensures { OnOk result
         (TellsNamedFault name.now fault.now (W.contents out.old) (W.contents out.new)) }

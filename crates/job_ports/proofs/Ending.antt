@@ -29,7 +29,7 @@ packet_first other [] = other
 packet_first other (Data packet ∷ items) = packet
 packet_first other (Mark ∷ items) = other
 
--- the items behind the first
+-- the items after the first
 abbrev behind : List Item → List Item
 behind [] = []
 behind (item ∷ items) = items
@@ -105,7 +105,7 @@ module _ {J : Type 0} {starts : ℕ → Standing} {ports : ℕ} {by_port : List 
   }
 
   module _ (sent : SinkValue → List SentReply) (failed : SinkValue → ℕ) (left : List (Worker J SinkValue)) (total : Report) (served : HaveServed sent failed banks queues workers left total) where
-    -- What puts and takes belongs to the ports still.
+    -- What puts and takes still belongs to the ports.
     pub left_of_ports : AreOfPorts queues puts left
     left_of_ports = record {
       puts_count = desk.filled.puts_count ∙ sym desk.filled.ports_count;

@@ -25,7 +25,7 @@ filled_more by_port ports puts serves packets port put serve was is =
       taken = λ k l q low. paired (λ (l : List Cargo) (q : ServePass). taken_of q ≡ []) by_port serves packets serve was.serves_count was.taken is.taken k l q (omega (arith, low, many));
     }
 
--- One port more, where each list grew.
+-- One port more, if each list grew.
 pub fills_more : {by_port by_port' : List (List Cargo)} {ports ports' : List Port} {puts puts' : List PutPass} {serves serves' : List ServePass} {packets : List Cargo} {port : Port} {put : PutPass} {serve : ServePass}
     → AreFilled by_port ports puts serves → IsFilled packets port put serve
     → by_port' ≡ by_port ++ packets ∷ [] → ports' ≡ ports ++ port ∷ [] → puts' ≡ puts ++ put ∷ [] → serves' ≡ serves ++ serve ∷ []

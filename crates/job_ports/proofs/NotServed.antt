@@ -1,4 +1,4 @@
--- Why ports are not served, where the files could be read.
+-- Why ports are not served, if the files could be read.
 use Rattle.std.proofs.Common.{◌≡◌, ℕ, List, subst, inl, inr}
 use Rattle.bver.specs.Justified.{AcceptedValue}
 use Rattle.job_config.specs.OwnNodes.{OwnNodeValue}

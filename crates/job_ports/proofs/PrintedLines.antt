@@ -1,4 +1,4 @@
--- Lines that are printed one behind the other.
+-- Lines that are printed one after the other.
 use Rattle.std.proofs.Common.{◌≡◌, ◌+◌, ◌<◌, ℕ, suc, List, [], ◌∷◌, ◌++◌, codes, length, map, take, get_or, refl, sym, ap, arith, ◌∙◌}
 use Rattle.std.specs.Prelude.{decimal}
 use Rattle.std.proofs.lemmas.Grind.{flat_map-append}

@@ -11,13 +11,13 @@ use Rattle.ports.specs.declared.worker.Worker.{Worker}
 use Rattle.job_ports.specs.Queues.{AreBeginnings, AreOfPorts, IsBeginning}
 use Rattle.lemmas.proofs.Pairs.{last}
 
--- An element is the same whatever stands for those that are not there.
+-- An element is the same whatever is put in the place of those that are not there.
 pub any_default : {A : Type 0} (xs : List A) (i : ℕ) (d e : A) → i < length xs → get_or xs i d ≡ get_or xs i e
 any_default [] i d e low = absurd (omega (arith, low))
 any_default (x ∷ xs) zero d e low = refl
 any_default (x ∷ xs) (suc i) d e low = any_default xs i d e (omega (arith, low))
 
--- The passes of so many workers were taken back: what puts is as before but for that.
+-- The passes of the first workers were taken back: what puts is as before, except for that.
 pub record AreRejoined {J : Type 0} (ports : List Port) (first puts : List PutPass) (done : List (Worker J SinkValue)) (sinks : List SinkValue) : Type 0 where
   pub count : length puts ≡ length first
   pub same : (k : ℕ) (put_pass : PutPass) → k < length first → put_of (slice_index_or puts k put_pass) ≡ put_of (slice_index_or first k put_pass)

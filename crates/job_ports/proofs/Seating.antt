@@ -68,7 +68,7 @@ calls_by_workers {J} (w ∷ workers) (r ∷ reports) many =
     ∙ (ap (λ (l : List Call). w.pass.pass.seat.asked ++ l) (calls_by_workers workers reports (omega (arith, many)))
     ∙ sym (flat_map-cons (λ (x : Worker J SinkValue). x.pass.pass.seat.asked) w workers))
 
--- where all seats of a fresh node came back, quotas are kept
+-- if all seats of a fresh node came back, quotas are kept
 pub quotas_are_kept : {J : Type 0} → QuotasHoldInThreads → (sizes : Maps) (ports : ℕ) (first last : CellsValue) (left : List (Worker J SinkValue)) (reports : List Report)
     → length reports ≡ length left → length left ≡ ports → ports ≤ 256 → first ≡ cells sizes first.home (256 - ports) [] → AreTakenBack first last left
     → (last.parts ≡ 256 → AreAllNumbered last) → QuotasAreKept sizes (ends_of left reports)
@@ -84,7 +84,7 @@ quotas_are_kept {J} law sizes ports first last left reports many count few fresh
 
 module _ {J : Type 0} {own : OwnNodeValue} {program : AcceptedValue} {by_port : List (List Cargo)} {banks : ℕ} {first : CellsValue} {queues : List Port} {puts : List PutPass} {workers : List (Worker J SinkValue)}
     (desk : IsOwnDesk own program by_port banks first queues puts workers) where
-  -- the cells are of the node's maps still
+  -- the cells are still of the node's maps
   pub cells_sizes : {last : CellsValue} {left : List (Worker J SinkValue)} → AreTakenBack first last left → last.sizes ≡ own.sizes
   cells_sizes back = back.sizes ∙ ap (λ (it : CellsValue). it.sizes) desk.cells_are
 

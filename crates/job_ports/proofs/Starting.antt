@@ -17,7 +17,7 @@ base_is [] k d low = absurd (omega (arith, low))
 base_is (bank ∷ banks) zero d low = refl
 base_is (bank ∷ banks) (suc k) d low = base_is banks k d (omega (arith, low))
 
--- what was found at a place is there, whatever stands for no place
+-- what was found at a place is there, whatever is put in the place of those that are not there
 pub same_at : {X : Type 0} (xs : List X) (k : ℕ) (x e d : X) → k < length xs → x ≡ get_or xs k e → x ≡ get_or xs k d
 same_at [] k x e d low is = absurd (omega (arith, low))
 same_at (y ∷ xs) zero x e d low is = is
@@ -47,9 +47,9 @@ sets_own banks shown contents told known reached same also none all =
     subst (λ (k : List Link). SetsAll banks contents (length banks) k reached) none
     (subst (λ (l : List (List ℕ)). SetsAll banks l (length banks) known reached) also (subst (λ (l : List BankConfig). SetsAll l told (length l) known reached) same all))
 
--- ---- where banks lie
+-- ---- where banks are
 
--- the banks of the configuration, to which no command was applied, lie where it says
+-- the banks of the configuration, to which no command was applied, are where it says
 pub fresh_extents : (ports : ℕ) (banks : List BankConfig) → map extent_of (map (bank_of ports) banks) ≡ map range_of banks
 fresh_extents ports [] = refl
 fresh_extents ports (bank ∷ banks) =
@@ -65,7 +65,7 @@ extent_head e d es ds is = cc
 extents_tail : (e d : ℕ × ℕ) (es ds : List (ℕ × ℕ)) → e ∷ es ≡ d ∷ ds → es ≡ ds
 extents_tail e d es ds is = cc
 
--- a bank that lies there covers as many bytes at its beginning as it has
+-- a bank that is there covers as many bytes at its beginning as it has
 covers_first : (bank : BankValue) (config : BankConfig) (count : ℕ) → extent_of bank ≡ range_of config → nat_le count config.size ≡ true → covers bank config.base count ≡ true
 covers_first bank config count is few =
     let first : bank.first ≡ config.base = ap (λ (e : ℕ × ℕ). e.0) is in

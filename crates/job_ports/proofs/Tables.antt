@@ -1,9 +1,9 @@
--- Lists of lists that are shown by what their elements stand for.
+-- Lists of lists that are shown by the values of their elements.
 use Rattle.std.proofs.Common.{◌≡◌, ◌<◌, ℕ, List, [], ◌∷◌, ◌++◌, length, map, get_or, sym, ap, ◌∙◌}
 use Rattle.std.specs.Prelude.{slice_index_or, slice_set}
 use Rattle.std.proofs.lemmas.List.{get_or-map, map-set}
 
--- An element that was found at a place stands there with one more at its end.
+-- An element that was found at a place is there with one more at its end.
 pub grown_at : {X Y : Type 0} (f : X → List Y) (all : List X) (shown : List (List Y)) (place k : ℕ) (own new : X) (y : Y)
     → map f all ≡ shown → place ≡ k → place < length all → own ≡ get_or all place own → f new ≡ f own ++ y ∷ []
     → map f (slice_set all place new) ≡ slice_set shown k (slice_index_or shown k [] ++ y ∷ [])

@@ -53,7 +53,7 @@ of_port : (port : ℕ) (came : ℕ × Cargo) (test : Bool) → (came.0 == port) 
 of_port port came true is = ap (λ (b : Bool). map (λ (x : ℕ × Cargo). x.1) (cond b (came ∷ []) [])) is
 of_port port came false is = ap (λ (b : Bool). map (λ (x : ℕ × Cargo). x.1) (cond b (came ∷ []) [])) is
 
--- The packets of a port behind one more packet.
+-- The packets of a port after one more packet.
 at_more : (port : ℕ) (packets : List (ℕ × Cargo)) (came : ℕ × Cargo) (test : Bool) → (came.0 == port) ≡ test
     → packets_at port (packets ++ came ∷ []) ≡ packets_at port packets ++ cond test (came.1 ∷ []) []
 at_more port packets came test is =
@@ -133,7 +133,7 @@ brought_same [] before after packets all = ap (λ (l : List (List ℕ)). length 
 brought_same (line ∷ lines) before after packets all =
     brought_same lines all.1 after all.2 all.4 ∙ fed_same line before all.1 all.0 all.3
 
--- Lines behind others are taken in.
+-- Lines after others are taken in.
 pub arrive_behind : (done lines : List (List ℕ)) (ports : ℕ) (before after : Arriving) (old new : Option (List ℕ))
     → Arrive done ports before.feeds before.arrivals → AreTakenInTurn Arrives lines before after old new
     → Arrive (done ++ lines) ports after.feeds after.arrivals
@@ -174,7 +174,7 @@ full_port ports packets by_port port sorted below few full =
       | inr enough ↦ omega (arith, enough, size, few port)
     ]
 
--- What is wrong with a line behind lines that were taken in.
+-- What is wrong with a line after lines that were taken in.
 breaks : (line : List ℕ) (done : List (List ℕ)) (ports : ℕ) (held : List (List ℕ)) (by_port : List (List Cargo)) (fault : BadLine)
     (all : Arrive done ports held by_port) → IsNotTakenIn line held by_port (Bad fault)
     → IsBadHere line held fault ⊎ ((fault ≡ NoRoom) × IsOneTooMany line held all.packets)

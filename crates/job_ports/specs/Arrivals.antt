@@ -19,7 +19,7 @@ abbrev pub listed : Option (ℕ × Cargo) → List (ℕ × Cargo)
 listed None = []
 listed (Some came) = came ∷ []
 
--- ports that hold these bytes of packets take the lines in turn: these packets come, each with its port, and the ports
+-- ports that hold these bytes of packets take the lines in turn. These packets come, each with its port, and the ports
 -- hold those bytes then
 abbrev pub Bring : List (List ℕ) → (before after : List (List ℕ)) → List (ℕ × Cargo) → Type 0
 Bring [] before after packets = (after ≡ before) × (packets ≡ [])
@@ -27,15 +27,15 @@ Bring (line ∷ lines) before after packets =
     (came : Option (ℕ × Cargo)) × (between : List (List ℕ)) × (later : List (ℕ × Cargo))
     × IsFed line before between came × Bring lines between after later × (packets ≡ listed came ++ later)
 
--- so many ports, which hold nothing at first, take the lines: these packets come, at most 1,023 of a port, and the
+-- this many ports, which hold nothing at first, take the lines. These packets come, at most 1,023 of a port, and the
 -- ports hold those bytes then
 pub record AreTaken (lines : List (List ℕ)) (ports : ℕ) (held : List (List ℕ)) (packets : List (ℕ × Cargo)) : Type 0
   where
     pub brought : Bring lines (replicate ports []) held packets
     pub few : (port : ℕ) → length (packets_at port packets) ≤ 1023
 
--- each line writes a packet of a port below the number, or a piece of one, and these are the packets: no port has over
--- 1,023. What ports hold behind the last line is no packet
+-- each line writes a packet of a port below the number, or a piece of one, and these are the packets. No port has over
+-- 1,023. What ports hold after the last line is no packet
 pub record AreLines (lines : List (List ℕ)) (ports : ℕ) (packets : List (ℕ × Cargo)) : Type 0 where
   pub held : List (List ℕ)
   pub taken : AreTaken lines ports held packets
@@ -53,8 +53,8 @@ pub record IsOneTooMany (line : List ℕ) (held : List (List ℕ)) (packets : Li
   pub fed : IsFed line held left (Some (port, packet))
   pub full : length (packets_at port packets) ≡ 1023
 
--- the lines up to the one of this number, counted from 1, are taken, and that one is not: this is wrong with it, which
--- is want of room where it ends a packet too many
+-- the lines before the one of this number, counted from 1, are taken, and that one is not. This is wrong with it, which
+-- is that there is no room, if it ends one packet too many
 pub record BreaksAt (lines : List (List ℕ)) (ports number : ℕ) (fault : BadLine) : Type 0 where
   pub before : List (List ℕ)
   pub line : List ℕ
@@ -97,7 +97,7 @@ count_at port by_port = length (slice_index_or by_port port [])
 abbrev pub HasRoom : (port : ℕ) → List (List Cargo) → Type 0
 HasRoom port by_port = (port < length by_port) × (count_at port by_port < 1023)
 
--- the packet that came, if one did, stands behind the others of its port, which had room for it
+-- the packet that came, if one did, comes after the others of its port, which had room for it
 abbrev pub IsAdded : Option (ℕ × Cargo) → (before after : List (List Cargo)) → Type 0
 IsAdded None before after = after ≡ before
 IsAdded (Some came) before after =

@@ -5,8 +5,8 @@ use Rattle.ports.specs.Sinks.{SinkValue}
 use Rattle.ports.specs.declared.worker.Report.{Report}
 use Rattle.target.specs.Passes.{PortPass}
 
--- what became of a port: what it has of the node and asked for then, what it knows of the history of the node's banks, its replies, and the
--- report of its worker
+-- what became of a port: what it has of the node and asked for then, and what it knows of the history of the node's
+-- banks. Besides, its replies, and the report of its worker
 pub record PortEnd : Type 0 where
   pub pass : PortPass
   pub front : List Link

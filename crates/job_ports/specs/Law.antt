@@ -28,21 +28,21 @@ AreAccountsOf starts ports packets ends accounts =
     (port : ℕ) (end : PortEnd) → port < ports
     → IsAccountOf (starts port) (packets port) (slice_index_or ends port end) (accounts port)
 
--- by the account each packet became what is due, and nothing was wanting
+-- by the account each packet became what is due, and nothing was missing
 pub record IsInFull (n : Node) (account : Account) : Type 0 where
   pub worked : Worked account.first account.packets account.deeds account.last
   pub in_full : AreDealtInFull n account.first account.packets account.deeds account.last worked
 
--- what the law asks for beyond what the ports did: nothing was wanting, the list of the node has only entries of each bank, and it
--- has of others than the ports only that the instrument published these programs
+-- what the law asks for beyond what the ports did: nothing was missing, and the list of the node has only entries of
+-- each bank. It has of others than the ports only that the instrument published these programs
 pub record IsServedInFull (n : Node) (programs : List Publish) (accounts : ℕ → Account) (whole : List Link) : Type 0 where
   pub each : (port : ℕ) → port < n.ports → IsInFull n (accounts port)
   pub banks : (k : ℕ) (bank : BankConfig) → slice_get n.banks k ≡ Some bank → IsBankOf k bank whole
   pub opening : done_for instrument whole ≡ map published_first programs
   pub others : (owner : ℕ) → n.ports ≤ owner → (owner ≡ instrument → ⊥) → done_for owner whole ≡ []
 
--- by any accounts of what the ports did, what they did is a lawful history of the node's schedules, apart from what cells answered, if
--- nothing was wanting and the list has nothing else
+-- by any accounts of what the ports did, what they did is a lawful history of the node's schedules, apart from what
+-- cells answered. The conditions are that nothing was missing, and that the list has nothing else
 abbrev pub IsOneLawfulHistory : OwnNodeValue → AcceptedValue → (starts : ℕ → Standing) (packets : ℕ → List Cargo) → List PortEnd
     → (whole : List Link) → Type 0
 IsOneLawfulHistory own program starts packets ends whole =

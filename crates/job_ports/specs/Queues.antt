@@ -35,7 +35,7 @@ pub record IsFilled (packets : List Cargo) (port : Port) (put_pass : PutPass) (s
   pub put : put_of put_pass ≡ map Data packets ++ Mark ∷ []
   pub taken : taken_of serve_pass ≡ []
 
--- the port at each place is so filled with the packets at its place
+-- the port at each place holds the packets at its place, and the passes are those of that port
 pub record AreFilled (by_port : List (List Cargo)) (ports : List Port) (put_passes : List PutPass)
     (serve_passes : List ServePass) : Type 0 where
   pub ports_count : length ports ≡ length by_port
@@ -50,12 +50,13 @@ pub record AreFilled (by_port : List (List Cargo)) (ports : List Port) (put_pass
   pub taken : (k : ℕ) (packets : List Cargo) (serve_pass : ServePass) → k < length by_port
       → taken_of (slice_index_or serve_passes k serve_pass) ≡ []
 
--- a worker with what its port has of the node and what takes from the port's queue, which knows so much of the history of the
--- node's banks, and whose sink has taken nothing
+-- a worker with what its port has of the node, and with what takes from the port's queue. It knows this of the history
+-- of the node's banks, and its sink has taken nothing
 abbrev pub new_worker : {J : Type 0} → (known : List Link) → PortPass × ServePass → Worker J SinkValue
 new_worker known parts = record { pass = parts.0; front = known; serve_pass = parts.1; sink = no_replies }
 
--- the worker has and knows that, takes from that queue, and has a share of each of so many banks; its sink has taken nothing
+-- the worker has and knows that, takes from that queue, and has a share of each of `banks` banks; its sink has taken
+-- nothing
 pub record IsDeskWorker {J : Type 0} (start : Standing) (banks : ℕ) (serve_pass : ServePass) (worker : Worker J SinkValue) :
     Type 0 where
   pub stands : standing_of worker ≡ start
@@ -63,8 +64,8 @@ pub record IsDeskWorker {J : Type 0} (start : Standing) (banks : ℕ) (serve_pas
   pub silent : worker.sink ≡ no_replies
   pub shares : length worker.pass.pass.shares ≡ banks
 
--- a node of so many banks, each of whose ports has what it starts with, and holds these packets, what puts into them, and
--- their workers
+-- a node of `banks` banks. Each of its ports has what it starts with, and holds these packets. Besides, what puts into
+-- the ports, and their workers
 pub record IsDesk {J : Type 0} (starts : ℕ → Standing) (ports : ℕ) (by_port : List (List Cargo)) (banks : ℕ)
     (queues : List Port) (puts : List PutPass) (workers : List (Worker J SinkValue)) : Type 0 where
   pub serves : List ServePass
@@ -74,8 +75,8 @@ pub record IsDesk {J : Type 0} (starts : ℕ → Standing) (ports : ℕ) (by_por
   pub each : (k : ℕ) (worker : Worker J SinkValue) (serve_pass : ServePass) → k < ports
       → IsDeskWorker (starts k) banks (slice_index_or serves k serve_pass) (slice_index_or workers k worker)
 
--- the same, where each port starts as the node of the configuration has it before the first packet, with a seat at the cells of
--- the node's maps, to which no seat came back yet
+-- the same, if each port starts as the node of the configuration has it before the first packet. It has a seat at the
+-- cells of the node's maps, to which no seat came back yet
 pub record IsOwnDesk {J : Type 0} (own : OwnNodeValue) (program : AcceptedValue) (by_port : List (List Cargo)) (banks : ℕ)
     (own_cells : CellsValue) (queues : List Port) (puts : List PutPass) (workers : List (Worker J SinkValue)) : Type 0 where
   pub starts : ℕ → Standing
@@ -107,8 +108,8 @@ AreBeginnings {J} put_passes workers =
     → IsBeginning (taken_of (slice_index_or workers k worker).serve_pass)
     (put_of (slice_index_or put_passes k put_pass))
 
--- each port, from what it starts with on, served the packets at its place and no others, in order, at banks of one history,
--- and those are its replies and what the workers reported
+-- each port, from what it starts with on, served the packets at its place and no others, in order, at banks of one
+-- history. Those are its replies and what the workers reported
 pub record ServeEach (starts : ℕ → Standing) (ports : ℕ) (by_port : List (List Cargo)) (sinks : List SinkValue)
     (report : Report) : Type 0 where
   pub ends : List PortEnd

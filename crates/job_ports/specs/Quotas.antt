@@ -54,8 +54,8 @@ abbrev pub AreRunsOf : List PortRun → List PortEnd → Type 0
 AreRunsOf runs ends =
     map (λ (run : PortRun). run.last) runs ≡ map (λ (end : PortEnd). standing end.pass end.front) ends
 
--- by any account of what the ports did, while fewer than 2^64 tickets of a cell of a counter map were drawn, rules on it with
--- limits of at most N matched at most N of the commands that were judged, over all ports
+-- take any account of what the ports did, and a cell of a counter map from which fewer than 2^64 tickets were drawn.
+-- Then rules on it with limits of at most N matched at most N of the commands that were judged, over all ports
 abbrev pub QuotasAreKept : Maps → List PortEnd → Type 0
 QuotasAreKept sizes ends =
     (runs : List PortRun) (map key limit count : ℕ) → AreRunsOf runs ends → IsInside sizes map key

@@ -24,7 +24,7 @@ lines_from first (replies ∷ others) = port_lines first replies ++ lines_from (
 abbrev pub report_line : Report → List ℕ
 report_line report = codes "discarded " ++ decimal report.discarded ++ codes " lost " ++ decimal report.lost ++ 10 ∷ []
 
--- what was printed after that ends in the line that so many replies were lost
+-- what was printed after that ends in the line that this many replies were lost
 pub record EndsInLost (old new : Option (List ℕ)) (lost : ℕ) : Type 0 where
   pub replies : List ℕ
   pub report : Report

@@ -31,8 +31,8 @@ use Rattle.job_ports.specs.Starts.{AreStarts}
 abbrev pub no_replies : SinkValue
 no_replies = record { sent = []; failed = 0 }
 
--- the worker of a port that starts with that served these packets and no others: each became what is due, and its replies are
--- those that were due, but the lost ones, which its report counts
+-- the worker of a port that starts with that served these packets and no others. Each became what is due, and its
+-- replies are those that were due, except the lost ones, which its report counts
 abbrev pub EndsSo : (start : Standing) → List Cargo → PortEnd → Type 0
 EndsSo start packets end =
     HasServed (λ (s : SinkValue). s.sent) (λ (s : SinkValue). s.failed) start (standing end.pass end.front) no_replies end.sink
@@ -43,7 +43,8 @@ pub record BeginOneHistory (ends : List PortEnd) : Type 0 where
   pub whole : List Link
   pub begin : (port : ℕ) (end : PortEnd) → port < length ends → IsPrefix (slice_index_or ends port end).front whole
 
--- each of so many ports, in order, from what it starts with on, served its packets among these, at banks of one history
+-- each of this many ports, in order, from what it starts with on, served its packets among these, at banks of one
+-- history
 pub record ServePackets (starts : ℕ → Standing) (ports : ℕ) (packets : List (ℕ × Cargo)) (ends : List PortEnd) : Type 0
   where
     pub count : length ends ≡ ports
@@ -64,16 +65,16 @@ abbrev pub served_text : List PortEnd → List ℕ
 served_text ends = lines_from 0 (replies_of ends) ++ report_line (report_of ends)
 
 module _ {S : Type 0} (reads : Reads S) (args : NodeLines) where
-  -- the text is that of the file of lines, which is UTF-8, and the node, which was read behind it, and its program are those of
-  -- these arguments
+  -- the text is that of the file of lines, which is UTF-8. The node, which was read after it, and its program are those
+  -- of these arguments
   pub record AreGiven (before : S) (text : List ℕ) (own : OwnNodeValue) (program : AcceptedValue) (after : S) : Type 0 where
     pub between : S
     pub read : reads before (string_bytes args.lines) (Some text) between
     pub utf8 : IsUtf8 text
     pub holds : HoldsOwn reads args.node between own program after
 
-  -- the lines of the file write packets, each port of the node served its own from what it starts with on, what they did is one
-  -- lawful history, and quotas were kept
+  -- the lines of the file write packets, and each port of the node served its own from what it starts with on. What
+  -- they did is one lawful history, and quotas were kept
   pub record ServesLines (before after : S) (ends : List PortEnd) : Type 0 where
     pub text : List ℕ
     pub own : OwnNodeValue

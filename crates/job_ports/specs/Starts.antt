@@ -14,12 +14,12 @@ use Rattle.job_config.specs.OwnNodes.{IsConfigOf, OwnNodeValue}
 
 -- ---- contents
 
--- somebody who knew so much of the history has put bytes at an address of the bank of that number, as its instrument, which is
+-- somebody who knew this of the history put bytes at an address of the bank of that number, as its instrument. That is
 -- the last that he knows then
 abbrev pub SetsBank : (number address : ℕ) → (bytes : List ℕ) → (known reached : List Link) → Type 0
 SetsBank number address bytes known reached = IsLast number known reached (Does (Sets (address, bytes)))
 
--- the same, where there are bytes; no bytes change nothing
+-- the same, if there are bytes; no bytes change nothing
 abbrev pub SetsFirst : (number address : ℕ) → (bytes : List ℕ) → (known reached : List Link) → Type 0
 SetsFirst number address [] known reached = reached ≡ known
 SetsFirst number address (byte ∷ bytes) known reached = SetsBank number address (byte ∷ bytes) known reached
@@ -30,7 +30,7 @@ base_in [] number = 0
 base_in (bank ∷ banks) zero = bank.base
 base_in (bank ∷ banks) (suc number) = base_in banks number
 
--- so many banks, from the first on, begin with the bytes of their number, in turn
+-- the first `count` banks begin with the bytes of their number, in turn
 abbrev pub SetsAll : List BankConfig → (contents : List (List ℕ)) → (count : ℕ) → (known reached : List Link) → Type 0
 SetsAll banks contents zero known reached = reached ≡ known
 SetsAll banks contents (suc count) known reached =
@@ -39,15 +39,16 @@ SetsAll banks contents (suc count) known reached =
 
 -- ---- the whole
 
--- what a port has at a node of that configuration, at which the program judges and behind that those that were published, before the
--- first packet, and knows of its history
+-- what a port has at a node of that configuration before the first packet, and knows of its history. The program judges
+-- there, and after it those that were published
 abbrev pub first_standing : NodeConfig → AcceptedValue → List (ℕ × AcceptedValue) → (home : Gv) → (known : List Link) → (port : ℕ)
     → Standing
 first_standing config program publishes home known port =
     stand (informed_pass config program publishes home port) [] known
 
--- what each port of the node of the configuration has before the first packet, with that program in all slots at first: it knows
--- what was published behind that, and that the banks begin with their contents. Its staging and its cells are fresh
+-- what each port of the node of the configuration has before the first packet, with that program in all slots at first.
+-- It knows what was published after that, and that the banks begin with their contents. Its staging and its cells are
+-- fresh
 pub record AreStarts (own : OwnNodeValue) (program : AcceptedValue) (starts : ℕ → Standing) : Type 0 where
   pub config : NodeConfig
   pub home : Gv

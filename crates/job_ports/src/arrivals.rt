@@ -29,7 +29,7 @@ impl Model for Arrivals {
 }
 
 impl Arrivals {
-    /// So many ports, to which no packet came.
+    /// This many ports, to which no packet came.
     pub(crate) fn new(alloc: Global, ports: u8) -> Result<Arrivals, AllocError>
         ensures { IfOk result (λ arrivals. arrivals ≡ replicate ports []) }
     {
@@ -48,7 +48,7 @@ impl Arrivals {
         place < self.packets.len() && self.packets[place].len() < MOST_PACKETS
     }
 
-    /// Puts a packet behind those that came to the port.
+    /// Puts a packet after those that came to the port.
     pub(crate) fn add(&mut self, port: u8, packet: Packet) -> Result<(), AllocError>
         requires { port < length self.old }
         ensures { OnOk result

@@ -13,8 +13,8 @@ use job_parts::turns::{TakesLines, take_lines};
 use std::alloc::Global;
 use std::io::{self, Write};
 
-/// Takes each line: what it writes goes to the feed of its port, and the packet that it ends to the others of that port.
-/// Nothing is printed.
+/// Takes each line: what it writes goes to the feed of its port, and the packet that it ends to the others of that
+/// port. It prints nothing.
 #[derive(Drop)]
 pub struct Arriving {
     feeds: Feeds,
@@ -40,13 +40,15 @@ impl TakesLines for Arriving {
     }
 }
 
-/// The packets of each port of a node with so many, in the order of their lines: all lines are read here. A line is
-/// ended by a line feed, which the last may lack. Lines may write packets in pieces; bytes that a port holds behind the
-/// last line are no packet.
+/// The packets of each port of a node with this many ports, in the order of their lines. It reads all lines. A line
+/// feed ends a line, and the last line may lack it. Lines may write packets in pieces. Bytes that a port holds after
+/// the last line are no packet.
 ///
-/// The first line that has a fault is told, by its number. On one line the faults are found in this order: those of
-/// [`Feeds::take_line`], and `NoRoom` where it ends a packet of a port to which 1,023 came before. `NoMemory` where memory was
-/// refused for a packet that was read.
+/// # Errors
+///
+/// The fault of the first line that has one, with the number of the line. On one line the faults are found in this
+/// order: those of [`Feeds::take_line`], and `NoRoom` if it ends a packet of a port to which 1,023 came before.
+/// `NoMemory` if memory was refused for a packet that was read.
 pub fn read_lines<'a>(alloc: Global, text: &str, ports: u8) -> Result<Arrivals, Halt<'a>>
     ensures arrive { IfOk result (ArriveAll (lines_of text.now) ports) }
     ensures refused { IfErr result (StopsBy (AreNotTaken (lines_of text.now) ports)) }

@@ -47,6 +47,8 @@ fn file_own<'a, F: Files>(
 
 /// The node of the words or of the file that a command line names, and the program that judges in all slots at first.
 ///
+/// # Errors
+///
 /// Faults of words are those of [`judging_program`], those of a file those of [`node_in`]; and `NoMemory`.
 pub(crate) fn own_from<'a, F: Files>(
     alloc: Global,

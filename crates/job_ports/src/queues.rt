@@ -48,8 +48,8 @@ fn filled<R: Wait>(
     Ok((port, put_pass, serve_pass))
 }
 
-/// A port for each list of packets, in order, whose queue holds them and then the end mark; what puts into each, and
-/// what takes from each.
+/// A port for each list of packets, in order, whose queue holds them and then the end mark. Besides, what puts into
+/// each, and what takes from each.
 pub(crate) fn fill<R: Wait>(
     rt: &R,
     alloc: Global,
@@ -70,7 +70,7 @@ pub(crate) fn fill<R: Wait>(
     Ok((ports, put_passes, serve_passes))
 }
 
-/// A worker for each port, in order, who knows so much of the history, and whose replies are kept in memory.
+/// A worker for each port, in order, which knows what is given of the history, and keeps its replies in memory.
 fn workers_of<J: Family>(
     alloc: Global,
     known: &Front<J>,
@@ -104,7 +104,7 @@ fn give_back<J: Family>(cells: &mut Cells, pass: Pass<J>)
 }
 
 /// The sink of each worker. What the workers took is taken back into what puts, so that it is known to be all that was
-/// put, and their seats into the cells.
+/// put. Their seats are taken back into the cells.
 fn sinks_of<J: Family>(
     alloc: Global,
     ports: &[Port],
@@ -191,8 +191,8 @@ struct Desks<J: Family, R: Wait + Drop> {
     workers: Vec<Worker<J, Replies>>,
 }
 
-/// A node of that configuration, at each of whose ports the program judges at first and behind that those that are published, whose
-/// banks begin with their contents, and whose ports hold the packets that came to them.
+/// A node of that configuration, whose banks begin with their contents, and whose ports hold the packets that came to
+/// them. The program judges at each port at first, and after it those that are published.
 fn own_desks<'r, J: Family, R: Wait>(
     rt: &'r R,
     alloc: Global,
@@ -211,7 +211,7 @@ fn own_desks<'r, J: Family, R: Wait>(
         AreServed made.node (vec_len made.workers) made.ports.items made.workers.items) }
 {
     let config = own.config();
-    // Memory alone can be refused to it: a configuration has no other number of ports than a node has.
+    // Only memory can be refused to it: a configuration has a number of ports that a node may have.
     let Ok((mut unshared, cells, passes, mut line)) = UnsharedNode::<J, _>::with_programs(
         alloc,
         rt,
@@ -243,9 +243,13 @@ fn own_desks<'r, J: Family, R: Wait>(
     })
 }
 
-/// Serves the packets that came to the ports of the node of that configuration, each port in a thread of its own, to the end:
-/// the replies of each port, and the sum of the reports. The program judges in all slots at first. After it each seat is taken
-/// back to the cells.
+/// Serves the packets that came to the ports of the node of that configuration, each port in a thread of its own, to
+/// the end. Returns the replies of each port, and the sum of the reports. The program judges in all slots at first.
+/// After the run each seat is taken back to the cells.
+///
+/// # Errors
+///
+/// An error if memory or a thread is refused.
 pub fn serve_arrivals<J: Family + Send + Sync + 'static, R: Threads + Wait + Sync>(
     rt: &R,
     alloc: Global,
@@ -273,7 +277,7 @@ pub fn serve_arrivals<J: Family + Send + Sync + 'static, R: Threads + Wait + Syn
         workers,
     } = made;
     let (workers, report) = serve(rt, alloc, &node, &ports, workers, &NoGate);
-    // Memory or a thread was refused, and that is all there is to tell.
+    // Memory or a thread was refused, and there is no more to report.
     let Ok(report) = report else {
         return Err(AllocError);
     };

@@ -31,6 +31,10 @@ use std::thread::Threads;
 use target::{Family, Opened};
 
 /// `serve LINES [--image FILE] [--maps LIST] [--ports N]` or `serve LINES --node FILE`.
+///
+/// # Errors
+///
+/// An error if memory is refused.
 pub fn serve_command<'a>(alloc: Global) -> Result<Command<'a>, AllocError>
     ensures shape { IfOk result (λ c. app_of c ≡ serve_app) }
     ensures local { IfOk result (λ c. (fields_of c).has_globals ≡ false) }
@@ -115,13 +119,16 @@ pub fn print_report<W: Write>(out: &mut W, report: Report) -> io::Result<()>
     writeln!(out, "discarded {discarded} lost {lost}")
 }
 
-/// Serves the packet lines of a file on the node of these arguments: one worker a port, each in a thread of its own. All lines
-/// are read before, and nothing is printed before all is served: then the replies of each port in order, port by port, and the
-/// sum of the workers' reports. `lost` is then how many replies were lost, as the last line has it.
+/// Serves the packet lines of a file on the node of these arguments: one worker a port, each in a thread of its own. It
+/// reads all lines before that, and prints nothing before all is served. Then it prints the replies of each port in
+/// order, port by port, and the sum of the workers' reports. `lost` is then how many replies were lost, as the last
+/// line has it.
 ///
-/// Faults are found in this order: the file of lines (`CannotRead`, also where it is not UTF-8), those of the node
-/// ([`own_from`]), and then the first line that has one, as [`read_lines`] tells it. `NoMemory` where memory or a thread was
-/// refused. Where there is one, nothing is printed.
+/// # Errors
+///
+/// Faults are found in this order. First come those of the file of lines (`CannotRead`, also if it is not UTF-8), and
+/// those of the node ([`own_from`]). Then comes that of the first line that has one, as [`read_lines`] gives it.
+/// `NoMemory` if memory or a thread was refused. If there is a fault, nothing is printed.
 pub fn serve_file<
     'a,
     J: Family + Send + Sync + 'static,

@@ -36,7 +36,8 @@ fn journal(alloc: Global, bank: &BankConfig) -> Result<Journal, AllocError>
     }
 }
 
-/// Puts bytes at the beginning of the bank of that number, as its instrument does, where there are bytes; no bytes change nothing.
+/// Puts bytes at the beginning of the bank of that number, as its instrument does. If there are no bytes, it changes
+/// nothing.
 fn set_first<J: Family, R: Wait + Drop>(
     alloc: Global,
     node: &mut UnsharedNode<J, R>,

@@ -1,4 +1,4 @@
--- The load of the new policy, and the way back behind it, told in the words of a rehearsal.
+-- The load of the new policy, and the way back after it, in the words of a rehearsal.
 use Rattle.std.proofs.Common.{◌≡◌, ℕ, List, [], ◌∷◌, ◌++◌, Option, Some, None, option_map, codes, refl, ap, subst}
 use Rattle.std.specs.Io.KnownBytes.{Appends}
 use Rattle.std.proofs.lemmas.Option.{none-some}
@@ -16,7 +16,7 @@ use Rattle.job_rehearse.specs.declared.places.Place.{Place}
 use Rattle.job_rehearse.specs.declared.policies.Policies.{Policies}
 use Rattle.job_rehearse.specs.declared.steps.Rehearsing.{Rehearsing}
 
--- where nothing is told, the new policy is loaded
+-- if nothing is printed, the new policy is loaded
 pub loaded_untold : {X : Type 0} (f : X → List ℕ) (told : Option X) (ending : Ending) → ((x : X) → told ≡ Some x → ⊥) → option_map f told ≡ there_line ending → ending ≡ Loaded
 loaded_untold f None Loaded others is = refl
 loaded_untold f None InPart others is = absurd (none-some _ is)
@@ -45,7 +45,7 @@ stops_there place slots image named policies loader fresh old new fault bytes wh
           (subst (λ (l : Loader). StopsLoad (codes "NEW") l slots image fresh old new fault) who stop);
     }
 
--- the new policy was not loaded, and that was told
+-- the new policy was not loaded, and that was printed
 pub stays_old : (place : Place) (slots : List ℕ) (named : Option Loader) (policies : Policies) (ending : Ending) (after : Rehearsing) (old between new : Option (List ℕ)) (line who : List ℕ) (status : Status) → LoadsNew place slots named policies ending after old between → there_line ending ≡ Some line → who ≡ loader_text named → Appends between new (line ++ who ++ 10 ∷ []) → status ≡ Failed → StaysOld place slots named policies old new status
 stays_old place slots named policies ending after old between new line who status there closed is printed failed =
     record {
@@ -59,7 +59,7 @@ stays_old place slots named policies ending after old between new line who statu
       failed = failed;
     }
 
--- behind the load of the new policy a fault ended the load of the bytes of the old policy's image
+-- after the load of the new policy a fault ended the load of the bytes of the old policy's image
 pub stops_back : (place : Place) (slots image : List ℕ) (named : Option Loader) (policies : Policies) (loader : Loader) (middle : Rehearsing) (old between new : Option (List ℕ)) (fault : Fault) → image ≡ policies.old.items → loader ≡ loader_on place named → LoadsNew place slots named policies Loaded middle old between → StopsLoad (codes "OLD") loader slots image middle between new fault → StopsBack place slots named policies old new fault
 stops_back place slots image named policies loader middle old between new fault bytes who there stop =
     record {
@@ -70,7 +70,7 @@ stops_back place slots image named policies loader middle old between new fault 
           (subst (λ (l : Loader). StopsLoad (codes "OLD") l slots image middle between new fault) who stop);
     }
 
--- behind it the load of the bytes of the old policy's image was tried, and how it ended was told
+-- after it the load of the bytes of the old policy's image was tried, and how it ended was printed
 pub tries_back : (place : Place) (slots image : List ℕ) (named : Option Loader) (policies : Policies) (loader : Loader) (ending : Ending) (middle after : Rehearsing) (old between behind new : Option (List ℕ)) (line who : List ℕ) (status : Status) → image ≡ policies.old.items → loader ≡ loader_on place named → LoadsNew place slots named policies Loaded middle old between → Loads (codes "OLD") loader slots image ending middle after between behind → (line, status) ≡ back_line ending → who ≡ loader_text named → Appends behind new (line ++ who ++ 10 ∷ []) → TriesBack place slots named policies old new status
 tries_back place slots image named policies loader ending middle after old between behind new line who status bytes is there back told text printed =
     record {

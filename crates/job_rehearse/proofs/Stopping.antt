@@ -1,4 +1,4 @@
--- What ends a job, told in other words.
+-- What ends a job, in other words.
 use Rattle.std.proofs.Common.{◌≡◌, ◌++◌, ◌∷◌, [], ℕ, List, Option, inr, refl, subst, sym}
 use Rattle.std.specs.Io.KnownBytes.{Appends}
 use Rattle.job_parts.specs.Stops.{StopsBy}
@@ -19,7 +19,7 @@ pub stops_more : (P Q : Fault → Type 0) → ((fault : Fault) → P fault → Q
 stops_more P Q more (Ended fault) h = more fault h
 stops_more P Q more (Unwritten refused) h = h
 
--- the fault of a table that was told, where that is why there are no policies
+-- the fault of a table that was printed, if that is why there are no policies
 pub tells_none : (holds : NoPolicy → Type 0) (none : NoPolicy) (old new : Option (List ℕ)) (status : Status)
     → holds none → TellsBad (λ it. it ≡ none) old new status → TellsBad holds old new status
 tells_none holds none old new status held told = record {

@@ -1,4 +1,4 @@
--- What is told of whose loads a table lets pass, by what the steps before told.
+-- What is said of whose loads a table lets pass, by what the steps before said.
 use Rattle.std.proofs.Common.{◌≡◌, ◌≢◌, ◌==◌, ℕ, Bool, true, false, List, [], ◌∷◌, suc, length, Some, None, inl, inr, refl, sym, subst, arith}
 use Rattle.std.proofs.lemmas.Bool.{false≢true}
 use Rattle.std.proofs.lemmas.Bool.Decides.{Decides-eqb}

@@ -1,4 +1,4 @@
--- On which maps an image is tried, by what the steps before told.
+-- On which maps an image is tried, by what the steps before said.
 use Rattle.std.proofs.Common.{◌≡◌, ◌≢◌, ℕ, Bool, true, false, List, refl, sym, subst, ◌∙◌, Result, Ok, Err}
 use Rattle.std.specs.Prelude.{Decides}
 use Rattle.std.proofs.lemmas.Bool.{false≢true}

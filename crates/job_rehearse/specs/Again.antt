@@ -31,8 +31,8 @@ pub record IsNewNode (address : ℕ) (sizes : Maps) (r : Rehearsing) : Type 0 wh
   pub is_factory : program.program ≡ factory
   pub fresh : IsFresh config program r.node
 
--- such a node took the packets of the lines, and then took them again; a verdict refused one of them the second time, or
--- none
+-- such a node took the packets of the lines, and then took them again. A verdict refused one of them the second time,
+-- or none
 pub record IsDeniedAgain (address : ℕ) (sizes : Maps) (lines : List ℕ) (denied : Bool) : Type 0 where
   pub before : Rehearsing
   pub new_node : IsNewNode address sizes before
@@ -60,13 +60,15 @@ pub record IsAcceptable (bytes : List ℕ) (sizes : Maps) : Type 0 where
   pub spelled : bytes ≡ image_bytes program
   pub justified : IsJustified program sizes
 
--- the maps on which an image is tried, in this order: none, one of 256 cells, and eight of 32
+-- the first maps on which an image is tried: none
 abbrev pub no_maps : Maps
 no_maps = counter_maps []
 
+-- the next: one map of 256 cells
 abbrev pub one_map : Maps
 one_map = counter_maps (256 ∷ [])
 
+-- the last: eight maps of 32 cells
 abbrev pub eight_maps : Maps
 eight_maps = counter_maps (replicate 8 32)
 
@@ -88,12 +90,14 @@ abbrev pub IsTriedOn : (bytes : List ℕ) → Option Maps → Type 0
 IsTriedOn bytes None = IsForNone bytes
 IsTriedOn bytes (Some sizes) = IsFirst bytes sizes
 
--- whether a verdict refused one of the packets the second time at such a node with those maps; of an image that is not tried it is no
+-- whether a verdict refused one of the packets the second time at such a node with those maps; for an image that is not
+-- tried it is no
 abbrev pub IsDeniedOn : (address : ℕ) → (lines : List ℕ) → (denied : Bool) → Option Maps → Type 0
 IsDeniedOn address lines denied None = denied ≡ false
 IsDeniedOn address lines denied (Some sizes) = IsDeniedAgain address sizes lines denied
 
--- this is whether a verdict refused one of them the second time at such a node with the first maps for which the image is acceptable
+-- this is whether a verdict refused one of them the second time at such a node with the first maps for which the image
+-- is acceptable
 abbrev pub IsDeniedSomewhere : (address : ℕ) → (image lines : List ℕ) → (denied : Bool) → Type 0
 IsDeniedSomewhere address image lines denied =
     (sizes : Option Maps) × IsTriedOn image sizes × IsDeniedOn address lines denied sizes

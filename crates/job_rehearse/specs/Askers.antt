@@ -1,4 +1,4 @@
--- Of whose loads a program is asked: initiators and keys.
+-- Whose loads a program is asked about: initiators and keys.
 use Rattle.std.specs.Prelude.{◌≡◌, ◌==◌, ◌&&◌, ◌||◌, ℕ, zero, suc, Bool, true, false, if◌then◌else◌, List, [], ◌∷◌, ◌++◌, drop, Option, Some, None, codes}
 use Rattle.std.specs.List.{list_any}
 use Rattle.hex.specs.Hex.{encode_upper}
@@ -33,7 +33,7 @@ abbrev pub are_named : List PortRule → Field → (byte : ℕ) → Bool
 are_named rules field zero = true
 are_named rules field (suc byte) = are_named rules field byte && names rules field byte
 
--- a value that a rule names, or that is the least that none names, and stands for all of these
+-- a value that a rule names, or that is the least that none names, and means all of these
 abbrev pub value_at : (byte : ℕ) → (is_named are_named : Bool) → List Asking
 value_at byte is_named are_named = if is_named || are_named then record { byte = byte; is_named = is_named } ∷ [] else []
 
@@ -56,12 +56,12 @@ each_below (suc byte) = each_below byte ++ value_at byte true true
 unfoldable pub each_value : List Asking
 each_value = each_below 256
 
--- an initiator with each of some keys, behind others
+-- an initiator with each of some keys, after others
 abbrev pub with_keys : (front : List Asker) → Asking → List Asking → List Asker
 with_keys front initiator [] = front
 with_keys front initiator (key ∷ keys) = with_keys (front ++ record { initiator = initiator; key = key } ∷ []) initiator keys
 
--- each of some initiators with each of some keys, behind others
+-- each of some initiators with each of some keys, after others
 abbrev pub with_pairs : (front : List Asker) → (initiators keys : List Asking) → List Asker
 with_pairs front [] keys = front
 with_pairs front (initiator ∷ initiators) keys = with_pairs (with_keys front initiator keys) initiators keys
@@ -70,7 +70,7 @@ with_pairs front (initiator ∷ initiators) keys = with_pairs (with_keys front i
 abbrev pub table_askers : List PortRule → List Asker
 table_askers rules = with_pairs [] (values_of rules Initiator) (values_of rules Key)
 
--- a value that stands for itself
+-- a value that means only itself
 abbrev pub just : (byte : ℕ) → Asking
 just byte = record { byte = byte; is_named = true }
 
@@ -78,12 +78,12 @@ just byte = record { byte = byte; is_named = true }
 abbrev pub every_asker : List Asker
 every_asker = with_keys (with_pairs [] each_value (just 0 ∷ [])) (just 103) (drop 1 each_value)
 
--- of whose loads the program of a policy is asked: of that of a table, if it is of one
+-- whose loads the program of a policy is asked about: that of a table, if it is of one
 abbrev pub askers_of : Option PolicyValue → List Asker
 askers_of None = every_asker
 askers_of (Some policy) = table_askers policy.rules
 
--- a value in two digits, or `*` if it stands for all that no rule names
+-- a value in two digits, or `*` if it means all that no rule names
 abbrev pub value_text : Asking → List ℕ
 value_text value = if value.is_named then encode_upper (value.byte ∷ []) else codes "*"
 

@@ -20,15 +20,15 @@ use Rattle.job_rehearse.specs.declared.passing.Passing.TheVariants.{Always, Unti
 use Rattle.job_rehearse.specs.declared.starts.Start.{Start}
 use Rattle.job_rehearse.specs.declared.starts.Start.TheVariants.{Fresh, Spent}
 
--- the program had a run on the header of the command, at that port, that ends with the verdict; after it the calls so far are longer
--- by those of the run
+-- the program had a run on the header of the command, at that port, that ends with the verdict. After it the calls so
+-- far are longer by those of the run
 pub record HasAnswered (judge : AcceptedValue) (port : ℕ) (c : CommandValue) (verdict : ℕ) (before after : List Call) : Type 0
   where
     pub calls : List Call
     pub run : IsVerdictOn judge port calls c verdict
     pub longer : after ≡ before ++ calls
 
--- the packet of a command that is requested, without a body: a program sees the header alone
+-- the packet of a command that is requested, without a body: a program sees only the header
 abbrev pub asked_packet : HeaderWords → Request → Cargo
 asked_packet header r = record { bytes = bytes_of (command_with (fields_with header r) []); end = Eop }
 
@@ -53,8 +53,9 @@ pub record LetsPart (judge : AcceptedValue) (loader : Loader) (image : List ℕ)
       → LetsPass judge loader (stage_request 0 (part_of image number) number) passes before after
   pub absent : length image ≤ MAX_DATA * number → (passes ≡ true) × (after ≡ before)
 
--- whether it lets each write of a load of the image pass, in turn, each after the calls of those before it: those of its parts, and
--- the control write. The read of the load result comes after them, and a load whose result may not be read is a load
+-- whether it lets each write of a load of the image pass, in turn, each after the calls of those before it: those of
+-- its parts, and the control write. The read of the load result comes after them, and a load whose result may not be
+-- read is a load
 pub record LetsWrites (judge : AcceptedValue) (loader : Loader) (image : List ℕ) (passes : Bool) (before after : List Call) :
     Type 0 where
   pub one : List Call
@@ -79,7 +80,7 @@ pub record LetsLoad (start : Start) (judge : AcceptedValue) (loader : Loader) (i
   pub writes : LetsWrites judge loader image passes [] calls
   pub cells : AreAnswered start judge.sizes calls
 
--- the answer of two: of a load on cells that nobody asked, and of one on cells that are past every quota
+-- the answer of two loads: one on cells that nobody asked, and one on cells that are past every quota
 abbrev pub passing_of : (fresh spent : Bool) → Passing
 passing_of fresh spent =
     if fresh then (if spent then Always else UntilSpent) else (if spent then OnceSpent else Never)

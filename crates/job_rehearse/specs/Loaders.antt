@@ -29,7 +29,7 @@ pub record GivesLoader (rows : List Row) (loader : Loader) : Type 0 where
   pub key : GivesHex 2 0 (first_of (codes "key") rows) loader.key
   pub target : loader.target ≡ NODE_ADDRESS
 
--- one who is named by the options, or nobody where none of them is there
+-- one who is named by the options, or nobody if none of them is there
 abbrev pub GivesNamed : List Row → Option Loader → Type 0
 GivesNamed rows None = names_loader rows ≡ false
 GivesNamed rows (Some loader) = (names_loader rows ≡ true) × GivesLoader rows loader
@@ -44,7 +44,7 @@ abbrev pub loader_in : Option Loader → Loader
 loader_in None = record { port = 0; initiator = 103; key = 0; target = NODE_ADDRESS }
 loader_in (Some loader) = loader
 
--- how many ports the node has: 32 where it is named who loads, or else one
+-- how many ports the node has: 32 if someone is named to load, or else one
 abbrev pub ports_in : Option Loader → ℕ
 ports_in None = 1
 ports_in (Some loader) = 32
@@ -62,8 +62,8 @@ named_text loader = named_words loader.port (encode_upper (loader.initiator ∷ 
 abbrev pub loader_text : Option Loader → List ℕ
 loader_text named = named_text (loader_in named)
 
--- the words of a header are those of the loader, and but for its port, initiator, key and target those that `packet` has
--- without an option
+-- the words of a header are those of the loader. Except for its port, initiator, key and target they are those that
+-- `packet` has without an option
 pub record IsHeaderOf (loader : Loader) (header : HeaderWords) : Type 0 where
   pub port : header.port ≡ loader.port
   pub initiator : header.initiator ≡ loader.initiator

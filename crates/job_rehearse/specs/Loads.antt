@@ -51,8 +51,8 @@ StopsTaking loader slots image before after old new fault =
     ((fault ≡ NoMemory) × (after ≡ before) × (new ≡ old))
     ⊎ (StopsAtStep loader slots image before after old new fault ⊎ LacksRoom loader slots image before after old new fault)
 
--- the image is loaded into the slot: the last program that was published for it is that of the image, and was published after so
--- many others
+-- the image is loaded into the slot: the last program that was published for it is that of the image, and was published
+-- after `count` others
 pub record IsLoaded (image : List ℕ) (count : ℕ) (programs : List Publish) (slot : ℕ) : Type 0 where
   pub there : slot < 4
   pub generation : ℕ

@@ -48,7 +48,7 @@ is_open answers kind port = is_kind kind (answer_at answers port)
 
 -- ---- runs of ports
 
--- the port is the last of a run of ports with that answer: it has it, and the next has not
+-- the port is the last of a run of ports with that answer: it has it, and the next does not
 abbrev pub ends_run : (answers : List Passing) → (kind : Passing) → (port : ℕ) → Bool
 ends_run answers kind port = is_open answers kind port && not (is_open answers kind (port + 1))
 
@@ -62,7 +62,7 @@ abbrev pub run_line : (lead words more : List ℕ) → (first last : ℕ) → Li
 run_line lead words more first last =
     lead ++ codes " by port " ++ decimal first ++ codes "-" ++ decimal last ++ words ++ more ++ 10 ∷ []
 
--- behind a text the line of the run that ends at a port, if one does
+-- after a text the line of the run that ends at a port, if one does
 abbrev pub with_end : (front : List ℕ) → (answers : List Passing) → (kind : Passing) → (lead words : List ℕ)
     → (first port : ℕ) → List ℕ
 with_end front answers kind lead words first port =
@@ -75,7 +75,8 @@ with_runs front answers kind lead words zero = front
 with_runs front answers kind lead words (suc port) =
     with_end (with_runs front answers kind lead words port) answers kind lead words (first_of_run answers kind port) port
 
--- after a text the runs of each answer but the last: of ports at which both loads pass, only the first, and only the second
+-- after a text the runs of each answer except the last: of ports at which both loads pass, only the first, and only the
+-- second
 abbrev pub with_kinds : (front : List ℕ) → (answers : List Passing) → (lead words : List ℕ) → (count : ℕ) → List ℕ
 with_kinds front answers lead words count =
     with_runs
@@ -107,7 +108,7 @@ module _ (judge : AcceptedValue) (image : List ℕ) (node : LoadedNode) (lead : 
     pub is_at : IsAt askers place asker
     pub tells : TellsAsker asker before after
 
-  -- the same of the askers of so many places in turn, from 0 on
+  -- the same of the askers of the first `count` places in turn
   abbrev pub TellsFirst : List Asker → (count : ℕ) → (before after : List ℕ) → Type 0
   TellsFirst askers zero before after = after ≡ before
   TellsFirst askers (suc place) before after =

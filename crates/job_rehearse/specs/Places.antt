@@ -1,4 +1,4 @@
--- The node at which is rehearsed: one with some maps of which nothing else is said, or that of a file.
+-- The node at which is rehearsed: one with some maps, of which nothing else is said, or that of a file.
 use Rattle.std.specs.Prelude.{◌≡◌, ◌⊎◌, nat_lt, min, ℕ, Bool, true, false, List, [], Option, Some, None, codes, string_bytes}
 use Rattle.bver.specs.Justified.{AcceptedValue}
 use Rattle.clap.specs.Walk.{Row, first_of}
@@ -27,7 +27,7 @@ use Rattle.job_rehearse.specs.declared.steps.Rehearsing.{Rehearsing}
 
 -- ---- words
 
--- the maps that the words give, where they name no file
+-- the maps that the words give, if they name no file
 abbrev pub maps_in : PlaceWords → Option Maps
 maps_in (HasMaps sizes) = Some sizes
 maps_in (File name) = None
@@ -37,7 +37,7 @@ abbrev pub first_read : PlaceWords → (old : List ℕ) → InputValue
 first_read (HasMaps sizes) old = input old ImageOrText
 first_read (File name) old = input (string_bytes name) Node
 
--- what is read behind that beside the files that a node's file names: the new policy, if there is no node's file
+-- what is read after that beside the files that a node's file names: the new policy, if there is no node's file
 abbrev pub second_read : PlaceWords → (new : List ℕ) → Option InputValue
 second_read (HasMaps sizes) new = Some (input new ImageOrText)
 second_read (File name) new = None
@@ -53,7 +53,7 @@ GivesPlace rows (HasMaps sizes) =
     (first_of (codes "node") rows ≡ None) × GivesSizes (first_of (codes "maps") rows) sizes
 GivesPlace rows (File name) = IsOnlyFile rows (string_bytes name)
 
--- the options say no node: the maps are none, or something stands beside the file
+-- the options say no node: the maps are none, or another option is beside the file
 abbrev pub SpoilsPlace : List Row → Type 0
 SpoilsPlace rows = IsBadList (first_of (codes "maps") rows)
     ⊎ ((name : List ℕ) × (first_of (codes "node") rows ≡ Some name) × ¬ IsOnlyFile rows name)
@@ -81,7 +81,7 @@ abbrev pub loader_on : Place → Option Loader → Loader
 loader_on (Plain sizes) named = loader_in named
 loader_on (Own own) named = record (loader_in named) { target = own.address }
 
--- the node is that of the configuration behind what it publishes, with that program in all slots at first
+-- the node is that of the configuration after what it publishes, with that program in all slots at first
 pub record IsBegunOwn (own : OwnNodeValue) (program : AcceptedValue) (r : Rehearsing) : Type 0 where
   pub made : JobNodeValue
   pub is_made : IsNodeOf own program made
@@ -89,7 +89,7 @@ pub record IsBegunOwn (own : OwnNodeValue) (program : AcceptedValue) (r : Rehear
   pub silent : r.reply ≡ []
   pub unrefused : r.refused ≡ false
 
--- who is asked of its loads: of a node of which nothing else is said, logical address FE and 32 ports
+-- the node about whose loads a program is asked; if nothing else is said of it, it has logical address FE and 32 ports
 abbrev pub loaded_at : Place → LoadedNode
 loaded_at (Plain sizes) = record { target = NODE_ADDRESS; ports = 32 }
 loaded_at (Own own) = record { target = own.address; ports = min own.ports 32 }

@@ -106,7 +106,7 @@ pub record ArePolicies (one other : Program) (sizes : Maps) (made : Policies) : 
 abbrev pub AreUnready : (one other : Program) → Maps → Fault → Type 0
 AreUnready one other sizes fault = IsNotAccepted one sizes fault ⊎ (IsTooLong one fault ⊎ IsTooLong other fault)
 
--- what is asked of two images: what a rehearsal needs of them, the second may judge, and of whose loads it is asked
+-- what is asked of two images: what a rehearsal needs of them, the second may judge, and whose loads it is asked about
 pub record AreAsked (images : Images) (sizes : Maps) (made : Asked) : Type 0 where
   pub policies : ArePolicies images.old images.new sizes made.policies
   pub judge : made.judge.program ≡ images.new
@@ -155,7 +155,7 @@ module _ {S : Type 0} (reads : Reads S) (words : RehearseWords) (sizes : Maps) w
     pub first : HoldsOld before images.old between
     pub second : HoldsPolicy reads between (string_bytes words.new) sizes images.new images.table after
 
-  -- the file of the new policy gives none, behind that of the old one, which does
+  -- the file of the new policy gives none, after that of the old one, which does
   pub record NewIsNone (before after : S) (none : NoPolicy) : Type 0 where
     pub between : S
     pub one : Program

@@ -20,7 +20,7 @@ slots_app =
     (with_rule (with_rule (new_app (codes "rehearse")) (file_rule (codes "old"))) (file_rule (codes "new")))
     (option_rule (codes "maps"))) (option_rule (codes "slot"))
 
--- the same, with `[--port N] [--initiator HH] [--key HH] [--any]` behind it
+-- the same, with `[--port N] [--initiator HH] [--key HH] [--any]` after it
 abbrev pub loads_app : App
 loads_app =
     with_rule
@@ -28,7 +28,7 @@ loads_app =
     (with_rule (with_rule slots_app (option_rule (codes "port"))) (option_rule (codes "initiator")))
     (option_rule (codes "key"))) (flag_rule (codes "any"))
 
--- the same, with `[--node FILE]` behind it
+-- the same, with `[--node FILE]` after it
 abbrev pub rehearse_app : App
 rehearse_app = with_rule loads_app (option_rule (codes "node"))
 

@@ -29,22 +29,22 @@ use Rattle.job_rehearse.specs.declared.policies.Policies.{Policies}
 use Rattle.job_rehearse.specs.declared.rehearse.RehearseWords.{RehearseWords}
 use Rattle.job_rehearse.specs.declared.steps.Rehearsing.{Rehearsing}
 
--- what is told where the load of the new policy ended so; nothing, where it is loaded
+-- what is printed if the load of the new policy ended so; nothing, if it is loaded
 abbrev pub there_line : Ending → Option (List ℕ)
 there_line Loaded = None
 there_line InPart = Some (codes "NEW is loaded in part")
 there_line LockedOut = Some (codes "NEW is locked out")
 there_line NotLoaded = Some (codes "NEW is not loaded")
 
--- what is told where the load of the old policy under the new one ended so, and the exit status: 0 where it is loaded
+-- what is printed if the load of the old policy under the new one ended so, and the exit status: 0 if it is loaded
 abbrev pub back_line : Ending → List ℕ × Status
 back_line Loaded = (codes "NEW lets OLD be loaded", Done)
 back_line InPart = (codes "NEW locks loads out", Failed)
 back_line LockedOut = (codes "NEW locks loads out", Failed)
 back_line NotLoaded = (codes "OLD is not loaded", Failed)
 
--- what is printed of whose loads the new policy lets pass, where these are their lines, and the exit status: 0 where it lets some
--- pass
+-- what is printed of whose loads the new policy lets pass, if these are their lines, and the exit status: 0 if it lets
+-- some pass
 abbrev pub any_end : (lines : List ℕ) → List ℕ × Status
 any_end [] = (codes "loads by nobody" ++ 10 ∷ [], Failed)
 any_end (code ∷ lines) = (code ∷ lines, Done)
@@ -58,7 +58,7 @@ module _ (place : Place) (slots : List ℕ) (named : Option Loader) (policies : 
     pub begun : IsBegunAt place policies.program named fresh
     pub loads : Loads (codes "NEW") (loader_on place named) slots policies.new.items ending fresh after old new
 
-  -- the new policy was not loaded, which was told
+  -- the new policy was not loaded, which was printed
   pub record StaysOld (old new : Option (List ℕ)) (status : Status) : Type 0 where
     pub ending : Ending
     pub after : Rehearsing
@@ -69,7 +69,7 @@ module _ (place : Place) (slots : List ℕ) (named : Option Loader) (policies : 
     pub told : Appends between new (line ++ loader_text named ++ 10 ∷ [])
     pub failed : status ≡ Failed
 
-  -- the new policy was loaded, then the load of the old one was tried under it, and how that ended was told
+  -- the new policy was loaded, then the load of the old one was tried under it, and how that ended was printed
   pub record TriesBack (old new : Option (List ℕ)) (status : Status) : Type 0 where
     pub ending : Ending
     pub middle : Rehearsing
@@ -91,7 +91,7 @@ module _ (place : Place) (slots : List ℕ) (named : Option Loader) (policies : 
     pub begun : IsBegunAt place policies.program named fresh
     pub stop : StopsLoad (codes "NEW") (loader_on place named) slots policies.new.items fresh old new fault
 
-  -- a fault ended the load of the old policy, behind that of the new one
+  -- a fault ended the load of the old policy, after that of the new one
   pub record StopsBack (old new : Option (List ℕ)) (fault : Fault) : Type 0 where
     pub middle : Rehearsing
     pub between : Option (List ℕ)
@@ -115,7 +115,7 @@ pub record AsksAny (node : LoadedNode) (asked : Asked) (old new : Option (List �
 
 -- ---- of files
 
--- a table has a fault, which was told with the name of its file and its place
+-- a table has a fault, which was printed with the name of its file and its place
 pub record TellsBad (holds : NoPolicy → Type 0) (old new : Option (List ℕ)) (status : Status) : Type 0 where
   pub file : Bor (List ℕ)
   pub fault : TextFault
@@ -131,8 +131,8 @@ module _ {S : Type 0} (reads : Reads S) (words : RehearseWords) where
     pub held : HoldsBoth reads words (sizes_at place) before after policies
     pub rehearsed : Rehearses place words.slots.items named policies old new status
 
-  -- what was read and printed of the loads of one at that node where no fault ended it: the new policy was loaded or not, and so
-  -- was the old one under it; or a table has a fault
+  -- what was read and printed of the loads of one at that node if no fault ended it. The new policy was loaded or not,
+  -- and so was the old one under it. Or a table has a fault
   abbrev pub DoesAt : Place → Option Loader → (before after : S) → (old new : Option (List ℕ)) → Status → Type 0
   DoesAt place named before after old new status =
       RehearsesBoth place named before after old new status
@@ -156,7 +156,7 @@ module _ {S : Type 0} (reads : Reads S) (words : RehearseWords) where
       pub silent : new ≡ old
       pub misused : status ≡ Misused
 
-  -- what was read and printed of the loads of one where no fault ended it
+  -- what was read and printed of the loads of one if no fault ended it
   abbrev pub DoesOne : Option Loader → (before after : S) → (old new : Option (List ℕ)) → Status → Type 0
   DoesOne named before after old new status =
       DoesPlaced named before after old new status ⊎ RefusesPort named before after old new status
@@ -167,8 +167,8 @@ module _ {S : Type 0} (reads : Reads S) (words : RehearseWords) where
     pub held : HoldsAsked reads words (sizes_at place) before after asked
     pub asks : AsksAny (loaded_at place) asked old new status
 
-  -- what was read and printed of the loads of any where no fault ended it, for that node: the new policy was asked; or a table has a
-  -- fault
+  -- what was read and printed of the loads of any if no fault ended it, for that node. The new policy was asked, or a
+  -- table has a fault
   abbrev pub AsksWith : Place → (before after : S) → (old new : Option (List ℕ)) → Status → Type 0
   AsksWith place before after old new status =
       AsksBoth place before after old new status
@@ -181,13 +181,13 @@ module _ {S : Type 0} (reads : Reads S) (words : RehearseWords) where
     pub placed : HoldsPlace reads words.place before place between
     pub does : AsksWith place between after old new status
 
-  -- of whose loads it is done
+  -- what was read and printed if no fault ended it, by whose loads are rehearsed
   abbrev pub Does : Loaders → (before after : S) → (old new : Option (List ℕ)) → Status → Type 0
   Does (One named) before after old new status = DoesOne named before after old new status
   Does Any before after old new status = DoesAny before after old new status
 
-  -- what `rehearse` reads and prints where no fault ends it, with its exit status: 0 where the new policy is loaded and lets
-  -- the old one be loaded again, or where it lets somebody load it, else 1
+  -- what `rehearse` reads and prints if no fault ends it, with its exit status. It is 0 if the new policy is loaded and
+  -- lets the old one be loaded again, or if it lets somebody load it, else 1
   abbrev pub RehearsesFile : (before after : S) → (old new : Option (List ℕ)) → Status → Type 0
   RehearsesFile before after old new status = Does words.loaders before after old new status
 
@@ -198,8 +198,8 @@ module _ {S : Type 0} (reads : Reads S) (words : RehearseWords) where
     pub held : HoldsBoth reads words (sizes_at place) before after policies
     pub stuck : IsStuck place words.slots.items named policies old new fault
 
-  -- of the loads of one at that node: a file gives no policy that can be rehearsed with, and nothing was printed; or a fault ended
-  -- the rehearsal
+  -- of the loads of one at that node: a file gives no policy that can be rehearsed with, and nothing was printed. Or a
+  -- fault ended the rehearsal
   abbrev pub IsUndoneAt : Place → Option Loader → (before after : S) → (old new : Option (List ℕ)) → Fault → Type 0
   IsUndoneAt place named before after old new fault =
       ((new ≡ old) × HoldsNotBoth reads words (sizes_at place) before after (Ended fault))
@@ -238,7 +238,7 @@ module _ {S : Type 0} (reads : Reads S) (words : RehearseWords) where
   IsUnasked before after old new fault =
       (new ≡ old) × (HoldsNoPlace reads words.place before after fault ⊎ IsUnaskedThere before after fault)
 
-  -- of whose loads it is not done
+  -- why it was not done, by whose loads are rehearsed
   abbrev pub DoesNot : Loaders → (before after : S) → (old new : Option (List ℕ)) → Fault → Type 0
   DoesNot (One named) before after old new fault = IsUndone named before after old new fault
   DoesNot Any before after old new fault = IsUnasked before after old new fault

@@ -1,4 +1,4 @@
--- The cells of a node before a load: such that nobody asked, or such that are past every quota.
+-- The cells of a node before a load: cells that nobody asked, or cells that are past every quota.
 use Rattle.std.specs.Prelude.{◌≡◌, ◌+◌, ◌-◌, ◌^◌, ◌%◌, [], ℕ, List, map}
 use base.Stored.{Gv, gnil, gnum}
 use Rattle.machine.specs.Runs.{call}
@@ -11,8 +11,8 @@ use Rattle.job_rehearse.specs.declared.starts.LoadCells.{LoadCells}
 use Rattle.job_rehearse.specs.declared.starts.Start.{Start}
 use Rattle.job_rehearse.specs.declared.starts.Start.TheVariants.{Fresh, Spent}
 
--- what a cell answers that began so, if a cell that nobody asked before answers that: of a counter that has given 2^32 tickets the
--- number is so much higher, modulo 2^64, and a peak is the greatest number
+-- what a cell answers that began so, if a cell that nobody asked before gives that answer. For a counter that has given
+-- 2^32 tickets the number is 2^32 higher, modulo 2^64, and a peak is the greatest number
 abbrev pub raised_answer : Start → MapKind → (answer : ℕ) → ℕ
 raised_answer Fresh Counter answer = answer
 raised_answer Fresh Peak answer = answer

@@ -47,7 +47,7 @@ is_refused step verdict = is_write step && not (verdict == 0)
 abbrev pub is_failed : Step → Served → Bool
 is_failed step served = is_write step && not (is_success (status_in served))
 
--- a fresh node of so many ports, at which the program judges all, and which has served nothing
+-- a fresh node of this many ports, at which the program judges all, and which has served nothing
 pub record IsBegun (program : AcceptedValue) (ports : ℕ) (r : Rehearsing) : Type 0 where
   pub config : NodeConfig
   pub is_config : IsConfig ports program.sizes config
@@ -56,14 +56,14 @@ pub record IsBegun (program : AcceptedValue) (ports : ℕ) (r : Rehearsing) : Ty
   pub unrefused : r.refused ≡ false
   pub unfailed : r.failed ≡ false
 
--- the line is a packet line, of a port that is none of so many
+-- the line is a packet line, of a port that is none of this many
 pub record HasOtherPort (line : List ℕ) (ports : ℕ) : Type 0 where
   pub port : ℕ
   pub packet : Cargo
   pub written : IsPacketLine line port packet
   pub other : ports ≤ port
 
--- why a line writes no packet for a node with so many ports, or memory was refused to it
+-- why a line writes no packet for a node with this many ports, or memory was refused to it
 abbrev pub IsNoPacket : List ℕ → (ports : ℕ) → BadLine → Type 0
 IsNoPacket line ports (Line fault) = (fault ≡ Memory) ⊎ HasFault marker_word line fault
 IsNoPacket line ports NoPort = HasOtherPort line ports

@@ -22,8 +22,8 @@ use Rattle.job_rehearse.specs.declared.table_loads.TableLoads.{TableLoads}
 abbrev pub smallest : List ℕ
 smallest = replicate 32 0
 
--- what is asked of a table: the program to which it compiles judges, its image is loaded, and each initiator and key that a rule
--- names is asked, and the least that none names
+-- what is asked of a table: the program to which it compiles judges, and its image is loaded. It is asked about each
+-- initiator and key that a rule names, and the least that none names
 pub record AsksOf (sizes : Maps) (policy : PolicyValue) (made : TableLoads) : Type 0 where
   pub program : Program
   pub compiled : IsPortCompiled sizes policy program
@@ -54,14 +54,15 @@ abbrev pub lines_or_nobody : (lead lines : List ℕ) → List ℕ
 lines_or_nobody lead [] = lead ++ codes " by nobody" ++ 10 ∷ []
 lines_or_nobody lead (code ∷ lines) = code ∷ lines
 
--- with what a line begins: of the smallest image, and of one of so many bytes
+-- the beginning of a line of the smallest image
 abbrev pub lead_plain : List ℕ
 lead_plain = codes "    loads"
 
+-- the beginning of a line of an image of this many bytes
 abbrev pub lead_of : (bytes : ℕ) → List ℕ
 lead_of bytes = codes "    loads of " ++ decimal bytes ++ codes " bytes"
 
--- the node: logical address FE, and so many ports
+-- the node: logical address FE, and this many ports
 abbrev pub node_of : (ports : ℕ) → LoadedNode
 node_of ports = record { target = NODE_ADDRESS; ports = ports }
 
@@ -167,15 +168,15 @@ pub record TellsShut (sizes : Maps) (text told : List ℕ) : Type 0 where
   pub mended : CanBeMended sizes text is
   pub told_is : told ≡ shut_words ++ mending_words is ++ final_words
 
--- what `policy` says of these lines: nothing if somebody loads both images, that nobody does, or both lines if only one image is
--- loaded by somebody
+-- what `policy` says of these lines: nothing if somebody loads both images, that nobody does, or both lines if somebody
+-- loads only one image
 abbrev pub TellsDoors : (sizes : Maps) → (text : List ℕ) → (ports : ℕ) → TableLoads → (plain own told : List ℕ) → Type 0
 TellsDoors sizes text ports made [] [] told = TellsShut sizes text told
 TellsDoors sizes text ports made [] (code ∷ own) told = TellsOf ports made [] (code ∷ own) told
 TellsDoors sizes text ports made (code ∷ plain) [] told = TellsOf ports made (code ∷ plain) [] told
 TellsDoors sizes text ports made (code ∷ plain) (other ∷ own) told = told ≡ []
 
--- what `policy` says of what is asked of a table; of a text that writes none it says nothing
+-- what `policy` says of what is asked of a table
 pub record DoorsOf (sizes : Maps) (text : List ℕ) (ports : ℕ) (made : TableLoads) (told : List ℕ) : Type 0 where
   pub plain : List ℕ
   pub own : List ℕ
@@ -183,6 +184,7 @@ pub record DoorsOf (sizes : Maps) (text : List ℕ) (ports : ℕ) (made : TableL
   pub own_is : TellsLoads ports made made.image.items lead_plain own
   pub tells : TellsDoors sizes text ports made plain own told
 
+-- the same; of a text that writes no table it says nothing
 abbrev pub AskedDoors : (sizes : Maps) → (text : List ℕ) → (ports : ℕ) → Option TableLoads → (told : List ℕ) → Type 0
 AskedDoors sizes text ports None told = told ≡ []
 AskedDoors sizes text ports (Some made) told = DoorsOf sizes text ports made told

@@ -54,8 +54,8 @@ abbrev pub outcome_text : Option Status → List ℕ
 outcome_text None = codes "no reply"
 outcome_text (Some status) = codes "status " ++ decimal (status_code status) ++ codes " " ++ status_words status
 
--- the load result that a reply has, if it has one: where it has a header of twelve bytes, the eight of a load result and one of
--- a CRC, what those eight are (ECSS-E-ST-50-52C, read reply format)
+-- the load result that a reply has, if it has one. If the reply has a header of twelve bytes, the eight of a load
+-- result and one of a CRC, it is what those eight are (ECSS-E-ST-50-52C, read reply format)
 abbrev pub load_result_in : (reply : List ℕ) → Option LoadResult
 load_result_in reply =
     if length reply == 12 + LOAD_RESULT_SIZE + 1 then load_result_of (take LOAD_RESULT_SIZE (drop 12 reply)) else None
@@ -69,7 +69,7 @@ result_words r =
     else codes ", load fault " ++ decimal r.code ++ codes " slot " ++ decimal r.place)
     else codes ", generation " ++ decimal r.generation
 
--- the same, where there is one
+-- the same, if there is one
 abbrev pub result_text : Option LoadResult → List ℕ
 result_text None = []
 result_text (Some r) = result_words r

@@ -22,7 +22,7 @@ use std::io;
 fn new_node(alloc: Global, address: u8, sizes: MapSizes) -> Result<Rehearsing, AllocError>
     ensures { IfOk result (IsNewNode address sizes) }
 {
-    // Memory alone can be refused to the factory program, and to its node.
+    // Only memory can be refused to the factory program, and to its node.
     let Ok(program) = factory_program(alloc, sizes) else {
         return Err(AllocError);
     };
@@ -39,7 +39,7 @@ fn new_node(alloc: Global, address: u8, sizes: MapSizes) -> Result<Rehearsing, A
     })
 }
 
-/// Lets the node take the packets of these lines, and tells whether a program did not let one be done.
+/// Lets the node take the packets of these lines. Returns whether a program did not let one be done.
 fn take_all(alloc: Global, rehearsing: &mut Rehearsing, lines: &str) -> Result<bool, AllocError>
     ensures { IfOk result (TakesAll lines.now rehearsing.old rehearsing.new) }
 {
@@ -105,7 +105,7 @@ fn is_acceptable(alloc: Global, bytes: &[u8], sizes: &MapSizes) -> Result<bool, 
     }
 }
 
-/// Counter maps of these sizes, which are some that a node may have.
+/// Counter maps of these sizes, which a node may have.
 fn counter_maps(cells: &[u16]) -> Result<MapSizes, AllocError>
     ensures { IfOk result (λ sizes. sizes ≡ counter_maps cells.now) }
 {
@@ -115,8 +115,8 @@ fn counter_maps(cells: &[u16]) -> Result<MapSizes, AllocError>
     }
 }
 
-/// The maps on which an image is tried: the first of none, one of 256 cells and eight of 32 for which it is accepted. `None` if it
-/// is accepted for none of them.
+/// The maps on which an image is tried: the first of none, one of 256 cells and eight of 32 for which it is accepted.
+/// `None` if it is accepted for none of them.
 #[tactic(auto, using(crate::proofs::Trying::first_of_none, crate::proofs::Trying::first_of_one, crate::proofs::Trying::first_of_eight, crate::proofs::Trying::first_of_all))]
 fn sizes_for(alloc: Global, image: &[u8]) -> Result<Option<MapSizes>, AllocError>
     ensures { IfOk result (IsTriedOn image.now) }
@@ -136,13 +136,13 @@ fn sizes_for(alloc: Global, image: &[u8]) -> Result<Option<MapSizes>, AllocError
     Ok(None)
 }
 
-/// Whether the packets of a load of this image are denied after that load: at a fresh node of that logical address which took
-/// the packet lines before, a program does not let a write of them be done. The node has no maps, or else one map of 256
-/// cells, or else eight of 32; an image that none of these accepts is not tried.
+/// Whether the packets of a load of this image are denied after that load. That is so if a program does not let a write
+/// of them be done at a fresh node that took the packet lines before. The node has that logical address. The node has
+/// no maps, or else one map of 256 cells, or else eight of 32. An image that none of these accepts is not tried.
 ///
 /// # Errors
 ///
-/// Where memory was refused.
+/// An error if memory is refused.
 pub fn denies_again(
     alloc: Global,
     address: u8,

@@ -1,4 +1,4 @@
-//! Of whose loads a program is asked: initiators and keys.
+//! Whose loads a program is asked about: initiators and keys.
 
 ghost use Rattle.std.specs.Prelude.{◌≡◌, ◌++◌, IfOk, OnOk, drop, string_bytes};
 ghost use Rattle.std.specs.List.{list_any};
@@ -7,16 +7,16 @@ ghost use Rattle.job_rehearse.specs.Askers.{asker_text, asker_words, askers_of, 
 use policy::{Policy, PortRule, Rule};
 use std::alloc::{AllocError, Global};
 
-/// A value of a field of a header, of which a program is asked.
+/// A value of a field of a header, about which a program is asked.
 #[derive(Clone, Copy, Debug, PartialEq, Eq)]
 pub struct Asking {
     /// The value.
     pub byte: u8,
-    /// Whether it stands for itself; if not it stands for all that no rule names.
+    /// Whether it means only itself. If not, it means all values that no rule names.
     pub is_named: bool,
 }
 
-/// An initiator and a key, of whose loads a program is asked.
+/// An initiator and a key, about whose loads a program is asked.
 #[derive(Clone, Copy, Debug, PartialEq, Eq)]
 pub struct Asker {
     /// The initiator logical address.
@@ -129,7 +129,7 @@ fn add_pairs(
     Ok(())
 }
 
-/// Of whose loads the program of a table is asked.
+/// Whose loads the program of a table is asked about.
 pub(crate) fn table_askers(alloc: Global, rules: &[PortRule]) -> Result<Vec<Asker>, AllocError>
     ensures { IfOk result (λ askers. askers.items ≡ table_askers rules.now) }
 {
@@ -140,7 +140,7 @@ pub(crate) fn table_askers(alloc: Global, rules: &[PortRule]) -> Result<Vec<Aske
     Ok(askers)
 }
 
-/// The values behind the first.
+/// The values after the first.
 fn behind_first(values: &[Asking]) -> &[Asking]
     ensures { result.now ≡ drop 1 values.now }
 {
@@ -150,7 +150,8 @@ fn behind_first(values: &[Asking]) -> &[Asking]
     }
 }
 
-/// Of whose loads a program is asked that is of no table: each initiator with key 00, and initiator 67 with each other key.
+/// Whose loads a program that is of no table is asked about: each initiator with key 00, and initiator 67 with each
+/// other key.
 fn every_asker(alloc: Global) -> Result<Vec<Asker>, AllocError>
     ensures { IfOk result (λ askers. askers.items ≡ every_asker) }
 {
@@ -170,8 +171,13 @@ fn every_asker(alloc: Global) -> Result<Vec<Asker>, AllocError>
     Ok(askers)
 }
 
-/// Of whose loads the program of a policy is asked, of a table if it is of one: each initiator and each key that a rule names,
-/// and the least that none names. Of an image each initiator with key 00, and initiator 67 with each other key.
+/// Whose loads the program of a policy is asked about. If it is of a table: each initiator and each key that a rule
+/// names, and the least that none names. For an image: each initiator with key 00, and initiator 67 with each other
+/// key.
+///
+/// # Errors
+///
+/// An error if memory is refused.
 pub fn askers_of(alloc: Global, table: &Option<Policy>) -> Result<Vec<Asker>, AllocError>
     ensures { IfOk result (λ askers. askers.items ≡ askers_of table.now) }
 {
@@ -181,7 +187,7 @@ pub fn askers_of(alloc: Global, table: &Option<Policy>) -> Result<Vec<Asker>, Al
     }
 }
 
-/// A value in two digits, or `*` if it stands for all that no rule names.
+/// A value in two digits, or `*` if it means all that no rule names.
 fn value_text(alloc: Global, value: Asking) -> Result<String, AllocError>
     ensures { IfOk result (λ text. string_bytes text ≡ value_text value) }
 {
@@ -210,6 +216,10 @@ fn asker_words(alloc: Global, initiator: &str, key: &str) -> Result<String, Allo
 }
 
 /// The words of an initiator and a key.
+///
+/// # Errors
+///
+/// An error if memory is refused.
 pub fn asker_text(alloc: Global, asker: Asker) -> Result<String, AllocError>
     ensures { IfOk result (λ text. string_bytes text ≡ asker_text asker) }
 {

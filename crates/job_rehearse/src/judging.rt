@@ -30,7 +30,8 @@ fn verdict_on(judge: &Accepted, port: u8, command: &Command, cells: &mut LoadCel
     run(judge, front, tail, port, &mut stack, cells)
 }
 
-/// The verdict of a program on a command that is requested by a loader. Its body is left out: a program sees the header alone.
+/// The verdict of a program on a command that is requested by a loader. Its body is left out: a program sees only the
+/// header.
 fn answer_to(
     alloc: Global,
     judge: &Accepted,
@@ -109,8 +110,8 @@ fn all_pass(first: bool, second: bool, third: bool, fourth: bool, fifth: bool) -
     first && second && third && fourth && fifth
 }
 
-/// Whether a program lets each write of a load of an image pass, in turn. The read of the load result, which does nothing, is not
-/// asked for.
+/// Whether a program lets each write of a load of an image pass, in turn. The program is not asked about the read of
+/// the load result, which does nothing.
 fn lets_writes(
     alloc: Global,
     judge: &Accepted,
@@ -136,6 +137,10 @@ fn lets_writes(
 }
 
 /// Whether a program lets the whole load of an image pass, on cells that began so.
+///
+/// # Errors
+///
+/// An error if memory is refused.
 pub fn lets_load(
     alloc: Global,
     judge: &Accepted,

@@ -60,8 +60,11 @@ pub fn is_any_beside(found: &ArgMatches) -> bool
     is_set(found, "any") && (names_loader(found) || has_value(found, "slot"))
 }
 
-/// Who loads by `--port`, `--initiator` and `--key`; port 0, initiator 67 and key 00 without them. A slip where one has a value
-/// that it may not have: the first such.
+/// Who loads by `--port`, `--initiator` and `--key`; port 0, initiator 67 and key 00 without them.
+///
+/// # Errors
+///
+/// The slip of the first option that has a value that it may not have.
 pub fn loader_of(found: &ArgMatches) -> Result<Loader, PacketFault>
     ensures { MatchResult result (GivesLoader (rows_of (found_of found.now)))
         (IsBadWord (Has (GivesLoader (rows_of (found_of found.now))))) }
@@ -77,7 +80,11 @@ pub fn loader_of(found: &ArgMatches) -> Result<Loader, PacketFault>
     })
 }
 
-/// Whose loads are rehearsed by the options. `BadOption` where one has a value that it may not have, or stands beside `--any`.
+/// Whose loads are rehearsed by the options.
+///
+/// # Errors
+///
+/// `BadOption` if an option has a value that it may not have, or is beside `--any`.
 pub fn loaders_of(found: &ArgMatches) -> Result<Loaders, UsageFault>
     ensures { MatchResult result (GivesLoaders (rows_of (found_of found.now)))
         (IsBadValue (Has (GivesLoaders (rows_of (found_of found.now))))) }
@@ -112,7 +119,7 @@ pub fn loader_in(named: Option<Loader>) -> Loader
     }
 }
 
-/// How many ports the node has: 32 where it is named who loads, or else one.
+/// How many ports the node has: 32 if someone is named to load, or else one.
 pub fn ports_in(named: Option<Loader>) -> u8
     ensures { result ≡ ports_in named }
 {
@@ -149,13 +156,18 @@ fn named_text(alloc: Global, loader: Loader) -> Result<String, AllocError>
 }
 
 /// What the last line says of who loads: the one that is named, or port 0, initiator 67 and key 00.
+///
+/// # Errors
+///
+/// An error if memory is refused.
 pub fn loader_text(alloc: Global, named: Option<Loader>) -> Result<String, AllocError>
     ensures { IfOk result (λ text. string_bytes text ≡ loader_text named) }
 {
     named_text(alloc, loader_in(named))
 }
 
-/// The words of the headers of a loader: but for its port, initiator, key and target as `packet` has them without an option.
+/// The words of the headers of a loader. They are those that `packet` has without an option, except its port,
+/// initiator, key and target.
 pub fn header_of(alloc: Global, loader: Loader) -> HeaderWords
     ensures given { IsHeaderOf loader result }
     ensures address { has_reply_address result ≡ true }

@@ -115,8 +115,8 @@ fn is_each(loaded: &[bool]) -> bool
     loaded.iter().all(|is| *is)
 }
 
-/// How loads of an image into slots ended, by whether it is loaded into each, whether a program did not let a write of them be done,
-/// and whether one was not answered with status 0.
+/// How loads of an image into slots ended. That depends on whether it is loaded into each, whether a program did not
+/// let a write of them be done, and whether one was not answered with status 0.
 fn ending_of(loaded: &[bool], is_refused: bool, is_failed: bool) -> Ending
     ensures { result ≡ ending_of loaded.now is_refused is_failed }
 {
@@ -133,7 +133,12 @@ fn ending_of(loaded: &[bool], is_refused: bool, is_failed: bool) -> Ending
     }
 }
 
-/// Loads an image at the node of a rehearsal: prints its name, and what becomes of each packet, and tells how it ended.
+/// Loads an image at the node of a rehearsal. It prints the name of the image, and what becomes of each packet, and
+/// returns how the load ended.
+///
+/// # Errors
+///
+/// The fault that ended the load, or that the writer failed.
 pub fn load<'a, W: Write>(
     alloc: Global,
     rehearsing: &mut Rehearsing,

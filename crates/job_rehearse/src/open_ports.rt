@@ -19,7 +19,7 @@ pub struct LoadedNode {
     pub ports: u8,
 }
 
-/// Whether a program lets the load of an image pass, where the asker loads it at a port of the node.
+/// Whether a program lets the load of an image pass, if the asker loads it at a port of the node.
 fn passing_at(
     alloc: Global,
     judge: &Accepted,
@@ -115,7 +115,7 @@ fn add_end(
     Ok(())
 }
 
-/// The first port of the run after this port, by that of the run in which this one is.
+/// The first port of the run after this port. `first` is the first port of the run in which this one is.
 fn first_after(answers: &[Passing], kind: Passing, first: u8, port: u8) -> u8
     requires { port < 32 }
     ensures { result ≡ if is_open answers.now kind port then first else port + 1 }
@@ -127,7 +127,7 @@ fn first_after(answers: &[Passing], kind: Passing, first: u8, port: u8) -> u8
     }
 }
 
-/// Adds a line for each run of ports with that answer, of so many ports.
+/// Adds a line for each run of ports with that answer, of this many ports.
 fn add_runs(
     text: &mut String,
     answers: &[Passing],
@@ -235,9 +235,14 @@ fn add_askers(
     Ok(())
 }
 
-/// Whose loads of an image a program in slot 3 lets pass, of these askers. There is a line for each run of the node's ports at which
-/// it lets two loads pass, or only the first, or only the second. The first comes on cells that nobody asked, and the second on cells
-/// that are past every quota. Each line begins with `lead`; who is in none of them cannot load.
+/// Whose loads of an image a program in slot 3 lets pass, of these askers. There is a line for each run of the node's
+/// ports at which it lets two loads pass, or only the first, or only the second. The first comes on cells that nobody
+/// asked, and the second on cells that are past every quota. Each line begins with `lead`; who is in none of them
+/// cannot load.
+///
+/// # Errors
+///
+/// An error if memory is refused.
 pub fn loaders(
     alloc: Global,
     judge: &Accepted,

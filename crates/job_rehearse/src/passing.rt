@@ -72,6 +72,10 @@ pub fn kind_words(kind: Passing) -> &'static str
 }
 
 /// Whether a program lets the load of an image pass.
+///
+/// # Errors
+///
+/// An error if memory is refused.
 pub fn loader_passing(
     alloc: Global,
     judge: &Accepted,

@@ -1,4 +1,4 @@
-//! The node at which is rehearsed: one with some maps of which nothing else is said, or that of a file.
+//! The node at which is rehearsed: one with some maps, of which nothing else is said, or that of a file.
 
 ghost use Rattle.std.specs.Prelude.{◌≡◌, ◌≤◌, IfErr, IfOk};
 ghost use Rattle.clap.specs.Walk.{rows_of};
@@ -106,8 +106,8 @@ impl Place {
 }
 
 impl Place {
-    /// The node of whose loads a program is asked: of one of which nothing else is said, logical address FE and 32 ports. No file
-    /// says more ports.
+    /// The node about whose loads a program is asked. If nothing else is said of it, it has logical address FE and 32
+    /// ports. No file gives more ports.
     pub fn loaded(&self) -> LoadedNode
         ensures value { result ≡ loaded_at self.now }
         ensures ports { result.ports ≤ 32 }
@@ -125,8 +125,8 @@ impl Place {
     }
 }
 
-/// The node before the first load, where this program judges in all slots at first: behind what its file publishes. The condition is
-/// a program that was accepted for its maps.
+/// The node before the first load, and after what its file publishes. This program judges in all slots at first. The
+/// condition is a program that was accepted for its maps.
 pub(crate) fn begun_at(
     alloc: Global,
     place: &Place,

@@ -60,14 +60,14 @@ pub struct Policies {
     pub new: Vec<u8>,
 }
 
-/// The policies of which the new one is asked.
+/// The policies, of which the new one is asked.
 #[derive(Drop)]
 pub struct Asked {
     /// The policies.
     pub policies: Policies,
     /// The program of the new policy, which may judge on the node.
     pub judge: Accepted,
-    /// Of whose loads it is asked.
+    /// Whose loads it is asked about.
     pub askers: Vec<Asker>,
 }
 
@@ -120,13 +120,13 @@ fn compiled<'a>(
     let table = table_of(alloc, name, bytes, sizes)?;
     match compile_policy(alloc, &table, sizes) {
         Ok(image) => Ok((image, table)),
-        // Memory alone can be refused to it: the table has no fault for these maps.
+        // Only memory can be refused to it: the table has no fault for these maps.
         Err(_) => Err(NoPolicy::Ended(Fault::NoMemory)),
     }
 }
 
-/// The image of the policy in the file of this name, for a node with maps of these sizes: of an image that it has, or of a
-/// table, and the table.
+/// The image of the policy in the file of this name, for a node with maps of these sizes, and the table, if it is one.
+/// It is the image that the file has, or that of its table.
 fn policy_in<'a, F: Files>(
     alloc: Global,
     files: &mut F,
@@ -201,6 +201,8 @@ fn policies_of<'a>(
 
 /// The policies of a rehearsal, of the files that the words name, for a node with maps of these sizes.
 ///
+/// # Errors
+///
 /// Faults are found in this order: the file of the old policy, that policy, the file of the new one, that policy, and
 /// whether the old one may judge on the node.
 pub fn policies_in<'a, F: Files>(
@@ -232,9 +234,11 @@ fn asked_of<'a>(alloc: Global, images: &Images, sizes: &MapSizes) -> Result<Aske
     })
 }
 
-/// The policies of which the new one is asked, of the files that the words name, for a node with maps of these sizes.
+/// The policies, of which the new one is asked, of the files that the words name, for a node with maps of these sizes.
 ///
-/// Faults are found in the order of [`policies_in`], and then whether the new policy may judge on the node.
+/// # Errors
+///
+/// Those of [`policies_in`], in its order, and then whether the new policy may judge on the node.
 pub fn asked_in<'a, F: Files>(
     alloc: Global,
     words: &'a RehearseWords,

@@ -53,8 +53,8 @@ pub struct RehearseWords {
 }
 
 impl RehearseWords {
-    /// What the job reads: the old policy, and then the new one; before them the node's file, if there is one, and behind that
-    /// the files that it names.
+    /// What the job reads: the old policy, and then the new one. Before them it reads the node's file, if there is one,
+    /// and then the files that it names.
     pub fn inputs(&self) -> Inputs<'_>
         ensures { AreInputs (Some (first_read self.now.place (string_bytes self.now.old)))
             (second_read self.now.place (string_bytes self.now.new)) None result }
@@ -69,7 +69,7 @@ impl RehearseWords {
         )
     }
 
-    /// How many cells each map of the node has, where no file says it.
+    /// How many cells each map of the node has, if no file says it.
     pub fn sizes(&self) -> Option<&MapSizes>
         ensures { MatchOption result (maps_in self.now.place ≡ None)
             (λ sizes. maps_in self.now.place ≡ Some sizes.now) }
@@ -82,6 +82,10 @@ impl RehearseWords {
 }
 
 /// `rehearse OLD NEW [--maps LIST] [--slot LIST] [--port N] [--initiator HH] [--key HH] [--any] [--node FILE]`.
+///
+/// # Errors
+///
+/// An error if memory is refused.
 pub fn rehearse_command<'a>(alloc: Global) -> Result<Command<'a>, AllocError>
     ensures shape { IfOk result (λ c. app_of c ≡ rehearse_app) }
     ensures local { IfOk result (λ c. (fields_of c).has_globals ≡ false) }
@@ -115,7 +119,11 @@ pub fn rehearse_command<'a>(alloc: Global) -> Result<Command<'a>, AllocError>
         .arg(node_option(alloc))
 }
 
-/// The slots by `--slot`, and each of the four without the option. `BadOption` where its value writes none.
+/// The slots by `--slot`, and each of the four without the option.
+///
+/// # Errors
+///
+/// `BadOption` if the value of the option writes no slots, or `Memory` if memory is refused.
 pub fn slots_of(alloc: Global, found: &ArgMatches) -> Result<Vec<u8>, UsageFault>
     ensures ok { IfOk result (λ slots.
         GivesSlots (first_of (codes "slot") (rows_of (found_of found.now))) slots.items) }
@@ -131,6 +139,11 @@ pub fn slots_of(alloc: Global, found: &ArgMatches) -> Result<Vec<u8>, UsageFault
 }
 
 /// The words of `rehearse` with these matches.
+///
+/// # Errors
+///
+/// `BadOption` if both files are one input, for the node, for the slots or for who loads. `Memory` if memory is
+/// refused.
 pub fn rehearse_job(alloc: Global, found: &ArgMatches) -> Result<RehearseWords, UsageFault>
     ensures ok { IfOk result (NamesRehearse (rows_of (found_of found.now))) }
     ensures err { IfErr result (RefusesRehearse (rows_of (found_of found.now))) }
@@ -152,7 +165,7 @@ pub fn rehearse_job(alloc: Global, found: &ArgMatches) -> Result<RehearseWords, 
     })
 }
 
-/// What is told where the load of the new policy ended so; nothing, where it is loaded.
+/// What is printed if the load of the new policy ended so; nothing, if it is loaded.
 fn there_line(ending: Ending) -> Option<&'static str>
     ensures { option_map (λ line. line.now) result ≡ there_line ending }
 {
@@ -164,7 +177,7 @@ fn there_line(ending: Ending) -> Option<&'static str>
     }
 }
 
-/// What is told where the load of the old policy under the new one ended so, and the exit status.
+/// What is printed if the load of the old policy under the new one ended so, and the exit status.
 fn back_line(ending: Ending) -> (&'static str, Status)
     ensures { (result.0.now, result.1) ≡ back_line ending }
 {
@@ -182,8 +195,8 @@ fn print_end<W: Write>(out: &mut W, line: &str, who: &str) -> io::Result<()>
     writeln!(out, "{line}{who}")
 }
 
-/// Loads the new policy at a node on which the old one judges, and then the old one, and prints what becomes of each packet, and
-/// how it ended.
+/// Loads the new policy at a node on which the old one judges, and then the old one. It prints what becomes of each
+/// packet, and how the rehearsal ended.
 fn rehearse<'a, W: Write>(
     alloc: Global,
     words: &RehearseWords,
@@ -225,7 +238,7 @@ fn rehearse<'a, W: Write>(
     Ok(status)
 }
 
-/// Tells why there are no policies, if a table has a fault; any other fault ends the job.
+/// Prints why there are no policies, if a table has a fault; any other fault ends the job.
 fn tell_none<'a, W: Write>(none: NoPolicy<'a>, out: &mut W) -> Result<Status, Halt<'a>>
     ensures told { IfOk result
         (TellsBad (λ it. it ≡ none.entry) (W.contents out.old) (W.contents out.new)) }
@@ -261,8 +274,8 @@ fn rehearse_at<'a, F: Files, W: Write>(
     }
 }
 
-/// The same at the node of the words. `Misused`, and nothing is printed, where the node of a file does not have the port of the
-/// one that is named.
+/// The same at the node of the words. If the node of a file does not have the port of the one that is named, it returns
+/// `Misused` and prints nothing.
 fn rehearse_one<'a, F: Files, W: Write>(
     alloc: Global,
     words: &'a RehearseWords,
@@ -282,7 +295,7 @@ fn rehearse_one<'a, F: Files, W: Write>(
     rehearse_at(alloc, words, &place, named, files, out)
 }
 
-/// What is printed of whose loads the new policy lets pass, where these are their lines, and the exit status.
+/// What is printed of whose loads the new policy lets pass, if these are their lines, and the exit status.
 fn any_end(lines: &str) -> (&str, Status)
     ensures { (result.0.now, result.1) ≡ any_end lines.now }
 {
@@ -293,7 +306,7 @@ fn any_end(lines: &str) -> (&str, Status)
     }
 }
 
-/// Asks the new policy whose loads of the old one it lets pass, and prints that. Nothing is printed before all is asked.
+/// Asks the new policy whose loads of the old one it lets pass, and prints that. It prints nothing before all is asked.
 fn ask_any<'a, W: Write>(
     alloc: Global,
     node: LoadedNode,
@@ -334,13 +347,16 @@ fn rehearse_any<'a, F: Files, W: Write>(
     }
 }
 
-/// Rehearses the load of the policy of a file at a node on which that of another judges, and the way back: prints what
-/// becomes of each packet of the loads, and whether the way back is open. Or asks the new policy whose loads of the old one it
-/// lets pass, and loads nothing. Where a table has a fault that is printed, with the name of its file and the place, and the
-/// job failed.
+/// Rehearses the load of the policy of a file at a node on which that of another judges, and the way back. It prints
+/// what becomes of each packet of the loads, and whether the way back is open. Or it asks the new policy whose loads of
+/// the old one it lets pass, and loads nothing. If a table has a fault, it prints that with the name of its file and
+/// the place, and the job failed.
 ///
-/// Faults are found in this order: those of the node's file, the file of the old policy (`CannotRead`, also where it is neither an image nor UTF-8),
-/// that policy, the file of the new one, that policy, whether the old one may judge, and if it is asked whether the new one may.
+/// # Errors
+///
+/// Faults are found in this order. The first are those of the node's file. Then come those of the file of the old
+/// policy (`CannotRead`, also if it is neither an image nor UTF-8), of that policy, of the file of the new one, and of
+/// that policy. Last comes whether the old one may judge, and, if the new one is asked, whether that may.
 pub fn rehearse_file<'a, F: Files, W: Write>(
     alloc: Global,
     words: &'a RehearseWords,

@@ -1,4 +1,4 @@
-//! The cells of a node before a load: such that nobody asked, or such that are past every quota.
+//! The cells of a node before a load: cells that nobody asked, or cells that are past every quota.
 
 ghost use Rattle.std.specs.Prelude.{◌≡◌, ◌++◌, ◌∷◌, [], IfOk};
 ghost use Rattle.machine.specs.Runs.{call};
@@ -21,10 +21,10 @@ pub enum Start {
     Spent,
 }
 
-/// How many tickets a counter has given that is spent.
+/// How many tickets a spent counter has given.
 const SPENT: u64 = 1 << 32;
 
-/// What a cell of that kind answers that began so, if one that nobody asked before answers that.
+/// What a cell of that kind that began so answers, if a cell that nobody asked before gives this answer.
 fn raised_answer(start: Start, kind: MapKind, answer: u64) -> u64
     ensures { result ≡ raised_answer start kind answer }
 {
@@ -37,7 +37,7 @@ fn raised_answer(start: Start, kind: MapKind, answer: u64) -> u64
     }
 }
 
-/// What the cells of a map are for; where there is no such map they count.
+/// What the cells of a map are for; if there is no such map, they count.
 fn kind_of(sizes: &MapSizes, map: u8) -> MapKind
     ensures { result ≡ kind_of_map sizes.now map }
 {
@@ -83,6 +83,10 @@ pub struct LoadCells {
 
 impl LoadCells {
     /// The cells of those maps that began so.
+    ///
+    /// # Errors
+    ///
+    /// An error if memory is refused.
     pub fn new(alloc: Global, sizes: &MapSizes, start: Start) -> Result<LoadCells, AllocError>
         ensures { IfOk result (AreBegun start sizes.now) }
     {

@@ -78,7 +78,7 @@ fn is_failed(step: Step, served: Served) -> bool
     is_write(step) && !succeeds(served)
 }
 
-/// The port and the packet that a line writes, for a node with so many ports.
+/// The port and the packet that a line writes, for a node with this many ports.
 fn packet_at(alloc: Global, line: &str, ports: u8) -> Result<(u8, Packet), BadLine>
     ensures packet { IfOk result (λ came. IsPacketLine line.now came.0 came.1) }
     ensures port { IfOk result (λ came. came.0 < ports) }
@@ -91,13 +91,13 @@ fn packet_at(alloc: Global, line: &str, ports: u8) -> Result<(u8, Packet), BadLi
     Ok((port, packet))
 }
 
-/// A node of one thread that takes packets of loads, the reply to the last, whether a program did not let one be done, and whether a
-/// write was not answered with status 0.
+/// A node of one thread that takes packets of loads, and the reply to the last. Besides, whether a program did not let
+/// one be done, and whether a write was not answered with status 0.
 #[derive(Drop)]
 pub struct Rehearsing {
     /// The node.
     pub node: SingleNode,
-    /// The reply to the last packet; no bytes where none is due.
+    /// The reply to the last packet; no bytes if none is due.
     pub reply: ReplyBuf,
     /// Whether the verdict on a packet that was to do something was another than 0.
     pub refused: bool,
@@ -106,12 +106,16 @@ pub struct Rehearsing {
 }
 
 impl Rehearsing {
-    /// A fresh node of so many ports, 1 to 32, at which this program judges all.
+    /// A fresh node of this many ports, 1 to 32, at which this program judges all.
+    ///
+    /// # Errors
+    ///
+    /// An error if memory is refused.
     pub fn new(alloc: Global, program: Accepted, ports: u8) -> Result<Rehearsing, AllocError>
         ensures { IfOk result (IsBegun program ports) }
     {
         let config = node_config(ports, program.sizes());
-        // Memory alone can be refused to it.
+        // Only memory can be refused to it.
         let Ok(node) = SingleNode::new(alloc, &config, program) else {
             return Err(AllocError);
         };

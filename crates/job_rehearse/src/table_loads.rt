@@ -23,7 +23,7 @@ use std::alloc::{AllocError, Global};
 /// Bytes of the size of the smallest image.
 const SMALLEST: [u8; 32] = [0; 32];
 
-/// With what a line of the smallest image begins.
+/// The beginning of a line of the smallest image.
 const LEAD: &str = "    loads";
 
 /// The rule that lets initiator 67 load if it is the first.
@@ -36,11 +36,11 @@ pub struct TableLoads {
     pub judge: Accepted,
     /// The bytes of its image, at most as many as the staging has.
     pub image: Vec<u8>,
-    /// Of whose loads it is asked.
+    /// Whose loads it is asked about.
     pub askers: Vec<Asker>,
 }
 
-/// The node of so many ports.
+/// The node of this many ports.
 fn node_of(ports: u8) -> LoadedNode
     ensures node { result ≡ node_of ports }
     ensures ports { result.ports ≡ ports }
@@ -57,7 +57,7 @@ fn loads_of(alloc: Global, table: &Policy, sizes: &MapSizes) -> Result<TableLoad
     ensures asks { IfOk result (AsksOf sizes.now table.now) }
     ensures short { IfOk result (λ made. length made.image.items ≤ STAGING_SIZE) }
 {
-    // Memory alone can be refused to these: what a table compiles to is accepted, and fits into the staging.
+    // Only memory can be refused to these: what a table compiles to is accepted, and fits into the staging.
     let Ok(image) = compile_policy(alloc, table, sizes) else {
         return Err(AllocError);
     };
@@ -115,14 +115,14 @@ fn add_lines(text: &mut String, lead: &str, lines: &str) -> Result<(), AllocErro
     }
 }
 
-/// Adds with what a line of an image of so many bytes begins.
+/// Adds the beginning of a line of an image of this many bytes.
 fn add_lead(text: &mut String, bytes: usize) -> Result<(), AllocError>
     ensures { OnOk result (string_bytes text.new ≡ string_bytes text.old ++ lead_of bytes) }
 {
     write!(text, "    loads of {bytes} bytes")
 }
 
-/// With what a line of an image of so many bytes begins.
+/// The beginning of a line of an image of this many bytes.
 fn lead_of(alloc: Global, bytes: usize) -> Result<String, AllocError>
     ensures { IfOk result (λ lead. string_bytes lead ≡ lead_of bytes) }
 {
@@ -196,12 +196,13 @@ fn told_both(alloc: Global, asked: &TableLoads, ports: u8) -> Result<String, All
     both(alloc, asked, ports, plain.as_str(), own.as_str())
 }
 
-/// Whose loads a table lets pass in slot 3 of a node with these maps and ports, in lines. They are of the smallest image, and if other
-/// loads of its own image pass, of that too, with its size. It is empty if the text writes no table without a fault for these maps.
+/// Whose loads a table lets pass in slot 3 of a node with these maps and ports, in lines. They are of the smallest
+/// image. If other loads of its own image pass, they are of that too, with its size. The text is empty if `text` writes
+/// no table without a fault for these maps.
 ///
 /// # Errors
 ///
-/// If memory was refused.
+/// An error if memory is refused.
 pub fn told_loaders(
     alloc: Global,
     table: &str,
@@ -384,13 +385,14 @@ fn told_doors(
     )
 }
 
-/// What is said of a table that lets nobody load another in slot 3 of a node with these maps and ports. It has a line that mends the
-/// table and was tried, or says that none fits. If nobody loads one of the two images that [`told_loaders`] asks for, it is what that
-/// says. It is empty if somebody loads both, and if the text writes no table without a fault for these maps.
+/// What is said of a table that lets nobody load another in slot 3 of a node with these maps and ports. It has a line
+/// that mends the table and was tried, or says that none fits. If nobody loads one of the two images that
+/// [`told_loaders`] asks for, it is what that says. It is empty if somebody loads both, and if the text writes no table
+/// without a fault for these maps.
 ///
 /// # Errors
 ///
-/// If memory was refused.
+/// An error if memory is refused.
 pub fn told_policy(
     alloc: Global,
     table: &str,

@@ -9,7 +9,7 @@ use node_parts::{Served, Stop};
 use rmap::{LOAD_RESULT_SIZE, LoadResult, Status};
 use std::io::{self, Write};
 
-/// How many bytes stand before the data of a reply to a read, without a path (ECSS-E-ST-50-52C, read reply format).
+/// How many bytes come before the data of a reply to a read, without a path (ECSS-E-ST-50-52C, read reply format).
 const REPLY_HEADER: usize = 12;
 
 /// How many bytes the reply to a read of the load result has, without a path: its header, the load result and a CRC.
@@ -123,6 +123,10 @@ fn print_result<W: Write>(out: &mut W, reply: &[u8]) -> io::Result<()>
 }
 
 /// Prints the line of a packet of a load: what it is, and how it ended.
+///
+/// # Errors
+///
+/// The error of `out`, if it does not take all of the text.
 pub fn print_step<W: Write>(out: &mut W, step: Step, served: Served, reply: &[u8]) -> io::Result<()>
     ensures { OnOk result (Prints W.contents out.old out.new (step_line step served reply.now)) }
 {

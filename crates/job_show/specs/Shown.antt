@@ -1,4 +1,4 @@
--- What the job `show` reads and prints. What it prints of a line is not told.
+-- What the job `show` reads and prints. What it prints of a line has no clause.
 use Rattle.std.specs.Prelude.{◌≡◌, ◌⊎◌, ℕ, List, Option, Some}
 use Rattle.std.specs.Io.KnownBytes.{Appends}
 use Rattle.std.specs.Str.{IsUtf8}
@@ -44,7 +44,7 @@ module _ {S : Type 0} (reads : Reads S) where
       pub last : Showing
       pub stop : StopsIn ShowsLine IsUnshown (lines_of text) first last old new fault
 
-  -- the file cannot be read or is not UTF-8, and nothing was printed; or a line is bad, behind some that were shown
+  -- the file cannot be read or is not UTF-8, and nothing was printed; or a line is bad, after some that were shown
   abbrev pub IsNotShown : (before : S) (name : List ℕ) (after : S) → (old new : Option (List ℕ)) → Fault → Type 0
   IsNotShown before name after old new fault =
       (TextUnread reads before name after fault × (new ≡ old)) ⊎ StopsShowing before name after old new fault

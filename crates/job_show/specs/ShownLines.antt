@@ -1,4 +1,4 @@
--- Lines that are told in words, and why one is not.
+-- Lines that are shown in words, and why one is not.
 use Rattle.std.specs.Prelude.{◌≡◌, ◌⊎◌, ℕ, List, [], ◌∷◌, ◌++◌, codes}
 use Rattle.spw.specs.Line.{HasFault, marker_word}
 use Rattle.spw.specs.declared.faults.LineFault.{LineFault}
@@ -16,7 +16,7 @@ BeginsWith word words = (rest : List (List ℕ)) × (words ≡ word ∷ rest)
 abbrev pub IsEntry : List (List ℕ) → Type 0
 IsEntry words = BeginsWith (codes "journal") words ⊎ BeginsWith (codes "entry") words
 
--- a line of these words is not told: memory was refused; it has that fault of a packet line; or it is an entry of a journal, of
--- whose fault nothing is said. So a packet line is refused for want of memory alone
+-- a line of these words is not shown: memory was refused, or it has that fault of a packet line. Or it is an entry of a
+-- journal, of whose fault nothing is said. So a packet line is refused only if memory was refused
 abbrev pub IsLineFault : (line : List ℕ) (words : List (List ℕ)) → LineFault → Type 0
 IsLineFault line words fault = (fault ≡ Memory) ⊎ (HasFault marker_word line fault ⊎ IsEntry words)

@@ -1,4 +1,4 @@
-//! The job of `rmapctl` that tells in words what packet lines say.
+//! The job of `rmapctl` that says in words what packet lines say.
 #![tactic(auto)]
 
 mod other_lines;

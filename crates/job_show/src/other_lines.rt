@@ -1,4 +1,5 @@
-//! Lines of which no packet is a part: those of `sim`, those that `live` prints beside answers, and the times of a journal's file.
+//! Lines of which no packet is a part: those of `sim`, those that `live` prints beside answers, and the times of a
+//! journal's file.
 
 use frames::FrameFault;
 use rmap::Discard;
@@ -25,6 +26,10 @@ pub fn reason_written(word: &str) -> Option<Discard> {
 
 /// Adds how many bytes an instrument set, or how many entries of a journal were handed out. Reports whether the word is a
 /// number.
+///
+/// # Errors
+///
+/// An error if memory is refused.
 pub fn add_count(text: &mut String, count: &str, what: &str) -> Result<bool, AllocError> {
     let Some(count) = decimal(count) else {
         return Ok(false);
@@ -57,7 +62,7 @@ pub fn is_time(word: &str) -> bool {
     place == TIME_LENGTH
 }
 
-/// Whether a word has so many hexadecimal digits, and nothing else.
+/// Whether a word has this many hexadecimal digits, and nothing else.
 fn has_digits(word: &str, count: usize) -> bool {
     for letter in word.as_bytes() {
         if !matches!(*letter, b'0'..=b'9' | b'A'..=b'F' | b'a'..=b'f') {
@@ -138,7 +143,7 @@ fn add_words(text: &mut String, words: &str) -> Result<bool, AllocError> {
     Ok(true)
 }
 
-/// Adds what an event of `sim` came to, but for one that has a reply. Reports whether the words are such.
+/// Adds what an event of `sim` came to, except for one that has a reply. Reports whether the words are such.
 fn add_step(text: &mut String, words: &[&str]) -> Result<bool, AllocError> {
     match words {
         ["refused"] => add_words(text, "refused: no step of this moment"),
@@ -157,6 +162,10 @@ fn add_step(text: &mut String, words: &[&str]) -> Result<bool, AllocError> {
 
 /// Adds what a line of these words is that has no packet: of a journal's beginning, a scrub, a damaged entry, a frame, or an event.
 /// Reports whether it is.
+///
+/// # Errors
+///
+/// An error if memory is refused.
 pub fn add_other(text: &mut String, words: &[&str]) -> Result<bool, AllocError> {
     match words {
         ["bank", number, base] => add_bank(text, number, base),
@@ -167,8 +176,12 @@ pub fn add_other(text: &mut String, words: &[&str]) -> Result<bool, AllocError> 
     }
 }
 
-/// Adds that a node began, as a line of a journal's file has it: its version, and the sum of its words and files. Reports whether the words
-/// are such.
+/// Adds that a node began, as a line of a journal's file has it: its version, and the sum of its words and files.
+/// Reports whether the words are such.
+///
+/// # Errors
+///
+/// An error if memory is refused.
 pub fn add_begin(text: &mut String, words: &[&str]) -> Result<bool, AllocError> {
     match words {
         ["begin", version, sum] => {

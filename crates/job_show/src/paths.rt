@@ -4,7 +4,7 @@ use rmap::PROTOCOL;
 use spw::behind_path;
 use std::alloc::AllocError;
 
-/// The bytes of a path that stand before a packet of this protocol, as it leaves its sender: no bytes, if none do.
+/// The bytes of a path that come before a packet of this protocol, as it leaves its sender: no bytes, if none do.
 pub fn path_in_front(bytes: &[u8]) -> &[u8] {
     let (path, packet) = bytes.split_at(bytes.len() - behind_path(bytes).len());
     match packet {
@@ -14,6 +14,10 @@ pub fn path_in_front(bytes: &[u8]) -> &[u8] {
 }
 
 /// Adds that the bytes of such a path come first, each with a space before it, and what becomes of them.
+///
+/// # Errors
+///
+/// An error if memory is refused.
 pub fn add_path(text: &mut String, path: &[u8]) -> Result<(), AllocError> {
     let [first, others @ ..] = path else {
         return Ok(());

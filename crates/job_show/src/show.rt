@@ -30,7 +30,7 @@ use std::io::Write;
 pub struct ShowWords {
     /// The name of the file of packet lines.
     pub lines: String,
-    /// Whether its lines are those of a dump: the bytes of a packet alone.
+    /// Whether its lines are those of a dump: only the bytes of a packet.
     pub raw: bool,
 }
 
@@ -44,6 +44,10 @@ impl ShowWords {
 }
 
 /// `show LINES [--raw]`.
+///
+/// # Errors
+///
+/// An error if memory is refused.
 pub fn show_command<'a>(alloc: Global) -> Result<Command<'a>, AllocError>
     ensures shape { IfOk result (λ c. app_of c ≡ show_app) }
     ensures local { IfOk result (λ c. (fields_of c).has_globals ≡ false) }
@@ -60,6 +64,10 @@ pub fn show_command<'a>(alloc: Global) -> Result<Command<'a>, AllocError>
 }
 
 /// The words of `show` with these matches.
+///
+/// # Errors
+///
+/// Those of [`name_of`] for the file.
 pub fn show_job(alloc: Global, found: &ArgMatches) -> Result<ShowWords, UsageFault>
     ensures ok { IfOk result (NamesShow (rows_of (found_of found.now))) }
     ensures err { IfErr result (Lacks (codes "lines") (rows_of (found_of found.now))) }
@@ -88,10 +96,13 @@ impl TakesLines for Showing {
     }
 }
 
-/// Prints what the packet lines of a file are, commands or replies, and those lines of what `judge` and `live` print that
-/// have no packet, or more than one.
+/// Prints what the packet lines of a file are, commands or replies, and those lines of what `judge` and `live` print
+/// that have no packet, or more than one.
 ///
-/// Faults are found in this order: the file (`CannotRead`, also where it is not UTF-8), and then each line.
+/// # Errors
+///
+/// Faults are found in this order: that of the file (`CannotRead`, also if it is not UTF-8), and then those of each
+/// line.
 pub fn show_file<'a, F: Files, W: Write>(
     alloc: Global,
     lines: &'a str,

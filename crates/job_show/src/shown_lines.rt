@@ -36,7 +36,7 @@ fn add_control(text: &mut String, body: &[u8]) -> Result<(), AllocError> {
     text.push(')')
 }
 
-/// Adds why a load was refused, where that is its code, at this slot.
+/// Adds why a load was refused, if that is its code, at this slot.
 fn add_refusal(text: &mut String, code: u8, slot: u16) -> Result<(), AllocError> {
     let Some(refusal) = LoadRefusal::from_code(code) else {
         return Ok(());
@@ -47,7 +47,7 @@ fn add_refusal(text: &mut String, code: u8, slot: u16) -> Result<(), AllocError>
             let why = refused.code;
             write!(text, "{why})")
         }
-        // The code does not tell which fault of an instruction it is.
+        // The code does not say which fault of an instruction it is.
         LoadRefusal::Image(ImageFault::Insn { .. }) => text.push_str("no instruction)"),
         why => write!(text, "{why})"),
     }
@@ -63,7 +63,7 @@ fn load_result_in(data: &[u8]) -> Option<LoadResult> {
     }
 }
 
-/// Adds what the data of a read tell, if they are a load result: any memory may hold such bytes too.
+/// Adds what the data of a read say, if they are a load result: any memory may hold such bytes too.
 fn add_load_result(text: &mut String, data: &[u8]) -> Result<(), AllocError> {
     let Some(result) = load_result_in(data) else {
         return Ok(());
@@ -99,7 +99,7 @@ fn marker_word(end: End) -> &'static str {
     }
 }
 
-/// Adds a word, and bytes in hexadecimal digits behind it, where there are some.
+/// Adds a word, and bytes in hexadecimal digits after it, if there are some.
 fn add_bytes(text: &mut String, alloc: Global, word: &str, bytes: &[u8]) -> Result<(), AllocError> {
     if bytes.is_empty() {
         return Ok(());
@@ -183,13 +183,13 @@ fn add_body_fault(text: &mut String, fault: Option<BodyFault>) -> Result<(), All
         Some(BodyFault::WrongDataCrc { found, right }) => {
             write!(text, " data CRC is {found:02X} and should be {right:02X}")
         }
-        // How the packet ended is told by its marker.
+        // The marker of the packet says how it ended.
         Some(BodyFault::ErrorEnd) | None => Ok(()),
     }
 }
 
-/// Adds what the first check of a command finds, of those that are the same at each node, and of a control write that is
-/// right what it asks for.
+/// Adds what the first check of a command finds, of those that are the same at each node. For a control write that is
+/// right it adds what the write asks for.
 fn add_checked(
     text: &mut String,
     command: &Command,
@@ -208,7 +208,7 @@ fn add_checked(
             write!(text, " a command has at most {MAX_DATA} bytes")
         }
         Ok(Place::Control) if fault.is_none() => add_control(text, command.body()),
-        // What lies at an address of a bank is each node's own.
+        // What is at an address of a bank is each node's own.
         Err(HeaderFault::OtherNode { .. } | HeaderFault::NoPlace(_)) | Ok(_) => {
             add_body_fault(text, fault)
         }
@@ -235,7 +235,7 @@ fn kind_answered(instruction: Instruction) -> Kind {
     Instruction(instruction.0 | COMMAND_TYPE).kind()
 }
 
-/// Adds the status of a reply, with its name where it has one.
+/// Adds the status of a reply, with its name if it has one.
 fn add_status(text: &mut String, status: u8) -> Result<(), AllocError> {
     write!(text, " status {status}")?;
     match Status::from_code(status) {
@@ -302,7 +302,7 @@ fn add_no_reply(
     }
 }
 
-/// Adds that a packet has another protocol, and the path that stands before it, if one does.
+/// Adds that a packet has another protocol, and the path that comes before it, if one does.
 fn add_protocol(text: &mut String, found: u8, bytes: &[u8]) -> Result<(), AllocError> {
     write!(
         text,
@@ -346,8 +346,8 @@ fn add_packet(text: &mut String, alloc: Global, packet: &Packet) -> Result<(), A
     }
 }
 
-/// Adds what `judge` prints of a packet without a reply: none was asked for, or the packet is discarded. Tells whether the
-/// words are such.
+/// Adds what `judge` prints of a packet without a reply: none was asked for, or the packet is discarded. Reports
+/// whether the words are such.
 fn add_answer(text: &mut String, port: &str, words: &[&str]) -> Result<bool, AllocError> {
     let Ok(port) = read_port(port) else {
         return Ok(false);
@@ -365,7 +365,7 @@ fn add_answer(text: &mut String, port: &str, words: &[&str]) -> Result<bool, All
     Ok(true)
 }
 
-/// Adds that a line was bad: its number, and what its fault is. Tells whether the words are such.
+/// Adds that a line was bad: its number, and what its fault is. Reports whether the words are such.
 fn add_bad_line(text: &mut String, number: &str, code: &str) -> Result<bool, AllocError> {
     let (Some(number), Some(code)) = (decimal(number), decimal(code)) else {
         return Ok(false);
@@ -380,7 +380,7 @@ fn add_bad_line(text: &mut String, number: &str, code: &str) -> Result<bool, All
     Ok(true)
 }
 
-/// Adds how many packets `serve` discarded, and how many replies it lost. Tells whether the words are numbers.
+/// Adds how many packets `serve` discarded, and how many replies it lost. Reports whether the words are numbers.
 fn add_report(text: &mut String, discarded: &str, lost: &str) -> Result<bool, AllocError> {
     let (Some(discarded), Some(lost)) = (decimal(discarded), decimal(lost)) else {
         return Ok(false);
@@ -399,7 +399,7 @@ fn are_numbers(words: &[&str]) -> bool {
     !words.is_empty()
 }
 
-/// Adds the words of the cells of a map. Tells whether all are numbers, and there is one.
+/// Adds the words of the cells of a map. Reports whether all are numbers, and there is one.
 fn add_cells(text: &mut String, map: &str, words: &[&str]) -> Result<bool, AllocError> {
     let Some(map) = decimal(map) else {
         return Ok(false);
@@ -422,7 +422,7 @@ fn bank_written(word: &str) -> Option<u8> {
     }
 }
 
-/// Adds that an entry of a bank is not as it was made. Tells whether the word is that of a bank.
+/// Adds that an entry of a bank is not as it was made. Reports whether the word is that of a bank.
 fn add_damaged(text: &mut String, bank: &str) -> Result<bool, AllocError> {
     let Some(bank) = bank_written(bank) else {
         return Ok(false);
@@ -431,8 +431,8 @@ fn add_damaged(text: &mut String, bank: &str) -> Result<bool, AllocError> {
     Ok(true)
 }
 
-/// Adds what a line of these words is in words, but for its packet, if it is none of a packet alone: what `judge` prints of
-/// a packet without a reply, what `live` prints, or the last line of `serve`. Tells whether it is.
+/// Adds in words what a line of these words is, except its packet, if the line is not only a packet. It is what `judge`
+/// prints of a packet without a reply, what `live` prints, or the last line of `serve`. Reports whether it is.
 fn add_told(text: &mut String, words: &[&str]) -> Result<bool, AllocError> {
     match words {
         ["journal", count, "entries"] => add_count(text, count, "entries of the journal:"),
@@ -485,7 +485,7 @@ fn add_numbers(text: &mut String, numbers: [u64; 5]) -> Result<(), AllocError> {
     }
 }
 
-/// The packet line of an entry of a journal: its port, and the words behind its numbers.
+/// The packet line of an entry of a journal: its port, and the words after its numbers.
 fn packet_line(alloc: Global, words: &[&str]) -> Result<String, AllocError> {
     let mut line = String::new(alloc);
     let [port, _, _, _, _, rest @ ..] = words else {
@@ -499,7 +499,7 @@ fn packet_line(alloc: Global, words: &[&str]) -> Result<String, AllocError> {
     Ok(line)
 }
 
-/// Adds an entry of a journal, of which these are the words behind the first: its numbers, and its packet.
+/// Adds an entry of a journal: its numbers, and its packet. These are the words after the first.
 fn add_entry(text: &mut String, alloc: Global, words: &[&str]) -> Result<(), LineFault> {
     let Some(numbers) = entry_numbers(words) else {
         return Err(LineFault::NoPort);
@@ -512,8 +512,8 @@ fn add_entry(text: &mut String, alloc: Global, words: &[&str]) -> Result<(), Lin
     Ok(add_packet(text, alloc, &packet)?)
 }
 
-/// Adds an entry that is handed out at once, of which these are the words after the first: its bank, its
-/// numbers, and its packet.
+/// Adds an entry that is handed out at once: its bank, its numbers, and its packet. These are the words after the
+/// first.
 fn add_left(text: &mut String, alloc: Global, words: &[&str]) -> Result<(), LineFault> {
     let [bank, entry @ ..] = words else {
         return Err(LineFault::NoPort);
@@ -525,7 +525,8 @@ fn add_left(text: &mut String, alloc: Global, words: &[&str]) -> Result<(), Line
     add_entry(text, alloc, entry)
 }
 
-/// Adds how an event of `sim` ended: its status, and its reply, of which these are the digits, or `-`. Reports whether the words are such.
+/// Adds how an event of `sim` ended: its status, and its reply, of which these are the digits, or `-`. Reports whether
+/// the words are such.
 fn add_ended(text: &mut String, alloc: Global, status: &str, reply: &str) -> Result<bool, LineFault>
     ensures { IfErr result (λ fault. fault ≡ Memory) }
 {
@@ -573,7 +574,7 @@ fn add_end(text: &mut String, alloc: Global, words: &[&str]) -> Result<bool, Lin
     Ok(true)
 }
 
-/// Adds an entry of a journal, or one that was handed out at once, of which these are the words.
+/// Adds an entry of a journal, or one that was handed out at once. These are its words.
 fn add_any_entry(text: &mut String, alloc: Global, words: &[&str]) -> Result<(), LineFault> {
     match words {
         ["journal", rest @ ..] => add_entry(text, alloc, rest),
@@ -593,7 +594,8 @@ fn add_whole_entry(text: &mut String, alloc: Global, words: &[&str]) -> Result<b
     }
 }
 
-/// Adds a line of a journal's file: a time, and then what `live` printed, or that a node began. Reports whether the words are such.
+/// Adds a line of a journal's file: a time, and then what `live` printed, or that a node began. Reports whether the
+/// words are such.
 fn add_filed(text: &mut String, alloc: Global, words: &[&str]) -> Result<bool, LineFault>
     ensures { IfErr result (λ fault. fault ≡ Memory) }
 {
@@ -623,7 +625,7 @@ fn add_line(text: &mut String, alloc: Global, line: &str) -> Result<(), LineFaul
     Ok(add_packet(text, alloc, &packet)?)
 }
 
-/// Adds an entry of a journal, or a packet line, by the words of the line, of which this is the first.
+/// Adds an entry of a journal, or a packet line, by the words of the line. This is the first of them.
 fn add_by_first(
     text: &mut String,
     alloc: Global,
@@ -656,7 +658,8 @@ fn add_packet_line(
     add_by_first(text, alloc, line, first, rest)
 }
 
-/// Adds a line that has a packet, and is no packet line and no entry: of a journal's file, or of an event. Reports whether the words are such.
+/// Adds a line that has a packet, and is no packet line and no entry: of a journal's file, or of an event. Reports
+/// whether the words are such.
 fn add_beside(text: &mut String, alloc: Global, words: &[&str]) -> Result<bool, LineFault>
     ensures { IfErr result (λ fault. fault ≡ Memory) }
 {
@@ -668,13 +671,14 @@ fn add_beside(text: &mut String, alloc: Global, words: &[&str]) -> Result<bool, 
 
 /// A line in words, with its line feed.
 ///
-/// It is a packet line, what `judge` prints of a packet without a reply, the last line of `serve`, or what an
-/// event of `sim` came to. Or it is what `live` prints: an entry of the journal, how many there are, the words
-/// of a map's cells, how many bytes were set, or that a line was bad. Or it is a line of a journal's file, with
-/// its time.
+/// It is a packet line, what `judge` prints of a packet without a reply, the last line of `serve`, or what an event of
+/// `sim` came to. Or it is what `live` prints: an entry of the journal, how many there are, the words of a map's cells,
+/// how many bytes were set, or that a line was bad. Or it is a line of a journal's file, with its time.
 ///
-/// A line that is none of these has the fault of a packet line, and an entry that of its packet. `Memory` where memory was
-/// refused: of a packet line that is the only one.
+/// # Errors
+///
+/// A line that is none of these has the fault of a packet line, and an entry that of its packet. `Memory` if memory was
+/// refused. A packet line has no other error.
 pub fn shown_line(alloc: Global, line: &str) -> Result<String, LineFault>
     ensures told { IfOk result (λ text. EndsLine (string_bytes text)) }
     ensures fault { IfErr result (IsLineFault line.now (words_in line.now)) }

@@ -6,7 +6,7 @@ use Rattle.job_packets.specs.HexWords.{WritesHex}
 use Rattle.job_suite.specs.Ranges.{IsRange, WriteRanges, WritesRange, is_colon, is_dash}
 use Rattle.job_suite.specs.declared.ranges.Range.{Range}
 
--- a part of which a word writes no number, or in which LOW is above HIGH, writes no range
+-- a part writes no range if one of its words writes no number, or LOW is above HIGH
 pub no_extended : (part front : List ℕ) → front ≡ before_first is_colon part → ((n : ℕ) → ¬ WritesHex 2 front n) → ¬ IsRange part
 no_extended part front at none = λ is. none is.extended.0 (subst (λ (w : List ℕ). WritesHex 2 w is.extended.0) (sym at) is.extended.1)
 

@@ -26,7 +26,7 @@ module _ {S : Type 0} (reads : Reads S) (words : SuiteWords) (before between aft
     is_bench = is_bench;
   }
 
-  -- the table is none of its programs
+  -- the table is that of none of its programs
   pub no_chart : (fault : Fault) (halt : Halt) → halt ≡ Ended fault → IsNoChart bench.judges bench.judges.own.sizes words.table table fault
       → StopsBy (IsNoSuite reads words before after) halt
   no_chart fault halt is none =

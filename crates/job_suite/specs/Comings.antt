@@ -15,8 +15,8 @@ FitsStopped check (Judged number) = ⊥
 FitsStopped check (Spoilt status) = ⊥
 FitsStopped check Whole = ⊥
 
--- the verdict of a program is the one that is wanted; or it lets pass, and the first check of the body that holds is the one that is
--- wanted, or none holds
+-- the verdict of a program is the one that is wanted. Or it lets pass, and the first check of the body that holds is
+-- the one that is wanted, or none holds
 abbrev pub FitsJudged : (verdict : ℕ) → (fault : Option Status) → Wanted → Type 0
 FitsJudged verdict fault (Stopped line) = ⊥
 FitsJudged verdict fault Brought = Unit {0}

@@ -21,8 +21,8 @@ judge_among first (publish ∷ more) slot = judge_among (judge_after first publi
 abbrev pub judge_of : Judges → (slot : ℕ) → AcceptedValue
 judge_of judges slot = judge_among judges.first judges.own.publishes slot
 
--- the program had a run on the header of the command, at port 0, that ends with the verdict; its calls were answered in order by the
--- words of cells that nobody asked
+-- the program had a run on the header of the command, at port 0, that ends with the verdict. The words of cells that
+-- nobody asked answered its calls in order
 pub record HasAnswered (judge : AcceptedValue) (c : CommandValue) (verdict : ℕ) : Type 0 where
   pub calls : List Call
   pub behind : List (List ℕ)

@@ -19,7 +19,7 @@ pub record WritesRange (part : List ℕ) (range : Range) : Type 0 where
   pub high : WritesHex 8 (after_first is_dash (after_first is_colon part)) range.high
   pub ordered : range.low ≤ range.high
 
--- it writes some range: each of its three words writes a number, and none that LOW writes is above one that HIGH writes
+-- it writes some range: each of its three words writes a number, and LOW writes none that is above one of HIGH
 pub record IsRange (part : List ℕ) : Type 0 where
   pub extended : Has (WritesHex 2 (before_first is_colon part))
   pub low : Has (WritesHex 8 (before_first is_dash (after_first is_colon part)))

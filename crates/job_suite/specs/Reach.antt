@@ -17,7 +17,7 @@ abbrev pub last_of : (instruction address count : ℕ) → ℕ
 last_of instruction address count =
     if has_increment_bit instruction && nat_lt 0 count then address + count - 1 else address
 
--- the memory that a header might change, which has this instruction and these last twelve bytes
+-- the memory that a header with this instruction and these last twelve bytes might change
 abbrev pub reach_in : (instruction : ℕ) → (tail : List ℕ) → Reach
 reach_in instruction tail = record {
   extended = slice_index tail 3;

@@ -94,7 +94,7 @@ word_of rows.Memory = codes "memory"
 word_of rows.BootWindow = codes "boot-window"
 word_of rows.Load = codes "load"
 
--- all rows, each verdict of a program as one
+-- all rows; all verdicts of a program are one row
 abbrev pub all_rows : List Row
 all_rows =
     rows.Short ∷ rows.ShortBeforeProtocol ∷ rows.Protocol ∷ rows.ProtocolBeforeReplyType ∷ rows.ProtocolBeforeShort ∷

@@ -23,7 +23,8 @@ pub record IsPlain (own : OwnNodeValue) (first : AcceptedValue) : Type 0 where
   pub node : own ≡ plain_node 1 (listed_maps [])
   pub program : first.program ≡ factory
 
--- what the suite is for: the node, in all slots of which that program judges at first, and the places at which memory may change by the words
+-- what the suite is for: the node, the program that judges in all its slots at first, and where memory may change by
+-- the words
 pub record IsBench (words : SuiteWords) (own : OwnNodeValue) (first : AcceptedValue) (b : Bench) : Type 0 where
   pub windows : b.windows ≡ windows_of own.address own.banks
   pub judges : AreJudges own first b.judges
@@ -74,7 +75,7 @@ module _ {S : Type 0} (reads : Reads S) where
     pub read : ReadsAsked reads (name_of_table words.table) before table middle
     pub none : HoldsNoNode (option_map string_bytes words.node) middle after fault
 
-  -- the node was read, and the table is none of its programs
+  -- the node was read, and the table is that of none of its programs
   pub record HasNoTable (words : SuiteWords) (before after : S) (fault : Fault) : Type 0 where
     pub own : OwnNodeValue
     pub first : AcceptedValue
@@ -93,7 +94,8 @@ module _ {S : Type 0} (reads : Reads S) where
     pub held : HoldsNode (option_map string_bytes words.node) middle own first after
     pub no_memory : fault ≡ NoMemory
 
-  -- there is no suite: the table's file gives no text, there is no node, the table is none of its programs, or memory was refused
+  -- there is no suite: the table's file gives no text, there is no node, the table is that of none of its programs, or
+  -- memory was refused
   abbrev pub IsNoSuite : SuiteWords → (before after : S) → Fault → Type 0
   IsNoSuite words before after fault =
       ReadsNotAsked reads (name_of_table words.table) before fault after ⊎ HasNoNode words before after fault

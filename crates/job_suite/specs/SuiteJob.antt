@@ -33,7 +33,7 @@ suite_app =
     with_rule (with_rule (with_rule rows_app (option_rule (codes "within"))) (flag_rule (codes "loads")))
     (flag_rule (codes "index"))
 
--- a file that has to be this
+-- a file that must be this
 abbrev pub file_input : Content → Option (List ℕ) → Option InputValue
 file_input content None = None
 file_input content (Some name) = Some (input name content)
@@ -52,6 +52,7 @@ abbrev pub read_first : (table : Option (List ℕ)) → (node : Option InputValu
 read_first None own = own
 read_first (Some name) own = Some (input name Table)
 
+-- what the job reads first, by its words
 abbrev pub first_read : SuiteWords → Option InputValue
 first_read words = read_first (name_of_table words.table) (node_read words)
 
@@ -60,6 +61,7 @@ abbrev pub read_second : (table : Option (List ℕ)) → (node : Option InputVal
 read_second None own = None
 read_second (Some name) own = own
 
+-- what the job reads second, by its words
 abbrev pub second_read : SuiteWords → Option InputValue
 second_read words = read_second (name_of_table words.table) (node_read words)
 

@@ -1,4 +1,4 @@
--- The table of which programs of a node are the image.
+-- The table whose image programs of a node are.
 use Rattle.std.specs.Prelude.{◌≡◌, ◌≢◌, ◌⊎◌, ℕ, List, All, Option, Some, None, string_bytes}
 use Rattle.std.specs.Str.{IsUtf8}
 use Rattle.bpf.specs.Program.{Program, image_bytes}
@@ -45,7 +45,8 @@ abbrev pub IsTableFault : Maps → (lines : List (List ℕ)) → TextFault → T
 IsTableFault sizes lines fault =
     IsUnreadPolicy lines fault ⊎ ((policy : PolicyValue) × WritesPolicy lines policy × IsPortFault (policy_fault sizes policy) fault)
 
--- why a text is no table of these slots: it has a fault, the program of one is not its image, or memory was refused after the table
+-- why a text is no table of these slots: it has a fault, the program of one is not its image, or memory was refused
+-- after the table
 abbrev pub IsNoTableOf : Judges → Maps → (slots text : List ℕ) → Fault → Type 0
 IsNoTableOf judges sizes slots text fault =
     ((found : TextFault) × (fault ≡ BadTable (text_fault_of found)) × IsTableFault sizes (lines_of text) found)
@@ -70,7 +71,7 @@ module _ {S : Type 0} (reads : Reads S) where
     pub read : reads before name (Some text) after
     pub utf8 : IsUtf8 text
 
-  -- so was that which is named, if one is
+  -- so was the one that is named, if one is
   abbrev pub ReadsAsked : (name : Option (List ℕ)) → (before : S) → (text : Option (List ℕ)) → (after : S) → Type 0
   ReadsAsked None before text after = (text ≡ None) × (after ≡ before)
   ReadsAsked (Some name) before None after = ⊥

@@ -20,8 +20,8 @@ use Rattle.job_suite.specs.declared.rows.Wanted.TheVariants.{Stopped, Brought, J
 use Rattle.job_suite.specs.declared.trials.Bench.{Bench}
 use Rattle.job_suite.specs.declared.trials.Trial.{Trial}
 
--- the packet comes to the program of its slot at the node, which had a run on its header at port 0, on cells that nobody asked, that
--- ends with the verdict
+-- the packet comes to the program of its slot at the node, which had a run on its header at port 0, on cells that
+-- nobody asked. The run ends with the verdict
 pub record IsVerdict (b : Bench) (p : Cargo) (verdict : ℕ) : Type 0 where
   pub place : Place
   pub goes_on : GoesOn b.windows p place
@@ -32,8 +32,9 @@ pub record IsBrought (b : Bench) (p : Cargo) : Type 0 where
   pub verdict : ℕ
   pub is : IsVerdict b p verdict
 
--- the packet meets what is wanted: the first line of the order of checks that holds is this one; or it comes to its program; or the program
--- gives this verdict; or it lets the packet pass, and the first check of its body that holds has this status, or none holds
+-- the packet meets what is wanted: the first line of the order of checks that holds is this one; or it comes to its
+-- program. Or the program gives this verdict; or it lets the packet pass, and the first check of its body that holds
+-- has this status, or none holds
 abbrev pub IsMet : Bench → Cargo → Wanted → Type 0
 IsMet b p (Stopped check) = Meets b.windows p check
 IsMet b p Brought = IsBrought b p

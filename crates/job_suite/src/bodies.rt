@@ -7,6 +7,10 @@ use spw::End;
 use std::alloc::{AllocError, Global};
 
 /// Adds a read of the first bytes of a bank.
+///
+/// # Errors
+///
+/// An error if memory is refused.
 pub fn look(maker: &mut Maker, area: Area) -> Result<(), AllocError> {
     let shape = maker.shape(READ, area.extended, area.base, area.size.min(16));
     maker.bare(Row::Memory, shape)
@@ -25,7 +29,7 @@ fn eep(alloc: Global, maker: &mut Maker, area: Area) -> Result<(), AllocError> {
     look(maker, area)
 }
 
-/// Packets of a command of that code, each cut after so many bytes.
+/// Packets of a command of that code, each cut after this many bytes.
 fn cut(
     alloc: Global,
     maker: &mut Maker,
@@ -49,7 +53,7 @@ fn early_eop(alloc: Global, maker: &mut Maker, area: Area) -> Result<(), AllocEr
     look(maker, area)
 }
 
-/// Packets with bytes too many.
+/// Packets with too many bytes.
 fn too_much_data(alloc: Global, maker: &mut Maker, area: Area) -> Result<(), AllocError> {
     for code in [READ, WRITE, WRITE_SILENT, RMW] {
         let mut shape = maker.shape(code, area.extended, area.base, plain_length(code));
@@ -78,6 +82,10 @@ fn data_crc(alloc: Global, maker: &mut Maker, area: Area) -> Result<(), AllocErr
 }
 
 /// All of these, at a bank.
+///
+/// # Errors
+///
+/// An error if memory is refused.
 pub fn body_rows(alloc: Global, maker: &mut Maker, area: Area) -> Result<(), AllocError> {
     eep(alloc, maker, area)?;
     early_eop(alloc, maker, area)?;

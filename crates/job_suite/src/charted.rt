@@ -21,6 +21,10 @@ pub struct Chart {
 
 impl Chart {
     /// The chart of a table, for these slots.
+    ///
+    /// # Errors
+    ///
+    /// An error if memory is refused.
     pub fn of(alloc: Global, policy: &Policy, slots: &[u8]) -> Result<Chart, AllocError> {
         let table = policy.table_at(alloc, 0)?;
         let all = Region::whole();
@@ -45,7 +49,7 @@ fn kinds_of(slot: u8) -> Kinds {
     }
 }
 
-/// The commands of these kinds whose bytes lie in so many from an address on, of an extended address.
+/// The commands of these kinds to an extended address, with all their bytes in `size` bytes from `base` on.
 fn range(kinds: Kinds, extended: u8, base: u32, size: u32) -> Region {
     let addresses = Stretch {
         start: u64::from(base),
@@ -59,7 +63,7 @@ fn range(kinds: Kinds, extended: u8, base: u32, size: u32) -> Region {
     region
 }
 
-/// The commands of these kinds to just so many bytes of the load register.
+/// The commands of these kinds to exactly this many bytes of the load register.
 fn register(kinds: Kinds, size: u32) -> Region {
     let base = u64::from(LOAD_REGISTER);
     let mut region = range(kinds, BOOT_WINDOW, LOAD_REGISTER, size);
@@ -116,6 +120,10 @@ impl Chart {
     }
 
     /// Tries commands of a slot at a bank.
+    ///
+    /// # Errors
+    ///
+    /// An error if memory is refused.
     pub fn search_bank(
         &self,
         alloc: Global,
@@ -130,6 +138,10 @@ impl Chart {
     }
 
     /// Tries commands to the boot window.
+    ///
+    /// # Errors
+    ///
+    /// An error if memory is refused.
     pub fn search_window(
         &self,
         alloc: Global,

@@ -58,8 +58,11 @@ fn check_of_fault(fault: HeaderFault) -> Check
     }
 }
 
-/// Where a command goes on to its program, or the first line of the order of checks that holds of its header, at a node with
-/// these windows.
+/// Where a command goes on to its program at a node with these windows.
+///
+/// # Errors
+///
+/// The first line of the order of checks that holds of its header.
 fn placed_command(command: &Command, windows: &Windows) -> Result<Place, Check>
     ensures { MatchResult result (HasPlace command.now windows.now)
         (IsStoppedBy windows.now command.now) }
@@ -70,8 +73,11 @@ fn placed_command(command: &Command, windows: &Windows) -> Result<Place, Check>
     }
 }
 
-/// Where the command of a packet goes on to its program, or the first line of the order of checks that holds before
-/// that, at a node with these windows.
+/// Where the command of a packet goes on to its program at a node with these windows.
+///
+/// # Errors
+///
+/// The first line of the order of checks that holds before that.
 #[tactic(auto, using(crate::proofs::Meeting::discarded, crate::proofs::Meeting::stopped, crate::proofs::Meeting::going_on))]
 pub fn placed(packet: &Packet, windows: &Windows) -> Result<Place, Check>
     ensures { MatchResult result (GoesOn windows.now packet.now) (Meets windows.now packet.now) }

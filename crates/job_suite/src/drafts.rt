@@ -33,7 +33,7 @@ pub struct Shape {
     pub key: u8,
     /// How many words of four bytes the reply address has, 0 to 3.
     pub words: u8,
-    /// The last byte of the reply address, of which the others are zeros.
+    /// The last byte of the reply address; its other bytes are zeros.
     pub path: u8,
     /// The initiator logical address.
     pub initiator: u8,
@@ -45,9 +45,9 @@ pub struct Shape {
     pub address: u32,
     /// The data length field, below 2²⁴.
     pub length: u32,
-    /// What the header CRC is xored with.
+    /// The value that is xored onto the header CRC.
     pub header_flaw: u8,
-    /// What the data CRC is xored with.
+    /// The value that is xored onto the data CRC.
     pub data_flaw: u8,
     /// How many bytes of the packet are kept, at most.
     pub keep: u16,
@@ -100,6 +100,10 @@ impl Shape {
     }
 
     /// The header with its CRC.
+    ///
+    /// # Errors
+    ///
+    /// An error if memory is refused.
     pub fn header(&self, alloc: Global) -> Result<Vec<u8>, AllocError> {
         let mut bytes = Vec::new(alloc);
         let front = [self.target, self.protocol, self.instruction(), self.key];
@@ -119,6 +123,10 @@ impl Shape {
     }
 
     /// The bytes of the packet, with these data after its header.
+    ///
+    /// # Errors
+    ///
+    /// An error if memory is refused.
     pub fn bytes(&self, alloc: Global, data: &Option<Vec<u8>>) -> Result<Vec<u8>, AllocError> {
         let mut bytes = self.header(alloc)?;
         if let Some(data) = data {

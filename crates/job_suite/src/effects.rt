@@ -104,7 +104,7 @@ fn key(alloc: Global, maker: &mut Maker, area: Area) -> Result<(), AllocError> {
     Ok(())
 }
 
-/// Reads and writes with reply addresses of each length, with zeros in front of the last byte, and of zeros alone.
+/// Reads and writes with reply addresses of each length, with zeros in front of the last byte, and with only zeros.
 fn reply_address(alloc: Global, maker: &mut Maker, area: Area) -> Result<(), AllocError> {
     for code in [READ, WRITE, RMW] {
         for words in [0_u8, 1, 2, 3] {
@@ -120,6 +120,10 @@ fn reply_address(alloc: Global, maker: &mut Maker, area: Area) -> Result<(), All
 }
 
 /// All of these, at a bank.
+///
+/// # Errors
+///
+/// An error if memory is refused.
 pub fn effect_rows(alloc: Global, maker: &mut Maker, area: Area) -> Result<(), AllocError> {
     reads(maker, area)?;
     writes(alloc, maker, area)?;

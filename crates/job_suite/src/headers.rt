@@ -118,6 +118,10 @@ fn length(alloc: Global, maker: &mut Maker, area: Area) -> Result<(), AllocError
 }
 
 /// All of these, at a bank.
+///
+/// # Errors
+///
+/// An error if memory is refused.
 pub fn header_rows(alloc: Global, maker: &mut Maker, area: Area) -> Result<(), AllocError> {
     short(maker, area)?;
     protocol(alloc, maker, area)?;

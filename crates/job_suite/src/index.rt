@@ -72,7 +72,8 @@ fn add_body_flaws(text: &mut String, shape: &Shape) -> Result<(), AllocError> {
     Ok(())
 }
 
-/// Adds to whom a command goes that is not to the node of this address, and of a row of the program or of keys who asks.
+/// Adds to whom a command goes, if it does not go to the node of this address. For a row of the program or of keys it
+/// adds who asks.
 fn add_addresses(
     text: &mut String,
     address: u8,
@@ -130,6 +131,10 @@ fn add_trials(
 }
 
 /// The index of these packets, for a node of that logical address.
+///
+/// # Errors
+///
+/// An error if memory is refused.
 pub fn index_of(alloc: Global, address: u8, trials: &[Trial]) -> Result<String, AllocError> {
     let mut text = String::new(alloc);
     add_trials(alloc, &mut text, address, trials)?;
@@ -160,6 +165,10 @@ fn is_judged(verdict: u64, slot: u8, trials: &[Trial]) -> bool {
 }
 
 /// Adds a line if no packet is of the row of a verdict and for a slot: none was found, or it may not be printed.
+///
+/// # Errors
+///
+/// An error if memory is refused.
 pub fn add_missing_verdict(
     text: &mut String,
     findings: &Findings,
@@ -188,7 +197,11 @@ pub fn is_there(row: Row, trials: &[Trial]) -> bool {
     false
 }
 
-/// Adds the line of a row of which there is no packet; none for a row of the program, of which each slot has its lines.
+/// Adds the line of a row that has no packet. It adds none for a row of the program, of which each slot has its lines.
+///
+/// # Errors
+///
+/// An error if memory is refused.
 pub fn add_missing_row(alloc: Global, text: &mut String, row: Row) -> Result<(), AllocError> {
     if let Row::Program(_) = row {
         return Ok(());

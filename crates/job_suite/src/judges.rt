@@ -54,7 +54,7 @@ fn verdict_on(alloc: Global, judge: &Accepted, command: &Command) -> Result<u64,
 }
 
 impl Judges {
-    /// The programs of a node, in all slots of which this one judges at first.
+    /// The programs of a node. This one judges at first in all slots.
     pub fn of(own: OwnNode, first: Accepted) -> Judges
         ensures { AreJudges own first result }
     {
@@ -69,6 +69,10 @@ impl Judges {
     }
 
     /// The verdict on a command that has this place, at port 0, on cells that nobody asked.
+    ///
+    /// # Errors
+    ///
+    /// An error if memory is refused.
     pub fn verdict(&self, alloc: Global, command: &Command, place: Place) -> Result<u64, AllocError>
         ensures { IfOk result
             (HasAnswered (judge_of self.now (slot_of (command_kind command.now) place)) command.now) }

@@ -121,6 +121,10 @@ impl Maker {
     }
 
     /// Some bytes that are drawn.
+    ///
+    /// # Errors
+    ///
+    /// An error if memory is refused.
     pub fn bytes(&mut self, alloc: Global, count: u32) -> Result<Vec<u8>, AllocError> {
         let mut bytes = Vec::new(alloc);
         for _ in 0..count {
@@ -153,6 +157,10 @@ impl Maker {
     }
 
     /// Adds a draft, with the next transaction identifier.
+    ///
+    /// # Errors
+    ///
+    /// An error if memory is refused.
     pub fn push(
         &mut self,
         row: Row,
@@ -166,17 +174,29 @@ impl Maker {
     }
 
     /// Adds a draft without data after its header.
+    ///
+    /// # Errors
+    ///
+    /// An error if memory is refused.
     pub fn bare(&mut self, row: Row, shape: Shape) -> Result<(), AllocError> {
         self.push(row, shape, None)
     }
 
     /// Adds a draft with as many data as its length says, at most 4,097.
+    ///
+    /// # Errors
+    ///
+    /// An error if memory is refused.
     pub fn full(&mut self, alloc: Global, row: Row, shape: Shape) -> Result<(), AllocError> {
         let data = self.bytes(alloc, shape.length.min(4097))?;
         self.push(row, shape, Some(data))
     }
 
     /// Adds a draft with data if its code carries them.
+    ///
+    /// # Errors
+    ///
+    /// An error if memory is refused.
     pub fn put(&mut self, alloc: Global, row: Row, shape: Shape) -> Result<(), AllocError> {
         if shape.code >= 8 || shape.code == RMW {
             self.full(alloc, row, shape)

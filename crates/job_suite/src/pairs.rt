@@ -48,6 +48,10 @@ fn headers(alloc: Global, maker: &mut Maker, area: Area, banks: u8) -> Result<()
 }
 
 /// Pairs before the program.
+///
+/// # Errors
+///
+/// An error if memory is refused.
 pub fn header_pairs(
     alloc: Global,
     maker: &mut Maker,
@@ -59,6 +63,10 @@ pub fn header_pairs(
 }
 
 /// Pairs after the program.
+///
+/// # Errors
+///
+/// An error if memory is refused.
 pub fn body_pairs(alloc: Global, maker: &mut Maker, area: Area) -> Result<(), AllocError> {
     let mut shape = maker.shape(WRITE, area.extended, area.base, 4);
     shape.keep = 18;

@@ -20,6 +20,10 @@ fn at(
 }
 
 /// Commands beside a bank: one before its first byte, one past its last, and across its end.
+///
+/// # Errors
+///
+/// An error if memory is refused.
 pub fn beside_bank(alloc: Global, maker: &mut Maker, area: Area) -> Result<(), AllocError> {
     for code in [READ, READ_ONE, WRITE, WRITE_ONE, RMW] {
         let (code, length) = (code, plain_length(code));
@@ -45,7 +49,11 @@ pub fn beside_bank(alloc: Global, maker: &mut Maker, area: Area) -> Result<(), A
     )
 }
 
-/// Commands to extended addresses at which nothing is, if a node has so many banks.
+/// Commands to extended addresses at which nothing is, if a node has this many banks.
+///
+/// # Errors
+///
+/// An error if memory is refused.
 pub fn no_bank(alloc: Global, maker: &mut Maker, area: Area, banks: u8) -> Result<(), AllocError> {
     for extended in [banks, 0x7F, 0xFE] {
         at(alloc, maker, READ, extended, area.base, 4)?;
@@ -56,6 +64,10 @@ pub fn no_bank(alloc: Global, maker: &mut Maker, area: Area, banks: u8) -> Resul
 }
 
 /// Commands to the boot window at which nothing is.
+///
+/// # Errors
+///
+/// An error if memory is refused.
 pub fn no_window(alloc: Global, maker: &mut Maker) -> Result<(), AllocError> {
     at(alloc, maker, READ, BOOT_WINDOW, STAGING_SIZE, 4)?;
     at(alloc, maker, READ, BOOT_WINDOW, STAGING_SIZE - 1, 2)?;

@@ -69,7 +69,11 @@ fn range_written(part: &str) -> Option<Range>
     })
 }
 
-/// The ranges that a list writes, with commas between them. `BadOption` if a part writes none.
+/// The ranges that a list writes, with commas between them.
+///
+/// # Errors
+///
+/// `BadOption` if a part writes no range, or `Memory` if memory is refused.
 pub fn ranges_written(alloc: Global, text: &str) -> Result<Vec<Range>, UsageFault>
     ensures ok { IfOk result (λ ranges. WriteRanges (list_parts text.now) ranges.items) }
     ensures err { IfErr result (IsValueFault (IsRangeList text.now)) }

@@ -14,11 +14,11 @@ pub struct Reach {
     pub extended: u8,
     /// The first address.
     pub low: u32,
-    /// The last address, which may lie past the last 32-bit address.
+    /// The last address, which may be past the last 32-bit address.
     pub high: u64,
 }
 
-/// Whether a target might change memory by a command with this instruction: it has the write bit, or the code of
+/// Whether a target might change memory by a command with this instruction. It has the write bit, or the code of
 /// read-modify-writes.
 fn may_change(instruction: u8) -> bool
     ensures { result ≡ may_change instruction }
@@ -38,7 +38,7 @@ fn last_of(instruction: u8, address: u32, length: u32) -> u64
     }
 }
 
-/// The twelve bytes from that place on. The condition is that there are so many.
+/// The twelve bytes from that place on. The condition is that there are as many.
 fn tail_at(bytes: &[u8], place: usize) -> &[u8]
     requires { place + 12 ≤ length bytes.now }
     ensures value { result.now ≡ take 12 (drop place bytes.now) }
@@ -47,7 +47,7 @@ fn tail_at(bytes: &[u8], place: usize) -> &[u8]
     &bytes[place..][..12]
 }
 
-/// The memory that a header might change, which has this instruction and these last twelve bytes.
+/// The memory that a header with this instruction and these last twelve bytes might change.
 fn reach_in(instruction: u8, tail: &[u8]) -> Reach
     requires { length tail.now ≡ 12 }
     ensures { result ≡ reach_in instruction tail.now }
@@ -61,8 +61,8 @@ fn reach_in(instruction: u8, tail: &[u8]) -> Reach
     }
 }
 
-/// The memory that a packet of these bytes might change; `None` if it has no whole header, or is of no code that changes
-/// memory.
+/// The memory that a packet of these bytes might change. It is `None` if the packet has no whole header, or no code
+/// that changes memory.
 pub fn reach_of(bytes: &[u8]) -> Option<Reach>
     ensures { result ≡ reach_of bytes.now }
 {
@@ -101,7 +101,8 @@ fn are_within(ranges: &[Range], reach: &Reach) -> bool
     false
 }
 
-/// Whether what is reached may change, if memory may change in these ranges, and in the boot window if it is so.
+/// Whether what is reached may change, if memory may change in these ranges. With `loads` the boot window may change
+/// too.
 fn may_reach(ranges: &[Range], loads: bool, reach: Option<Reach>) -> bool
     ensures { result ≡ may_reach ranges.now loads reach }
 {
@@ -117,8 +118,8 @@ fn may_reach(ranges: &[Range], loads: bool, reach: Option<Reach>) -> bool
     }
 }
 
-/// Whether a packet of these bytes may be printed, if memory may change in these ranges, and in the boot window if it is
-/// so.
+/// Whether a packet of these bytes may be printed, if memory may change in these ranges. With `loads` the boot window
+/// may change too.
 pub fn is_printed(ranges: &[Range], loads: bool, bytes: &[u8]) -> bool
     ensures { result ≡ is_printed ranges.now loads bytes.now }
 {

@@ -107,7 +107,7 @@ pub enum Row {
     Load,
 }
 
-/// All rows, each verdict of a program as one.
+/// All rows; all verdicts of a program are one row.
 pub const ROWS: [Row; 39] = [
     Row::Short,
     Row::ShortBeforeProtocol,
@@ -243,6 +243,10 @@ impl Row {
 }
 
 /// The name of a row; that of a row of the program has the verdict.
+///
+/// # Errors
+///
+/// An error if memory is refused.
 pub fn name_of(alloc: Global, row: Row) -> Result<String, AllocError> {
     match row {
         Row::Program(verdict) => format!(in alloc; "program-{verdict}"),

@@ -11,19 +11,20 @@ use rmap::{BOOT_WINDOW, LOAD_REGISTER, STAGING_SIZE};
 use spw::{End, Packet};
 use std::alloc::{AllocError, Global};
 
-/// How many packets are tried at most, at each bank for each slot: for eight banks and the boot window fewer than 2²⁰.
+/// The most packets that are tried, at each bank for each slot. For eight banks and the boot window they are fewer than
+/// 2²⁰.
 const TRIES: usize = 32_768;
 
-/// How many of these are tried at most for who asks, before places and lengths.
+/// The most of these that are tried for who asks, before places and lengths.
 const ASKED: usize = 8192;
 
-/// By how many places of the space one goes on from packet to packet.
+/// How many places of the space are between a packet and the next.
 const STEP: usize = 2_654_435_761;
 
-/// How many values of a field are tried at most.
+/// The most values of a field that are tried.
 const VALUES: usize = 256;
 
-/// How many who pass are kept at most, at each bank for each slot.
+/// The most that are kept of those who pass, at each bank for each slot.
 const ASKERS: usize = 2;
 
 /// A verdict that was found, and the command that has it.
@@ -37,7 +38,7 @@ pub struct Found {
     pub shape: Shape,
 }
 
-/// Who passes, and where.
+/// Who passes, and at which extended address.
 #[derive(Clone, Copy, Debug)]
 pub struct Passer {
     /// The slot.
@@ -78,7 +79,7 @@ fn note(values: &mut Vec<u32>, value: u32) -> Result<(), AllocError> {
     Ok(())
 }
 
-/// Adds a value from the one to the other, if it is one.
+/// Adds a value, if it is from `low` to `high`.
 fn note_within(values: &mut Vec<u32>, value: u32, low: u32, high: u32) -> Result<(), AllocError> {
     if low <= value && value <= high {
         note(values, value)?;
@@ -174,7 +175,7 @@ fn byte_of(number: u32) -> u8 {
     (number % 256) as u8
 }
 
-/// The value of a list at a number, which is then what is left of it.
+/// The value of a list at a number. What is left of the number then takes its place.
 fn pick(values: &[u32], number: &mut usize) -> u32 {
     let count = values.len();
     if count == 0 {
@@ -185,7 +186,8 @@ fn pick(values: &[u32], number: &mut usize) -> u32 {
     values[place]
 }
 
-/// The place of the packet of that number in a space of so many, of which so many come first. If all are tried, each is.
+/// The place of the packet of that number in a space of `count` packets, of which `plain` come first. If all are tried,
+/// the place is the number.
 fn place_of(number: usize, plain: usize, count: usize) -> usize {
     if number < plain || count <= TRIES {
         return number;
@@ -243,6 +245,10 @@ impl Findings {
     }
 
     /// Who passes somewhere.
+    ///
+    /// # Errors
+    ///
+    /// An error if memory is refused.
     pub fn askers(&self, alloc: Global) -> Result<Vec<Asker>, AllocError> {
         let mut askers = Vec::new(alloc);
         for known in self.passers.as_slice() {
@@ -288,6 +294,10 @@ impl Findings {
     }
 
     /// Tries a command, if it is a packet.
+    ///
+    /// # Errors
+    ///
+    /// An error if memory is refused.
     pub fn judge(
         &mut self,
         alloc: Global,
@@ -316,7 +326,8 @@ fn list(alloc: Global, read: bool, plain: u32, other: u32) -> Result<Vec<u32>, A
     Ok(values)
 }
 
-/// The space of a slot at a bank or at the boot window, for commands of these codes, of which a program reads so much.
+/// The space of a slot at a bank or at the boot window, for commands of these codes. The program reads what is in
+/// `seen`.
 fn space_of(
     alloc: Global,
     maker: &Maker,
@@ -338,7 +349,7 @@ fn space_of(
     })
 }
 
-/// Searches a slot at a bank or at the boot window, from that address to the other.
+/// Searches a slot at a bank or at the boot window, at the addresses of `area`.
 fn search_slot(
     alloc: Global,
     bench: &Bench,
@@ -392,6 +403,10 @@ fn look_in_bank(
 }
 
 /// Looks for verdicts of the slots of banks at a bank.
+///
+/// # Errors
+///
+/// An error if memory is refused.
 pub fn look_at_bank(
     alloc: Global,
     bench: &Bench,
@@ -407,6 +422,10 @@ pub fn look_at_bank(
 }
 
 /// Looks for verdicts of the slot of the boot window.
+///
+/// # Errors
+///
+/// An error if memory is refused.
 pub fn look_at_window(
     alloc: Global,
     bench: &Bench,
@@ -429,6 +448,10 @@ pub fn look_at_window(
 }
 
 /// The rows of the program: a command for each verdict that was found, whole and with an error end.
+///
+/// # Errors
+///
+/// An error if memory is refused.
 pub fn program_rows(
     alloc: Global,
     maker: &mut Maker,

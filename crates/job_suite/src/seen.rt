@@ -49,7 +49,7 @@ impl Seen {
         }
     }
 
-    /// Notes so many bytes from a place on; all, if they do not lie in a header.
+    /// Notes this many bytes from a place on. It notes all bytes, if these are not all in a header.
     fn note(&mut self, place: usize, count: usize) {
         if count > BYTES || place > BYTES - count {
             self.bytes = [true; BYTES];
@@ -60,7 +60,7 @@ impl Seen {
         }
     }
 
-    /// Notes a load of so many bytes at an offset from that place on.
+    /// Notes a load of this many bytes at an offset from that place on.
     fn note_load(&mut self, start: usize, offset: i16, count: usize) {
         if offset < 0 {
             self.bytes = [true; BYTES];
@@ -145,7 +145,7 @@ fn operand_number(operand: Operand) -> Option<u64> {
     }
 }
 
-/// The number that an instruction may compare a field with, or make such a number of.
+/// The number that an instruction may compare a field with, or from which it may make such a number.
 fn insn_number(insn: Insn) -> Option<u64> {
     match insn {
         Insn::Alu { src, .. } => operand_number(src),
@@ -156,6 +156,10 @@ fn insn_number(insn: Insn) -> Option<u64> {
 }
 
 /// The numbers of a program, in the order of its instructions.
+///
+/// # Errors
+///
+/// An error if memory is refused.
 pub fn numbers_in(alloc: Global, image: &Image) -> Result<Vec<u64>, AllocError> {
     let mut numbers = Vec::new(alloc);
     for slot in 0..image.slots() {

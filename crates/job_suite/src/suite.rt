@@ -49,7 +49,7 @@ fn plain_node(alloc: Global) -> Result<ReadNode, AllocError>
     let node = OwnNode::plain(alloc, 1, no_maps())?;
     match factory_program(alloc, no_maps()) {
         Ok(program) => Ok(ReadNode { node, program }),
-        // Memory alone can be refused to it.
+        // Only memory can be refused to it.
         Err(_) => Err(AllocError),
     }
 }
@@ -157,7 +157,7 @@ fn drafts_of(
     Ok((maker.into_drafts(), findings))
 }
 
-/// Whether a name begins with a part of a list, which is none if it is empty.
+/// Whether a name begins with a part of a list. An empty list has no parts.
 fn is_left_out(name: &str, list: &str) -> bool {
     if list.is_empty() {
         return false;
@@ -177,7 +177,7 @@ fn is_wanted(alloc: Global, words: &SuiteWords, row: Row) -> Result<bool, AllocE
     Ok(name.starts_with(words.rows.as_str()) && !is_left_out(name, words.without.as_str()))
 }
 
-/// Adds a line for each verdict of which the words name the row, and for each slot that has no packet of it.
+/// Adds a line for each verdict whose row the words name, and for each slot that has no packet of it.
 fn add_missing_verdicts(
     text: &mut String,
     alloc: Global,
@@ -195,7 +195,7 @@ fn add_missing_verdicts(
     Ok(())
 }
 
-/// Adds a line for each row that the words name and of which there is no packet.
+/// Adds a line for each row that the words name and that has no packet.
 fn add_missing_rows(
     text: &mut String,
     alloc: Global,
@@ -272,7 +272,7 @@ fn lines_of(alloc: Global, trials: &[Trial]) -> Result<String, AllocError>
     Ok(text)
 }
 
-/// The address of a node, and where its banks lie.
+/// The address of a node, and where its banks are.
 #[tactic(auto, using(crate::proofs::BankLimits::at_most_eight))]
 fn windows_of(own: &OwnNode) -> Windows
     ensures { result ≡ windows_of own.now.address own.now.banks }
@@ -355,7 +355,7 @@ fn suite_text(
     text_of(alloc, words, address, trials.as_slice(), &findings)
 }
 
-/// The chart of the table whose text is there, if a table is named.
+/// The chart of the table with this text, if a table is named.
 fn chart_of<'a>(
     alloc: Global,
     table: &Option<TableWord>,
@@ -379,7 +379,9 @@ fn chart_of<'a>(
 
 /// Prints the packet lines of a suite, or its index.
 ///
-/// Faults are those of the table's file, of the node's file, and of the table; then `NoMemory`.
+/// # Errors
+///
+/// The faults of the table's file, of the node's file, and of the table; then `NoMemory`.
 pub fn suite_file<'a, F: Files, W: Write>(
     alloc: Global,
     words: &'a SuiteWords,

@@ -1,4 +1,4 @@
-//! The table of which programs of a node are the image.
+//! The table whose image programs of a node are.
 
 ghost use Rattle.std.specs.Prelude.{◌≡◌, IfErr, IfOk, MatchBool, MatchOption, All, Some, option_map, string_bytes};
 ghost use Rattle.job_config.specs.Reads.{Ends};
@@ -65,10 +65,12 @@ fn other_slot(judges: &Judges, image: &[u8], slots: &[u8]) -> Result<Option<u8>,
     Ok(None)
 }
 
-/// The table that a text writes, of which the program of each of these slots is the image on a node with these maps.
+/// The table that a text writes. The program of each of these slots is its image on a node with these maps.
 ///
-/// Faults: the table (`BadTable`, also if memory is refused to it or to its image), and `BadNode` of the program if a slot has
-/// another.
+/// # Errors
+///
+/// `BadTable` for a fault of the table, also if memory is refused to it or to its image. `BadNode` of the program if a
+/// slot has another one.
 pub fn table_of<'a>(
     alloc: Global,
     text: &str,
@@ -92,7 +94,9 @@ pub fn table_of<'a>(
 
 /// The text of the file of the table that is named, if one is.
 ///
-/// The fault is `CannotRead`, also if the file is not UTF-8.
+/// # Errors
+///
+/// `CannotRead` if the file cannot be read, or is not UTF-8.
 pub fn asked_text<'a, F: Files>(
     alloc: Global,
     files: &mut F,

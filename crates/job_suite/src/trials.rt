@@ -31,7 +31,7 @@ pub struct Trial {
 /// What a suite is for: the node, its programs, and the places at which memory may change.
 #[derive(Debug, Drop)]
 pub struct Bench {
-    /// The address of the node, and where its banks lie.
+    /// The address of the node, and where its banks are.
     pub windows: Windows,
     /// The programs.
     pub judges: Judges,
@@ -42,7 +42,7 @@ pub struct Bench {
 }
 
 impl Bench {
-    /// What the command of a packet comes to that has this place.
+    /// What the command of a packet with this place comes to.
     #[tactic(auto, using(crate::proofs::Meeting::verdict_of))]
     fn judged(&self, alloc: Global, packet: &Packet, place: Place) -> Result<Came, AllocError>
         requires { GoesOn self.now.windows packet.now place }
@@ -54,6 +54,10 @@ impl Bench {
     }
 
     /// What a packet comes to.
+    ///
+    /// # Errors
+    ///
+    /// An error if memory is refused.
     pub fn come(&self, alloc: Global, packet: &Packet) -> Result<Came, AllocError>
         ensures { IfOk result (HasCome self.now packet.now) }
     {
@@ -64,6 +68,10 @@ impl Bench {
     }
 
     /// Whether a packet meets what is wanted.
+    ///
+    /// # Errors
+    ///
+    /// An error if memory is refused.
     #[tactic(auto, using(crate::proofs::Meeting::meets_wanted))]
     pub fn is_met(&self, alloc: Global, packet: &Packet, wanted: Wanted) -> Result<bool, AllocError>
         ensures { IfOk result (λ met. IsTrue met → IsMet self.now packet.now wanted) }
@@ -103,7 +111,7 @@ impl Bench {
         }))
     }
 
-    /// The packet of a draft as the first of these asks by whom it meets its row, if it may be printed.
+    /// The packet of a draft, if it may be printed: as the first of these asks for whom it meets its row.
     fn asked_trial(
         &self,
         alloc: Global,
@@ -121,7 +129,8 @@ impl Bench {
         Ok(None)
     }
 
-    /// The packet of a draft as it asks itself, or as the first of these asks by whom it meets its row, if it may be printed.
+    /// The packet of a draft, if it may be printed: as it asks itself, or as the first of these asks for whom it meets
+    /// its row.
     fn any_trial(
         &self,
         alloc: Global,
@@ -161,6 +170,10 @@ impl Bench {
     }
 
     /// The packets of these drafts that meet their rows and may be printed, in this order.
+    ///
+    /// # Errors
+    ///
+    /// An error if memory is refused.
     pub fn trials(
         &self,
         alloc: Global,

@@ -70,7 +70,7 @@ fn refused(alloc: Global, maker: &mut Maker) -> Result<(), AllocError> {
     Ok(())
 }
 
-/// The bytes of a control write for an image of so many bytes.
+/// The bytes of a control write for an image of this many bytes.
 fn control_bytes(slot: u8, count: usize) -> [u8; 4] {
     [slot, 0, (count / 256 % 256) as u8, (count % 256) as u8]
 }
@@ -86,7 +86,7 @@ fn stage(alloc: Global, maker: &mut Maker, row: Row, image: &[u8]) -> Result<(),
     Ok(())
 }
 
-/// Loads of an image of which one byte is another.
+/// Loads of an image in which one byte is changed.
 fn altered(alloc: Global, maker: &mut Maker, image: &[u8]) -> Result<(), AllocError> {
     let row = Row::BootWindow;
     stage(alloc, maker, row, image)?;
@@ -112,6 +112,10 @@ fn load(alloc: Global, maker: &mut Maker, slot: u8, image: &[u8]) -> Result<(), 
 }
 
 /// The rows of the boot window.
+///
+/// # Errors
+///
+/// An error if memory is refused.
 pub fn window_rows(alloc: Global, maker: &mut Maker, judges: &Judges) -> Result<(), AllocError> {
     staging(alloc, maker)?;
     refused(alloc, maker)?;
@@ -120,6 +124,10 @@ pub fn window_rows(alloc: Global, maker: &mut Maker, judges: &Judges) -> Result<
 }
 
 /// The loads of the node's own programs.
+///
+/// # Errors
+///
+/// An error if memory is refused.
 pub fn load_rows(alloc: Global, maker: &mut Maker, judges: &Judges) -> Result<(), AllocError> {
     for slot in [3_u8, 2, 1, 0] {
         let image = judges.judge(slot).image().write()?;

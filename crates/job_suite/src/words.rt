@@ -31,13 +31,13 @@ pub struct TableWord {
 pub struct SuiteWords {
     /// The name of the node's file; without it the node is that of which no file says anything.
     pub node: Option<String>,
-    /// By what fields are drawn.
+    /// The number from which fields are drawn.
     pub seed: u32,
-    /// With what the names of rows begin that are printed; all, if it is empty.
+    /// The beginning of the names of the rows that are printed. If it is empty, all are.
     pub rows: String,
-    /// With what the names of rows begin that are left out, with commas between; none, if it is empty.
+    /// The beginnings of the names of the rows that are left out, with commas between. If it is empty, none is.
     pub without: String,
-    /// The table of which programs of the node are the image, if one is named.
+    /// The table whose image programs of the node are, if one is named.
     pub table: Option<TableWord>,
     /// Whether the index is printed in place of the lines.
     pub index: bool,
@@ -68,8 +68,8 @@ impl SuiteWords {
         }
     }
 
-    /// What the job reads: the table, if one is named, and then the node's file, if there is one; files beside the node's are named
-    /// there.
+    /// What the job reads: the table, if one is named, and then the node's file, if there is one. That file names the
+    /// files beside it.
     pub fn inputs(&self) -> Inputs<'_>
         ensures { AreInputs (first_read self.now) (second_read self.now) None result }
     {
@@ -82,6 +82,10 @@ impl SuiteWords {
 }
 
 /// `suite [--node FILE] [--seed N] [--rows PREFIX] [--without LIST] [--table SLOTS:FILE] [--within LIST] [--loads] [--index]`.
+///
+/// # Errors
+///
+/// An error if memory is refused.
 pub fn suite_command<'a>(alloc: Global) -> Result<Command<'a>, AllocError>
     ensures shape { IfOk result (λ c. app_of c ≡ suite_app) }
     ensures local { IfOk result (λ c. (fields_of c).has_globals ≡ false) }
@@ -124,6 +128,10 @@ fn node_of(alloc: Global, found: &ArgMatches) -> Result<Option<String>, AllocErr
 }
 
 /// The seed, and 0 without the option.
+///
+/// # Errors
+///
+/// `BadOption` if the value of the option is no number from 0 to 4,294,967,295.
 pub fn seed_of(found: &ArgMatches) -> Result<u32, UsageFault>
     ensures ok { IfOk result (GivesSeed (first_of (codes "seed") (rows_of (found_of found.now)))) }
     ensures err { IfErr result (RefusesSeed (rows_of (found_of found.now))) }
@@ -138,6 +146,10 @@ pub fn seed_of(found: &ArgMatches) -> Result<u32, UsageFault>
 }
 
 /// The beginning of names of rows that are printed, and no letters without the option.
+///
+/// # Errors
+///
+/// `BadOption` if no name of a row begins so, or `Memory` if memory is refused.
 pub fn rows_written(alloc: Global, found: &ArgMatches) -> Result<String, UsageFault>
     ensures ok { IfOk result (λ rows.
         GivesRows (first_of (codes "rows") (rows_of (found_of found.now))) (string_bytes rows)) }
@@ -166,6 +178,10 @@ fn are_beginnings(list: &str) -> bool
 }
 
 /// The beginnings of names of rows that are left out, and no letters without the option.
+///
+/// # Errors
+///
+/// `BadOption` if no name of a row begins with a part of the list, or `Memory` if memory is refused.
 pub fn without_written(alloc: Global, found: &ArgMatches) -> Result<String, UsageFault>
     ensures ok { IfOk result (λ without.
         GivesWithout (first_of (codes "without") (rows_of (found_of found.now))) (string_bytes without)) }
@@ -200,7 +216,11 @@ fn table_written(alloc: Global, word: &str) -> Result<TableWord, UsageFault>
     }
 }
 
-/// The table of which programs of the node are the image, if one is named.
+/// The table whose image programs of the node are, if one is named.
+///
+/// # Errors
+///
+/// `BadOption` if the value of the option names no table, or `Memory` if memory is refused.
 pub fn table_of(alloc: Global, found: &ArgMatches) -> Result<Option<TableWord>, UsageFault>
     ensures ok { IfOk result
         (GivesTable (first_of (codes "table") (rows_of (found_of found.now)))) }
@@ -213,6 +233,10 @@ pub fn table_of(alloc: Global, found: &ArgMatches) -> Result<Option<TableWord>, 
 }
 
 /// Where memory may change.
+///
+/// # Errors
+///
+/// Those of [`ranges_written`].
 pub fn within_of(alloc: Global, found: &ArgMatches) -> Result<Vec<Range>, UsageFault>
     ensures ok { IfOk result (λ ranges.
         GivesRanges (first_of (codes "within") (rows_of (found_of found.now))) ranges.items) }
@@ -225,6 +249,10 @@ pub fn within_of(alloc: Global, found: &ArgMatches) -> Result<Vec<Range>, UsageF
 }
 
 /// The words of `suite` with these matches.
+///
+/// # Errors
+///
+/// `BadOption` for the seed, the beginnings of names, the table and the ranges, or `Memory` if memory is refused.
 pub fn suite_job(alloc: Global, found: &ArgMatches) -> Result<SuiteWords, UsageFault>
     ensures ok { IfOk result (NamesSuite (rows_of (found_of found.now))) }
     ensures err { IfErr result (RefusesSuite (rows_of (found_of found.now))) }

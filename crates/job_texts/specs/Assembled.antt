@@ -36,8 +36,8 @@ module _ {S : Type 0} (reads : Reads S) where
       ⊎ ((bad : AsmFault) × (fault ≡ BadText bad) × HoldsBadText before name after bad)
 
 module _ {S : Type 0} (reads : Reads S) (writes : Writes S) where
-  -- the text's file was read and gave a text of the program, then the other was given the program's
-  -- image; no other file was read or written
+  -- the text's file was read and gave a text of the program. Then the other was given the program's image; no other
+  -- file was read or written
   pub record Assembled (before : S) (text image : List ℕ) (p : Program) (taken : Bool) (after : S) : Type 0 where
     pub between : S
     pub read : HoldsText reads before text p between
@@ -58,8 +58,8 @@ module _ {S : Type 0} (reads : Reads S) (writes : Writes S) where
     pub program : Program
     pub assembled : Assembled before text image program false after
 
-  -- the file gives no text of a program, the image cannot be written, or memory was refused behind the text; or the image
-  -- would be written to the text's file, and nothing was read
+  -- the file gives no text of a program, the image cannot be written, or memory was refused after the text was read. Or
+  -- the image would be written to the text's file, and nothing was read
   abbrev pub IsNotAssembled : (before : S) (text image : List ℕ) (after : S) → Fault → Type 0
   IsNotAssembled before text image after fault =
       IsNoText reads before text after fault

@@ -69,8 +69,8 @@ module _ {S : Type 0} (reads : Reads S) where
       ⊎ ((bad : PolicyFault) × (fault ≡ BadTable bad) × HoldsFaultyTable before name sizes after bad)
 
 module _ {S : Type 0} (reads : Reads S) (writes : Writes S) where
-  -- the table's file was read and gave a table that was compiled to the program, then the other was given the
-  -- program's image; no other file was read or written
+  -- the table's file was read and gave a table that was compiled to the program. Then the other was given the program's
+  -- image; no other file was read or written
   pub record Compiled (before : S) (table image : List ℕ) (sizes : Maps) (p : Program) (taken : Bool) (after : S) : Type
       0 where
     pub between : S
@@ -93,8 +93,8 @@ module _ {S : Type 0} (reads : Reads S) (writes : Writes S) where
     pub program : Program
     pub compiled : Compiled before table image sizes program false after
 
-  -- the file gives no table that is compiled, the image cannot be written, or memory was refused behind the table; or the
-  -- image would be written to the table's file, and nothing was read
+  -- the file gives no table that is compiled, the image cannot be written, or memory was refused after the table was
+  -- read. Or the image would be written to the table's file, and nothing was read
   abbrev pub IsNotCompiled : (before : S) (table image : List ℕ) (sizes : Maps) (after : S) → Fault → Type 0
   IsNotCompiled before table image sizes after fault =
       IsNoPolicy reads before table sizes after fault

@@ -11,8 +11,8 @@ use Rattle.job_texts.specs.Needed.{PrintsMaps}
 use Rattle.job_texts.specs.declared.dis.DisWords.{DisWords}
 
 module _ {S : Type 0} (reads : Reads S) where
-  -- the text of the image in the file was printed, with or without slots, and behind it, as a comment, the maps that
-  -- the program needs
+  -- the text of the image in the file was printed, with or without slots, and after it, as a comment, the maps that the
+  -- program needs
   pub record Disassembles (before : S) (words : DisWords) (after : S) (old new : Option (List ℕ)) : Type 0 where
     pub program : Program
     pub image : HoldsImage reads before (string_bytes words.image) program after
@@ -20,7 +20,7 @@ module _ {S : Type 0} (reads : Reads S) where
     pub text : Appends old told (listing words.slots program)
     pub maps : PrintsMaps (codes "; ") program told new
 
-  -- the file gives no image, or memory was refused behind it
+  -- the file gives no image, or memory was refused after it was read
   abbrev pub IsNotPrinted : (before : S) (name : List ℕ) (after : S) → Fault → Type 0
   IsNotPrinted before name after fault =
       IsNoImage reads before name after fault

@@ -5,7 +5,7 @@ use Rattle.bpf.specs.Program.{Program}
 use Rattle.bpf_insn.specs.declared.insn.Insn.{Insn}
 use Rattle.bpf_insn.specs.Text.{insn_text}
 
--- the line of the instruction that begins at a slot, behind the slot; a second slot has none
+-- the line of the instruction that begins at a slot, after the slot; a second slot has none
 abbrev pub numbered_line : (slot : ℕ) → Option Insn → List ℕ
 numbered_line slot None = []
 numbered_line slot (Some insn) = decimal slot ++ codes ": " ++ insn_text insn ++ codes "\n"
@@ -15,7 +15,7 @@ abbrev pub numbered_lines : (slot : ℕ) → List (Option Insn) → List ℕ
 numbered_lines slot [] = []
 numbered_lines slot (insn ∷ insns) = numbered_line slot insn ++ numbered_lines (suc slot) insns
 
--- the version, the budget and the loops as in the text of the image, and each instruction behind its slot
+-- the version, the budget and the loops as in the text of the image, and each instruction after its slot
 unfoldable pub numbered_image : Program → List ℕ
 numbered_image p = directives p ++ numbered_lines 0 p.slots
 

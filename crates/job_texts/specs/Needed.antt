@@ -1,4 +1,4 @@
--- The maps that a program needs, and the line that tells them.
+-- The maps that a program needs, and the line of them.
 use Rattle.std.specs.Prelude.{◌≡◌, ◌⊎◌, ℕ, List, [], ◌∷◌, ◌++◌, Option, codes, decimal}
 use Rattle.std.specs.Io.KnownBytes.{Appends}
 use Rattle.std.specs.List.{flat_map}
@@ -17,16 +17,16 @@ pub record NeedsMaps (p : Program) (maps : Maps) : Type 0 where
 abbrev pub AreNeeded : Program → List (ℕ × MapKind) → Type 0
 AreNeeded p maps = (maps ≡ []) ⊎ NeedsMaps p (listed_maps maps)
 
--- a map as the option `--maps` writes it: how many cells it has, and a `p` behind those of a peak map
+-- a map as the option `--maps` writes it: how many cells it has, and a `p` after those of a peak map
 abbrev pub map_text : ℕ × MapKind → List ℕ
 map_text (cells, Counter) = decimal cells
 map_text (cells, Peak) = decimal cells ++ codes "p"
 
--- a map behind others
+-- a map after others
 abbrev pub next_map_text : ℕ × MapKind → List ℕ
 next_map_text map = codes "," ++ map_text map
 
--- the line of maps, behind a sign: `maps 5,1p`; without maps there is none
+-- the line of maps, after a sign: `maps 5,1p`; without maps there is none
 abbrev pub maps_line : (sign : List ℕ) → List (ℕ × MapKind) → List ℕ
 maps_line sign [] = []
 maps_line sign (map ∷ maps) = sign ++ codes "maps " ++ map_text map ++ flat_map next_map_text maps ++ codes "\n"

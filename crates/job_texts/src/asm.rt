@@ -46,6 +46,10 @@ impl AsmWords {
 }
 
 /// `asm FILE OUT`.
+///
+/// # Errors
+///
+/// An error if memory is refused.
 pub fn asm_command<'a>(alloc: Global) -> Result<Command<'a>, AllocError>
     ensures shape { IfOk result (λ c. app_of c ≡ asm_app) }
     ensures local { IfOk result (λ c. (fields_of c).has_globals ≡ false) }
@@ -61,6 +65,10 @@ pub fn asm_command<'a>(alloc: Global) -> Result<Command<'a>, AllocError>
 }
 
 /// The words of `asm` with these matches.
+///
+/// # Errors
+///
+/// Those of [`name_of`] for the two files.
 pub fn asm_job(alloc: Global, found: &ArgMatches) -> Result<AsmWords, UsageFault>
     ensures ok { IfOk result (NamesAsm (rows_of (found_of found.now))) }
     ensures err { IfErr result (LacksEither (rows_of (found_of found.now))) }
@@ -91,8 +99,11 @@ fn print_parts<W: Write>(out: &mut W, image: &Image) -> io::Result<()>
 
 /// Assembles the text of a file, writes the image to another, and prints how large it is.
 ///
-/// Faults are found in this order: the file of the image, where it is that of the text (`CannotWrite`); the file of the text
-/// (`CannotRead`, also where it is not UTF-8), the text (`BadText`), and the file of the image (`CannotWrite`).
+/// # Errors
+///
+/// Faults are found in this order. The first is `CannotWrite`, if the file of the image is that of the text. Then come
+/// those of the file of the text (`CannotRead`, also if it is not UTF-8), of the text (`BadText`), and of the file of
+/// the image (`CannotWrite`).
 pub fn assemble_file<'a, F: Files, W: Write>(
     alloc: Global,
     text: &'a str,

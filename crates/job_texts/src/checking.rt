@@ -1,4 +1,4 @@
-//! Whether a program may judge, with what was known where it may not.
+//! Whether a program may judge, and, if it may not, what was known at the slot.
 
 ghost use Rattle.std.specs.Prelude.{◌≡◌, ◌≢◌, IfErr, IfOk};
 ghost use Rattle.bver.specs.Justified.{IsJustified};
@@ -14,7 +14,7 @@ use bver::{Accepted, MapSizes, Refusal, Refused, State, explain};
 use bver_form::{check, first_faults};
 use std::alloc::Global;
 
-/// Verifies a copy of an image. A fault of its form is told before memory is asked for. Where it is refused for its
+/// Verifies a copy of an image. It finds a fault of its form before it asks for memory. If the image is refused for its
 /// values, `known` is then what was known at the slot.
 fn verified(
     alloc: Global,
@@ -42,7 +42,12 @@ fn verified(
     }
 }
 
-/// Whether a program may judge, or the refusal, with what was known at its slot.
+/// Checks that a program may judge on a node with maps of these sizes.
+///
+/// # Errors
+///
+/// The refusal. If the form of the image is right and memory was not refused, `known` is then what was known at its
+/// slot.
 pub fn checked(
     alloc: Global,
     image: &Image,

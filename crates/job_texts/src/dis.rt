@@ -29,7 +29,7 @@ use std::io::Write;
 pub struct DisWords {
     /// The name of the file of the image.
     pub image: String,
-    /// Whether each instruction is printed behind its slot.
+    /// Whether each instruction is printed after its slot.
     pub slots: bool,
 }
 
@@ -43,6 +43,10 @@ impl DisWords {
 }
 
 /// `dis FILE [--slots]`.
+///
+/// # Errors
+///
+/// An error if memory is refused.
 pub fn dis_command<'a>(alloc: Global) -> Result<Command<'a>, AllocError>
     ensures shape { IfOk result (λ c. app_of c ≡ dis_app) }
     ensures local { IfOk result (λ c. (fields_of c).has_globals ≡ false) }
@@ -53,6 +57,10 @@ pub fn dis_command<'a>(alloc: Global) -> Result<Command<'a>, AllocError>
 }
 
 /// The words of `dis` with these matches.
+///
+/// # Errors
+///
+/// Those of [`name_of`] for the file.
 pub fn dis_job(alloc: Global, found: &ArgMatches) -> Result<DisWords, UsageFault>
     ensures ok { IfOk result (NamesDis (rows_of (found_of found.now))) }
     ensures err { IfErr result (Lacks (codes "image") (rows_of (found_of found.now))) }
@@ -62,9 +70,11 @@ pub fn dis_job(alloc: Global, found: &ArgMatches) -> Result<DisWords, UsageFault
     Ok(DisWords { image, slots })
 }
 
-/// Prints the text of the image of a file, and behind it, as a comment, the maps that its program needs.
+/// Prints the text of the image of a file, and after it, as a comment, the maps that its program needs.
 ///
-/// Faults are found in this order: the file (`CannotRead`), its image (`BadImage`).
+/// # Errors
+///
+/// Faults are found in this order: that of the file (`CannotRead`), and that of its image (`BadImage`).
 pub fn disassemble_file<'a, F: Files, W: Write>(
     alloc: Global,
     words: &'a DisWords,

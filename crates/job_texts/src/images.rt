@@ -19,7 +19,7 @@ use std::alloc::{AllocError, Global};
 pub struct ImageArgs {
     /// The name of the file of the image.
     pub image: String,
-    /// How many cells each map has of the node, and of which kind it is, that it may judge on.
+    /// How many cells each map has of the node that the program may judge on, and of which kind it is.
     pub sizes: MapSizes,
 }
 
@@ -40,6 +40,10 @@ impl ImageArgs {
 }
 
 /// A subcommand that verifies an image: `NAME FILE [--maps LIST]`.
+///
+/// # Errors
+///
+/// An error if memory is refused.
 pub fn verifying_command<'a>(
     alloc: Global,
     name: &'a str,
@@ -52,6 +56,10 @@ pub fn verifying_command<'a>(
 }
 
 /// The arguments of such a subcommand with these matches.
+///
+/// # Errors
+///
+/// Those of [`name_of`] for the file, and those of [`sizes_of`].
 pub fn image_args(alloc: Global, found: &ArgMatches) -> Result<ImageArgs, UsageFault>
     ensures ok { IfOk result (NamesImage (rows_of (found_of found.now))) }
     ensures err { IfErr result (RefusesImage (rows_of (found_of found.now))) }

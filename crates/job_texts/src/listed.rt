@@ -9,7 +9,11 @@ use bpf_insn::Insn;
 use std::alloc::{AllocError, Global};
 use std::fmt::Write;
 
-/// The text of an image, where it is asked for with each instruction behind its slot: `36: ldmap r1, 0`.
+/// The text of an image. With `slots` each instruction is after its slot: `36: ldmap r1, 0`.
+///
+/// # Errors
+///
+/// An error if memory is refused.
 pub fn listed(alloc: Global, image: &Image, slots: bool) -> Result<String, AllocError>
     ensures { IfOk result (λ text. string_bytes text ≡ listing slots image.now) }
 {
@@ -20,7 +24,7 @@ pub fn listed(alloc: Global, image: &Image, slots: bool) -> Result<String, Alloc
     }
 }
 
-/// The text of an image with each instruction behind its slot.
+/// The text of an image with each instruction after its slot.
 #[tactic(auto, unfolding(crate::specs::Listed::numbered_image))]
 fn numbered(alloc: Global, image: &Image) -> Result<String, AllocError>
     ensures { IfOk result (λ text. string_bytes text ≡ numbered_image image.now) }
@@ -31,7 +35,7 @@ fn numbered(alloc: Global, image: &Image) -> Result<String, AllocError>
     Ok(text)
 }
 
-/// Adds each instruction behind its slot, a line each.
+/// Adds each instruction after its slot, a line each.
 fn add_insns(text: &mut String, image: &Image) -> Result<(), AllocError>
     ensures { OnOk result
         (string_bytes text.new ≡ string_bytes text.old ++ numbered_lines 0 image.now.slots) }

@@ -16,7 +16,7 @@ use machine::{MAX_CELLS, MAX_MAPS, MapKind};
 use std::alloc::{AllocError, Global};
 use std::fmt::Write;
 
-/// The most lists of maps that are tried: each has a map more than the one before, or more cells, or a peak map more.
+/// The most lists of maps that are tried. Each has a map more than the one before, or more cells, or a peak map more.
 const MAX_LISTS: u16 = MAX_CELLS + 2 * MAX_MAPS as u16;
 
 /// Whether an instruction of a program names a map.
@@ -45,7 +45,7 @@ fn asked_map(known: &State) -> Option<usize> {
     }
 }
 
-/// How many cells the map of a call has to have, where a map may have so many.
+/// How many cells the map of a call must have, if a map may have as many.
 fn wanted_cells(known: &State) -> Option<u16> {
     match kind_in(known, 2) {
         AbsKind::Num(range) if range.high() < u64::from(MAX_CELLS) => Some(range.high() as u16 + 1),
@@ -53,7 +53,7 @@ fn wanted_cells(known: &State) -> Option<u16> {
     }
 }
 
-/// Adds maps until there is one of this index. Tells whether a node may have it.
+/// Adds maps until there is one of this index. Returns whether a node may have it.
 fn add_maps(maps: &mut Vec<(u16, MapKind)>, index: i32) -> Result<bool, AllocError> {
     let Ok(index) = usize::try_from(index) else {
         return Ok(false);
@@ -67,7 +67,7 @@ fn add_maps(maps: &mut Vec<(u16, MapKind)>, index: i32) -> Result<bool, AllocErr
     Ok(true)
 }
 
-/// Gives the map of a call the cells that its keys want. Tells whether it may have them.
+/// Gives the map of a call the cells that its keys want. Returns whether it may have them.
 fn add_cells(maps: &mut Vec<(u16, MapKind)>, known: &State) -> bool {
     let (Some(map), Some(cells)) = (asked_map(known), wanted_cells(known)) else {
         return false;
@@ -81,7 +81,7 @@ fn add_cells(maps: &mut Vec<(u16, MapKind)>, known: &State) -> bool {
     }
 }
 
-/// Makes the map of a call a peak map. Tells whether it was none.
+/// Makes the map of a call a peak map. Returns whether it was none.
 fn raise(maps: &mut Vec<(u16, MapKind)>, known: &State) -> bool {
     let Some(map) = asked_map(known) else {
         return false;
@@ -96,7 +96,7 @@ fn raise(maps: &mut Vec<(u16, MapKind)>, known: &State) -> bool {
     }
 }
 
-/// Changes maps as little as a refusal on them asks. Tells whether it is one for its maps, and may be met.
+/// Changes maps as little as a refusal on them asks. Returns whether the refusal is for its maps, and can be met.
 fn meet(
     maps: &mut Vec<(u16, MapKind)>,
     image: &Image,
@@ -134,8 +134,8 @@ fn refusal_on(
     }
 }
 
-/// The least maps on which a program may judge that is refused without maps, for what is told; or no maps, where there are
-/// none such.
+/// The least maps on which a program may judge that is refused without maps, for the refusal that is given. Or no maps,
+/// if there are none such.
 fn enough_maps(
     alloc: Global,
     image: &Image,
@@ -162,7 +162,7 @@ fn enough_maps(
     Ok(Vec::new(alloc))
 }
 
-/// The least maps that a program needs to judge. There are none where it may judge without, and where no maps serve.
+/// The least maps that a program needs to judge. There are none if it may judge without, or if no maps are enough.
 fn needed_maps(alloc: Global, image: &Image) -> Result<Vec<(u16, MapKind)>, AllocError>
     ensures { IfOk result (λ maps. AreNeeded image.now maps.items) }
 {
@@ -188,7 +188,7 @@ fn add_map(text: &mut String, map: &(u16, MapKind)) -> Result<(), AllocError>
     }
 }
 
-/// Adds a map behind others.
+/// Adds a map after others.
 fn add_next_map(text: &mut String, map: &(u16, MapKind)) -> Result<(), AllocError>
     ensures { OnOk result (string_bytes text.new ≡ string_bytes text.old ++ next_map_text map.now) }
 {
@@ -196,7 +196,7 @@ fn add_next_map(text: &mut String, map: &(u16, MapKind)) -> Result<(), AllocErro
     add_map(text, map)
 }
 
-/// Adds maps behind others.
+/// Adds maps after others.
 fn add_next_maps(text: &mut String, maps: &[(u16, MapKind)]) -> Result<(), AllocError>
     ensures { OnOk result
         (string_bytes text.new ≡ string_bytes text.old ++ flat_map next_map_text maps.now) }
@@ -207,7 +207,7 @@ fn add_next_maps(text: &mut String, maps: &[(u16, MapKind)]) -> Result<(), Alloc
     Ok(())
 }
 
-/// The line of maps, behind a sign; without maps there is none.
+/// The line of maps, after a sign; without maps there is none.
 fn line_of(alloc: Global, sign: &str, maps: &[(u16, MapKind)]) -> Result<String, AllocError>
     ensures { IfOk result (λ line. string_bytes line ≡ maps_line sign.now maps.now) }
 {
@@ -222,8 +222,12 @@ fn line_of(alloc: Global, sign: &str, maps: &[(u16, MapKind)]) -> Result<String,
     Ok(line)
 }
 
-/// The line that tells the maps that a program needs, behind a sign: `maps 5,1p`. There is none where the program may
-/// judge without maps, and where no maps serve. The maps are the least that serve.
+/// The line of the maps that a program needs, after a sign: `maps 5,1p`. There is none if the program may judge without
+/// maps, or if no maps are enough. The maps are the least that are enough.
+///
+/// # Errors
+///
+/// An error if memory is refused.
 pub fn needed_line(alloc: Global, sign: &str, image: &Image) -> Result<String, AllocError>
     ensures { IfOk result (λ line. IsMapsLine sign.now image.now (string_bytes line)) }
 {

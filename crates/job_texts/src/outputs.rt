@@ -6,8 +6,11 @@ ghost use Rattle.job_texts.specs.OneFile.{IsOneFile};
 
 use job_parts::faults::Fault;
 
-/// That the file of this name, which an image is to be written to, is another than the one that is read; else
-/// `CannotWrite`.
+/// Checks that the file of this name, which an image is to be written to, is not the one that is read.
+///
+/// # Errors
+///
+/// `CannotWrite` if both are one file.
 pub fn other_file<'a>(name: &str, image: &'a str) -> Result<(), Fault<'a>>
     ensures other { OnOk result (bytes_eq name.now image.now ≡ false) }
     ensures one { IfErr result (IsOneFile name.now image.now) }

@@ -34,9 +34,9 @@ pub struct PolicyWords {
     pub table: String,
     /// The name of the file that the image is written to.
     pub image: String,
-    /// How many cells each map has of the node, and of which kind it is, that the image is to judge on.
+    /// How many cells each map has of the node that the image is to judge on, and of which kind it is.
     pub sizes: MapSizes,
-    /// Whether the table is meant to be the last, so that nothing is said if it lets nobody load another.
+    /// Whether the table is meant to be the last. Then nothing is said if it lets nobody load another.
     pub is_final: bool,
     /// Whether nothing is said of a table that was compiled.
     pub is_quiet: bool,
@@ -54,6 +54,10 @@ impl PolicyWords {
 }
 
 /// `policy FILE OUT [--maps LIST] [--final] [--quiet]`.
+///
+/// # Errors
+///
+/// An error if memory is refused.
 pub fn policy_command<'a>(alloc: Global) -> Result<Command<'a>, AllocError>
     ensures shape { IfOk result (λ c. app_of c ≡ policy_app) }
     ensures local { IfOk result (λ c. (fields_of c).has_globals ≡ false) }
@@ -77,6 +81,10 @@ pub fn policy_command<'a>(alloc: Global) -> Result<Command<'a>, AllocError>
 }
 
 /// The words of `policy` with these matches.
+///
+/// # Errors
+///
+/// Those of [`name_of`] for the two files, and those of [`sizes_of`].
 pub fn policy_job(alloc: Global, found: &ArgMatches) -> Result<PolicyWords, UsageFault>
     ensures ok { IfOk result (NamesPolicy (rows_of (found_of found.now))) }
     ensures err { IfErr result (RefusesPolicy (rows_of (found_of found.now))) }
@@ -133,12 +141,14 @@ fn print_slots<W: Write>(out: &mut W, image: &Image) -> io::Result<()>
     writeln!(out, "slots {slots}")
 }
 
-/// Compiles the table of a file for a node with maps of these sizes, writes the image to another file, and
-/// prints how many slots it has.
+/// Compiles the table of a file for a node with maps of these sizes, writes the image to another file, and prints how
+/// many slots it has.
 ///
-/// Faults are found in this order: the file of the image, where it is that of the table (`CannotWrite`); the file of the
-/// table (`CannotRead`, also where it is not UTF-8), the table (`BadTable`, also where memory is refused to it or to its
-/// image), and the file of the image (`CannotWrite`).
+/// # Errors
+///
+/// Faults are found in this order. The first is `CannotWrite`, if the file of the image is that of the table. Then come
+/// those of the file of the table (`CannotRead`, also if it is not UTF-8), and of the table. That is `BadTable`, also
+/// if memory is refused to it or to its image. Last comes that of the file of the image (`CannotWrite`).
 pub fn compile_file<'a, F: Files, W: Write>(
     alloc: Global,
     words: &'a PolicyWords,

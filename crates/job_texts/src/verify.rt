@@ -20,6 +20,10 @@ use std::alloc::{AllocError, Global};
 use std::io::{self, Write};
 
 /// `verify FILE [--maps LIST]`.
+///
+/// # Errors
+///
+/// An error if memory is refused.
 pub fn verify_command<'a>(alloc: Global) -> Result<Command<'a>, AllocError>
     ensures shape { IfOk result (λ c. app_of c ≡ verify_app) }
     ensures local { IfOk result (λ c. (fields_of c).has_globals ≡ false) }
@@ -29,17 +33,23 @@ pub fn verify_command<'a>(alloc: Global) -> Result<Command<'a>, AllocError>
 }
 
 /// Prints that a program may judge: `accepted weight W budget B`.
+///
+/// # Errors
+///
+/// The error of `out`, if it does not take all of the line.
 pub fn print_accepted<W: Write>(out: &mut W, weight: u64, budget: u32) -> io::Result<()>
     ensures { OnOk result (Prints W.contents out.old out.new (accepted_line weight budget)) }
 {
     writeln!(out, "accepted weight {weight} budget {budget}")
 }
 
-/// Verifies the image of a file for a node with maps of these sizes, and prints its weight and its
-/// budget where it may judge.
+/// Verifies the image of a file for a node with maps of these sizes, and prints its weight and its budget if it may
+/// judge.
 ///
-/// Faults are found in this order: the file (`CannotRead`), its image (`BadImage`), the program
-/// (`Refused`).
+/// # Errors
+///
+/// Faults are found in this order: that of the file (`CannotRead`), that of its image (`BadImage`), and that of the
+/// program (`Refused`).
 pub fn verify_file<'a, F: Files, W: Write>(
     alloc: Global,
     image: &'a str,

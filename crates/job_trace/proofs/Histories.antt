@@ -1,4 +1,4 @@
--- Commands behind their events, and what was printed of them.
+-- Commands after their events, and what was printed of them.
 use Rattle.std.proofs.Common.{◌≡◌, ◌==◌, ℕ, true, List, [], ◌∷◌, ◌++◌, Option, Some, refl, sym, ap, subst, arith, ◌∙◌, inl, inr}
 use Rattle.std.proofs.lemmas.Bool.Decides.{nat_tests}
 use Rattle.std.specs.Io.KnownBytes.{Appends}
@@ -33,11 +33,11 @@ use Rattle.job_parts.specs.Replies.{reply_line}
 own : (port : ℕ) → (port == port) ≡ true
 own port = grind (arith, nat_tests)
 
--- what is open behind a Take at its port
+-- what is open after a Take at its port
 pub opened_taken : (h : History) (port : ℕ) (packet : Cargo) (generation : ℕ) → opened (Then h (Take port packet) (Taken generation)) port ≡ Some (taken packet generation h)
 opened_taken h port packet generation = rw (own port) refl
 
--- what is open behind an answer at its port
+-- what is open after an answer at its port
 opened_told : (h : History) (port : ℕ) (helper : Helper) (told : ℕ) → opened (Then h (answering helper port) (Told told)) port ≡ after_told told (opened h port)
 opened_told h port helpers.Count told = rw (own port) refl
 opened_told h port helpers.Ticket told = rw (own port) refl

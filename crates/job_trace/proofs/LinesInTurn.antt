@@ -29,7 +29,7 @@ traces_came line port packet a b text old new fed traced printed n h lawful =
 
 -- ---- lines in turn
 
--- lines that were taken in turn are traced behind each history of which the first world is the world
+-- lines that were taken in turn are traced after each history whose world is the first world
 pub traces_all : (n : Node) (h : History) (lines : List (List ℕ)) (a b : Tracing) (old new : Option (List ℕ))
     → IsLawfulWorld n h a.world → AreTaken TracesLineFrom lines a b old new
     → (later : History) × IsLawfulWorld n later b.world × TracesLines n lines h a.feeds later b.feeds old new

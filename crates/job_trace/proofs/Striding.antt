@@ -58,7 +58,7 @@ step_lines start m made budget answers further same steps =
 
 -- ---- a run
 
--- what was printed of a run that began at the first machine, with so many steps made: whatever comes to the lines of the
+-- what was printed of a run that began at the first machine, with `made` steps made: whatever comes to the lines of the
 -- steps that are left, the whole comes to the lines of all
 abbrev pub Prints_so_far : (start m : MachineValue) (budget made : ℕ) (answers left : List ℕ) (old now : Option (List ℕ)) → Type 0
 Prints_so_far start m budget made answers left old now =

@@ -48,7 +48,7 @@ value_text (Map index) = codes "map " ++ decimal index
 
 -- ---- changes
 
--- what a store of so many bytes of that number to that place of the stack changed
+-- what a store of that number, of this size, to that place of the stack changed
 abbrev pub stored : Size → (place : Option ℕ) → (number : Option ℕ) → Change
 stored size None value = changes.Nothing
 stored size (Some place) None = changes.Nothing
@@ -65,18 +65,18 @@ abbrev pub holds : Comparison → State → Bool
 holds comparison t =
     holds_of comparison.condition comparison.width (number (t.registers comparison.dst)) (number (operand t comparison.src))
 
--- where a jump at that slot led: the slot is told where that is not the next one, and else whether the condition holds
+-- where a jump at that slot led: the slot, if that is not the next one, and else whether the condition holds
 abbrev pub jumped : (holds : Bool) → (slot next : ℕ) → Change
 jumped taken slot next =
     if next == slot + 1 then (if taken then changes.Taken else changes.NotTaken) else changes.Jumped next
 
--- what was written to that register, if there is one, where the registers hold these values
+-- what was written to that register, if there is one; the registers hold these values
 abbrev pub written : Option ℕ → (registers : ℕ → Value) → Change
 written None registers = changes.Nothing
 written (Some register) registers = changes.Written register (registers register)
 
--- what an instruction at that slot changed, by the state behind its step. A store and a jump change no register, so their
--- operands stand there as before. The last three go on by no step of their own
+-- what an instruction at that slot changed, by the state after its step. A store and a jump change no register, so the
+-- state has their operands as before. The last three go on by no step of their own
 abbrev pub change_of : Insn → (slot : ℕ) → State → Change
 change_of (Alu op width dst src) slot t = changes.Written dst (t.registers dst)
 change_of (Negate width dst) slot t = changes.Written dst (t.registers dst)
@@ -93,14 +93,14 @@ change_of (LoadAddress dst address) slot t = changes.Nothing
 change_of (Call callee called) slot t = changes.Nothing
 change_of Exit slot t = changes.Nothing
 
--- the offsets of so many bytes of the stack from that place on: the first and the last, or the one
+-- the offsets of this many bytes of the stack from that place on: the first and the last, or the one
 abbrev pub stack_text : (place bytes : ℕ) → List ℕ
 stack_text place bytes =
     if bytes == 1
     then codes "stack-" ++ decimal (STACK_SIZE - place)
     else codes "stack-" ++ decimal (STACK_SIZE - place) ++ codes "..-" ++ decimal (STACK_SIZE + 1 - place - bytes)
 
--- the text of a change. Bytes that are stored stand in their order in memory, the lowest of the number first
+-- the text of a change. Bytes that are stored are in their order in memory, the lowest of the number first
 abbrev pub change_text : Change → List ℕ
 change_text (changes.Written register value) = register_text register ++ codes " = " ++ value_text value
 change_text (changes.Stored place size n) =
@@ -117,7 +117,7 @@ change_text changes.Nothing = []
 
 -- ---- lines
 
--- so many spaces, and at most those of the column
+-- this many spaces, and at most those of the column
 abbrev pub blanks : ℕ → List ℕ
 blanks n = take n (replicate COLUMN 32)
 
@@ -125,11 +125,11 @@ blanks n = take n (replicate COLUMN 32)
 abbrev pub place_text : (slot : ℕ) → Insn → List ℕ
 place_text slot insn = decimal slot ++ codes ": " ++ insn_text insn
 
--- a text in a column that begins a line, with the space behind it
+-- a text in a column that begins a line, with the space after it
 abbrev pub column_text : List ℕ → List ℕ
 column_text text = codes "    " ++ text ++ blanks (COLUMN - length text) ++ codes " "
 
--- a text in a column, and behind it a change
+-- a text in a column, and after it a change
 abbrev pub change_line : List ℕ → Change → List ℕ
 change_line text change = column_text text ++ change_text change ++ 10 ∷ []
 

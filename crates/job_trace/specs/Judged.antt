@@ -28,18 +28,18 @@ IsStopLine port (Taken generation) text = ⊥
 IsStopLine port (Told told) text = ⊥
 IsStopLine port (Done status reply loaded) text = ⊥
 
--- behind the first history helpers of the port's program had those answers, in order, and nothing else happened
+-- after the first history the helpers of the port's program had those answers, in order, and nothing else happened
 pub data Helped (port : ℕ) (first : History) : (answers : List ℕ) → History → Type 0 where
   none : Helped port first [] first
   more : {answers : List ℕ} {h : History} (helper : Helper) (told : ℕ) → Helped port first answers h
       → Helped port first (answers ++ told ∷ []) (Then h (answering helper port) (Told told))
 
--- the command of a packet that was taken behind this history, with that generation and those answers
+-- the command of a packet that was taken after this history, with that generation and those answers
 abbrev pub command_with : Cargo → (generation : ℕ) → History → (answers : List ℕ) → Open
 command_with packet generation h answers = record (taken packet generation h) { answers = answers }
 
--- the packet was taken, its program judged it with those answers of its helpers, and it ended with a reply; the text is the
--- lines of that run, and of that reply
+-- the packet was taken, its program judged it with those answers of its helpers, and it ended with a reply. The text is
+-- the lines of that run, and of that reply
 pub record IsJudged (n : Node) (h : History) (port : ℕ) (packet : Cargo) (later : History) (text : List ℕ) : Type 0
   where
     pub generation : ℕ
@@ -60,11 +60,11 @@ pub record IsStopped (h : History) (port : ℕ) (packet : Cargo) (later : Histor
   pub later_is : later ≡ Then h (Take port packet) outcome
   pub line : IsStopLine port outcome text
 
--- what became of a packet behind a history is the longer one, and what is printed of it the text
+-- what became of a packet after a history is the longer one, and what is printed of it the text
 abbrev pub Traces : Node → (before : History) → (port : ℕ) → Cargo → (later : History) → (text : List ℕ) → Type 0
 Traces n h port packet later text = IsStopped h port packet later text ⊎ IsJudged n h port packet later text
 
--- where no packet came nothing was printed, and else what became of it
+-- if no packet came, nothing was printed, and else what became of it
 abbrev pub IsTraced : Node → (before : History) → Option (ℕ × Cargo) → (later : History) → (old new : Option (List ℕ))
     → Type 0
 IsTraced n h None later old new = (later ≡ h) × (new ≡ old)
@@ -73,14 +73,14 @@ IsTraced n h (Some came) later old new =
 
 -- ---- from a world on
 
--- behind each history of which the old world is the world, the packet was traced
+-- after each history whose world is the old world, the packet was traced
 abbrev pub TracesPacket : (port : ℕ) → Cargo → (before after : WorldValue) → (old new : Option (List ℕ)) → Type 0
 TracesPacket port packet before after old new =
     (n : Node) (h : History) → IsLawfulWorld n h before
     → (later : History) × IsLawfulWorld n later after × IsTraced n h (Some (port, packet)) later old new
 
--- behind each history of which the old world is the world, in which a command is open at the port whose program was
--- told nothing, the helpers of its program were answered
+-- take each history whose world is the old world, and in which a command is open at the port whose program has no
+-- answer yet. After it the helpers of the program were answered
 abbrev pub AnswersHelpers : (port : ℕ) → (answers : List ℕ) → (before after : WorldValue) → Type 0
 AnswersHelpers port answers before after =
     (n : Node) (h : History) (packet : Cargo) (generation : ℕ) (first : History) → IsLawfulWorld n h before
@@ -88,7 +88,7 @@ AnswersHelpers port answers before after =
     → (later : History) × Helped port h answers later × IsLawfulWorld n later after
     × (opened later port ≡ Some (command_with packet generation first answers))
 
--- the lines of the command that is open at the port were printed, in each history of the world in which it has those
+-- the lines of the command that is open at the port were printed, for each history of the world in which it has those
 -- answers
 abbrev pub PrintsRun : (port : ℕ) → (answers : List ℕ) → WorldValue → (old new : Option (List ℕ)) → Type 0
 PrintsRun port answers w old new =
@@ -105,13 +105,13 @@ pub record IsEnded (n : Node) (h : History) (port : ℕ) (after : WorldValue) (o
   pub lawful : IsLawfulWorld n (Then h event (Done status reply loaded)) after
   pub printed : Appends old new (reply_line port reply)
 
--- the same behind each history of which the old world is the world
+-- the same after each history whose world is the old world
 abbrev pub EndsCommand : (port : ℕ) → (before after : WorldValue) → (old new : Option (List ℕ)) → Type 0
 EndsCommand port before after old new =
     (n : Node) (h : History) → IsLawfulWorld n h before → IsEnded n h port after old new
 
--- behind each history of which the old world is the world, in which a command was just taken at the port, that was judged,
--- and the text was printed of it
+-- take each history whose world is the old world, and in which a command was just taken at the port. After it the
+-- command was judged, and the text was printed of it
 abbrev pub TracesCommand : (port : ℕ) → (before after : WorldValue) → (old new : Option (List ℕ)) → Type 0
 TracesCommand port before after old new =
     (n : Node) (h : History) (packet : Cargo) (generation : ℕ)

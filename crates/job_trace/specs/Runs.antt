@@ -14,8 +14,8 @@ use Rattle.job_trace.specs.Changes.{change_of, step_line}
 use Rattle.job_trace.specs.declared.changes.Change.{Change}
 use Rattle.job_trace.specs.declared.changes.Change.TheVariants as changes
 
--- what a step comes to in a trace: it changed something, and the run goes on from a state with the answers that are left;
--- it was the last; or there is no line of it, since it is a trap or a question without an answer
+-- what a step comes to in a trace: it changed something, and the run goes on from a state with the answers that are
+-- left. Or it was the last. Or there is no line of it, since it is a trap or a question without an answer
 pub data Stride : Type 0 where
   On : Change → State → List ℕ → Stride
   Last : Change → Stride
@@ -36,15 +36,15 @@ line_before further slot insn (On change t answers) = step_line slot insn change
 line_before further slot insn (Last change) = step_line slot insn change
 line_before further slot insn Stuck = []
 
--- the same where an instruction begins at the slot
+-- the same, if an instruction begins at the slot
 abbrev pub lines_at : (further : State → List ℕ → List ℕ) → (made budget slot : ℕ) → (answers : List ℕ) → Option Insn
     → Outcome → List ℕ
 lines_at further made budget slot answers None outcome = []
 lines_at further made budget slot answers (Some insn) outcome =
     line_before further slot insn (stride_of made budget slot insn answers outcome)
 
--- the lines of at most so many steps from a state with those answers, behind so many that were made, with maps of those
--- sizes: of each the line, up to the verdict
+-- the lines of at most `left` steps from a state with those answers, after `made` that were made, with maps of those
+-- sizes. Each step has its line, up to the verdict
 abbrev pub lines_within : Program → Header → Maps → (budget left made : ℕ) → State → (answers : List ℕ) → List ℕ
 lines_within program header sizes budget zero made s answers = []
 lines_within program header sizes budget (suc left) made s answers =
@@ -58,7 +58,7 @@ abbrev pub IsStrideBy : Stride → Change → Option (Bor (List ℕ)) → (after
 IsStrideBy stride change None after = stride ≡ Last change
 IsStrideBy stride change (Some left) after = stride ≡ On change after left.now
 
--- the same where a step may have no line
+-- the same, if a step may have no line
 abbrev pub IsStride : Stride → Option (Change × Option (Bor (List ℕ))) → (after : State) → Type 0
 IsStride stride None after = stride ≡ Stuck
 IsStride stride (Some came) after = IsStrideBy stride came.0 came.1 after
@@ -69,8 +69,8 @@ abbrev pub lines_of_step : (further : State → List ℕ → List ℕ) → (budg
 lines_of_step further budget m answers =
     lines_at further (m.steps + 1) budget m.slot answers (insn_at m.program m.slot) (step_of m)
 
--- the line of a step was printed: what follows it is still to come where answers are told to be left, and else there is no
--- more
+-- the line of a step was printed. What follows it is still to come if the result says that answers are left, and else
+-- there is no more
 abbrev pub Strides : (budget : ℕ) → (m after : MachineValue) → (answers : List ℕ) → (old new : Option (List ℕ))
     → Option (Bor (List ℕ)) → Type 0
 Strides budget m after answers old new None =

@@ -36,14 +36,14 @@ TracesLines n (line ∷ lines) h held later left old new =
     (next : History) × (kept : List (List ℕ)) × (between : Option (List ℕ))
     × TracesLine n line h held next kept old between × TracesLines n lines next kept later left between new
 
--- why a line was not traced: this is wrong with it; or it ended a packet, and memory was refused to what becomes of that. The
--- ports hold those bytes then
+-- why a line was not traced: this is wrong with it; or it ended a packet, and memory was refused to what becomes of
+-- that. The ports hold those bytes then
 abbrev pub IsUntraced : List ℕ → (held left : List (List ℕ)) → LineEnd → Type 0
 IsUntraced line held left (Bad fault) = IsNotFed line held left fault
 IsUntraced line held left NoMemory = (came : ℕ × Cargo) × IsFed line held left (Some came)
 
--- the lines before one were traced, and that one, which is counted from 1, ends the job with this fault: nothing was printed
--- of it
+-- the lines before one were traced. That one, which is counted from 1, ends the job with this fault: nothing was
+-- printed of it
 pub record IsCutShort (n : Node) (lines : List (List ℕ)) (h : History) (held : List (List ℕ)) (old new : Option (List ℕ))
     (fault : Fault) : Type 0 where
   pub front : List (List ℕ)
@@ -60,7 +60,7 @@ pub record IsCutShort (n : Node) (lines : List (List ℕ)) (h : History) (held :
 
 -- ---- a line
 
--- behind each history of which the old world is the world, the line was traced
+-- after each history whose world is the old world, the line was traced
 abbrev pub TracesLineFrom : List ℕ → Sees Tracing
 TracesLineFrom line before after old new =
     (n : Node) (h : History) → IsLawfulWorld n h before.world
@@ -85,7 +85,7 @@ module _ {S : Type 0} (reads : Reads S) (args : NodeLines) where
     pub lawful : IsLawfulWorld node later world
     pub all : TracesLines node (lines_of text) Start (replicate node.ports []) later left old new
 
-  -- what `trace` reads and prints where no fault ends it, with its exit status: 2 where a bank begins with bytes
+  -- what `trace` reads and prints if no fault ends it, with its exit status: 2 if a bank begins with bytes
   abbrev pub DoesTrace : (before after : S) → (old new : Option (List ℕ)) → Status → Type 0
   DoesTrace before after old new Done = TracesFile before after old new
   DoesTrace before after old new Failed = ⊥
@@ -105,7 +105,7 @@ module _ {S : Type 0} (reads : Reads S) (args : NodeLines) where
     pub scheduled : IsScheduled reads args before text node after
     pub no_memory : fault ≡ OutOfMemory
 
-  -- why not all lines were traced: nothing was printed where lines or node cannot be read
+  -- why not all lines were traced: nothing was printed if lines or node cannot be read
   abbrev pub IsNotTraced : (before after : S) → (old new : Option (List ℕ)) → Fault → Type 0
   IsNotTraced before after old new fault =
       ((new ≡ old) × (IsUnscheduled reads args before after fault ⊎ LacksRoom before after fault))

@@ -17,7 +17,7 @@ use stepper::Machine;
 pub enum Change {
     /// A register holds a value.
     Written(Register, Value),
-    /// The low bytes of a number stand in the stack, from this place on.
+    /// The low bytes of a number are in the stack, from this place on.
     Stored(usize, Size, u64),
     /// A jump whose condition does not hold goes on at the next slot.
     NotTaken,
@@ -25,15 +25,15 @@ pub enum Change {
     Taken,
     /// A jump goes on at this slot.
     Jumped(u32),
-    /// A helper was told its answer.
+    /// A helper got its answer.
     Told(Call),
-    /// The program ended with a verdict after so many steps, within its budget.
+    /// The program ended with this verdict, after this many steps of this budget.
     Ended(u64, u32, u32),
-    /// Nothing that is told.
+    /// Nothing that is printed.
     Nothing,
 }
 
-/// What a store changed, by the registers behind it.
+/// What a store changed, by the registers after it.
 fn stored(machine: &Machine<'_>, size: Size, place: &MemoryOperand, src: &Operand) -> Change
     ensures { result ≡ change_of (Insn.Store size place.now src.now) 0 (state_of machine.now) }
 {
@@ -84,7 +84,7 @@ fn written(machine: &Machine<'_>, register: Option<Register>) -> Change
     }
 }
 
-/// What the instruction at a slot changed, where the machine stands behind its step.
+/// What the instruction at a slot changed, if the machine is after its step.
 pub fn change_of(insn: &Insn, slot: u32, machine: &Machine<'_>) -> Change
     ensures { result ≡ change_of insn.now slot (state_of machine.now) }
 {
@@ -142,7 +142,7 @@ fn print_value<W: Write>(out: &mut W, value: Value) -> io::Result<()>
     }
 }
 
-/// Prints where so many bytes of the stack lie, from a place on.
+/// Prints where this many bytes of the stack are, from a place on.
 fn print_stack<W: Write>(out: &mut W, place: usize, bytes: usize) -> io::Result<()>
     ensures { OnOk result (Prints W.contents out.old out.new (stack_text place bytes)) }
 {
@@ -166,6 +166,10 @@ fn print_stored<W: Write>(out: &mut W, place: usize, size: Size, number: u64) ->
 }
 
 /// Prints what a step changed.
+///
+/// # Errors
+///
+/// The error of `out`, if it does not take all of the text.
 pub fn print_change<W: Write>(out: &mut W, change: Change) -> io::Result<()>
     ensures { OnOk result (Prints W.contents out.old out.new (change_text change)) }
 {

@@ -18,10 +18,10 @@ use std::alloc::{AllocError, Global};
 use std::io::{self, Write};
 use stepper::Machine;
 
-/// How many questions a run has at most: no more than a budget allows it steps.
+/// The most questions of a run: no more than a budget allows it steps.
 const MOST_QUESTIONS: u32 = 0x1_0000;
 
-/// The event that answers the helper that a program at the port asks, or `None` where it asks none.
+/// The event that answers the helper that a program at the port asks, or `None` if it asks none.
 fn question(world: &World, port: u8) -> Option<Event>
     ensures { IfSome result (λ event. (helper : Helper) × (event ≡ answering helper port)) }
 {
@@ -31,7 +31,7 @@ fn question(world: &World, port: u8) -> Option<Event>
     }
 }
 
-/// Answers the helpers of the program that judges at a port, up to its verdict: what they were told, in order.
+/// Answers the helpers of the program that judges at a port, up to its verdict. Returns their answers, in order.
 #[tactic(auto, using(crate::proofs::Histories::answers_none, crate::proofs::Histories::answers_more))]
 fn answer_helpers(alloc: Global, world: &mut World, port: u8) -> Result<Vec<u64>, AllocError>
     ensures { IfOk result
@@ -42,7 +42,7 @@ fn answer_helpers(alloc: Global, world: &mut World, port: u8) -> Result<Vec<u64>
         let Some(event) = question(world, port) else {
             return Ok(answers);
         };
-        // Memory alone can be refused to it: the program asks that helper.
+        // Only memory can be refused to it: the program asks that helper.
         let Ok(Outcome::Told(told)) = step(alloc, world, event) else {
             return Err(AllocError);
         };
@@ -89,7 +89,7 @@ fn end_command<W: Write>(alloc: Global, world: &mut World, port: u8, out: &mut W
         return Err(AllocError.into());
     };
     let event = ending(port, standing.place);
-    // Memory alone can be refused to it: the program has its verdict.
+    // Only memory can be refused to it: the program has its verdict.
     let Ok(Outcome::Done(_, reply, _)) = step(alloc, world, event) else {
         return Err(AllocError.into());
     };
@@ -107,6 +107,10 @@ fn trace_taken<W: Write>(alloc: Global, world: &mut World, port: u8, out: &mut W
 }
 
 /// Takes a packet at a port, and prints what becomes of it: the run of the program that judges it, and its reply.
+///
+/// # Errors
+///
+/// The error of `out`, if it does not take all of the text, or an error if memory is refused.
 #[tactic(auto, using(crate::proofs::Histories::traces_stopped, crate::proofs::Histories::traces_judged))]
 pub fn trace_packet<W: Write>(
     alloc: Global,
@@ -122,7 +126,7 @@ pub fn trace_packet<W: Write>(
         Ok(Outcome::Discarded(discard)) => print_discard(out, port, discard),
         Ok(Outcome::Answered(_, reply)) => print_reply(out, port, reply.bytes()),
         Ok(Outcome::Taken(_)) => trace_taken(alloc, world, port, out),
-        // Memory alone can be refused to it: no command is open at the port.
+        // Only memory can be refused to it: no command is open at the port.
         _ => Err(AllocError.into()),
     }
 }

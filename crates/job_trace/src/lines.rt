@@ -20,7 +20,7 @@ fn column() -> [u8; COLUMN]
     [b' '; COLUMN]
 }
 
-/// Prints so many spaces, at most a whole column.
+/// Prints this many spaces, at most a whole column.
 fn print_blanks<W: Write>(out: &mut W, count: usize) -> io::Result<()>
     ensures { OnOk result (Prints W.contents out.old out.new (blanks count)) }
 {
@@ -62,7 +62,7 @@ fn print_column<W: Write>(out: &mut W, text: &str) -> io::Result<()>
     write!(out, " ")
 }
 
-/// Prints a line: a text in the column, and behind it what a step changed.
+/// Prints a line: a text in the column, and after it what a step changed.
 fn print_line<W: Write>(out: &mut W, text: &str, change: Change) -> io::Result<()>
     ensures { OnOk result
         (Prints W.contents out.old out.new (change_line text.now change)) }
@@ -73,6 +73,10 @@ fn print_line<W: Write>(out: &mut W, text: &str, change: Change) -> io::Result<(
 }
 
 /// Prints the line of a step: the instruction at its slot, and in a column of its own what it changed.
+///
+/// # Errors
+///
+/// The error of `out`, if it does not take all of the line, or an error if memory is refused.
 pub fn print_step<W: Write>(
     alloc: Global,
     out: &mut W,

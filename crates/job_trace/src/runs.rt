@@ -13,8 +13,8 @@ use std::alloc::Global;
 use std::io::{self, Write};
 use stepper::{Machine, Outcome};
 
-/// Makes the step of an instruction: what it changed, and the answers that are left, or `None` in their place where the
-/// run has its verdict. `None` where it is a trap, or a question without an answer.
+/// Makes the step of an instruction. Returns what it changed, and the answers that are left, or `None` in their place
+/// if the run has its verdict. Returns `None` if it is a trap, or a question without an answer.
 fn stride<'b>(
     machine: &mut Machine<'_>,
     insn: &Insn,
@@ -42,7 +42,7 @@ fn stride<'b>(
     }
 }
 
-/// Makes a step, and prints its line. The answers that are left, or `None` where the run goes no further.
+/// Makes a step, and prints its line. Returns the answers that are left, or `None` if the run goes no further.
 fn trace_step<'b, W: Write>(
     alloc: Global,
     machine: &mut Machine<'_>,
@@ -68,6 +68,10 @@ fn trace_step<'b, W: Write>(
 }
 
 /// Prints the steps of a run from its entry on, with the answers to its helpers in order.
+///
+/// # Errors
+///
+/// The error of `out`, if it does not take all of the lines, or an error if memory is refused.
 pub fn trace_run<W: Write>(
     alloc: Global,
     mut machine: Machine<'_>,

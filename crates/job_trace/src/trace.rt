@@ -22,6 +22,10 @@ use std::alloc::{AllocError, Global};
 use std::io::Write;
 
 /// `trace LINES [--image FILE] [--maps LIST] [--ports N]` or `trace LINES --node FILE`.
+///
+/// # Errors
+///
+/// An error if memory is refused.
 pub fn trace_command<'a>(alloc: Global) -> Result<Command<'a>, AllocError>
     ensures shape { IfOk result (λ c. app_of c ≡ trace_app) }
     ensures local { IfOk result (λ c. (fields_of c).has_globals ≡ false) }
@@ -42,7 +46,7 @@ fn packet_text(
         (Some []) (Some text.items)) }
 {
     let mut text = Vec::new(alloc);
-    // Memory alone can be refused to it: what is printed stays in memory.
+    // Only memory can be refused to it: what is printed stays in memory.
     match trace_packet(alloc, world, port, packet, &mut text) {
         Ok(()) => Ok(text),
         Err(_) => Err(AllocError),
@@ -61,8 +65,8 @@ impl TakesLines for Tracing {
 
     ghost stops = { IsStuck };
 
-    /// Takes one line, and prints what becomes of the packet that it ends: all of it at once, so that nothing is printed
-    /// of a packet to which memory is refused.
+    /// Takes one line, and prints what becomes of the packet that it ends. It prints all of it at once, so that it
+    /// prints nothing of a packet to which memory is refused.
     #[tactic(auto, using(crate::proofs::LinesInTurn::traces_none, crate::proofs::LinesInTurn::traces_came))]
     fn take<W: Write>(&mut self, alloc: Global, line: &str, out: &mut W) -> Result<(), LineHalt> {
         let Some((port, packet)) = self.feeds.take_line(alloc, line)? else {
@@ -82,11 +86,13 @@ fn tracing_on(alloc: Global, world: World) -> Result<Tracing, AllocError>
     Ok(Tracing { world, feeds })
 }
 
-/// Judges the packet lines of a file, in order, on the node of these arguments, after what its file publishes.
-/// Of each packet that a program judges it prints the steps of the run, and then the reply; of any other its line alone.
-/// `Misused`, and nothing is printed, where a bank begins with bytes, which no schedule does.
+/// Judges the packet lines of a file, in order, on the node of these arguments, after what its file publishes. For each
+/// packet that a program judges it prints the steps of the run, and then the reply; for any other only its line. If a
+/// bank begins with bytes, which no schedule has, it returns `Misused` and prints nothing.
 ///
-/// Faults are found in the order of [`lines_and_world`], and then each line.
+/// # Errors
+///
+/// Those of [`lines_and_world`], in its order, and then those of each line.
 #[tactic(auto, using(crate::proofs::Scheduled::refuses_contents))]
 pub fn trace_file<'a, F: Files, W: Write>(
     alloc: Global,

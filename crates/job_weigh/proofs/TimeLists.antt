@@ -16,7 +16,7 @@ numbers_of unit f xs text are = map_twice unit f xs ∙ ap (map (value_in unit))
     map_twice unit f [] = refl
     map_twice unit f (x ∷ xs) = ap (λ (l : List ℕ). value_in unit (f x) ∷ l) (map_twice unit f xs)
 
--- the texts are of times where the parts of the list are
+-- the texts are of times if the parts of the list are
 pub are_times : {X : Type 0} (unit : TimeUnit) (f : X → List ℕ) (xs : List X) (text : List ℕ) → map f xs ≡ list_parts text → IsTimes unit text → All (λ x. IsTimeIn unit (f x)) xs
 are_times unit f xs text are times = unmapped (IsTimeIn unit) f xs (subst (All (IsTimeIn unit)) (sym are) times.1)
 

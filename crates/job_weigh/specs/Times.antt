@@ -17,7 +17,7 @@ use Rattle.job_weigh.specs.declared.times.Unit.TheVariants.{Nanosecond, Thousand
 abbrev pub is_point : ℕ → Bool
 is_point c = c == 46
 
--- the digits of a part in thousandths: those before its point and those behind it, and zeros (48) up to three of these
+-- the digits of a part in thousandths: those before its point and those after it, and zeros (48) up to three of these
 abbrev pub thousandths : List ℕ → List ℕ
 thousandths part =
     (before_first is_point part ++ after_first is_point part) ++ replicate (3 - length (after_first is_point part)) 48
@@ -31,7 +31,7 @@ digits_in Thousandth part = thousandths part
 abbrev pub IsTime : List ℕ → Type 0
 IsTime part = IsNumberWithin 0 4294967295 part
 
--- a number of nanoseconds; or one with at most three digits behind a point, and one at least before it
+-- a number of nanoseconds; or one with at most three digits after a point, and one at least before it
 abbrev pub IsTimeIn : TimeUnit → List ℕ → Type 0
 IsTimeIn Nanosecond part = IsTime part
 IsTimeIn Thousandth part =
@@ -59,7 +59,7 @@ pub record WritesIn (unit : TimeUnit) (text : List ℕ) (times : Times) : Type 0
   pub unit_is : times.unit ≡ unit
   pub costs_are : times.costs ≡ written_times unit text
 
--- the list writes the times: in nanoseconds where its parts are whole numbers, and else in thousandths
+-- the list writes the times: in nanoseconds if its parts are whole numbers, and else in thousandths
 abbrev pub WritesTimes : List ℕ → Times → Type 0
 WritesTimes text times = WritesIn Nanosecond text times ⊎ ((¬ IsTimes Nanosecond text) × WritesIn Thousandth text times)
 
@@ -87,11 +87,11 @@ RefusesTimes rows Memory = Unit {0}
 RefusesTimes rows BadOption = AreBadTimes (first_of (codes "ns") rows)
 RefusesTimes rows (Parse text) = ⊥
 
--- so many thousandths, in whole numbers: a rest counts as one more
+-- this many thousandths, in whole numbers: a rest counts as one more
 abbrev pub rounded_up : ℕ → ℕ
 rounded_up count = if count % 1000 == 0 then count / 1000 else count / 1000 + 1
 
--- so many of a unit, in nanoseconds
+-- this many of a unit, in nanoseconds
 abbrev pub in_nanoseconds : TimeUnit → ℕ → ℕ
 in_nanoseconds Nanosecond count = count
 in_nanoseconds Thousandth count = rounded_up count

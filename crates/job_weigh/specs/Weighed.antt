@@ -19,14 +19,14 @@ lines_of division call jump rest weight =
     codes "division " ++ (decimal division ++ (codes "\ncall " ++ (decimal call ++ (codes "\njump " ++ (decimal jump
     ++ (codes "\nrest " ++ (decimal rest ++ (codes "\nweight " ++ (decimal weight ++ 10 ∷ [])))))))))
 
--- how many instructions of each class a run of the program takes at most, and how many in all: the weight of each class is
--- that where an instruction of the class costs one, and any other nothing
+-- how many instructions of each class a run of the program takes at most, and how many in all. The weight of a class is
+-- the weight if each of its instructions costs one, and each other instruction nothing
 abbrev pub class_lines : Program → List ℕ
 class_lines p =
     lines_of (weight_by (cost_by (costs 1 0 0 0)) p) (weight_by (cost_by (costs 0 1 0 0)) p)
     (weight_by (cost_by (costs 0 0 1 0)) p) (weight_by (cost_by (costs 0 0 0 1)) p) (saturated_weight (weight_of p))
 
--- how many nanoseconds a run of the program takes at most, where times are given: the weight where each instruction costs the
+-- how many nanoseconds a run of the program takes at most, if times are given: the weight if each instruction costs the
 -- time of its class
 abbrev pub longest : Program → Option Times → Option ℕ
 longest p None = None
@@ -38,8 +38,9 @@ time_lines None = []
 time_lines (Some most) = codes "at most " ++ decimal most ++ codes " ns" ++ 10 ∷ []
 
 module _ {S : Type 0} (reads : Reads S) where
-  -- the image in the file is justified on a node with maps of these sizes, and so safe, and no run of it costs more than its
-  -- weight, whatever each instruction costs; and its weights by class were printed, and the time by the times that are given
+  -- the image in the file is justified on a node with maps of these sizes, and so safe. No run of it costs more than
+  -- its weight, whatever each instruction costs. Its weights by class were printed, and the time by the times that are
+  -- given
   pub record Weighs (words : WeighWords) (before after : S) (old new : Option (List ℕ)) : Type 0 where
     pub program : Program
     pub image : HoldsImage reads before (string_bytes words.image) program after

@@ -1,4 +1,4 @@
-//! The job of `rmapctl` that tells what a run of a program costs at most.
+//! The job of `rmapctl` that prints what a run of a program costs at most.
 #![tactic(auto)]
 
 pub mod times;

@@ -31,7 +31,7 @@ pub struct Times {
     pub unit: Unit,
 }
 
-/// So many thousandths, in whole numbers: a rest counts as one more.
+/// This many thousandths, in whole numbers: a rest counts as one more.
 fn rounded_up(count: u64) -> u64
     ensures { result ≡ rounded_up count }
 {
@@ -42,7 +42,7 @@ fn rounded_up(count: u64) -> u64
 }
 
 impl Times {
-    /// So many of its units, in nanoseconds: a rest counts as one more.
+    /// This many of its units, in nanoseconds: a rest counts as one more.
     pub fn nanoseconds(&self, count: u64) -> u64
         ensures { result ≡ in_nanoseconds self.now.unit count }
     {
@@ -64,7 +64,7 @@ fn digits_written(digits: &str) -> Result<u32, UsageFault>
     Ok(time)
 }
 
-/// What stands before the point of a part, and behind it.
+/// What is before the point of a part, and what is after it.
 fn at_point(part: &str) -> (&str, &str)
     ensures before { result.0.now ≡ before_first is_point part.now }
     ensures behind { result.1.now ≡ after_first is_point part.now }
@@ -75,7 +75,7 @@ fn at_point(part: &str) -> (&str, &str)
     }
 }
 
-/// The zeros that so many digits lack to three.
+/// The zeros that this many digits lack to three.
 fn zeros_behind(count: usize) -> &'static str
     ensures { result.now ≡ replicate (3 - count) 48 }
 {
@@ -87,7 +87,7 @@ fn zeros_behind(count: usize) -> &'static str
     }
 }
 
-/// The digits of thousandths, of those before and behind a point.
+/// The digits of thousandths, of those before and after a point.
 fn thousandths(alloc: Global, before: &str, behind: &str) -> Result<String, AllocError>
     ensures { IfOk result (λ digits. string_bytes digits
         ≡ (before.now ++ behind.now) ++ replicate (3 - length behind.now) 48) }
@@ -137,7 +137,7 @@ fn each_time(alloc: Global, parts: &[&str], unit: Unit) -> Result<Vec<u32>, Usag
     Ok(times)
 }
 
-/// The parts of a list: what stands between its commas.
+/// The parts of a list, which commas separate.
 fn parts_of(alloc: Global, text: &str) -> Result<Vec<&str>, AllocError>
     ensures { IfOk result (λ parts. map (λ part. part.now) parts.items
         ≡ list_parts text.now) }
@@ -177,7 +177,7 @@ fn times_in(alloc: Global, text: &str, unit: Unit) -> Result<Times, UsageFault>
     Ok(Times { costs, unit })
 }
 
-/// The times that a list writes: in nanoseconds where its parts are whole numbers, and else in thousandths.
+/// The times that a list writes: in nanoseconds if its parts are whole numbers, and else in thousandths.
 fn listed_times(alloc: Global, text: &str) -> Result<Times, UsageFault>
     ensures ok { IfOk result (WritesTimes text.now) }
     ensures err { IfErr result (LacksTimes text.now) }
@@ -188,9 +188,13 @@ fn listed_times(alloc: Global, text: &str) -> Result<Times, UsageFault>
     }
 }
 
-/// What an instruction of each class takes by `--ns`: four decimal numbers of nanoseconds with commas between them, each below
-/// 2^32; or, if one has a point, with at most three digits behind it, each below 2^32 thousandths. Without the option no times are
-/// given. `BadOption` where its value is none such.
+/// What an instruction of each class takes by `--ns`: four decimal numbers of nanoseconds with commas between them,
+/// each below 2^32. Or, if one has a point, with at most three digits after it, each below 2^32 thousandths. Without
+/// the option no times are given.
+///
+/// # Errors
+///
+/// `BadOption` if the value is no such list, or `Memory` if memory is refused.
 pub fn times_of(alloc: Global, found: &ArgMatches) -> Result<Option<Times>, UsageFault>
     ensures ok { IfOk result (GivesTimes (first_of (codes "ns") (rows_of (found_of found.now)))) }
     ensures err { IfErr result (RefusesTimes (rows_of (found_of found.now))) }

@@ -31,9 +31,9 @@ use weights::{weigh, weights_of};
 pub struct WeighWords {
     /// The name of the file of the image.
     pub image: String,
-    /// How many cells each map has of the node, and of which kind it is, that it may judge on.
+    /// How many cells each map has of the node that the program may judge on, and of which kind it is.
     pub sizes: MapSizes,
-    /// How many nanoseconds an instruction of each class takes, where that is told.
+    /// How many nanoseconds an instruction of each class takes, if that is given.
     pub times: Option<Times>,
 }
 
@@ -47,6 +47,10 @@ impl WeighWords {
 }
 
 /// `weigh FILE [--maps LIST] [--ns D,C,J,R]`.
+///
+/// # Errors
+///
+/// An error if memory is refused.
 pub fn weigh_command<'a>(alloc: Global) -> Result<Command<'a>, AllocError>
     ensures shape { IfOk result (λ c. app_of c ≡ weigh_app) }
     ensures local { IfOk result (λ c. (fields_of c).has_globals ≡ false) }
@@ -60,6 +64,10 @@ pub fn weigh_command<'a>(alloc: Global) -> Result<Command<'a>, AllocError>
 }
 
 /// The words of `weigh` with these matches.
+///
+/// # Errors
+///
+/// Those of [`name_of`] for the file, and those of [`sizes_of`] and [`times_of`].
 pub fn weigh_job(alloc: Global, found: &ArgMatches) -> Result<WeighWords, UsageFault>
     ensures ok { IfOk result (NamesWeigh (rows_of (found_of found.now))) }
     ensures err { IfErr result (RefusesWeigh (rows_of (found_of found.now))) }
@@ -102,7 +110,7 @@ fn print_weights<W: Write>(out: &mut W, program: &Accepted) -> io::Result<()>
     Ok(())
 }
 
-/// How many nanoseconds a run takes at most, where it is told how many an instruction of each class takes.
+/// How many nanoseconds a run takes at most, if it is given how many an instruction of each class takes.
 fn longest(program: &Accepted, times: &Option<Times>) -> Option<u64>
     ensures { result ≡ longest program.now.program times.now }
 {
@@ -112,7 +120,7 @@ fn longest(program: &Accepted, times: &Option<Times>) -> Option<u64>
     }
 }
 
-/// Prints the line of the longest time, where there is one.
+/// Prints the line of the longest time, if there is one.
 fn print_time<W: Write>(out: &mut W, most: Option<u64>) -> io::Result<()>
     ensures { OnOk result (Prints W.contents out.old out.new (time_lines most)) }
 {
@@ -122,12 +130,14 @@ fn print_time<W: Write>(out: &mut W, most: Option<u64>) -> io::Result<()>
     }
 }
 
-/// Verifies the image of a file for a node with maps of these sizes, and prints what a run of its program costs at most: how
-/// many instructions of each class it takes, and how many in all; and how long it takes, where the times of instructions
-/// are told. Nothing is printed of an image that may not judge.
+/// Verifies the image of a file for a node with maps of these sizes, and prints what a run of its program costs at
+/// most. It prints how many instructions of each class a run takes, and how many in all, and how long it takes, if the
+/// times of instructions are given. It prints nothing of an image that may not judge.
 ///
-/// Faults are found in this order: the file (`CannotRead`), its image (`BadImage`), the program
-/// (`Refused`).
+/// # Errors
+///
+/// Faults are found in this order: that of the file (`CannotRead`), that of its image (`BadImage`), and that of the
+/// program (`Refused`).
 pub fn weigh_file<'a, F: Files, W: Write>(
     alloc: Global,
     words: &'a WeighWords,

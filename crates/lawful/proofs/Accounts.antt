@@ -1,4 +1,5 @@
--- What is known of a port's acts in the list by what became of its packets: it did not do more so far than it asked for.
+-- What is known of a port's acts in the list by what became of its packets. So far the port did no more than it asked
+-- for.
 use Rattle.std.proofs.Common.{◌≡◌, ◌+◌, ◌≤◌, ◌⊎◌, ℕ, true, List, [], ◌∷◌, ◌++◌, length, Option, Some, None, refl, sym, ap, subst, ◌∙◌, inl, inr, arith, length-append}
 use Rattle.std.proofs.lemmas.Bool.{cases_lt}
 use mathlib.Core.List.{IsPrefix}
@@ -79,7 +80,7 @@ reached_front j p s after is = elim is.ended [
   | inr windowed ↦ windowed.front
 ]
 
--- the moment at which a command was taken stands in the list
+-- the moment at which a command was taken is in the list
 pub moment_stands : (j : Judging) (p : Cargo) (s after : Standing) (whole : List Link) (is : IsJudged j p s after) → IsPrefix after.front whole → IsPrefix is.moment.at whole
 moment_stands j p s after whole is begins =
     prefix_trans is.moment.at is.reached whole is.moment.before (prefix_trans is.reached after.front whole (reached_front j p s after is) begins)
@@ -101,7 +102,7 @@ from_seen place whole s last ps ds w listed begins all = from_by place s last ps
 
 -- ---- how a judged command ended
 
--- at a bank, where it left its entry
+-- at a bank, if it left its entry
 pub record LeavesEntry (j : Judging) (p : Cargo) (s after : Standing) (is : IsJudged j p s after) : Type 0 where
   pub banked : IsBanked j (stand is.between s.asked is.reached) after
   pub left : j.entered ≡ true
@@ -111,7 +112,7 @@ pub record PublishesNone (j : Judging) (p : Cargo) (s after : Standing) (is : Is
   pub windowed : IsWindowed j (stand is.between s.asked is.reached) after
   pub none : j.loaded ≡ None
 
--- in the boot window, with a publish, which stands in the list
+-- in the boot window, with a publish, which is in the list
 pub record PublishesOne (q : ℕ) (whole : List Link) (j : Judging) (p : Cargo) (s after : Standing) (is : IsJudged j p s after) : Type 0 where
   pub windowed : IsWindowed j (stand is.between s.asked is.reached) after
   pub publish : Publish
@@ -202,7 +203,7 @@ one_loaded q whole j p s after is one =
 
 -- ---- acts
 
--- what a command did that left an entry or published: it stands in the list behind all that the port knew when it was taken
+-- what a command did that left an entry or published: it is in the list after all that the port knew when it was taken
 pub record HasActed (q : ℕ) (whole : List Link) (j : Judging) (p : Cargo) (s after : Standing) (is : IsJudged j p s after) : Type 0 where
   pub before : List Link
   pub item : Link
@@ -226,7 +227,7 @@ entry_acted q k whole j p s after is done port begins asked = record {
   asked = asked;
 }
 
--- of a load its port asked for one more
+-- for a load its port asked for one more
 pub load_asked : (q : ℕ) (whole : List Link) (j : Judging) (p : Cargo) (s after : Standing) (is : IsJudged j p s after) → PublishesOne q whole j p s after is → length after.asked ≡ length s.asked + 1
 load_asked q whole j p s after is one =
     let it = one.windowed in
@@ -245,7 +246,7 @@ load_acted q whole j p s after is one = record {
   asked = load_asked q whole j p s after is one;
 }
 
--- behind a load the next command is taken not before the place of its publish
+-- after a load the next command is taken not before the place of its publish
 pub from_publish : (q : ℕ) (whole : List Link) (j : Judging) (p : Cargo) (s after last : Standing) (is : IsJudged j p s after) (one : PublishesOne q whole j p s after is) (ps : List Cargo) (ds : List Deed) (w : Worked after ps ds last)
     → AreListed whole → IsPrefix last.front whole → IsFrom (length one.placed.before + 1) after last ps ds w
 from_publish q whole j p s after last is one ps ds w listed begins =
@@ -262,7 +263,8 @@ from_publish q whole j p s after last is one ps ds w listed begins =
           absurd (omega (arith, size, met, low, less, many))
     ])
 
--- before the moment at which a command is taken its port did no more than it asked for before that command, if behind it the same is so
+-- Before the moment at which a command is taken its port did no more than it asked for before that command. It is so if
+-- it is so after the command.
 judged_few : (q : ℕ) (whole x : List Link) (s last after : Standing) (j : Judging) (p : Cargo) (ps : List Cargo) (ds : List Deed) (is : IsJudged j p s after) (w : Worked after ps ds last) → AreListed whole → IsPrefix last.front whole
     → s.pass.port ≡ q → IsPrefix after.front whole → IsPrefix x whole → length x ≤ length is.moment.at → HasEnded q whole j p s after is
     → ((y : List Link) → IsPrefix y whole → IsFrom (length y) after last ps ds w → length (done_for q y) ≤ length after.asked) → length (done_for q x) ≤ length s.asked
@@ -271,7 +273,7 @@ judged_few q whole x s last after j p ps ds is w listed begins port front stands
     known : IsPrefix x is.reached
     known = prefix_trans x is.moment.at is.reached (prefix_shorter x is.moment.at whole stands (moment_stands j p s after whole is front) from) is.moment.before
 
-    -- by an act of this command, behind which the rest was done
+    -- by an act of this command, after which the rest was done
     acted : (it : HasActed q whole j p s after is) → IsFrom (length it.before + 1) after last ps ds w → length (done_for q x) ≤ length s.asked
     acted it later =
         let y = it.before ++ it.item ∷ [] in
@@ -299,7 +301,7 @@ judged_few q whole x s last after j p ps ds is w listed begins port front stands
         omega (arith, same, few_later)
     by (inr (inr one)) = acted (load_acted q whole j p s after is one) (from_publish q whole j p s after last is one ps ds w listed begins)
 
--- at a place of the list that is not behind the moment at which the next command is taken a port did no more than it asked for so far
+-- At a place of the list at which the next command is not yet taken, a port did no more than it asked for.
 pub acts_few : Laws → (n : Node) (q : ℕ) (whole x : List Link) (s last : Standing) (ps : List Cargo) (ds : List Deed) (w : Worked s ps ds last) → AreListed whole → IsPrefix last.front whole → length (done_for q whole) ≤ length last.asked
     → s.pass.port ≡ q → AreDealtInFull n s ps ds last w → AreLoadsPlaced q whole s ps ds last w → IsPrefix x whole → IsFrom (length x) s last ps ds w → length (done_for q x) ≤ length s.asked
 acts_few laws n q whole x s last [] [] w listed begins did port full placed stands from =

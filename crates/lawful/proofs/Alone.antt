@@ -1,4 +1,4 @@
--- What a thread did at a fresh port that it served alone is a lawful history, but for what cells told.
+-- What a thread did at a fresh port, the only one that was served, is a lawful history, apart from what cells answered.
 use Rattle.std.proofs.Common.{◌≡◌, ◌==◌, ◌+◌, ◌<◌, ◌≤◌, ◌&&◌, ℕ, zero, suc, Bool, true, false, cond, List, [], ◌∷◌, ◌++◌, length, map, Option, Some, None, refl, sym, ap, subst, ◌∙◌, inl, inr, arith, append_assoc}
 use Rattle.std.specs.Prelude.{slice_get}
 use Rattle.std.specs.List.{range_with_len}
@@ -50,7 +50,7 @@ use Rattle.lemmas.proofs.Prefixes.{prefix_length, prefix_same, prefix_self, pref
 one_at : (k : ℕ) (j : Judging) (b : Bool) → is_entry_at k j ≡ b → entries_at k (Judged j ∷ []) ≡ length (cond b (j ∷ []) [])
 one_at k j b is = ap (λ (t : Bool). length (cond t (j ∷ []) [])) is
 
--- what the shares of a port count behind one command
+-- what the shares of a port count after one command
 pub one_counted : WorkersSharesCount → (d : Deed) (p : Cargo) (s after : Standing) → IsDealt d p s after → SharesCount s.pass after.pass (d ∷ [])
 one_counted counts d p s after is = counts s after (p ∷ []) (d ∷ []) (after, is, refl)
 
@@ -132,7 +132,7 @@ done_dealt n port start p j h now s after between e status loaded there idle ver
 abbrev AreOwn : (n : Node) (port : ℕ) (whole : List Link) → Type 0
 AreOwn n port whole = (k : ℕ) (bank : BankConfig) → slice_get n.banks k ≡ Some bank → IsOwnBank port k bank whole
 
--- a bank's entries behind a command at that bank
+-- a bank's entries after a command at that bank
 left_after : (n : Node) (port k m : ℕ) (bank : BankConfig) (now next : History) (o : Open) (j : Judging) (s after : Standing) → length s.pass.shares ≡ length n.banks → slice_get n.banks m ≡ Some bank
     → SharesCount s.pass after.pass (Judged j ∷ []) → IsPrefix s.front after.front → j.entered ≡ true → j.judged.place ≡ places.Bank k → IsLeftSoFar (entries n now m) m s
     → entries n next k ≡ entries_of k after.front → length (entries_of k after.front) ≡ length (entries n now k) + 1 → ((i : ℕ) → (i ≡ k → ⊥) → entries n next i ≡ entries n now i)
@@ -164,7 +164,7 @@ left_after n port k m bank now next o j s after shares there count begins left p
           number = ap length same ∙ (so_far.number ∙ sym number);
         }
 
--- a bank's entries behind a command that ended elsewhere
+-- a bank's entries after a command that ended elsewhere
 left_still : (n : Node) (m : ℕ) (bank : BankConfig) (now next : History) (j : Judging) (s after : Standing) → length s.pass.shares ≡ length n.banks → slice_get n.banks m ≡ Some bank
     → SharesCount s.pass after.pass (Judged j ∷ []) → IsPrefix s.front after.front → j.entered ≡ false → IsLeftSoFar (entries n now m) m s → entries n next m ≡ entries n now m → IsLeftSoFar (entries n next m) m after
 left_still n m bank now next j s after shares there count begins none so_far same =
@@ -176,7 +176,7 @@ left_still n m bank now next j s after shares there count begins none so_far sam
       number = ap length same ∙ (so_far.number ∙ sym number);
     }
 
--- the laws of the crates below on which this one stands
+-- the laws of the crates below that this one needs
 pub record Laws : Type 0 where
   pub front : RunsFromTheFront
   pub images : ImagesAreRead

@@ -1,4 +1,4 @@
--- How a judged command ends at a bank where one port alone leaves entries.
+-- How a judged command ends at a bank at which only one port leaves entries.
 use Rattle.std.proofs.Common.{◌≡◌, ◌+◌, ◌-◌, ◌<◌, ◌≤◌, ◌^◌, ℕ, Bool, true, List, [], ◌∷◌, ◌++◌, length, Option, Some, None, refl, sym, ap, subst, ◌∙◌, arith, length-append}
 use Rattle.std.specs.Prelude.{IfNone, IfSome, if◌then◌else◌, nat_lt, slice_get}
 use Rattle.std.specs.List.{range_with_len}
@@ -79,7 +79,7 @@ share_staging h places.Control share = refl
 banked_staging : (j : Judging) (h after : Standing) → IsBanked j h after → after.pass.staging ≡ h.pass.staging
 banked_staging j h after is = ap (λ (x : PassValue). x.staging) is.ended.finished.shares ∙ share_staging h.pass j.judged.place is.ended.finished.share
 
--- what looking back finds of a staging behind a command at a bank
+-- what looking back finds of a staging after a command at a bank
 pub bank_staging : (n : Node) (o : Open) (j : Judging) (k : ℕ) (status : Status) (h after : Standing) → place_in n o.packet ≡ Some j.judged.place → j.judged.place ≡ places.Bank k → IsBanked j h after
     → staged_behind n (Some o) status None h.pass.staging ≡ after.pass.staging
 bank_staging n o j k status h after lies place is =
@@ -124,7 +124,8 @@ done_at k j h after is place left =
       reply_is = done.reply_is;
     }
 
--- the end of a command at a bank is lawful; the bank then has the entries that the list has of it, one more than before
+-- The end of a command at a bank is lawful. The bank then has the entries that the list has of it, one more than
+-- before.
 pub record EndsAtBank (n : Node) (port k : ℕ) (now : History) (o : Open) (reply : List ℕ) (h after : Standing) : Type 0 where
   pub grown : IsPrefix h.front after.front
   pub status : Status

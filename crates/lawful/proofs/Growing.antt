@@ -1,4 +1,5 @@
--- A port knows of more programs by each that it published: if it knows of no more in the end, nobody else published any.
+-- A port knows of more programs by each that it published. If it knows of no more in the end, nobody else published
+-- any.
 use Rattle.std.proofs.Common.{◌≡◌, ◌+◌, ◌≤◌, ◌⊎◌, ℕ, List, [], ◌∷◌, ◌++◌, length, Option, Some, None, refl, sym, ap, subst, ◌∙◌, inl, inr, arith, length-append}
 use mathlib.Core.List.{IsPrefix}
 use Rattle.spw.specs.Cargo.{Cargo}
@@ -57,7 +58,7 @@ none_counts loaded is = ap made is
 
 -- ---- how a command ends
 
--- how many programs a port knows of behind a control write
+-- how many programs a port knows of after a control write
 line_grown : (port : ℕ) (loaded : Option Publish) (asked asks : List Due) (line : Option Status) (h after : PassValue) (old new : List Publish) (j : JudgedValue) (result : Status) → IsPrefix h.programs old
     → AsksForLoad port loaded old new asked asks → EndsAs line h after old new j result → length h.programs + made loaded ≤ length after.programs
 line_grown port loaded asked asks (Some status) h after old new j result begins asked_for end =

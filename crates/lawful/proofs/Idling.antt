@@ -39,7 +39,7 @@ pub record IsLeftSoFar (es : List EntryValue) (k : ℕ) (s : Standing) : Type 0 
   pub begin : IsPrefix es (entries_of k s.front)
   pub number : length es ≡ number_at s.pass k
 
--- a port that judges no command, behind that history
+-- a port that judges no command, after that history
 pub record IsIdle (n : Node) (port : ℕ) (start : List Link) (h : History) (s : Standing) : Type 0 where
   pub lawful : IsLawfulButTold n h
   pub closed : opened h port ≡ None
@@ -61,7 +61,7 @@ known_kept n port h after programs keeps known = record {
 pub left_kept : (es fs : List EntryValue) (k : ℕ) (s : Standing) → fs ≡ es → IsLeftSoFar es k s → IsLeftSoFar fs k s
 left_kept es fs k s same left = subst (λ (xs : List EntryValue). IsLeftSoFar xs k s) (sym same) left
 
--- behind events that keep all, a port that is as it was
+-- after events that keep all, a port that is as it was
 idle_kept : (n : Node) (port : ℕ) (start : List Link) (h after : History) (s : Standing) → Keeps n port h after → IsLawfulButTold n after → opened after port ≡ None → IsIdle n port start h s → IsIdle n port start after s
 idle_kept n port start h after s keeps lawful closed idle = record {
   lawful = lawful;

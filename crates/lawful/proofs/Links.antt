@@ -1,4 +1,5 @@
--- What one link more changes of what a list tells: who did what, what was published, what readers see, and what a bank's chain has.
+-- What one link more changes of what a list says: who did what, what was published, what readers see, and what a bank's
+-- chain has.
 use Rattle.std.proofs.Common.{◌≡◌, ◌==◌, ◌+◌, ◌<◌, ◌≤◌, ℕ, Bool, true, false, cond, List, [], ◌∷◌, ◌++◌, length, refl, sym, ap, ◌∙◌, arith, length-append}
 use Rattle.std.specs.Prelude.{drop, take}
 use Rattle.std.proofs.lemmas.Bool.Decides.{nat_tests}
@@ -21,7 +22,7 @@ use Rattle.lemmas.proofs.Prefixes.{prefix_length, prefix_shorter, prefix_trans, 
 
 -- ---- beginnings of one list
 
--- of two beginnings of one list that are as long as each other each is the other
+-- two beginnings of one list that are as long as each other are the same
 pub same_begin : {A : Type 0} (xs ys zs : List A) → IsPrefix xs zs → IsPrefix ys zs → length xs ≡ length ys → xs ≡ ys
 same_begin xs ys zs p q same = prefix_whole xs ys (prefix_shorter xs ys zs p q (omega (arith, same))) (omega (arith, same))
 
@@ -35,7 +36,7 @@ front_of xs zs x p = prefix_trans xs (xs ++ x ∷ []) zs (x ∷ [], refl) p
 pub size_more : {A : Type 0} (xs : List A) (x : A) → length (xs ++ x ∷ []) ≡ length xs + 1
 size_more xs x = length-append xs (x ∷ [])
 
--- what stands at one place of a list
+-- what is at one place of a list
 pub record IsThat {A : Type 0} (xs ys : List A) (x y : A) : Type 0 where
   pub front : xs ≡ ys
   pub item : x ≡ y
@@ -48,7 +49,7 @@ at_place {A} xs ys zs x y p q same =
     let all : xs ++ x ∷ [] ≡ ys ++ y ∷ [] = same_begin (xs ++ x ∷ []) (ys ++ y ∷ []) zs p q (omega (arith, same, size_x, size_y)) in
     record { front = front; item = last_same ys x y (ap (λ (l : List A). l ++ x ∷ []) (sym front) ∙ all) }
 
--- a beginning that is longer has what stands there
+-- a beginning that is longer has what is there
 pub longer_has : {A : Type 0} (xs ys zs : List A) (x : A) → IsPrefix (xs ++ x ∷ []) zs → IsPrefix ys zs → length xs < length ys → IsPrefix (xs ++ x ∷ []) ys
 longer_has xs ys zs x p q more = let size = size_more xs x in prefix_shorter (xs ++ x ∷ []) ys zs p q (omega (arith, more, size))
 
@@ -99,7 +100,7 @@ none_other q d a is other = λ c.
     let apart : (owner_of a == q) ≡ false = grind (arith, nat_tests, other) in
     ap (λ (x : Deed). with_done q c x []) is ∙ ap (λ (b : Bool). cond b ((c, a) ∷ []) []) apart
 
--- so it is no act of his
+-- so it is no act of that owner
 pub none_not : (q : ℕ) (d : Deed) (a : Act) → d ≡ Does a → owner_of a ≡ q → IsNoneOf q d → ⊥
 none_not q d a is own none = let one = ap length (sym (does q 0 d a [] is own) ∙ none 0) in absurd (omega (arith, one))
 

@@ -53,7 +53,7 @@ use Rattle.lemmas.proofs.Prefixes.{prefix_whole}
 
 -- ---- what is told
 
--- where a command of the port has its verdict, its end by an Effect is by its place
+-- if a command of the port has its verdict, its end by an Effect is by its place
 pub effect_told : (n : Node) (h : History) (port verdict : ℕ) (o : Open) (place : Place) → opened h port ≡ Some o → turn_of n port o ≡ Some (turns.Verdict verdict) → place_in n o.packet ≡ Some place
     → effect_outcome n h port (opened h port) ≡ effect_at_place n h port (command_of o.packet) verdict (Some place)
 effect_told n h port verdict o place is stands lies =
@@ -67,7 +67,7 @@ publish_told n h port verdict o outcome is stands lies told =
     (subst (λ (turn : Option Turn). IsPublishedBy n h port o turn outcome) (sym stands)
     (subst (λ (place : Option Place). IsPublishedAt n h port (command_of o.packet) verdict place outcome) (sym lies) told))
 
--- the entries of each bank behind a command that was done at that place
+-- the entries of each bank after a command that was done at that place
 pub entries_done : (n : Node) (h : History) (event : Event) (status : Status) (reply : List ℕ) (loaded : Option (List ℕ)) (o : Open) (place : Option Place) → opened h (port_of event) ≡ Some o → place_in n o.packet ≡ place
     → (k : ℕ) → entries n (Then h event (Done status reply loaded)) k ≡ entries_at n k (port_of event) place o status (entries n h k)
 entries_done n h event status reply loaded o place is lies k =
@@ -75,7 +75,7 @@ entries_done n h event status reply loaded o place is lies k =
 
 -- ---- what is known
 
--- behind an event that published nothing the same is published
+-- after an event that published nothing the same is published
 pub quiet_known : (n : Node) (h : History) (e : Event) (o : Outcome) (programs later : List Publish) → published_at n h e o ≡ None → later ≡ programs → IsKnown n h programs → IsKnown n (Then h e o) later
 quiet_known n h e o programs later none same known = subst (λ (xs : List Publish). IsKnown n (Then h e o) xs) (sym same) (record {
   shown = λ slot. known.shown slot ∙ ap (λ (x : Option (ℕ × Program)). Some (published_behind x (publishes n h) slot (published n h slot))) (sym none);
@@ -98,7 +98,7 @@ sizes_longer : (old : List Publish) (x : Publish) → 0 < length old → sizes_o
 sizes_longer [] x some = absurd (omega (arith, some))
 sizes_longer (f ∷ ps) x some = refl
 
--- behind a load that published a program, it is known with the next generation
+-- after a load that published a program, it is known with the next generation
 made_known : IsSetByNext → (n : Node) (h : History) (e : Event) (o : Outcome) (old new : List Publish) (slot : ℕ) (a : AcceptedValue) → published_at n h e o ≡ Some (slot, a.program) → new ≡ longer_history old slot a
     → IsKnown n h old → IsKnown n (Then h e o) new
 made_known next n h e o old new slot a made more known =
@@ -117,7 +117,8 @@ made_known next n h e o old new slot a made more known =
 
 -- ---- how a command ends
 
--- behind a command that has its verdict its end is lawful, and leaves the staging and the programs that the port has then
+-- after a command that has its verdict its end is lawful, and leaves the staging and the programs that the port has
+-- then
 pub record EndsThus (n : Node) (port : ℕ) (now : History) (o : Open) (e : Event) (reply : List ℕ) (old after : PassValue) : Type 0 where
   pub status : Status
   pub loaded : Option (List ℕ)
@@ -186,7 +187,7 @@ module _ (n : Node) (port : ℕ) (now : History) (o : Open) (j : Judging) (old :
         banks = λ k. entries_done n now (Publishes port) result reply None o (Some places.Control) is.is_open lies k;
       }
 
-  -- a load that published its program, the next behind those that the port knew
+  -- a load that published its program, the next after those that the port knew
   pub loaded_thus : ImagesAreRead → IsSetByNext → j.judged.place ≡ places.Control → judged_line (command_of o.packet) j.judged.verdict ≡ None → (after : PassValue) (before new : List Publish) (result : Status) (reply : List ℕ)
       → before ≡ old.programs → HasLoaded old after before new j.judged result → reply ≡ reply_of (command_of o.packet) result [] → EndsThus n port now o (Publishes port) reply old after
   loaded_thus images next at line after before new result reply same end reply_is =

@@ -29,7 +29,7 @@ use Rattle.lawful.proofs.Keeping.{happened_here}
 abbrev AreBytes : Cargo → Type 0
 AreBytes p = All (λ byte. byte < 256) p.bytes
 
--- what happened brings packets of bytes alone
+-- what happened brings packets that have only bytes
 abbrev AllBring : List Happening → Type 0
 AllBring [] = Unit {0}
 AllBring (x ∷ xs) = BringsBytes x.event × AllBring xs

@@ -1,4 +1,4 @@
--- A bank's chain that has entries of one port alone: its entries, their numbers, and its memory.
+-- A bank's chain that has entries of only one port: its entries, their numbers, and its memory.
 use Rattle.std.proofs.Common.{◌≡◌, ◌==◌, ◌+◌, ◌≤◌, ℕ, suc, zero, Bool, true, cond, List, [], ◌∷◌, ◌++◌, map, length, Some, refl, sym, ap, subst, ◌∙◌, length-append, arith}
 use Rattle.std.specs.Prelude.{fold, filter}
 use Rattle.std.specs.List.{range_with_len}

@@ -1,4 +1,5 @@
--- Where the publish of a load stands: between a moment and a later one, if only that was published and the port did only that.
+-- Where the publish of a load is: between a moment and a later one, if only that was published and the port did only
+-- that.
 use Rattle.std.proofs.Common.{◌≡◌, ◌==◌, ◌+◌, ◌≤◌, ◌⊎◌, ℕ, List, [], ◌∷◌, ◌++◌, length, Some, refl, sym, ap, subst, ◌∙◌, inl, inr, arith, append_assoc, eqb-true, length-append}
 use Rattle.std.proofs.lemmas.Bool.{cases_Bool}
 use Rattle.std.proofs.lemmas.Bool.Decides.{nat_tests}
@@ -33,7 +34,7 @@ its q (Does a) = elim (cases_Bool (owner_of a == q)) [
 its q (Asks x) = inr (none_asks q (Asks x) x refl)
 its q Shows = inr (none_shows q Shows refl)
 
--- what is none of his leaves what he did
+-- what is no act of that owner leaves what the owner did
 none_of : (q : ℕ) (l : Link) (ls : List Link) → IsNoneOf q l.deed → done_for q (l ∷ ls) ≡ done_for q ls
 none_of q l ls none = done_joined q l.chain l.deed [] (done_for q ls) ∙ ap (λ (ds : List Due). ds ++ done_for q ls) (none l.chain)
 
@@ -73,7 +74,7 @@ some_published : (q : ℕ) (x : Publish) (ls : List Link) → done_for q ls ≡ 
 some_published q x [] only = absurd (none_same (publishes_chain, Publishes (q, x)) [] only)
 some_published q x (l ∷ ls) only = some_first q x l ls only (λ rest. some_published q x ls rest) (its q l.deed)
 
--- the publish, and what stands before it
+-- the publish, and what is before it
 pub record IsFound (q : ℕ) (x : Publish) (pre post : List Link) : Type 0 where
   pub before : List Link
   pub item : Link
@@ -151,7 +152,8 @@ append_same : {A : Type 0} (xs ys zs : List A) → xs ++ ys ≡ xs ++ zs → ys 
 append_same [] ys zs same = same
 append_same (x ∷ xs) ys zs same = append_same xs ys zs (cc same)
 
--- a load of which is known at which moment it met what was published, and what had been published and done at a later one
+-- a load of which is known at which moment it met what was published, and what had been published and done at a later
+-- one
 pub placed_by : (port : ℕ) (whole known met reached : List Link) (old new : List Publish) (asked asks : List Due) (publish : Publish) → IsPrefix known met → publishes_of met ≡ old → done_for port met ≡ asked → IsPrefix met reached
     → publishes_of reached ≡ new → done_for port reached ≡ asks → AsksForLoad port (Some publish) old new asked asks → IsPrefix reached whole → IsPlaced port whole known old publish
 placed_by port whole known met reached old new asked asks publish seen met_is did goes reached_is does_now load stands =

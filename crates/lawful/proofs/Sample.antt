@@ -447,7 +447,7 @@ module _ (images : ImagesAreRead) (x : Sample) (is : IsSample x) where
   abbrev load_done : Outcome
   load_done = Done Success (load_judging x).reply (Some (published_result 1))
 
-  -- the staging of port 0 once the program is staged
+  -- the staging of port 0 after the program was staged
   staging_now : staging n (staged_history x) 0 ≡ sample_staging x
   staging_now = ap (λ (place : Option Place). staged_at place stage_status (command_of x.stage) first_staging) is.stage.lies
 
@@ -617,7 +617,7 @@ module _ (images : ImagesAreRead) (x : Sample) (is : IsSample x) where
       loaded_program images n taken_load 0 0 load_open x.program (load_judging x).reply (published_result 1) refl
       (subst (λ (st : Staged). IsPrepared (control_of (command_of x.load).body) st.bytes x.program.sizes 0 x.program) (sym staging_now) is.prepared)
 
-  -- behind the load the program of reads has the generation 1
+  -- after the load the program of reads has the generation 1
   read_slot : slot_of_packet n x.read ≡ 0
   read_slot = ap (slot_at (command_of x.read)) is.read.lies ∙ ap (λ (k : Kind). slot_of k (places.Bank 0)) is.read_kind
 

@@ -49,7 +49,7 @@ use Rattle.lemmas.proofs.Prefixes.{prefix_length, prefix_trans}
 
 -- ---- what goes on
 
--- what is common stays where nothing was published and no entry left
+-- what is common stays if nothing was published and no entry left
 common_kept : (n : Node) (q : ℕ) (pre : List Link) (h after : History) → q < n.ports → Keeps n q h after → IsLawfulButTold n after → IsCommon n pre h → IsCommon n pre after
 common_kept n q pre h after there keeps lawful common = record {
   lawful = lawful;
@@ -70,7 +70,7 @@ so_far_on q a p ps d ds before first rest so_far by later =
 of_same : (n : Node) (q : ℕ) (s after : Standing) → after ≡ s → IsOf n q s → IsOf n q after
 of_same n q s after same was = subst (IsOf n q) (sym same) was
 
--- a port behind a judged command
+-- a port after a judged command
 pub of_after : Laws → (n : Node) (q : ℕ) (j : Judging) (p : Cargo) (s after : Standing) → IsJudged j p s after → IsOf n q s → IsOf n q after
 of_after laws n q j p s after is was =
     let count = one_counted laws.counts (Judged j) p s after is in

@@ -125,7 +125,7 @@ few_numbers port (e ∷ es) = one_number port e es (e.port == port) (few_numbers
 below : (x y z : ℕ) → x + 1 ≤ y → y < z → x < z - 1
 below x y z a b = omega (arith, a, b)
 
--- the end of a command at a bank is lawful; the bank then has the entries that the list has of it
+-- The end of a command at a bank is lawful. The bank then has the entries that the list has of it.
 pub record EndsWithEntry (n : Node) (port k : ℕ) (now : History) (o : Open) (reply : List ℕ) (after : List Link) : Type 0 where
   pub status : Status
   pub outcome : IsOutcomeAtButTold n now (Effect port) (Done status reply None)

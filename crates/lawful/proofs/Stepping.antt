@@ -65,7 +65,7 @@ module _ (laws : Laws) (n : Node) (whole : List Link) (q : ℕ) (a : Account) (p
   size_here : length (pre ++ l ∷ []) ≡ length pre + 1
   size_here = size_more pre l
 
-  -- the command whose program readers do not see yet: behind it none is taken here
+  -- the command whose program readers do not see yet: after it none is taken here
   pub from_unseen : (x : IsOpen n whole q a) (one : PublishesOne q whole x.j x.p x.s x.after x.is) → shown_in pre ≤ length one.windowed.old → IsFrom (length pre + 1) x.after a.last x.ps x.ds x.worked
   from_unseen x one unseen = from_seen (length pre + 1) whole x.after a.last x.ps x.ds x.worked listed begins (λ at at_stands many.
       let load = one_loaded q whole x.j x.p x.s x.after x.is one in

@@ -31,7 +31,7 @@ use Rattle.lawful.proofs.Telling.{asking, outcome_here, tell, told}
 use Rattle.lawful.proofs.Turning.{StandsAlong, along_run, small_run}
 use Rattle.lemmas.proofs.Options.{some_same}
 
--- the command of the packet was taken, and its program has its verdict; nothing else changed
+-- The command of the packet was taken, and its program has its verdict. Nothing else changed.
 pub record HasVerdict (n : Node) (port : ℕ) (h now : History) (p : Cargo) (j : Judging) : Type 0 where
   pub lawful : IsLawfulButTold n now
   pub is_open : opened now port ≡ Some (asking p j.judged.generation h (answers_of j.calls))

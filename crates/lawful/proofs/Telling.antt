@@ -1,4 +1,4 @@
--- The helper calls of a run, answered one after the other, are lawful but for what cells told.
+-- The helper calls of a run, answered one after the other, are lawful, apart from what cells answered.
 use Rattle.std.proofs.Common.{◌≡◌, ◌<◌, ◌^◌, ℕ, Bool, List, [], ◌∷◌, ◌++◌, Option, Some, None, refl, sym, ap, subst, ◌∙◌, append_assoc, arith}
 use Rattle.std.specs.Prelude.{if◌then◌else◌}
 use Rattle.std.proofs.lemmas.List.{append-nil, map-append}
@@ -21,7 +21,7 @@ use Rattle.lawful.specs.Happenings.{Happening, happened_at, told_call, told_call
 use Rattle.lawful.proofs.Keeping.{Keeps, happened_here, itself, keeps_on, keeps_same, one_elsewhere, opened_here, staging_here}
 use Rattle.lawful.proofs.Turning.{AreSmall, StandsAlong}
 
--- a command that was taken after that history, with that generation, whose helpers were told that
+-- a command that was taken after that history, with that generation, whose helpers answered that
 abbrev pub asking : Cargo → (generation : ℕ) → History → List ℕ → Open
 asking p g first answers = record { packet = p; generation = g; before = first; answers = answers }
 

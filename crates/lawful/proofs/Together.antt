@@ -1,4 +1,5 @@
--- What threads did at fresh ports that they served side by side is a lawful history, but for what cells told: link by link of the list.
+-- What threads did at fresh ports side by side is a lawful history, apart from what cells answered: link by link of the
+-- list.
 use Rattle.std.proofs.Common.{◌≡◌, ◌==◌, ◌+◌, ◌<◌, ◌≤◌, ◌⊎◌, ℕ, Bool, true, false, cond, List, [], ◌∷◌, ◌++◌, length, map, Option, Some, None, refl, sym, ap, subst, ◌∙◌, inl, inr, arith, append_assoc, eqb-true}
 use Rattle.std.proofs.lemmas.Bool.{cases_Bool, cases_lt}
 use Rattle.std.proofs.lemmas.Bool.Decides.{nat_tests}
@@ -64,7 +65,7 @@ same_owner q r a b eq = sym (ap deed_owner eq)
 
 -- ---- one link
 
--- all ports behind that link
+-- all ports after that link
 record HaveStepped (n : Node) (accounts : ℕ → Account) (whole : List Link) (firsts : List Publish) (pre : List Link) (l : Link) : Type 0 where
   after : History
   waits : ℕ → Option ℕ
@@ -72,7 +73,7 @@ record HaveStepped (n : Node) (accounts : ℕ → Account) (whole : List Link) (
 
 -- ---- the programs that the node begins with
 
--- once as many were published, those come first
+-- after as many were published, those come first
 all_begun : (firsts : List Publish) (pre : List Link) → IsBeginning firsts pre ⊎ IsBegun firsts pre → length firsts ≤ length (publishes_of pre) → IsPrefix firsts (publishes_of pre)
 all_begun firsts pre (inl x) many = prefix_same firsts (publishes_of pre) (prefix_whole (publishes_of pre) firsts x.programs many)
 all_begun firsts pre (inr x) many = x.programs
@@ -135,7 +136,7 @@ module _ (laws : Laws) (n : Node) (accounts : ℕ → Account) (whole : List Lin
     further r there none unseen =
         port_further laws n whole r (accounts r) pre l served.listed stands (begins r there) (did r there) h (waits r) none unseen (world.ports r there)
 
-    -- where readers see no more, each port that waits waits on
+    -- if readers see no more, each port that waits still waits
     still_unseen : shows l.deed ≡ 0 → (r : ℕ) (number : ℕ) → waits r ≡ Some number → shown_in pre ≤ number → IsToShow n whole r (accounts r) pre h → shown_in (pre ++ l ∷ []) ≤ number
     still_unseen quiet r number is low x = let same = shown_same pre l quiet in omega (arith, same, low)
 
@@ -192,7 +193,7 @@ module _ (laws : Laws) (n : Node) (accounts : ℕ → Account) (whole : List Lin
       does_quiet : shows l.deed ≡ 0
       does_quiet = ap shows is
 
-      -- all other ports, where what that port did left a history that goes on
+      -- all other ports, if what that port did left a history that goes on
       others_on : (after : History) → StaysElsewhere n q h after → (r : ℕ) → r < n.ports → (r ≡ q → ⊥) → IsPort n whole r (accounts r) false (pre ++ l ∷ []) after (waits r)
       others_on after stays r there_r other =
           port_moved n whole q r (accounts r) false (pre ++ l ∷ []) h after (waits r) stays other (further r there_r (not_theirs r other) (still_unseen does_quiet r))
@@ -399,7 +400,7 @@ module _ (laws : Laws) (n : Node) (accounts : ℕ → Account) (whole : List Lin
             };
           }
         where
-          -- once the last of them is seen, all are, and nothing else
+          -- after the last of them is seen, all are seen, and nothing else
           all_seen : shown_in pre ≤ length n.firsts → length n.firsts < shown_in (pre ++ l ∷ []) → shown_of (pre ++ l ∷ []) ≡ firsts_all
           all_seen low some =
               let more = one_more in
@@ -435,7 +436,7 @@ module _ (laws : Laws) (n : Node) (accounts : ℕ → Account) (whole : List Lin
           let that = at_place ax.before ay.before whole ax.item ay.item ax.stands ay.stands (no_other ax.before ay.before q r x.one.publish y.one.publish ax.item ay.item x.one.placed.chain x.one.placed.deed y.one.placed.chain y.one.placed.deed ax.stands ay.stands (omega (arith, met_x, met_y, same))) in
           same_owner q r x.one.publish y.one.publish (sym x.one.placed.deed ∙ (ap (λ (i : Link). i.deed) that.item ∙ y.one.placed.deed))
         where
-          -- a publish of which as many stand before it as before another is that one
+          -- if as many publishes are before a publish as before another, it is that one
           not_before : (b c : List Link) (q : ℕ) (a : Publish) (i : Link) → i.chain ≡ publishes_chain → i.deed ≡ Does (Publishes (q, a)) → IsPrefix (b ++ i ∷ []) whole → IsPrefix c whole → length (publishes_of b) ≡ length (publishes_of c) → length c ≤ length b
           not_before b c q a i chain deed b_stands c_stands same_count = elim (cases_lt (length b) (length c)) [
             | inl less ↦
@@ -516,7 +517,7 @@ module _ (laws : Laws) (n : Node) (accounts : ℕ → Account) (whole : List Lin
         | inr none ↦ first_shown (omega (arith, none))
       ]
 
-    -- all ports behind the link
+    -- all ports after the link
     step : HaveStepped n accounts whole firsts_all pre l
     step = by l.deed refl
       where
@@ -531,7 +532,7 @@ module _ (laws : Laws) (n : Node) (accounts : ℕ → Account) (whole : List Lin
 
   -- ---- all links
 
-  -- all ports behind the list, each of which did all that it does
+  -- all ports after the list, each of which did all that it does
   walk : (pre post : List Link) (h : History) (waits : ℕ → Option ℕ) → pre ++ post ≡ whole → IsWorld n accounts whole firsts_all false pre h waits → (after : History) × (waiting : ℕ → Option ℕ) × IsWorld n accounts whole firsts_all true whole after waiting
   walk pre [] h waits all world =
       let here : pre ≡ whole = sym (append-nil pre) ∙ all in
@@ -590,7 +591,7 @@ module _ (laws : Laws) (n : Node) (accounts : ℕ → Account) (whole : List Lin
 
   -- ---- the end
 
-  -- a port behind the list did all
+  -- a port after the list did all
   record IsDoneAt (q : ℕ) (h : History) : Type 0 where
     happened : HappenBy q (accounts q).packets (accounts q).deeds (happened_at q h)
     closed : opened h q ≡ None

@@ -1,4 +1,4 @@
--- Where a program stands along a run, by the calls of the run that were answered so far.
+-- Where a program is along a run, by the calls of the run that were answered so far.
 use Rattle.std.proofs.Common.{◌≡◌, ◌≤◌, ◌<◌, ◌^◌, ℕ, zero, suc, List, [], ◌∷◌, ◌++◌, Some, sym, ap, subst, ◌∙◌, arith}
 use Rattle.bpf.specs.Program.{Program}
 use Rattle.brun.specs.declared.turns.Turn.{Turn}
@@ -12,7 +12,7 @@ use Rattle.machine.specs.State.{State, entry_state}
 use Rattle.machine.specs.Step.{Outcome, Next, Ask, Verdict, Trap, step}
 use Rattle.sched.specs.Turns.{answers_of, onward, turn_after, turn_within}
 
--- where a run stands whose calls to come are those: at the question of the first, or at its verdict
+-- where a run is whose calls to come are those: at the question of the first, or at its verdict
 abbrev pub turn_before : (verdict : ℕ) → List Call → Turn
 turn_before verdict [] = turns.Verdict verdict
 turn_before verdict (c ∷ cs) = turns.Ask c.question
@@ -22,7 +22,7 @@ abbrev pub AreSmall : List Call → Type 0
 AreSmall [] = Unit {0}
 AreSmall (c ∷ cs) = (c.answer < 2 ^ 64) × AreSmall cs
 
--- what is known from any state on, after so many steps fewer
+-- what is known from any state on, after that many steps fewer
 abbrev Stands : Program → Header → (n steps verdict : ℕ) → Type 0
 Stands program header n steps verdict =
     (t : State) (done rest : List Call) → Ends program header n t (done ++ rest) verdict → turn_within program header steps t (answers_of done) ≡ Some (turn_before verdict rest)
@@ -61,7 +61,7 @@ small : (program : Program) (header : Header) (verdict n : ℕ) (t : State) (cal
 small program header verdict zero t calls ends = absurd ends
 small program header verdict (suc n) t calls ends = small_by program header n verdict (small program header verdict n) (step program header t) calls ends
 
--- a program stands along its run where the calls to come say
+-- along its run a program is where the calls to come say
 abbrev pub StandsAlong : Program → Header → (port : ℕ) → List Call → (verdict : ℕ) → Type 0
 StandsAlong program header port calls verdict =
     (done rest : List Call) → calls ≡ done ++ rest → turn_after program header port (answers_of done) ≡ Some (turn_before verdict rest)

@@ -34,7 +34,7 @@ use Rattle.lemmas.proofs.Prefixes.{prefix_trans}
 
 -- ---- what looking back finds
 
--- nothing was published but what the node begins with
+-- nothing was published except what the node begins with
 pub record IsUnpublished (n : Node) (h : History) : Type 0 where
   pub programs : (slot : ℕ) → published n h slot ≡ published n Start slot
   pub count : publishes n h ≡ length n.firsts
@@ -67,7 +67,7 @@ seen_moved n p q h after o st hs stays other here = record {
 
 -- ---- how far a port is
 
--- nothing but a judged command comes first of what is to come
+-- nothing except a judged command comes first of what is to come
 abbrev pub IsStill : List Cargo → List Deed → Type 0
 IsStill [] [] = Unit {0}
 IsStill [] (d ∷ ds) = ⊥
@@ -76,12 +76,12 @@ IsStill (p ∷ ps) (Dropped ∷ ds) = ⊥
 IsStill (p ∷ ps) (Answered reply ∷ ds) = ⊥
 IsStill (p ∷ ps) (Judged j ∷ ds) = Unit {0}
 
--- a port before all that it does at a place of the list, or behind all of that
+-- a port before all that it does at a place of the list, or after all of that
 abbrev pub IsStillIf : Bool → List Cargo → List Deed → Type 0
 IsStillIf true ps ds = IsStill ps ds
 IsStillIf false ps ds = Unit {0}
 
--- from where on its next command is taken
+-- the place from which on its next command is taken
 abbrev pub place_from : Bool → List Link → ℕ
 place_from true pre = length pre + 1
 place_from false pre = length pre
@@ -140,11 +140,11 @@ command_in n whole q a x = asking x.p x.j.judged.generation x.before (answers_of
 abbrev pub IsOpenNow : (n : Node) (whole : List Link) (q : ℕ) (a : Account) (h : History) → IsOpen n whole q a → Type 0
 IsOpenNow n whole q a h x = IsSeenAt n q h (Some (command_in n whole q a x)) x.s.pass.staging x.happened
 
--- where the command's entry stands, by what it left
+-- where the command's entry is, by what it left
 abbrev pub entry_at : (n : Node) (whole : List Link) (q : ℕ) (a : Account) (x : IsOpen n whole q a) (entry : LeavesEntry x.j x.p x.s x.after x.is) → IsDoneAt entry.banked.number x.j (stand x.is.between x.s.asked x.is.reached) x.after
 entry_at n whole q a x entry = done_at entry.banked.number x.j (stand x.is.between x.s.asked x.is.reached) x.after entry.banked entry.banked.place entry.left
 
--- all that the port knows when it ended stands in the list
+-- all that the port knows when it ended is in the list
 pub front_open : (n : Node) (whole : List Link) (q : ℕ) (a : Account) (x : IsOpen n whole q a) → IsPrefix a.last.front whole → IsPrefix x.after.front whole
 front_open n whole q a x begins = prefix_trans x.after.front a.last.front whole (worked_front x.after a.last x.ps x.ds x.worked) begins
 
@@ -169,7 +169,7 @@ pub record IsToPublish (n : Node) (whole : List Link) (q : ℕ) (a : Account) (p
   pub one : PublishesOne q whole open_at.j open_at.p open_at.s open_at.after open_at.is
   pub place : length pre ≤ length one.placed.before
 
--- its publish stands in the list, and readers do not see it yet
+-- its publish is in the list, and readers do not see it yet
 pub record IsToShow (n : Node) (whole : List Link) (q : ℕ) (a : Account) (pre : List Link) (h : History) : Type 0 where
   pub open_at : IsOpen n whole q a
   pub here : IsOpenNow n whole q a h open_at
@@ -253,7 +253,7 @@ port_moved n whole p q a still pre h after wait stays other port = by port.at po
       wait_is = is;
     }
 
--- nothing happened where the node has no port
+-- nothing happened at a port that the node does not have
 pub nowhere_moved : (n : Node) (p : ℕ) (h after : History) → p < n.ports → StaysElsewhere n p h after → ((q : ℕ) → n.ports ≤ q → IsNowhere h q) → (q : ℕ) → n.ports ≤ q → IsNowhere after q
 nowhere_moved n p h after there stays nowhere q past =
     let other : q ≡ p → ⊥ = λ same. absurd (omega (arith, there, past, same)) in
@@ -268,12 +268,12 @@ pub record IsWaiting (n : Node) (waits : ℕ → Option ℕ) (number : ℕ) : Ty
   pub there : port < n.ports
   pub is : waits port ≡ Some number
 
--- first the instrument published those, and did nothing else
+-- first the instrument published those, and it did nothing else
 pub record IsBegun (firsts : List Publish) (pre : List Link) : Type 0 where
   pub programs : IsPrefix firsts (publishes_of pre)
   pub did : length (done_for instrument pre) ≡ length firsts
 
--- nothing was published but by the instrument, which published the first of those, and did nothing else
+-- only the instrument published: the first of those, and it did nothing else
 pub record IsBeginning (firsts : List Publish) (pre : List Link) : Type 0 where
   pub programs : IsPrefix (publishes_of pre) firsts
   pub did : length (done_for instrument pre) ≡ length (publishes_of pre)

@@ -1,5 +1,5 @@
--- The law of one port: what a thread did at a port, while nobody else changed what it met, is a lawful history of the node but
--- for what cells told.
+-- The law of one port. What a thread did at a port, while nobody else changed what it met, is a lawful history, apart
+-- from what cells answered.
 use Rattle.std.specs.Prelude.{◌≡◌, ◌<◌, ◌≤◌, ◌+◌, ◌^◌, ℕ, true, List, [], ◌∷◌, length, map, slice_get, Some, None, option_map}
 use mathlib.Core.List.{IsPrefix}
 use Rattle.spw.specs.Cargo.{Cargo}
@@ -34,8 +34,8 @@ use Rattle.lawful.specs.Happenings.{HappenBy, happened_at}
 
 -- ---- premises
 
--- a port of the node that was not served yet: it knows of the factory program and of those that were published before the first
--- packet, its staging is the first, and it left no entry
+-- A port of the node that was not served yet. It knows of the factory program and of those that were published before
+-- the first packet. Its staging is the first, and it left no entry.
 pub record IsFreshPort (n : Node) (s : Standing) : Type 0 where
   pub there : s.pass.port < n.ports
   pub windows : s.pass.windows ≡ windows_in n
@@ -64,8 +64,8 @@ abbrev pub AreEntriesOf : (port : ℕ) → List Link → Type 0
 AreEntriesOf port [] = Unit {0}
 AreEntriesOf port (l ∷ ls) = IsEntryOf port l.deed × AreEntriesOf port ls
 
--- what the list has of a bank, if anything: first it began, as the node's configuration says, then come entries of that port
--- alone, for which its journal has room
+-- What the list has of a bank, if anything. First the bank began, as the node's configuration says. Then come entries
+-- of only that port, for which its journal has room.
 abbrev pub IsOwnChain : (port : ℕ) → BankConfig → List Link → Type 0
 IsOwnChain port bank [] = Unit {0}
 IsOwnChain port bank (l ∷ ls) =
@@ -76,26 +76,26 @@ pub record IsOwnBank (port k : ℕ) (bank : BankConfig) (whole : List Link) : Ty
   pub chain : IsOwnChain port bank (chain_of k whole)
   pub few : bank.room < 2 ^ 64
 
--- the load of a control write was refused for what the port had staged, as its load result says
+-- the load of a control write was refused because of what the port had staged, as its load result says
 pub record IsRefusedForStaged (h after : Standing) (j : Judging) : Type 0 where
   pub refusal : LoadRefusal
   pub unprepared : IsUnprepared (control_of (command_of j.judged.packet).body) h.pass.staging.bytes (sizes_of h.pass.programs) refusal
   pub told : after.pass.staging.load_result ≡ refused_result refusal
 
--- of a command that was judged nothing was wanting: at a bank it left its entry, and a load published its program, or was
--- refused for what was staged
+-- A judged command lacked nothing: at a bank it left its entry, and a load published its program or was refused for
+-- what was staged.
 pub record IsJudgedInFull (h after : Standing) (j : Judging) : Type 0 where
   pub entered : is_bank_place j.judged.place ≡ true → j.entered ≡ true
   pub loads : j.judged.place ≡ places.Control → judged_line (command_of j.judged.packet) j.judged.verdict ≡ None
       → j.loaded ≡ None → IsRefusedForStaged h after j
 
--- nothing was wanting to what became of a packet: if no verdict answered it, a check of its header did
+-- what became of a packet lacked nothing: if no verdict answered it, a check of its header did
 abbrev pub IsDealtInFull : Node → Deed → Cargo → (h after : Standing) → Type 0
 IsDealtInFull n Dropped p h after = Unit {0}
 IsDealtInFull n (Answered reply) p h after = (status : Status) × (header_line (command_of p) (windows_in n) ≡ Some status)
 IsDealtInFull n (Judged j) p h after = IsJudgedInFull h after j
 
--- nothing was wanting to what became of some packets
+-- what became of some packets lacked nothing
 abbrev pub AreDealtInFull : Node → (h : Standing) (ps : List Cargo) (ds : List Deed) (after : Standing) → Worked h ps ds after → Type 0
 AreDealtInFull n h [] [] after worked = Unit {0}
 AreDealtInFull n h [] (d ∷ ds) after worked = Unit {0}
@@ -103,8 +103,8 @@ AreDealtInFull n h (p ∷ ps) [] after worked = Unit {0}
 AreDealtInFull n h (p ∷ ps) (d ∷ ds) after worked =
     IsDealtInFull n d p h worked.0 × AreDealtInFull n worked.0 ps ds after worked.2
 
--- a fresh port of the node was served alone: of the list of the node all that its banks had is the port's, nothing was published
--- but by its loads, and nothing was wanting
+-- A fresh port of the node was the only one that was served. Of the list of the node all that its banks had is the
+-- port's, and only its loads published. Nothing was lacking.
 pub record IsServedAlone (n : Node) (first : Standing) (ps : List Cargo) (ds : List Deed) (last : Standing) (whole : List Link) : Type 0 where
   pub worked : Worked first ps ds last
   pub fresh : IsFreshPort n first
@@ -116,9 +116,9 @@ pub record IsServedAlone (n : Node) (first : Standing) (ps : List Cargo) (ds : L
 
 -- ---- the law
 
--- there is a history of the node, lawful but for what cells told, in which at the port happened what became of its packets, and
--- elsewhere nothing; its entries at each bank are those of the list, its programs are those that the port knows in the end, and
--- its staging is the port's
+-- There is a history of the node, lawful apart from what cells answered. What became of its packets happened at the
+-- port, and nothing happened elsewhere. Its entries at each bank are those of the list. Its programs are those that the
+-- port knows in the end, and its staging is the port's.
 pub record HasLawfulHistory (n : Node) (port : ℕ) (ps : List Cargo) (ds : List Deed) (last : Standing) (whole : List Link) : Type 0 where
   pub history : History
   pub lawful : IsLawfulButTold n history
@@ -129,7 +129,8 @@ pub record HasLawfulHistory (n : Node) (port : ℕ) (ps : List Cargo) (ds : List
   pub programs : (slot : ℕ) → option_map program_and_generation (judging_program last.pass.programs slot) ≡ Some (published n history slot)
   pub staging_is : staging n history port ≡ last.pass.staging
 
--- what a thread did at a fresh port of a node that it served alone is a lawful history but for what cells told
+-- What a thread did at a fresh port of a node, served without others, is a lawful history, apart from what cells
+-- answered.
 abbrev pub OnePortIsLawful : Type 0
 OnePortIsLawful =
     (n : Node) (first last : Standing) (ps : List Cargo) (ds : List Deed) (whole : List Link) → IsServedAlone n first ps ds last whole

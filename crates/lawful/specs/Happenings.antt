@@ -30,23 +30,23 @@ happened_at port Start = []
 happened_at port (Then h event outcome) =
     if port_of event == port then happened_at port h ++ happening event outcome ∷ [] else happened_at port h
 
--- the helper of a call of the port's program is answered
+-- the helper of a call of the port's program answers
 abbrev pub told_call : (port : ℕ) → Call → Happening
 told_call port c = happening (answering c.question.helper port) (Told c.answer)
 
--- the helpers of some calls of the port's program are answered, in order
+-- the helpers of some calls of the port's program answer, in order
 abbrev pub told_calls : (port : ℕ) → List Call → List Happening
 told_calls port calls = map (told_call port) calls
 
--- the event by which a command of that place ends: an Effect, but at a control write a Publish
+-- the event by which a command of that place ends: a Publish at a control write, and else an Effect
 abbrev pub ending : Place → (port : ℕ) → Event
 ending (places.Bank k) port = Effect port
 ending places.Staging port = Effect port
 ending places.LoadResult port = Effect port
 ending places.Control port = Publish port
 
--- what happens by a command of the port that was judged: it is taken, with the generation of the program that judged; each
--- helper that its run asked is answered, in order; and it is done, with the reply that is due
+-- What happens by a command of the port that was judged. It is taken, with the generation of the program that judged.
+-- Each helper that its run asked answers, in order. The command is done, with the reply that is due.
 pub record IsJudgedThus (port : ℕ) (p : Cargo) (j : Judging) (happened : List Happening) : Type 0 where
   pub status : Status
   pub loaded : Option (List ℕ)

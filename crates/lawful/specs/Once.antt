@@ -6,13 +6,13 @@ use Rattle.sched.specs.Headline.{AreJudgedOnce, IsNode}
 use Rattle.sched.specs.Looking.{Node}
 use Rattle.lawful.specs.Together.{Account, AreServedTogether, HaveLawfulHistory}
 
--- each packet that a port of the node served is of bytes and nothing else
+-- each packet that a port of the node served has only bytes
 abbrev pub HaveBytes : Node → (accounts : ℕ → Account) → Type 0
 HaveBytes n accounts =
     (port : ℕ) → port < n.ports → All (λ (p : Cargo). All (λ byte. byte < 256) p.bytes) (accounts port).packets
 
--- at the fresh ports of a node that threads served side by side each command that was done was judged once, in one history of the
--- node: by the program that was published for its slot when it was taken
+-- At the fresh ports that threads served side by side each command that was done was judged once, in one history of the
+-- node. The program that was published for its slot when it was taken judged it.
 abbrev pub ThreadsJudgeOnce : Type 0
 ThreadsJudgeOnce =
     (n : Node) (accounts : ℕ → Account) (whole : List Link) → IsNode n → HaveBytes n accounts

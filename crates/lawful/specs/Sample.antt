@@ -49,8 +49,8 @@ use Rattle.lawful.specs.Together.{Account, AreServedTogether, HaveLawfulHistory}
 
 -- ---- what is given
 
--- a program, which judges at first and is then loaded for reads; the packets, in the order of the text above; and the status with
--- which the last is answered
+-- A program, which judges at first and is then loaded for reads. Then come the packets, in the order of the text above,
+-- and the status of the answer to the last.
 pub record Sample : Type 0 where
   pub program : AcceptedValue
   pub home : Gv
@@ -78,12 +78,12 @@ sample_node x = record {
 abbrev pub judged_yes : Cargo → Place → (port : ℕ) → JudgedValue
 judged_yes p place port = record { packet = p; place = place; port = port; generation = 0; verdict = 0 }
 
--- the staging of port 0 once the program is staged
+-- the staging of port 0 after the program was staged
 abbrev pub sample_staging : Sample → Staged
 sample_staging x = after_staged first_staging (judged_yes x.stage Staging 0)
 
--- what the example is made of: the program says yes to each command, the packets are of those places, the control write loads what
--- was staged, and a check of its header answers the last packet
+-- What the example is made of. The program says yes to each command. The packets are of those places, and the control
+-- write loads what was staged. A check of the header answers the last packet.
 pub record IsSample (x : Sample) : Type 0 where
   pub justified : IsJustified x.program.program x.program.sizes
   pub runs : (header : Header) (port : ℕ) → RunsWithin x.program.program header port [] 0
@@ -151,14 +151,14 @@ first_pass x port = record {
   staging = first_staging;
 }
 
--- port 0 once the program is staged, and once it is loaded
+-- port 0 after the program was staged, and after it was loaded
 abbrev pub pass_staged : Sample → PassValue
 pass_staged x = with_staging (first_pass x 0) (sample_staging x)
 
 abbrev pub pass_loaded : Sample → PassValue
 pass_loaded x = after_load (pass_staged x) (factory_publish x ∷ load_publish x ∷ []) (published_result 1)
 
--- port 1 once it left its entry
+-- port 1 after it left its entry
 abbrev pub pass_entered : Sample → PassValue
 pass_entered x = with_share (first_pass x 1) (Bank 0) (record { port = 1; number = 1 })
 
@@ -259,7 +259,7 @@ missing_load x =
     Then (Then (Then (staged_history x) (Take 1 x.read) (Taken 0)) (Effect 1) (Done Success (read_judging x).reply None))
     (Take 1 x.wrong) (Answered x.status (wrong_reply x))
 
--- the first two are not lawful, and the third has not the programs of the list
+-- the first two are not lawful, and the third does not have the programs of the list
 pub record WrongOnesAreRefused (x : Sample) : Type 0 where
   pub late : IsLawfulButTold (sample_node x) (late_take x) → ⊥
   pub early : IsLawfulButTold (sample_node x) (early_load x) → ⊥

@@ -1,6 +1,7 @@
--- The law of all ports: what threads did at the ports of a node, side by side, is a lawful history of the node but for what cells
--- told. A command is taken at the moment at which readers saw the programs by which it was judged. A command of a bank is done where
--- its entry stands in the one list of the node, and a load where readers see its program.
+-- The law of all ports. What threads did at the ports of a node, side by side, is a lawful history of the node, apart
+-- from what cells answered. A command is taken at the moment at which readers saw the programs by which it was judged.
+-- A command of a bank is done at the place of its entry in the one list of the node. A load is done when readers see
+-- its program.
 use Rattle.std.specs.Prelude.{◌≡◌, ◌<◌, ◌≤◌, ◌+◌, ◌^◌, ℕ, List, [], ◌∷◌, length, map, slice_get, Some, None, option_map}
 use mathlib.Core.List.{IsPrefix}
 use Rattle.spw.specs.Cargo.{Cargo}
@@ -32,8 +33,8 @@ pub record Account : Type 0 where
   pub packets : List Cargo
   pub deeds : List Deed
 
--- a fresh port of the node was served beside others: the list of the node has all that it knows, and of the port what it asked for,
--- and nothing else; and nothing was wanting
+-- A fresh port of the node was served beside others. The list of the node has all that it knows. Of the port it has
+-- what it asked for, and nothing else. Nothing was lacking.
 pub record IsServedBeside (n : Node) (whole : List Link) (port : ℕ) (account : Account) : Type 0 where
   pub worked : Worked account.first account.packets account.deeds account.last
   pub fresh : IsFreshPort n account.first
@@ -58,8 +59,8 @@ abbrev pub AreSomeEntries : List Link → Type 0
 AreSomeEntries [] = Unit {0}
 AreSomeEntries (l ∷ ls) = IsSomeEntry l.deed × AreSomeEntries ls
 
--- what the list has of a bank, if anything: first it began, as the node's configuration says, then come only entries, for which
--- its journal has room
+-- What the list has of a bank, if anything. First the bank began, as the node's configuration says. Then come only
+-- entries, for which its journal has room.
 abbrev pub IsChainOf : BankConfig → List Link → Type 0
 IsChainOf bank [] = Unit {0}
 IsChainOf bank (l ∷ ls) = (l.deed ≡ Opens (bank.base, bank.size, bank.room)) × AreSomeEntries ls × (length ls ≤ bank.room)
@@ -73,9 +74,9 @@ pub record IsBankOf (k : ℕ) (bank : BankConfig) (whole : List Link) : Type 0 w
 abbrev pub published_first : Publish → Due
 published_first publish = (publishes_chain, Publishes (instrument, publish))
 
--- all ports of the node were served side by side, each fresh at first: the list of the node has what they did, and of others only
--- that the instrument published the factory program and then those that the node begins with, in their order; readers saw no
--- program before it was published, and in the end all
+-- All ports of the node were served side by side, each fresh at first. The list of the node has what they did. Of
+-- others it has only that the instrument published the factory program and then those that the node begins with, in
+-- order. Readers saw no program before it was published, and in the end all.
 pub record AreServedTogether (n : Node) (accounts : ℕ → Account) (whole : List Link) : Type 0 where
   pub few : n.ports ≤ instrument
   pub each : (port : ℕ) → port < n.ports → IsServedBeside n whole port (accounts port)
@@ -92,8 +93,9 @@ pub record AreServedTogether (n : Node) (accounts : ℕ → Account) (whole : Li
 
 -- ---- the law
 
--- there is a history of the node, lawful apart from what cells answered, in which at each port happened what became of its packets, and
--- elsewhere nothing; its entries at each bank and its programs are those of the list, and each port's staging is its own
+-- There is a history of the node, lawful apart from what cells answered. In it what became of its packets happened at
+-- each port, and nothing happened elsewhere. Its entries at each bank and its programs are those of the list, and each
+-- port's staging is its own.
 pub record HaveLawfulHistory (n : Node) (accounts : ℕ → Account) (whole : List Link) : Type 0 where
   pub history : History
   pub lawful : IsLawfulButTold n history
@@ -105,7 +107,8 @@ pub record HaveLawfulHistory (n : Node) (accounts : ℕ → Account) (whole : Li
   pub count : length (publishes_of whole) ≡ publishes n history + 1
   pub stagings : (port : ℕ) → port < n.ports → staging n history port ≡ (accounts port).last.pass.staging
 
--- what threads did at the fresh ports of a node that they served side by side is a lawful history, apart from what cells answered
+-- What threads did at the fresh ports of a node that they served side by side is a lawful history, apart from what
+-- cells answered.
 abbrev pub ThreadsAreLawful : Type 0
 ThreadsAreLawful =
     (n : Node) (accounts : ℕ → Account) (whole : List Link) → AreServedTogether n accounts whole

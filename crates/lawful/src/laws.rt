@@ -11,10 +11,10 @@ use node_programs::published_programs;
 use ports::workers_shares_count;
 use sched::{every_history_judges_once, published_agrees};
 
-/// A law and no work: what a thread did at a fresh port, the only one that was served, is a lawful history of the node, apart
-/// from what cells answered. Programs may be published before the first packet, of all of which the port knows. At the port
-/// happened, in order, what became of its packets: a command was taken, each helper that its run asked was answered, and it was
-/// done with the reply that was due. The entries of each bank are those of the node's one list.
+/// A law and no work: apart from cells' answers, what a thread did at a fresh port, the only one served, is a lawful
+/// history. Programs may be published before the first packet, and the port knows of all of them. At the port happened,
+/// in order, what became of its packets. A command was taken, each helper that its run asked answered, and the command
+/// was done with the reply that was due. The entries of each bank are those of the node's one list.
 pub fn one_port_is_lawful()
     ensures { OnePortIsLawful }
 {
@@ -25,10 +25,10 @@ pub fn one_port_is_lawful()
     published_agrees();
 }
 
-/// A law and no work: what threads did at the fresh ports of a node, which they served side by side, is a lawful history of the node,
-/// apart from what cells answered. The instrument may publish programs before the first packet, of all of which each port knows.
-/// At each port happened, in order, what became of its packets. The entries of each bank and the programs are those of the node's
-/// one list, in its order.
+/// A law and no work: apart from cells' answers, what threads did at fresh ports, served side by side, is one lawful
+/// history. The instrument may publish programs before the first packet, and each port knows of all of them. At each
+/// port happened, in order, what became of its packets. The entries of each bank and the programs are those of the
+/// node's one list, in its order.
 pub fn threads_are_lawful()
     ensures { ThreadsAreLawful }
 {
@@ -39,8 +39,8 @@ pub fn threads_are_lawful()
     published_agrees();
 }
 
-/// A law and no work: the headline in threads. In one such history each command that was done was judged once, by the program that
-/// was published for its slot when it was taken. The premises are those of [`threads_are_lawful`].
+/// A law and no work: the headline in threads. In one such history each command that was done was judged once, by the
+/// program that was published for its slot when it was taken. The premises are those of [`threads_are_lawful`].
 pub fn threads_judge_once()
     ensures { ThreadsJudgeOnce }
 {
@@ -48,9 +48,9 @@ pub fn threads_judge_once()
     every_history_judges_once();
 }
 
-/// A law and no work: a worked example of [`threads_are_lawful`]. Two ports serve a bank: one loads a program, and the other reads
-/// when the program is published and readers do not see it yet. They meet all premises at once, and the history that the law speaks
-/// of is written out.
+/// A law and no work: a worked example of [`threads_are_lawful`]. Two ports serve a bank. One loads a program, and the
+/// other reads when the program is published and readers do not see it yet. They meet all premises at once, and the
+/// history that the law speaks of is written out.
 pub fn sample_is_lawful()
     ensures { SampleIsLawful }
 {

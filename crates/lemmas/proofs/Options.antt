@@ -14,7 +14,7 @@ pub unmapped : {A B : Type 0} (f : A → B) (o : Option A) → option_map f o �
 unmapped f None e = refl
 unmapped f (Some x) e = absurd cc
 
--- what two options hold that are the same
+-- if two options are the same, what they hold is the same
 pub some_same : {A : Type 0} (x y : A) → Some x ≡ Some y → x ≡ y
 some_same x y e = cc
 

@@ -5,12 +5,12 @@ use Rattle.std.proofs.Math.Seq.{get_or-append_seam}
 use Rattle.std.proofs.lemmas.Bool.{cases_lt}
 use Rattle.std.proofs.lemmas.List.{get_or_append_left}
 
--- An element behind the others is at the place of its number.
+-- An element after the others is at the place of its number.
 pub last : {A : Type 0} (xs : List A) (x y : A) (k : ℕ) → k ≡ length xs → slice_index_or (xs ++ x ∷ []) k y ≡ x
 last xs x y k is = ap (λ i. slice_index_or (xs ++ x ∷ []) i y) is ∙ get_or-append_seam xs x [] y
 
 module _ {A B : Type 0} (P : A → B → Type 0) (xs : List A) (ys : List B) (a : A) (b : B) where
-  -- A pair behind the others.
+  -- A pair after the others.
   pub paired : length ys ≡ length xs → ((k : ℕ) (x : A) (y : B) → k < length xs → P (slice_index_or xs k x) (slice_index_or ys k y)) → P a b
       → (k : ℕ) (x : A) (y : B) → k < length xs + 1 → P (slice_index_or (xs ++ a ∷ []) k x) (slice_index_or (ys ++ b ∷ []) k y)
   paired many each here k x y below = ⊎_elim

@@ -7,7 +7,7 @@ use Rattle.frames.specs.Streams.{FramesAreRead, after, came_in}
 use Rattle.linking.specs.declared.link.Broken.{Broken}
 use Rattle.linking.specs.Linking.{AnswersAll, AnswersChunk, Exchanges, Fails, IsCutOff, IsWholeLink, Links, Moves, Refuses, Serves, StopsExchange, StopsIn, StopsNext, most_chunks}
 
--- what came with others, behind what came before
+-- what came with others, after what came before
 all_joined : {N L : Type 0} (served : Serves N) (sent told : Moves L) (first others : List Came) (a b c : N) (s t u : L)
     → AnswersAll served sent told first a b s t → AnswersAll served sent told others b c t u → AnswersAll served sent told (first ++ others) a c s u
 all_joined {N} {L} served sent told [] others a b c s t u all more =
@@ -26,11 +26,11 @@ pub record AreTaken {N L : Type 0} (served : Serves N) (sent told : Moves L) (st
 pub none_taken : {N L : Type 0} (served : Serves N) (sent told : Moves L) (start : Reading) (bytes : List ℕ) (a : N) (s : L) → AreTaken served sent told start start bytes bytes a a s s
 none_taken served sent told start bytes a s = record { done = []; cut = refl; read = refl; answered = (refl, refl) }
 
--- what is behind so many bytes
+-- what is after that many bytes
 left_is : (count : ℕ) (rest : List ℕ) → take (length rest - count) (drop count rest) ≡ drop count rest
 left_is count rest = take_all (length rest - count) (drop count rest) (omega (arith, length-drop count rest))
 
--- so many bytes more
+-- that many bytes more
 pub more_taken : {N L : Type 0} (parts : FramesAreRead) (served : Serves N) (sent told : Moves L) (start at next : Reading) (bytes rest left : List ℕ) (count : ℕ) (a b c : N) (s t u : L)
     → AreTaken served sent told start at bytes rest a b s t → next ≡ after at (take count rest)
     → AnswersAll served sent told (came_in at (take count rest)) b c t u → left ≡ take (length rest - count) (drop count rest)
@@ -87,7 +87,7 @@ links_more {N} {L} served came sent told [] bytes p q r a b c s t u all one =
 links_more served came sent told (first ∷ chunks) bytes p q r a b c s t u all one =
     (all.0, all.1, all.2, all.3, links_more served came sent told chunks bytes all.0 q r all.1 b c all.2 t u all.4 one)
 
--- So many chunks came and were answered.
+-- That many chunks came and were answered.
 pub record IsUnderWay {N L : Type 0} (served : Serves N) (came sent told : Moves L) (count : ℕ) (p q : Reading) (a b : N) (s t : L) : Type 0 where
   pub chunks : List (List ℕ)
   pub counted : count ≡ length chunks
@@ -125,7 +125,7 @@ pub counted_out : {N L : Type 0} (served : Serves N) (came sent told : Moves L) 
 counted_out served came sent told count p q a b s t way most =
     record { chunks = way.chunks; last = t; links = way.links; ended = inr (refl, omega (arith, way.counted, most)) }
 
--- the link is cut off behind so many chunks
+-- the link is cut off after that many chunks
 pub cut_off : {N L : Type 0} (served : Serves N) (unserved : Refuses N) (came sent told : Moves L) (unread : Fails L) (unsent untold : Moves L) (why : Broken) (count : ℕ) (p q r : Reading) (a b c : N) (s t u : L)
     → IsUnderWay served came sent told count p q a b s t → StopsExchange served unserved came sent told unread unsent untold why q r b c t u
     → IsCutOff served unserved came sent told unread unsent untold why p r a c s u

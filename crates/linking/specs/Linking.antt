@@ -7,12 +7,13 @@ use Rattle.frames.specs.Streams.{after, came_in}
 use Rattle.linking.specs.declared.link.Broken.{Broken}
 use Rattle.linking.specs.declared.link.Broken.TheVariants.{Unread, Unsent, Untold, NoMemory}
 
--- between two states of a link: bytes that came, none at its end; bytes that left, or a text that was told, of which none is
--- held back; or that could not leave, or be told
+-- Between two states of a link: bytes that came, and none at its end. Or bytes that left, or a text that was reported,
+-- none of it held back. Or bytes or a text that could not leave or be reported.
 abbrev pub Moves : Type 0 → Type 1
 Moves L = L → List ℕ → L → Type 0
 
--- between two states of a target: the bytes and the text that were due for what came with a frame, none where none was
+-- Between two states of a target: the bytes and the text that were due for what came with a frame. If nothing was due
+-- there are none.
 abbrev pub Serves : Type 0 → Type 1
 Serves N = N → Came → (reply text : List ℕ) → N → Type 0
 
@@ -29,7 +30,7 @@ abbrev pub IsMoved : {L : Type 0} → Moves L → List ℕ → (start stop : L) 
 IsMoved moved [] start stop = stop ≡ start
 IsMoved moved (byte ∷ bytes) start stop = moved start (byte ∷ bytes) stop
 
--- what came with a frame was served, the reply that was due left, and then the text was told
+-- What came with a frame was served, the reply that was due left, and then the text was reported.
 pub record AnswersFrame {N L : Type 0} (served : Serves N) (sent told : Moves L) (came : Came) (before after_ : N) (start stop : L) : Type 0
   where
     pub reply : List ℕ
@@ -61,7 +62,7 @@ Exchanges served came sent told false start at before after_ from to = (at ≡ s
 Exchanges served came sent told true start at before after_ from to =
     (bytes : List ℕ) × AnswersChunk served came sent told bytes start at before after_ from to
 
--- bytes came in turn, and what was due for them was sent and told before others were asked for
+-- bytes came in turn, and what was due for them was sent and reported before others were asked for
 abbrev pub Links : {N L : Type 0} → Serves N → (came sent told : Moves L) → List (List ℕ) → (start at : Reading) (before after_ : N) (from to : L) → Type 0
 Links served came sent told [] start at before after_ from to = (at ≡ start) × (after_ ≡ before) × (to ≡ from)
 Links {N} {L} served came sent told (bytes ∷ chunks) start at before after_ from to =
@@ -73,7 +74,7 @@ Links {N} {L} served came sent told (bytes ∷ chunks) start at before after_ fr
 abbrev pub most_chunks : ℕ
 most_chunks = 18446744073709551615
 
--- a whole link: behind its bytes no more came, or they came more often than is counted
+-- A whole link. After its bytes no more came, or they came more often than is counted.
 pub record IsWholeLink {N L : Type 0} (served : Serves N) (came sent told : Moves L) (start at : Reading) (before after_ : N) (from to : L) : Type 0
   where
     pub chunks : List (List ℕ)
@@ -91,7 +92,7 @@ pub record StopsAtReply {N L : Type 0} (served : Serves N) (unsent : Moves L) (c
     pub serves : served before came reply text after_
     pub stopped : unsent start reply stop
 
--- what came with a frame was served, the reply that was due left, and the text could not be told
+-- What came with a frame was served, the reply that was due left, and the text could not be reported.
 pub record StopsAtText {N L : Type 0} (served : Serves N) (sent untold : Moves L) (came : Came) (before after_ : N) (start stop : L) : Type 0
   where
     pub reply : List ℕ
@@ -111,7 +112,7 @@ StopsAt served unserved sent told unsent untold Untold came before after_ start 
 StopsAt served unserved sent told unsent untold NoMemory came before after_ start stop =
     unserved before came after_ × (stop ≡ start)
 
--- so many of the bytes were taken, something came with the last of them, and it was not answered to its end
+-- That many of the bytes were taken, something came with the last of them, and it was not answered to its end.
 pub record StopsAnswering {N L : Type 0} (served : Serves N) (unserved : Refuses N) (sent told unsent untold : Moves L) (why : Broken) (bytes : List ℕ) (start at : Reading) (before after_ : N) (from to : L) : Type 0
   where
     pub count : ℕ
@@ -168,7 +169,8 @@ StopsExchange served unserved came sent told unread unsent untold why start at b
     StopsListening unread why start at before after_ from to
     ⊎ StopsInChunk served unserved came sent told unsent untold why start at before after_ from to
 
--- a link that was cut off: bytes came in turn, and what was due for them was sent and told; and then it stopped there
+-- A link that was cut off. Bytes came in turn, and what was due for them was sent and reported. Then the link stopped
+-- there.
 pub record IsCutOff {N L : Type 0} (served : Serves N) (unserved : Refuses N) (came sent told : Moves L) (unread : Fails L) (unsent untold : Moves L) (why : Broken) (start at : Reading) (before after_ : N) (from to : L) : Type 0
   where
     pub chunks : List (List ℕ)

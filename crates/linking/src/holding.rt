@@ -7,7 +7,7 @@ ghost use Rattle.linking.specs.Linking.{AnswersAll, AnswersFrame, Exchanges, IsC
 use crate::link::{Broken, Cannot, Link, Target};
 use frames::{Came, FrameReader, frames_are_read};
 
-/// How many bytes are asked for at a time: any number above 0 gives the same answers.
+/// How many bytes the link is asked for at a time. Any number above 0 gives the same answers.
 const CHUNK: usize = 8192;
 
 /// Sends what is due, if anything is.
@@ -21,7 +21,7 @@ fn send_due<L: Link>(bytes: &[u8], link: &mut L) -> Result<(), Cannot>
     link.send(bytes)
 }
 
-/// Tells what is due, if anything is.
+/// Reports the text that is due, if any is.
 fn tell_due<L: Link>(text: &[u8], link: &mut L) -> Result<(), Cannot>
     ensures ok { OnOk result (IsMoved L.told text.now link.old link.new) }
     ensures err { OnErr result (L.untold link.old text.now link.new) }
@@ -32,7 +32,7 @@ fn tell_due<L: Link>(text: &[u8], link: &mut L) -> Result<(), Cannot>
     link.tell(text)
 }
 
-/// Serves what came with a frame, sends the reply that is due, and then tells the text.
+/// Serves what came with a frame, sends the reply that is due, and then reports the text.
 fn answer<N: Target, L: Link>(came: Came, target: &mut N, link: &mut L) -> Result<(), Broken>
     ensures ok { OnOk result (AnswersFrame N.served L.sent L.told came
         target.old target.new link.old link.new) }
@@ -51,7 +51,7 @@ fn answer<N: Target, L: Link>(came: Came, target: &mut N, link: &mut L) -> Resul
     Ok(())
 }
 
-/// Takes bytes up to the end of a frame, or some of them, answers what came with them, and gives how many were taken.
+/// Takes bytes up to the end of a frame, or some of them, answers what came with them, and gives how many it took.
 fn answer_next<N: Target, L: Link>(
     bytes: &[u8],
     reader: &mut FrameReader,
@@ -77,7 +77,7 @@ fn answer_next<N: Target, L: Link>(
     }
 }
 
-/// Takes some bytes in turn, and answers what came with each before the next is taken.
+/// Takes some bytes in turn, and answers what came with each before it takes the next.
 fn answer_bytes<N: Target, L: Link>(
     bytes: &[u8],
     reader: &mut FrameReader,
@@ -122,8 +122,13 @@ fn exchange<N: Target, L: Link>(
     Ok(true)
 }
 
-/// Holds a link to its end: what is due for the bytes that came is sent and told, packet for packet, before others are
-/// asked for. An error tells why the link was cut off.
+/// Holds a link to its end. For the bytes that came it sends and reports what is due, packet for packet, before it asks
+/// for others.
+///
+/// # Errors
+///
+/// Why the link was cut off: the bytes cannot be read, or something due cannot be sent or reported, or memory was
+/// refused.
 pub fn hold<N: Target, L: Link>(
     reader: &mut FrameReader,
     target: &mut N,

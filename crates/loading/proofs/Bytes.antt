@@ -1,4 +1,4 @@
--- What a write that is let pass leaves of bytes, and what a read reads of them.
+-- What a write that passes leaves of bytes, and what a read reads of them.
 use Rattle.std.proofs.Common.{◌≡◌, ◌<◌, ◌≤◌, ◌+◌, ◌-◌, ℕ, List, true, false, leb, ltb, length, get_or, None, refl, sym, ap, ◌∙◌, arith}
 use Rattle.std.specs.Prelude.{map, Option, if◌then◌else◌}
 use Rattle.std.specs.List.{range_with_len}
@@ -16,13 +16,13 @@ use Rattle.rmap.specs.Verdict.{verdict_of}
 use Rattle.bank.specs.Answer.{Answer, answer, answer_at, first_line, status_with, verdict_line}
 use Rattle.bank.specs.Effect.{Memory, after_write, byte_after_data, byte_at, bytes_read, effect_of, memory_at}
 
--- a command with verdict 0 and a right body is executed where there is room
+-- a command with verdict 0 and a right body is executed if there is room
 pub executed : (m : Memory) (c : CommandValue) (v : ℕ) → v ≡ 0 → body_line c ≡ None → answer m true c v ≡ answer_at Success m c
 executed m c v pass right =
     ap (λ (n : ℕ). answer m true c n) pass
     ∙ ap (λ (line : Option Status). answer_at (status_with true (first_line (verdict_line (verdict_of 0)) line)) m c) right
 
--- a write puts its new into memory
+-- a write puts its new bytes into memory
 pub written : (m : Memory) (c : CommandValue) (v : ℕ) → v ≡ 0 → body_line c ≡ None → command_kind c ≡ Write → (answer m true c v).memory ≡ after_write m c (data_of c)
 written m c v pass right kind = ap (λ (a : Answer). a.memory) (executed m c v pass right) ∙ ap (λ (k : Kind). (effect_of k m c).memory) kind
 
@@ -41,7 +41,7 @@ byte_there bytes c new k below =
     get_or-map-range_with_len (λ i. byte_after_data (memory_at 0 bytes) c new (0 + i)) 0 (length bytes) k k 0 below place
     ∙ ap (λ i. byte_after_data (memory_at 0 bytes) c new i) place
 
--- it is that of the new where they are written with increment
+-- it is that of the new bytes if they are written with increment
 pub byte_written : (bytes : List ℕ) (c : CommandValue) (new : List ℕ) (address k : ℕ) → k < length bytes → increments c ≡ true → address_of c ≡ address → address ≤ k → k < address + length new → get_or (after_write (memory_at 0 bytes) c new).bytes k 0 ≡ get_or new (k - address) 0
 byte_written bytes c new address k below next field above inside =
     let is_above : leb address k ≡ true = grind (arith, nat_tests) in

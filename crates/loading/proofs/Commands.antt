@@ -50,7 +50,7 @@ made_again f body p h bytes end =
     ∙ parts_again f body p.end h
     ∙ ap (λ (e : End). record (command_with f body) { end = e }) end
 
--- a code of which the lowest bit is set increments
+-- if the lowest bit of a code is set, it increments
 increments_by : (i code : ℕ) → i / 4 % 16 ≡ code → code % 2 ≡ 1 → has_increment_bit i ≡ true
 increments_by i code is low = let bit : i / 4 % 2 ≡ 1 = omega (arith, is, low) in ap (λ n. eqb n 1) bit
 

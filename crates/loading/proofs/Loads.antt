@@ -79,7 +79,7 @@ control_ends next_law port slot image holder before now next p reply c short has
       eight = found.eight;
     }
 
--- what is told of a load whose last two replies are these
+-- what is so of a load whose last two replies are these
 told_by : (port slot : ℕ) (image : List ℕ) (holder left : PassValue) (before last after : SingleNodeValue) (read : Cargo) (replies earlier later : List (List ℕ)) (first second : List ℕ) → IsAt port holder before last left → IsVerdict slot image before.programs last.programs left.staging.load_result → after ≡ last
     → replies ≡ earlier ++ later → later ≡ first ∷ second ∷ [] → second ≡ reply_of (command_of read) Success left.staging.load_result → IsTold port slot image read before after replies
 told_by port slot image holder left before last after read replies earlier later first second node verdict is replies_are same answer_is = record {
@@ -92,12 +92,12 @@ told_by port slot image holder left before last after read replies earlier later
   banks = ap (λ (n : SingleNodeValue). n.banks) is ∙ node.banks;
 }
 
--- the verdict stays where what was published and the load result do
+-- the verdict stays if what was published and the load result do
 verdict_stays : (slot : ℕ) (image : List ℕ) (old new next : List Publish) (result left : List ℕ) → next ≡ new → left ≡ result → IsVerdict slot image old new result → IsVerdict slot image old next left
 verdict_stays slot image old new next result left same kept verdict =
     subst (λ (l : List Publish). IsVerdict slot image old l left) (sym same) (subst (λ (r : List ℕ). IsVerdict slot image old new r) (sym kept) verdict)
 
--- the control write and the read behind it
+-- the control write and the read after it
 ends_told : CommandsAreKept → MadeCommandsAreRead → LoadPacketsAreTaken → IsSetByNext → (transaction port slot : ℕ) (image : List ℕ) (holder : PassValue) (before after : SingleNodeValue) (packets : List Cargo) (replies : List (List ℕ))
     → slice_get holder.windows.banks 255 ≡ None → length image ≤ 16384 → port < length before.passes → (load : AreOfLoad holder.windows.node_address transaction slot image packets)
     → (done : AreStaged port image holder before (load.control ∷ load.read ∷ []) after replies) → (later : List (List ℕ)) → done.later ≡ later
@@ -138,7 +138,7 @@ at_first port image holder before at size = record {
   staged = λ i below within. let none : ⊥ = omega (arith, below) in absurd none;
 }
 
--- all of it, of a node whose port stages so many bytes
+-- all of it, of a node whose port stages that many bytes
 pub loads_are_told : CommandsAreKept → MadeCommandsAreRead → LoadPacketsAreTaken → IsSetByNext → (port : ℕ) (before : SingleNodeValue) (staging : Staged) → IsSingleNode before → staging_in (slice_get before.passes port) ≡ Some staging → length staging.bytes ≡ 16384 → LoadsAreTold port before
 loads_are_told keeps reads law next port before staging is own_staging size holder transaction slot image packets after replies at short load turn =
     let staged : holder.staging ≡ staging = same_Some holder.staging staging (ap staging_in (sym at) ∙ own_staging) in

@@ -58,7 +58,7 @@ unstopped : (stop : Stop) (p : Cargo) (w : WindowsValue) (reply : List ℕ) → 
 unstopped (NoCommand d) p w reply kept allowed is = none-some d (sym kept ∙ is.0)
 unstopped (Fault status) p w reply kept allowed is = none-some status (sym allowed ∙ is.0.stopped)
 
--- how the packet of a command to the boot window ends that is let pass
+-- how the packet of a command to the boot window ends if it passes
 ends_well : (served : Served) (g v : ℕ) (p : Cargo) (port : ℕ) (before after : SingleNodeValue) (h left : PassValue) (reply : List ℕ) (c : CommandValue) (kind : Kind) (place : Place) (address count : ℕ)
     → IsTaken h.windows p c kind place address count → IsWindow place
     → (answered : IsAnswered served p (parts before.banks before.programs) (parts after.banks after.programs) h left reply)
@@ -91,7 +91,7 @@ ends_well (Window status) g v p port before after h left reply c kind place addr
       ended = subst (λ (x : Place). EndsAtWindow x answered.between left before.programs after.programs answered.judged status reply) same answered.ended;
     }
 
--- a packet that is taken and let pass, with what it leaves of its port
+-- a packet that is taken and passes, with what it leaves of its port
 pub record IsPassed (place : Place) (c : CommandValue) (port : ℕ) (h : PassValue) (before after : SingleNodeValue) (reply : List ℕ) : Type 0 where
   pub left : PassValue
   pub passes : after.passes ≡ set before.passes port left

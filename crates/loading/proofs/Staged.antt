@@ -1,4 +1,4 @@
--- The parts of an image, written one behind the other to the staging of a port.
+-- The parts of an image, written one after the other to the staging of a port.
 use Rattle.std.proofs.Common.{◌≡◌, ◌<◌, ◌≤◌, ◌+◌, ◌*◌, ◌-◌, ◌++◌, ◌∷◌, [], ℕ, suc, List, true, length, get_or, take, drop, set, Some, None, inl, inr, refl, sym, ap, subst, ◌∙◌, arith}
 use Rattle.std.specs.Prelude.{slice_get}
 use Rattle.std.proofs.lemmas.Bool.{cases_lt}
@@ -50,7 +50,7 @@ one_more port holder before now next left after is passes banks windows = record
   windows = windows ∙ is.windows;
 }
 
--- so many parts of the image are staged, and nothing was published
+-- that many parts of the image are staged, and nothing was published
 pub record HasParts (port : ℕ) (image : List ℕ) (holder : PassValue) (before : SingleNodeValue) (done : ℕ) (now : SingleNodeValue) : Type 0 where
   pub left : PassValue
   pub node : IsAt port holder before now left
@@ -105,7 +105,7 @@ part_more w image number p port holder before now next reply c short part has pa
           ];
     }
 
--- all parts of the image are staged, the packets behind them are still to come, and so are their replies
+-- All parts of the image are staged. The packets after them are still to come, and so are their replies.
 pub record AreStaged (port : ℕ) (image : List ℕ) (holder : PassValue) (before : SingleNodeValue) (rest : List Cargo) (after : SingleNodeValue) (replies : List (List ℕ)) : Type 0 where
   pub now : SingleNodeValue
   pub has : HasParts port image holder before (part_count image) now
@@ -129,7 +129,7 @@ one_earlier port image holder before rest after reply replies found = record {
 abbrev IsPartSent : (address transaction : ℕ) → List ℕ → ℕ → Cargo → Type 0
 IsPartSent address transaction image number p = IsSent address (stage_request transaction (part_of image number) number) (with_crc (part_of image number)) p
 
--- parts that are let pass in turn are staged, one behind the other
+-- parts that pass in turn are staged, one after the other
 pub parts_staged : CommandsAreKept → MadeCommandsAreRead → LoadPacketsAreTaken → (transaction port : ℕ) (image : List ℕ) (holder : PassValue) (before : SingleNodeValue) (rest : List Cargo) (after : SingleNodeValue)
     → slice_get holder.windows.banks 255 ≡ None → length image ≤ 16384 → port < length before.passes → (parts : List Cargo) (done : ℕ) (now : SingleNodeValue) (replies : List (List ℕ))
     → ((number : ℕ) (p : Cargo) → slice_get parts number ≡ Some p → IsPartSent holder.windows.node_address transaction image (done + number) p) → done + length parts ≡ part_count image
@@ -159,7 +159,7 @@ parts_staged keeps reads law transaction port image holder before rest after non
     (λ number q at. let place : done + suc number ≡ done + 1 + number = omega arith in subst (λ (n : ℕ). IsPartSent w.node_address transaction image n q) place (each (suc number) q at))
     (omega (arith, count)) more turn.2)
 
--- the staging begins with the image once all its parts are staged
+-- the staging begins with the image after all its parts are staged
 pub begins_with : (port : ℕ) (image : List ℕ) (holder : PassValue) (before now : SingleNodeValue) → length image ≤ 16384 → (has : HasParts port image holder before (part_count image) now) → take (length image) has.left.staging.bytes ≡ image
 begins_with port image holder before now short has =
     let bytes = has.left.staging.bytes in

@@ -1,4 +1,4 @@
--- What a control write that is let pass does with a staging that begins with an image.
+-- What a control write that passes does with a staging that begins with an image.
 use Rattle.std.proofs.Common.{◌≡◌, ◌<◌, ◌≤◌, ◌/◌, ◌%◌, ◌*◌, ◌+◌, ℕ, List, Bool, true, eqb, cond, length, take, Option, Some, None, inl, inr, sym, ap, subst, ◌∙◌, arith}
 use Rattle.std.proofs.lemmas.List.{take_all}
 use Rattle.std.proofs.lemmas.Bool.Decides.{nat_tests}
@@ -34,7 +34,7 @@ asks_for slot image short =
     let made : ℕ → ControlData = λ l. record { slot = slot; zero = 0; length = l } in
     ap made count
 
--- a load reads the first bytes of the staging alone
+-- a load reads only the first bytes of the staging
 prepared : (control : ControlData) (staged image : List ℕ) (sizes : Maps) (slot : ℕ) (a : AcceptedValue) → loaded_bytes control staged ≡ loaded_bytes control image → IsPrepared control staged sizes slot a → IsPrepared control image sizes slot a
 prepared control staged image sizes slot a same is = record {
   control_is_right = is.control_is_right;

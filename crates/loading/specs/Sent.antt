@@ -24,8 +24,8 @@ pub record AreParts (address transaction : ℕ) (image : List ℕ) (packets : Li
   pub each : (number : ℕ) (packet : Cargo) → slice_get packets number ≡ Some packet
       → IsSent address (stage_request transaction (part_of image number) number) (with_crc (part_of image number)) packet
 
--- the packets are those of a load of the image into that slot, in order: its parts, the control write, and the read of
--- the load result
+-- The packets are those of a load of the image into that slot, in order. They are its parts, the control write, and the
+-- read of the load result.
 pub record AreOfLoad (address transaction slot : ℕ) (image : List ℕ) (packets : List Cargo) : Type 0 where
   pub parts : List Cargo
   pub control : Cargo

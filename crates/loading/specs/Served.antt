@@ -5,15 +5,15 @@ use Rattle.single_node.specs.Nodes.{SingleNodeValue}
 use Rattle.single_node.specs.Serving.{ServesTold}
 use Rattle.single_node.specs.declared.served.Told.{Told}
 
--- the node served the packet that came in at the port, which left it so, with that reply; and it let it pass: no verdict but
--- 0 was told
+-- The node served the packet that came in at the port, which left it so, with that reply. It let the packet pass: no
+-- verdict except 0 was given.
 pub record LetsPass (port : ℕ) (packet : Cargo) (before after : SingleNodeValue) (reply : List ℕ) : Type 0 where
   pub told : Told
   pub serves : ServesTold told port packet before after reply
   pub pass : told.verdict ≡ 0
 
--- the node served packets that came in at the port, one behind the other, and let each pass; these are the replies, one a
--- packet
+-- The node served packets that came in at the port, one after the other, and let each pass. These are the replies, one
+-- a packet.
 abbrev pub LetsPassInTurn : (port : ℕ) → List Cargo → (before after : SingleNodeValue) → List (List ℕ) → Type 0
 LetsPassInTurn port [] before after [] = after ≡ before
 LetsPassInTurn port [] before after (reply ∷ replies) = ⊥

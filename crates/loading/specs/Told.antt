@@ -1,4 +1,4 @@
--- What a load leaves at a node of one thread, told of its image.
+-- What a load leaves at a node of one thread, by its image.
 use Rattle.std.specs.Prelude.{◌≡◌, ◌≤◌, ◌⊎◌, ℕ, List, [], ◌∷◌, ◌++◌, length, slice_get, slice_set, Some}
 use Rattle.spw.specs.Cargo.{Cargo}
 use Rattle.rmap.specs.declared.boot.TheConstants.{STAGING_SIZE}
@@ -18,8 +18,8 @@ use Rattle.loading.specs.Asked.{asked_for}
 use Rattle.loading.specs.Sent.{AreOfLoad}
 use Rattle.loading.specs.Served.{LetsPassInTurn}
 
--- the image spells a program that is justified for the maps of the node: the list of what was published ends with it, for
--- that slot, where it judges from then on, and the load result has its generation
+-- The image spells a program that is justified for the maps of the node. The list of what was published ends with it,
+-- for that slot, and it judges there from then on. The load result has its generation.
 pub record IsPublishedAs (slot : ℕ) (image : List ℕ) (old new : List Publish) (load_result : List ℕ) : Type 0 where
   pub program : AcceptedValue
   pub load : IsLoad (asked_for slot image) image (sizes_of old) (length old) (Published slot program)
@@ -27,8 +27,8 @@ pub record IsPublishedAs (slot : ℕ) (image : List ℕ) (old new : List Publish
   pub judges : judging_program new slot ≡ Some (program, length old)
   pub told : load_result ≡ published_result (length old)
 
--- the image was refused, as a load of these bytes is, or for want of memory; what was published stays, and the load result
--- says why
+-- The image was refused, as a load of these bytes is, or for lack of memory. What was published stays, and the load
+-- result says why.
 pub record IsRefusedAs (slot : ℕ) (image : List ℕ) (old new : List Publish) (load_result : List ℕ) : Type 0 where
   pub refusal : LoadRefusal
   pub refused : IsLoadRefusal (asked_for slot image) image (sizes_of old) (length old) refusal
@@ -40,8 +40,8 @@ abbrev pub IsVerdict : (slot : ℕ) → (image : List ℕ) → (old new : List P
 IsVerdict slot image old new load_result =
     IsPublishedAs slot image old new load_result ⊎ IsRefusedAs slot image old new load_result
 
--- what a load of the image leaves, of which that packet read the load result: at the port the verdict on the image, with which
--- the last reply answers that packet; no other port and no bank changed
+-- What a load of the image leaves, of which that packet read the load result. At the port it leaves the verdict on the
+-- image, and the last reply answers that packet with it. No other port and no bank changed.
 pub record IsTold (port slot : ℕ) (image : List ℕ) (read : Cargo) (before after : SingleNodeValue)
     (replies : List (List ℕ)) : Type 0 where
   pub holder : PassValue
@@ -51,7 +51,7 @@ pub record IsTold (port slot : ℕ) (image : List ℕ) (read : Cargo) (before af
   pub answered : replies ≡ earlier ++ reply_of (command_of read) Success holder.staging.load_result ∷ []
   pub banks : after.banks ≡ before.banks
 
--- each load whose packets the node lets pass in turn at that port, where no others come between them
+-- each load whose packets the node lets pass in turn at that port, if no others come between them
 abbrev pub LoadsAreTold : (port : ℕ) → SingleNodeValue → Type 0
 LoadsAreTold port before =
     (holder : PassValue) (transaction slot : ℕ) (image : List ℕ) (packets : List Cargo) (after : SingleNodeValue)

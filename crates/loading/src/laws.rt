@@ -9,16 +9,16 @@ use node_programs::published_programs;
 use rmap::discard_is_exact;
 use single_node::SingleNode;
 
-/// A law and no work: the data of the control write of a load are read by a target as what asks for that load: the slot, a
-/// zero byte, and the bytes of the image.
+/// A law and no work: a target reads the data of the control write of a load as what asks for that load. They are the
+/// slot, a zero byte, and the bytes of the image.
 pub fn control_data_are_read()
     ensures { ControlDataAreRead }
 {}
 
-/// A law and no work: where a node of one thread serves the packets of a load in turn at one of its ports and lets each of
-/// them pass, the load result of that port is then the verdict on the image, which is published in the slot of the load or
-/// refused; the packet that reads the load result is answered with it, and no bank changes. The condition is a port of the
-/// node ([`SingleNode::ports`]).
+/// A law and no work: let a node of one thread serve the packets of a load in turn at a port, and let each pass. Then
+/// the load result of that port is the verdict on the image. The image is published in the slot of the load, or
+/// refused. The packet that reads the load result is answered with it, and no bank changes. The condition is a port of
+/// the node ([`SingleNode::ports`]).
 pub fn loads_are_told(node: &SingleNode, port: u8)
     requires { port < length node.now.passes }
     ensures { LoadsAreTold port node.now }

@@ -1,6 +1,6 @@
 //! A load from its packets to its verdict: what an initiator sends, at a node of one thread that lets it pass.
 //!
-//! Nothing here is for a program: [`loads_are_told`] is the law, and what the others say it needs.
+//! Nothing here is for a program. [`loads_are_told`] is the law, and the others say what it needs.
 #![tactic(auto)]
 
 mod laws;

@@ -1,4 +1,4 @@
--- Two paths with the same calls are one path as far as both go.
+-- Two paths with the same calls are the same up to the end of the shorter one.
 use Rattle.std.proofs.Common.{◌≡◌, ℕ, zero, suc, ◌+◌, ◌<◌, ◌≤◌, refl, sym, ◌∙◌, ap, arith, ⊎_elim, List, [], ◌∷◌, ◌++◌, append_assoc, Option, Some, None}
 use Rattle.std.proofs.lemmas.List.{append-nil}
 use Rattle.std.proofs.lemmas.Bool.{cases_lt, cases_order}
@@ -48,7 +48,7 @@ follows program header port calls (suc n) t (answered {calls = before} {s = s} {
     let earlier = follows program header port before n s path (given ∷ rest) in
     ap (λ (xs : List Call). after program header port xs (suc n)) together ∙ (from_some program header _ s (given ∷ rest) earlier ∙ goes_asks _ question on given rest e)
 
--- where it ended, it goes no further
+-- after its end a path goes no further
 ended : (program : Program) (header : Header) (port : ℕ) (calls : List Call) (n m : ℕ) → n ≤ m → after program header port calls n ≡ None → after program header port calls m ≡ None
 ended program header port calls n zero below e =
     let same : n ≡ 0 = omega arith in

@@ -19,7 +19,7 @@ if_trap true o e = e
 if_trap false o e = refl
 
 module _ (program : Program) (sizes : Maps) (header : Header) (port : ℕ) (answers : ℕ → ℕ) (safe : IsSafe program sizes) (good : IsHeader header) (low : port < 32) (words : (k : ℕ) → answers k < 2 ^ 64) where
-  -- from a path on to which so many steps are left of the budget
+  -- from a path with this many steps left of the budget
   abbrev GoesOn : (left : ℕ) → Type 0
   GoesOn left =
       (calls : List Call) (n : ℕ) (s : State) → Path program header port calls n s → AreAnswered answers calls → program.budget ≤ n + left → ComesToVerdict program header port answers

@@ -32,13 +32,13 @@ are_counters sizes h =
       rw (take_at sizes (drop n (replicate 8 0)) n refl, take-replicate n 8 Counter h.maps) h,
     )
 
--- they are seen as counter maps of these sizes
+-- a reader sees them as counter maps of these sizes
 pub counters_seen : (sizes : List ℕ) → length sizes ≤ 8 → record { cells = take (length sizes) (sizes ++ drop (length sizes) (replicate 8 0)); kinds = take (length sizes) (replicate 8 Counter) } ≡ counter_maps sizes
 counters_seen sizes few =
     let n = length sizes in
     ap₂ maps_of (take_at sizes (drop n (replicate 8 0)) n refl) (take-replicate n 8 Counter few)
 
--- the array after so many of the list were written, each by one of its parts
+-- the array after the first `count` of the list were written, each by one of its parts
 pub record IsFilledTo {A X : Type 0} (part : A → X) (blank : X) (count : ℕ) (given : List A) (xs : List X) : Type 0 where
   pub len : length xs ≡ 8
   pub front : take count xs ≡ map part (take count given)

@@ -41,7 +41,7 @@ use Rattle.machine.proofs.Results.{results_small, residue_small}
 
 -- ---- values
 
--- what an instruction writes, where it does not trap
+-- what an instruction writes, if it does not trap
 abbrev FitsResult : Option Value → Type 0
 FitsResult None = Unit {0}
 FitsResult (Some value) = FitsWord value
@@ -153,7 +153,7 @@ either_fits false x y h k = k
 
 -- ---- memory
 
--- a number below a limit, where there is one
+-- a number below a limit, if there is one
 abbrev IsBelow : (limit : ℕ) → Option ℕ → Type 0
 IsBelow limit None = Unit {0}
 IsBelow limit (Some n) = n < limit
@@ -193,7 +193,7 @@ either_byte false x y h k = k
 
 -- ---- steps
 
--- what an outcome leads to: a state that is bounded, whatever word is answered, or a verdict that is a word
+-- the state after an outcome is bounded, whatever word is answered, or its verdict is a word
 abbrev IsBoundedAfter : Outcome → Type 0
 IsBoundedAfter (Next t) = IsBounded t
 IsBoundedAfter (Ask question on) = (answer : ℕ) → answer < 2 ^ 64 → IsBounded (on answer)
@@ -277,7 +277,7 @@ module _ (header : Header) (s : State) (is_header : IsHeader header) (bounded : 
 
 -- ---- programs
 
--- the instruction that begins at a slot, where one does
+-- the instruction that begins at a slot, if one does
 abbrev IsInsnAt : Option Insn → Type 0
 IsInsnAt None = Unit {0}
 IsInsnAt (Some insn) = IsInsn insn

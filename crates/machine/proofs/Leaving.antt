@@ -1,4 +1,4 @@
--- What a step leaves as it was, and what follows a question.
+-- What a step does not change, and what follows a question.
 use Rattle.std.proofs.Common.{◌≡◌, ℕ, ◌+◌, refl, subst, arith, Bool, true, false, cond, eqb, ℤ, Option, Some, None}
 use Rattle.std.specs.Prelude.{◌||◌}
 use Rattle.std.proofs.lemmas.Bool.Decides.{nat_tests}
@@ -28,7 +28,7 @@ step_performs program header s knows = performs_at (insn_at program s.slot) know
     performs_at None knows = refl
     performs_at (Some insn) knows = where_true (knows_flow program.version (flow_of insn)) (perform header s insn) knows
 
--- ---- what is left
+-- ---- what is not changed
 
 -- the register that an instruction names is the one that it writes
 abbrev Names : Insn → (register : ℕ) → Type 0

@@ -19,7 +19,7 @@ written stack bytes start n i l =
     let e : start + i - start ≡ i = omega arith in
     rw e (grind (arith, nat_tests))
 
--- what the bytes of a number from a place on are read as
+-- what the bytes of a number from a place are read as
 digits_read : (byte : ℕ → Option ℕ) (bytes place n : ℕ) → ((i : ℕ) → i < bytes → byte (place + i) ≡ Some (n / 256 ^ i % 256)) → little_endian byte bytes place ≡ Some (n % 256 ^ bytes)
 unfolding little_endian
 digits_read byte zero place n h = rw (mod-one n) refl

@@ -7,13 +7,13 @@ use Rattle.std.proofs.lemmas.List.{length-take, take-append-drop}
 abbrev pub padded : {X : Type 0} → (blank : X) → List X → List X
 padded blank xs = xs ++ replicate (8 - length xs) blank
 
--- there are eight, and all behind so many are blank
+-- there are eight, and all after the first `count` are blank
 pub record IsPadded {X : Type 0} (blank : X) (count : ℕ) (xs : List X) : Type 0 where
   pub few : count ≤ 8
   pub len : length xs ≡ 8
   pub blanks : drop count xs ≡ replicate (8 - count) blank
 
--- those in front are as many as the count says
+-- `count` is how many are in front
 pub length-front : {X : Type 0} (blank : X) (count : ℕ) (xs : List X) → IsPadded blank count xs → length (take count xs)
     ≡ count
 length-front blank count xs h = let few = h.few in let len = h.len in omega (arith, length-take count xs)

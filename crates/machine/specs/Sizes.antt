@@ -11,7 +11,7 @@ pub record Maps : Type 0 where
   pub cells : List ℕ
   pub kinds : List MapKind
 
--- what the cells of the map are for; where there is no such map they count
+-- what the cells of the map are for; if there is no such map, they count
 abbrev pub kind_of_map : Maps → (map : ℕ) → MapKind
 kind_of_map maps map = slice_index_or maps.kinds map Counter
 

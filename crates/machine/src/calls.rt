@@ -15,11 +15,11 @@ pub struct Question {
     pub argument: u64,
 }
 
-/// A helper's call that was answered.
+/// A helper's call with its answer.
 #[derive(Clone, Copy, Debug, PartialEq, Eq)]
 pub struct Call {
-    /// What the helper asked.
+    /// What the program asked.
     pub question: Question,
-    /// What it answered, in r0.
+    /// The answer, which is in r0.
     pub answer: u64,
 }

@@ -10,11 +10,12 @@ use bpf::Version;
 /// helpers to the platform).
 #[derive(Clone, Copy, Debug, PartialEq, Eq)]
 pub enum Helper {
-    /// How many tickets were drawn from a cell that counts; the greatest number that was shown to a cell of a peak map.
+    /// How many tickets were drawn from a cell that counts, or the greatest number that was shown to a cell of a peak
+    /// map.
     Count,
     /// Draws the next ticket of a cell that counts.
     Ticket,
-    /// Shows a number to a cell of a peak map, and answers the greatest number that it was shown.
+    /// Shows a number to a cell of a peak map, and answers the greatest number that the cell was shown.
     Peak,
 }
 
@@ -31,7 +32,7 @@ impl Helper {
         }
     }
 
-    /// The helper of a number, or `None` where it is the number of none.
+    /// The helper of a number, or `None` if no helper has the number.
     pub fn of_number(number: i32) -> Option<Helper>
         ensures helper { result ≡ helper_of number }
         ensures inverse { (helper : Helper) → (result ≡ Some helper) ↔ (number ≡ pos (helper_number helper)) }
@@ -44,7 +45,7 @@ impl Helper {
         }
     }
 
-    /// The version of the format in which the helper came: each later version has it too.
+    /// The first version of the format that has the helper: each later version has it too.
     pub fn since(self) -> Version
         ensures { result ≡ since self }
     {
@@ -54,14 +55,15 @@ impl Helper {
         }
     }
 
-    /// Whether the version of the format has the helper: `count` and `ticket` are in each, `peak` came with version 2.
+    /// Whether the version of the format has the helper: each has `count` and `ticket`, and from version 2 on also
+    /// `peak`.
     pub fn is_in(self, version: Version) -> bool
         ensures { result ≡ has_helper version self }
     {
         self.since().number() <= version.number()
     }
 
-    /// Whether the helper takes an argument, a number in r3: `peak` alone.
+    /// Whether the helper takes an argument, a number in r3: only `peak` does.
     pub fn takes_argument(self) -> bool
         ensures { result ≡ takes_argument self }
     {

@@ -1,8 +1,8 @@
 //! The machine: what a BPF program does (RFC 9669), as a definition.
 //!
-//! The definitions are in `specs/`: `Words` has the arithmetic, `Memory` the regions, `State` what the
-//! machine remembers, `Helpers` the helpers, `Step` what each instruction does, `Runs` whole runs, and `Sizes`
-//! which maps a node may have. All that is promised of programs elsewhere is a statement about them.
+//! The definitions are in `specs/`. `Words` has the arithmetic, `Memory` the regions, `State` what the machine
+//! remembers, and `Helpers` the helpers. `Step` has what each instruction does, `Runs` whole runs, and `Sizes` which
+//! maps a node may have. What other crates promise of programs is a statement about these.
 #![tactic(auto)]
 
 mod calls;

@@ -15,7 +15,7 @@ pub const MAX_MAPS: usize = 8;
 /// The most cells that all maps have together.
 pub const MAX_CELLS: u16 = 256;
 
-/// More maps or cells than a node has, or a map of no cells.
+/// There are more maps or cells than a node has, or a map of no cells.
 #[derive(Clone, Copy, Debug, PartialEq, Eq, Error)]
 #[error("at most 8 maps, each of at least one cell, and 256 cells in all")]
 pub struct TooMany;
@@ -45,7 +45,7 @@ impl Model for MapSizes {
     ghost inverse_ok = { λ s h i. record { count = length-front 0 s.count s.cells h.0 i; cells = padded-front 0 s.count s.cells h.0 i; kinds = padded-front Counter s.count s.kinds h.1 i } };
 }
 
-/// Whether no map is without cells.
+/// Whether each map has cells.
 fn all_have_cells(sizes: &[u16]) -> bool
     ensures { IsTrue result ↔ All (λ size. 1 ≤ size) sizes.now }
 {
@@ -146,7 +146,7 @@ impl MapSizes {
         self.count
     }
 
-    /// How many cells the map has, or `None` where there is no such map.
+    /// How many cells the map has, or `None` if there is no such map.
     pub fn cells(&self, map: u8) -> Option<u16>
         ensures cells { result ≡ slice_get self.now.cells map }
         ensures sizes { AreSizes self.now }
@@ -157,7 +157,7 @@ impl MapSizes {
             .copied()
     }
 
-    /// Of which kind the map is, or `None` where there is no such map.
+    /// The kind of the map, or `None` if there is no such map.
     pub fn kind(&self, map: u8) -> Option<MapKind>
         ensures kind { result ≡ slice_get self.now.kinds map }
         ensures sizes { AreSizes self.now }

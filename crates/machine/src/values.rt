@@ -9,7 +9,7 @@ pub enum Value {
     Unset,
     /// A number below 2^64.
     Num(u64),
-    /// A pointer: any whole offset, of which only those inside the region can be read or written.
+    /// A pointer. It may have any whole offset, but only those inside the region can be read or written.
     Ptr { region: Region, offset: i128 },
     /// A map that the node has, by its index.
     Map(u8),

@@ -69,7 +69,7 @@ fn quotient(a: u64, b: u64) -> u64
     if b == 0 { 0 } else { a / b }
 }
 
-/// Modulo by zero leaves the destination.
+/// Modulo by zero does not change the destination.
 fn remainder(a: u64, b: u64) -> u64
     ensures { result ≡ remainder a b }
 {
@@ -92,7 +92,7 @@ fn signed_quotient(width: Width, a: u64, b: u64) -> u64
     }
 }
 
-/// What signed division leaves, with the sign of the dividend.
+/// What is left of signed division, with the sign of the dividend.
 fn signed_remainder(width: Width, a: u64, b: u64) -> u64
     requires a_low { a < modulus width }
     requires b_low { b < modulus width }
@@ -132,10 +132,12 @@ fn alu_low(op: AluOp, width: Width, a: u64, b: u64) -> u64
     }
 }
 
-/// An operation on two words (RFC 9669, section 4.1). At 32 bits it reads the low halves, and the upper
-/// half of the result is zero. Arithmetic wraps, a shift's count is masked to the width, division by
-/// zero gives 0, modulo by zero leaves `a`, signed division truncates toward zero, and the least number
-/// divided by -1 is itself.
+/// An operation on two words (RFC 9669, section 4.1). At 32 bits it reads the low halves, and the upper half of the
+/// result is zero.
+///
+/// - Arithmetic wraps, and a shift's count is masked to the width.
+/// - Division by zero gives 0, and modulo by zero gives `a`.
+/// - Signed division truncates toward zero, and the least number divided by -1 is itself.
 pub fn alu_words(op: AluOp, width: Width, a: u64, b: u64) -> u64
     ensures { result ≡ alu_words op width a b }
 {
@@ -191,8 +193,8 @@ fn reversed_bytes(bits: SwapBits, n: u64) -> u64
     }
 }
 
-/// END of a word (RFC 9669, section 4.2), on a little-endian machine. In both classes the whole word is
-/// read, and the width alone decides; the bits above it are zero.
+/// END of a word (RFC 9669, section 4.2), on a little-endian machine. Both classes read the whole word, and only the
+/// width decides. The bits above it are zero.
 pub fn swapped_bytes(swap: Swap, bits: SwapBits, n: u64) -> u64
     ensures { result ≡ swapped_bytes swap bits n }
 {

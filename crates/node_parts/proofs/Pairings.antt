@@ -79,7 +79,7 @@ share_written : (h : PassValue) (place : Place) (share : ShareValue) → IsBankB
 share_written h place share below =
     rw (below.1) (get_or-set_at h.shares below.0 below.0 share (first_share h.port) refl below.2)
 
--- where a command was applied, share and count agree
+-- if a command was applied, share and count agree
 pub agrees : AppliedSharesAgree
 agrees old new h after j result bytes below finished fit =
     let share = share_of h j.place in

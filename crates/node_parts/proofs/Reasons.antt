@@ -127,7 +127,7 @@ verifier_wants_none refusals.Unsupported other = refl
 verifier_wants_none refusals.Memory other = absurd (other refl)
 verifier_wants_none refusals.MapKind other = refl
 
--- a slot where an instruction begins is one of the program's
+-- if an instruction begins at a slot, it is one of the program's
 slot_within : (p : Program) (slot : ℕ) → IsSome (insn_at p slot) → slot < length p.slots
 slot_within p slot begins = elim at_end [
   | inl below ↦ below
@@ -140,7 +140,7 @@ slot_within p slot begins = elim at_end [
     true_is_not_false : true ≡ false → ⊥
     true_is_not_false e = absurd cc
 
--- the slot of a refusal is one of the program's, where memory was not refused
+-- the slot of a refusal is one of the program's, if memory was not refused
 placed : FaultIsKnown → (p : Program) (r : Refused) → IsProgram p → IsRefusal p r → r.code ≢ refusals.Memory → r.slot < length p.slots
 placed known p r program why other = elim why [
   | of_form fault ↦ (known p r program fault).1

@@ -1,4 +1,4 @@
--- Numbers of refusals, bytes that are no image, and want of memory.
+-- Numbers of refusals, bytes that are no image, and lack of memory.
 use Rattle.std.proofs.Common.{◌≡◌, ◌≢◌, ◌≤◌, ◌<◌, ◌⊎◌, ◌^◌, inl, inr, ℕ, List, Option, None, Some, Bool, true, false, cond, Ok, refl, sym, ap, ap₂, ◌∙◌, subst, arith}
 use Rattle.std.specs.Prelude.{◌==◌, ◌||◌, not, nat_lt, Result, Err, IfErr, IsErrAnd}
 use Rattle.bpf.specs.Fault.{image_fault_code}
@@ -33,7 +33,7 @@ image_codes_few image_faults.Loop = omega arith
 image_codes_few (image_faults.Insn slot fault) = omega arith
 image_codes_few image_faults.Memory = omega arith
 
--- a fault but want of memory is not that of bytes that are read
+-- a fault, except lack of memory, is not that of bytes that are read
 not_read : (f : ImageFault) (p : Program) → f ≢ image_faults.Memory → Fails f (Ok p) → ⊥
 not_read image_faults.Magic p other e = absurd cc
 not_read image_faults.Version p other e = absurd cc
@@ -54,7 +54,7 @@ is_memory image_faults.Loop = inl (λ e. absurd cc)
 is_memory (image_faults.Insn slot fault) = inl (λ e. absurd cc)
 is_memory image_faults.Memory = inr refl
 
--- a fault of an image, or want of memory
+-- a fault of an image, or lack of memory
 pub unspelled : (bytes : List ℕ) (f : ImageFault) (refusal : LoadRefusal) → refusal ≡ Image f
     → ((p : Program) → IsProgram p → bytes ≡ image_bytes p → Fails f (Ok p)) → IsUnspelled bytes refusal ⊎ (refusal ≡ Image image_faults.Memory)
 unspelled bytes f refusal is only = elim (is_memory f) [
@@ -67,7 +67,7 @@ unspelled bytes f refusal is only = elim (is_memory f) [
   | inr memory ↦ inr (is ∙ ap Image memory)
 ]
 
--- a refusal of the verifier for what is wrong with the program is another than want of memory
+-- a refusal of the verifier for what is wrong with the program is another than lack of memory
 known_form : (code : Refusal) → IsFormCode code → code ≢ refusals.Memory
 known_form code is memory = subst IsFormCode memory is
 
@@ -80,7 +80,7 @@ refused_of code slot = record { code = code; slot = slot }
 refused_same : (r : Refused) (code : Refusal) (slot : ℕ) → r.code ≡ code → r.slot ≡ slot → r ≡ refused_of code slot
 refused_same r code slot c s = ap₂ refused_of c s
 
--- a refusal of the verifier, or want of memory
+-- a refusal of the verifier, or lack of memory
 pub unverified : FaultIsKnown → (bytes : List ℕ) (sizes : Maps) (p : Program) (r : Refused) (refusal : LoadRefusal) → refusal ≡ Unverified r
     → IsProgram p → bytes ≡ image_bytes p → IsRefusal p r → TellsUnjustified p sizes r → IsUnpreparedBy None bytes sizes refusal ⊎ WantsToVerify bytes refusal
 unverified known bytes sizes p r refusal is program spelled why unjustified = elim why [
@@ -98,7 +98,7 @@ pub unverified_told : {A : Type 0} (known : FaultIsKnown) (bytes : List ℕ) (si
 unverified_told known bytes sizes p r (Ok a) is program spelled why unjustified = tt
 unverified_told known bytes sizes p r (Err refusal) is program spelled why unjustified = unverified known bytes sizes p r refusal is program spelled why unjustified
 
--- the same where the image was refused
+-- the same if the image was refused
 pub unread : (bytes : List ℕ) (sizes : Maps) (refusal : LoadRefusal) → IsUnspelled bytes refusal ⊎ (refusal ≡ Image image_faults.Memory) → IsUnpreparedBy None bytes sizes refusal ⊎ WantsToVerify bytes refusal
 unread bytes sizes refusal why = elim why [
   | inl fault ↦ inl (inl fault)

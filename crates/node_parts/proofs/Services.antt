@@ -43,7 +43,7 @@ done_applied : (old new : PartsValue) (h after : PassValue) (p : Cargo) (result 
 done_applied old new h after p result reply paired done =
     done.ended.applied (judged_fits old.banks h done.between p done.judged done.number done.before done.judgement paired done.place done.bank)
 
--- where banks and port are paired no command is refused
+-- if banks and port are paired no command is refused
 answered : (served : Served) (p : Cargo) (old new : PartsValue) (h after : PassValue) (reply : List ℕ)
     → IsServed served p old new h after reply → IsPaired old.banks h → IsAnswered served p old new h after reply
 answered (Stopped stop) p old new h after reply s paired = s

@@ -1,4 +1,4 @@
--- What judges behind a port's own load.
+-- What judges after a port's own load.
 use Rattle.std.proofs.Common.{◌≡◌, ℕ, List, ◌++◌, Some, ap, sym, ◌∙◌, subst, append_assoc}
 use mathlib.Core.List.{IsPrefix}
 use Rattle.node_programs.specs.declared.publishes.Publish.{Publish}

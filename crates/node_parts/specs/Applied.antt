@@ -24,8 +24,8 @@ with_share h Staging share = h
 with_share h LoadResult share = h
 with_share h Control share = h
 
--- the command was applied: status, memory and reply are those of its answer, bank and share count the
--- entry that it left, and the other entries stay
+-- The command was applied. Status, memory and reply are those of its answer. Bank and share count the entry that it
+-- left, and the other entries stay.
 pub record IsApplied (old new : BankValue) (share : ShareValue) (holder after : PassValue) (judged : JudgedValue)
     (result : Applied) (bytes : List ℕ) : Type 0 where
   pub status : result.status ≡ (answer_of old judged).status
@@ -35,7 +35,7 @@ pub record IsApplied (old new : BankValue) (share : ShareValue) (holder after : 
   pub bank : new ≡ after_command old share judged
   pub shares : after ≡ with_share holder judged.place (next_share old share judged)
 
--- the command was not applied: a general error, and nothing else
+-- the command was not applied: the answer is a general error, and nothing else changed
 pub record IsRefused (old new : BankValue) (holder after : PassValue) (judged : JudgedValue) (result : Applied)
     (bytes : List ℕ) : Type 0 where
   pub status : result.status ≡ GeneralError
@@ -44,7 +44,7 @@ pub record IsRefused (old new : BankValue) (holder after : PassValue) (judged : 
   pub bank : new ≡ old
   pub shares : after ≡ holder
 
--- how a judged command ends at a bank: it is applied where that share fits, else refused
+-- how a judged command ends at a bank: it is applied if that share fits, else refused
 pub record IsEnded (old new : BankValue) (share : ShareValue) (holder after : PassValue) (judged : JudgedValue)
     (result : Applied) (bytes : List ℕ) : Type 0 where
   pub applied : fits old share judged ≡ true → IsApplied old new share holder after judged result bytes

@@ -10,7 +10,7 @@ use Rattle.node_parts.specs.Passes.{PassValue}
 use Rattle.node_parts.specs.Served.{PartsValue, IsServed, IsAnswered}
 use Rattle.node_parts.specs.Steps.{IsBankBelow}
 
--- where banks and port are paired, a packet whose command was applied was served
+-- if banks and port are paired, a packet whose command was applied was served
 abbrev pub AnsweredAreServed : Type 0
 AnsweredAreServed =
     (served : Served) (p : Cargo) (old new : PartsValue) (h after : PassValue) (reply : List ℕ)
@@ -23,7 +23,7 @@ LeavesAllPaired =
     → IsServed served p old new h after reply → (passes : List PassValue) (k : ℕ) → ArePaired old.banks passes
     → slice_get passes k ≡ Some h → ArePaired new.banks (slice_set passes k after)
 
--- where a command was applied, the port's share of the bank and the bank's count agree
+-- if a command was applied, the port's share of the bank and the bank's count agree
 abbrev pub AppliedSharesAgree : Type 0
 AppliedSharesAgree =
     (old new : BankValue) (h after : PassValue) (j : JudgedValue) (result : Applied) (bytes : List ℕ)

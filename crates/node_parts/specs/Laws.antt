@@ -23,15 +23,14 @@ use Rattle.node_parts.specs.Loaded.{HasLoaded}
 abbrev pub IsControlCode : ℕ → Type 0
 IsControlCode code = (code ≡ 71) ⊎ (code ≡ 66)
 
--- the code is one of the verifier's but for want of memory: 1 to 16, or 18
+-- the code is one of the verifier's, except lack of memory: 1 to 16, or 18
 abbrev pub IsVerifierCode : ℕ → Type 0
 IsVerifierCode code = (code ≤ 16) ⊎ (code ≡ 18)
 
--- what a refusal says: its code is 71 or 66 exactly where the control data are wrong, 33 to 39 only where the bytes
--- spell no image, 1 to 16 and 18 only where they spell one that nothing justifies for these maps, at a slot of which it
--- stands, and 67 only after 2^32 - 1 publishes; with every other code but 39, which is an instruction's, it
--- has place 0;
--- and memory was not wanted
+-- What a refusal says. Its code is 71 or 66 exactly if the control data are wrong, and 33 to 39 only if the bytes spell
+-- no image. It is 1 to 16 or 18 only if they spell one that nothing justifies for these maps, at the slot of which it
+-- speaks. It is 67 only after 2^32 - 1 publishes. With every other code except 39, which is an instruction's, it has
+-- place 0. Memory was not refused.
 pub record TellsWhy (control : ControlData) (staged : List ℕ) (sizes : Maps) (count : ℕ)
     (refusal : LoadRefusal) : Type 0 where
   pub control_is_wrong : (control_fault control ≡ Some refusal) ↔ IsControlCode (load_refusal_code refusal)
@@ -44,13 +43,13 @@ pub record TellsWhy (control : ControlData) (staged : List ℕ) (sizes : Maps) (
   pub unplaced : 33 ≤ load_refusal_code refusal → load_refusal_code refusal ≢ 39 → load_refusal_slot refusal ≡ 0
   pub no_want : wants_memory refusal ≡ false
 
--- the refusal of each load tells why
+-- the refusal of each load says why
 abbrev pub RefusalsTellWhy : Type 0
 RefusalsTellWhy =
     (control : ControlData) (staged : List ℕ) (sizes : Maps) (count : ℕ) (refusal : LoadRefusal)
     → IsLoad control staged sizes count (Refused refusal) → TellsWhy control staged sizes count refusal
 
--- behind a port's own load, a command that the loaded slot judges is judged by the loaded program or a later one
+-- after a port's own load, the loaded program or a later one judges each command that the loaded slot judges
 abbrev pub LoadsAreTaken : Type 0
 LoadsAreTaken =
     (holder left between after : PassValue) (old new : List Publish) (j next : JudgedValue) (result : Status)

@@ -23,8 +23,8 @@ use Rattle.node_parts.specs.Outcomes.{IsLoad, IsLoadRefusal, Published}
 abbrev pub control_in : JudgedValue → ControlData
 control_in j = control_of (command_of j.packet).body
 
--- the staged program was published for the slot that the control data ask, with that generation, and the
--- reader, which keeps what it knew, knows all that was published, and nothing else
+-- The staged program was published for the slot that the control data ask, with that generation. The reader keeps what
+-- it knew, and knows all that was published, and nothing else.
 pub record IsPublished (control : ControlData) (staged : List ℕ) (old new known seen : List Publish)
     (generation : ℕ) : Type 0 where
   pub slot : ℕ
@@ -36,7 +36,7 @@ pub record IsPublished (control : ControlData) (staged : List ℕ) (old new know
   pub keeps : IsPrefix known seen
   pub learnt : seen ≡ new
 
--- a port that has learnt so much, with that load result
+-- a port that has learnt of these publishes, with that load result
 abbrev pub after_load : PassValue → (seen : List Publish) → (load_result : List ℕ) → PassValue
 after_load h seen load_result = record h { programs = seen; staging = staged h.staging.bytes load_result }
 
@@ -46,7 +46,7 @@ pub record HasNoted {K : Type 0} (notes : K → Publish → K → Type 0) (had h
   pub longer : new ≡ old ++ publish ∷ []
   pub noted : notes had publish has
 
--- one program was published by a port, which noted that, or nothing was, and the port has what it had
+-- A port published one program and noted that, or nothing was published, and the port has what it had.
 abbrev pub NotesPublish : {K : Type 0} → (K → Publish → K → Type 0) → (had has : K) → (old new : List Publish) → Type 0
 NotesPublish notes had has old new = HasNoted notes had has old new ⊎ ((new ≡ old) × (has ≡ had))
 
@@ -58,7 +58,7 @@ pub record HasLoaded (holder after : PassValue) (old new : List Publish) (j : Ju
   pub status : result ≡ Success
   pub holder_after : after ≡ after_load holder after.programs (published_result generation)
 
--- the load was refused, which the load result tells, and nothing else changed
+-- the load was refused, as the load result says, and nothing else changed
 pub record HasRefused (holder after : PassValue) (old new : List Publish) (j : JudgedValue)
     (result : Status) : Type 0 where
   pub refusal : LoadRefusal
@@ -67,7 +67,7 @@ pub record HasRefused (holder after : PassValue) (old new : List Publish) (j : J
   pub same : new ≡ old
   pub holder_after : after ≡ after_load holder holder.programs (refused_result refusal)
 
--- how a judged control write ends, by what stops it: where nothing does, the load decides
+-- how a judged control write ends, by what stops it: if nothing does, the load decides
 abbrev pub EndsAs : Option Status → (holder after : PassValue) → (old new : List Publish) → JudgedValue → Status
     → Type 0
 EndsAs (Some status) holder after old new j result = (result ≡ status) × (after ≡ holder) × (new ≡ old)

@@ -33,7 +33,7 @@ control_fault control =
     else if nat_lt LAST_SLOT control.slot then Some Slot
     else None
 
--- the number of a refusal: that of an image has 32 more than its fault, the verifier's has its own
+-- The number of a refusal. That of an image has 32 more than its fault, and the verifier's has its own.
 abbrev pub load_refusal_code : LoadRefusal → ℕ
 load_refusal_code Control = 71
 load_refusal_code Slot = 66
@@ -53,7 +53,7 @@ named_fault image_faults.Loop = image_faults.Loop
 named_fault (image_faults.Insn slot fault) = image_faults.Insn 0 Opcode
 named_fault image_faults.Memory = image_faults.Memory
 
--- the refusal that a code names, which does not tell the slot
+-- the refusal that a code names, without the slot
 abbrev pub named_refusal : LoadRefusal → LoadRefusal
 named_refusal Control = Control
 named_refusal Slot = Slot
@@ -77,7 +77,7 @@ load_refusal_of_code code =
     else (if code == 71 then Some Control
     else program_refusal_of_code code)))
 
--- the slot of the image at which a load was refused, 0 where there is none
+-- the slot of the image at which a load was refused, or 0 if there is none
 abbrev pub load_refusal_slot : LoadRefusal → ℕ
 load_refusal_slot Control = 0
 load_refusal_slot Slot = 0
@@ -131,18 +131,19 @@ wants_memory GenerationsFull = false
 abbrev pub loaded_bytes : ControlData → List ℕ → List ℕ
 loaded_bytes control staged = take control.length staged
 
--- the bytes spell no image, and a fault of an image is told
+-- the bytes spell no image, and the refusal has a fault of an image
 pub record IsUnspelled (bytes : List ℕ) (refusal : LoadRefusal) : Type 0 where
   pub fault : ImageFault
   pub is : refusal ≡ Image fault
   pub no_want : fault ≢ image_faults.Memory
   pub unspelled : (p : Program) → IsProgram p → bytes ≢ image_bytes p
 
--- the fault that is told of an image is the first in the order of an image's parts, unless memory was refused
+-- the fault that the refusal has of an image is the first in the order of an image's parts, unless memory was refused
 abbrev pub IsFirstFault : List ℕ → LoadRefusal → Type 0
 IsFirstFault bytes refusal = (fault : ImageFault) → refusal ≡ Image fault → Fails fault (image_reading bytes)
 
--- the bytes spell a program, which the verifier refused for these maps, and it is told why: nothing justifies it
+-- The bytes spell a program, which the verifier refused for these maps. The refusal says why, and nothing justifies the
+-- program.
 pub record IsUnverified (bytes : List ℕ) (sizes : Maps) (refusal : LoadRefusal) : Type 0 where
   pub program : Program
   pub is_program : IsProgram program
@@ -153,7 +154,7 @@ pub record IsUnverified (bytes : List ℕ) (sizes : Maps) (refusal : LoadRefusal
   pub why : IsRefusal program refused
   pub unjustified : IsJustified program sizes → ⊥
 
--- why nothing can be published, by what is wrong with the control data: exactly where something is, that is told
+-- Why nothing can be published, by what is wrong with the control data. The refusal says that exactly if something is.
 abbrev pub IsUnpreparedBy : Option LoadRefusal → List ℕ → Maps → LoadRefusal → Type 0
 IsUnpreparedBy (Some fault) bytes sizes refusal = refusal ≡ fault
 IsUnpreparedBy None bytes sizes refusal = IsUnspelled bytes refusal ⊎ IsUnverified bytes sizes refusal
@@ -174,7 +175,7 @@ pub record IsPrepared (control : ControlData) (staged : List ℕ) (sizes : Maps)
   pub justified : IsJustified a.program sizes
   pub sizes_are : a.sizes ≡ sizes
 
--- memory was refused to the verifier, which is said of the whole program
+-- memory was refused to the verifier, a refusal of the whole program
 abbrev pub verifier_memory : Refused
 verifier_memory = record { code = refusals.Memory; slot = 0 }
 

@@ -57,8 +57,8 @@ first_programs factory = entry 0 factory ∷ []
 abbrev pub first_staging : Staged
 first_staging = staged (replicate STAGING_BYTES 0) (replicate 8 0)
 
--- what a port has of its node at first: it knows of the factory program, and has a seat at the cells of
--- that name, for the program's maps, of which nothing was asked
+-- What a port has of its node at first. It knows of the factory program. It has a seat at the cells of that name, for
+-- the program's maps, of which nothing was asked.
 abbrev pub first_pass : ℕ → List BankConfig → AcceptedValue → Gv → ℕ → PassValue
 first_pass address banks factory home port = record {
   port = port;
@@ -87,7 +87,7 @@ abbrev pub limit_fault : NodeConfig → Option NodeFault
 limit_fault config =
     if not (is_ports config.ports) then Some Ports else if not (are_within config.banks.now) then Some Banks else None
 
--- why a node could not be made: a limit that was passed, else want of memory
+-- why a node could not be made: a limit that was passed, else lack of memory
 abbrev pub IsNodeFault : (limit : Option NodeFault) → NodeFault → Type 0
 IsNodeFault (Some limit) fault = fault ≡ limit
 IsNodeFault None fault = fault ≡ Memory

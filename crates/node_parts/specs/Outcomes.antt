@@ -12,8 +12,8 @@ pub data Load : Type 0 where
   Published : (slot : ℕ) → AcceptedValue → Load
   Refused : LoadRefusal → Load
 
--- what becomes of a load with those control data, of those staged bytes, in a node with maps of those sizes, in
--- whose history there are so many programs, the factory program among them
+-- What becomes of a load with those control data and those staged bytes, in a node with maps of those sizes. The node's
+-- history has that many programs, with the factory program.
 abbrev pub IsLoad : ControlData → (staged : List ℕ) → Maps → (count : ℕ) → Load → Type 0
 IsLoad control staged sizes count (Published slot program) =
     IsPrepared control staged sizes slot program × (count < 2 ^ 32)
@@ -22,15 +22,14 @@ IsLoad control staged sizes count (Refused refusal) =
     ⊎ ((slot : ℕ) × (program : AcceptedValue) × IsPrepared control staged sizes slot program × (2 ^ 32 ≤ count)
     × (refusal ≡ load_refusals.GenerationsFull))
 
--- memory was refused to a running load: to what comes before publishing, or to publishing, where generations are
--- not full
+-- Memory was refused to a running load: to what comes before publishing, or to publishing if generations are not full.
 pub data WantsMemory (control : ControlData) (staged : List ℕ) (sizes : Maps) (count : ℕ) (refusal : LoadRefusal) : Type
     0 where
   preparing : WantsToPrepare control staged refusal → WantsMemory control staged sizes count refusal
   publishing : (slot : ℕ) → (program : AcceptedValue) → IsPrepared control staged sizes slot program → count < 2 ^ 32
       → refusal ≡ load_refusals.Memory → WantsMemory control staged sizes count refusal
 
--- why a running load is refused: as a load is, or for want of memory
+-- why a running load is refused: as a load is, or for lack of memory
 abbrev pub IsLoadRefusal : ControlData → (staged : List ℕ) → Maps → (count : ℕ) → LoadRefusal → Type 0
 IsLoadRefusal control staged sizes count refusal =
     IsLoad control staged sizes count (Refused refusal) ⊎ WantsMemory control staged sizes count refusal

@@ -32,8 +32,8 @@ MadeArePaired =
     (address ports : ℕ) (banks : List BankConfig) (program : AcceptedValue) (home : Gv)
     → ArePaired (map (bank_of ports) banks) (map (first_pass address banks program home) (range_with_len 0 ports))
 
--- where banks and a port are paired, a judged command of the port whose place is that of its bytes under the port's
--- windows fits the bank of its place
+-- If banks and a port are paired, a judged command of the port fits the bank of its place. That place must be the one
+-- of its bytes under the port's windows.
 abbrev pub PairedCommandsFit : Type 0
 PairedCommandsFit =
     (banks : List BankValue) (h : PassValue) (k : ℕ) (j : JudgedValue) (b : BankValue)

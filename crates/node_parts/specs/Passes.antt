@@ -37,8 +37,8 @@ run_context port windows seat = record { port = port; windows = windows; seat = 
 abbrev pub context_after : RunContextValue → List Call → RunContextValue
 context_after b more = record { port = b.port; windows = b.windows; seat = seat_after b.seat more }
 
--- what a port has of its node: the node's windows, what it knows of the programs that were published, its seat at the
--- cells, a share of each bank, and its own staging with the result of its last load
+-- What a port has of its node: the node's windows, what it knows of the programs that were published, and its seat at
+-- the cells. It also has a share of each bank, and its own staging with the result of its last load.
 pub record PassValue : Type 0 where
   pub port : ℕ
   pub windows : WindowsValue
@@ -66,8 +66,8 @@ pass_after h seen more = record h { programs = seen; seat = seat_after h.seat mo
 abbrev pub with_staging : PassValue → Staged → PassValue
 with_staging h staging = record h { staging = staging }
 
--- a port's number is below 32, it has a share of each bank of its node, and the programs of its node are accepted
--- for the maps at which it has its seat
+-- A port's number is below 32, and it has a share of each bank of its node. The programs of its node are accepted for
+-- the maps at which it has its seat.
 pub record IsPass (p : PassValue) : Type 0 where
   pub port : p.port < 32
   pub sizes : p.seat.sizes ≡ sizes_of p.programs

@@ -33,7 +33,7 @@ pub record IsUntouched (old new : PartsValue) (holder after : PassValue) : Type 
 abbrev pub Ending : Type 1
 Ending = BankValue → BankValue → ShareValue → PassValue → PassValue → JudgedValue → Applied → List ℕ → Type 0
 
--- the command was judged in one run, which left the port so, and ended at the bank of its place alone
+-- the command was judged in one run, which left the port so, and ended only at the bank of its place
 pub record IsDone (Ends : Ending) (old new : PartsValue) (holder after : PassValue) (p : Cargo) (result : Applied)
     (bytes : List ℕ) : Type 0 where
   pub judged : JudgedValue
@@ -63,7 +63,7 @@ EndsAtWindow LoadResult holder after old new judged result bytes =
     IsStagedAt holder after judged result bytes × (new ≡ old)
 EndsAtWindow Control holder after old new judged result bytes = IsLoadEnd holder after old new judged result bytes
 
--- the command was judged in one run, which left the port so, and ended in the boot window; no bank changed
+-- The command was judged in one run, which left the port so, and ended in the boot window. No bank changed.
 pub record IsWindowed (old new : PartsValue) (holder after : PassValue) (p : Cargo) (result : Status)
     (bytes : List ℕ) : Type 0 where
   pub judged : JudgedValue
@@ -72,8 +72,7 @@ pub record IsWindowed (old new : PartsValue) (holder after : PassValue) (p : Car
   pub banks : new.banks ≡ old.banks
   pub ended : EndsAtWindow judged.place between after old.programs new.programs judged result bytes
 
--- what becomes of a packet, of the node and of the port, and the reply that is due, where commands
--- end so
+-- what becomes of a packet, of the node and of the port, and the reply that is due, if commands end so
 abbrev pub IsServedBy : Ending → Served → Cargo → (old new : PartsValue) → (holder after : PassValue) → List ℕ → Type 0
 IsServedBy Ends (Stopped stop) p old new h after reply = IsStopped stop p h.windows reply × IsUntouched old new h after
 IsServedBy Ends Unread p old new h after reply = IsUnread p h.windows reply × IsUntouched old new h after
@@ -84,6 +83,6 @@ IsServedBy Ends (Window result) p old new h after reply = IsWindowed old new h a
 abbrev pub IsServed : Served → Cargo → (old new : PartsValue) → (holder after : PassValue) → List ℕ → Type 0
 IsServed = IsServedBy IsEnded
 
--- what becomes of a packet where banks and port are paired: each command that is judged is applied
+-- what becomes of a packet if banks and port are paired: each command that is judged is applied
 abbrev pub IsAnswered : Served → Cargo → (old new : PartsValue) → (holder after : PassValue) → List ℕ → Type 0
 IsAnswered = IsServedBy IsApplied

@@ -12,21 +12,21 @@ use Rattle.node_programs.specs.Staged.{Staged, staged}
 abbrev pub IsStagingPlace : Place → Type 0
 IsStagingPlace place = (place ≡ Staging) ⊎ (place ≡ LoadResult)
 
--- the bytes of a staging lie from address 0 on, and its load result from that of the load register on
+-- The bytes of a staging lie from address 0 on, and its load result from that of the load register on.
 abbrev pub answer_at_place : Place → Staged → JudgedValue → Answer
 answer_at_place (Bank k) s j = answer_on 0 s.bytes j
 answer_at_place Staging s j = answer_on 0 s.bytes j
 answer_at_place LoadResult s j = answer_on LOAD_REGISTER s.load_result j
 answer_at_place Control s j = answer_on 0 s.bytes j
 
--- a staging after a command at that place: no command but a load changes the load result
+-- a staging after a command at that place: only a load changes the load result
 abbrev pub after_place : Place → Staged → JudgedValue → Staged
 after_place (Bank k) s j = s
 after_place Staging s j = staged (answer_on 0 s.bytes j).memory.bytes s.load_result
 after_place LoadResult s j = s
 after_place Control s j = s
 
--- what a judged command is answered at a staging
+-- the answer to a judged command at a staging
 abbrev pub answer_staged : Staged → JudgedValue → Answer
 answer_staged s j = answer_at_place j.place s j
 

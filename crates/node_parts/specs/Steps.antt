@@ -81,8 +81,8 @@ pub record IsJudgedOnce (program : AcceptedValue) (generation : ℕ) (old new : 
   pub asked : new ≡ context_after old calls
   pub judged : IsJudgedBy program generation old.port calls admitted j
 
--- the command of the packet as it came, with its place under those windows, judged for that port by
--- the program of that generation, in a run with those calls
+-- The command of the packet as it came, with its place under those windows. The program of that generation judged it
+-- for that port, in a run with those calls.
 pub record IsJudgedFor (program : AcceptedValue) (generation port : ℕ) (w : WindowsValue) (calls : List Call)
     (p : Cargo) (j : JudgedValue) : Type 0 where
   pub packet : j.packet ≡ p
@@ -91,16 +91,16 @@ pub record IsJudgedFor (program : AcceptedValue) (generation port : ℕ) (w : Wi
   pub generation_of : j.generation ≡ generation
   pub verdict : IsVerdict program port calls p j.verdict
 
--- in a list of publishes that begins with what was known, the program of that generation is published in the
--- slot of the command's place, and it is justified
+-- A list of publishes begins with what was known. In it the program of that generation is published in the slot of the
+-- command's place, and it is justified.
 pub record IsTaken (known seen : List Publish) (c : CommandValue) (place : Place) (program : AcceptedValue)
     (generation : ℕ) : Type 0 where
   pub longer : IsPrefix known seen
   pub shown : judging_program seen (slot_of (command_kind c) place) ≡ Some (program, generation)
   pub accepted : IsJustified program.program program.sizes
 
--- the command of the packet was judged in one run, by the program that the port took in the slot of its
--- place, and the port asked what that run asked
+-- The command of the packet was judged in one run, by the program that the port took in the slot of its place. The port
+-- asked what that run asked.
 pub record IsJudgement (h after : PassValue) (p : Cargo) (j : JudgedValue) : Type 0 where
   pub seen : List Publish
   pub program : AcceptedValue

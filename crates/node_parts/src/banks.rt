@@ -130,8 +130,12 @@ impl Banks {
     ghost use Rattle.std.specs.Borrow.{sem};
     ghost use Rattle.node_parts.specs.Loans.{LendsBank};
 
-    /// Banks of zero bytes, and for each port, in order, its share of each. `Ports` and then `Banks`
-    /// where a number is outside its limits; `Memory` where memory was refused.
+    /// Banks of zero bytes, and for each port, in order, its share of each.
+    ///
+    /// # Errors
+    ///
+    /// - `Ports`, and then `Banks`, if one of their numbers is outside its limits.
+    /// - `Memory` if memory was refused.
     pub fn new(alloc: Global, config: &NodeConfig) -> Result<(Banks, Vec<PortShares>), NodeFault>
         ensures banks { IfOk result (λ made. made.0 ≡ fresh_banks config.now) }
         ensures by_port { IfOk result (λ made. AreSharesOf config.now made.1.items) }

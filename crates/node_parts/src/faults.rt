@@ -7,8 +7,7 @@ ghost use Rattle.node_parts.specs.declared.faults.NodeFault.TheVariants.{Memory}
 use std::alloc::AllocError;
 use thiserror::Error;
 
-/// Why a node could not be made. The limits are tested before memory is taken, first `Ports`, then
-/// `Banks`.
+/// Why a node could not be made. The limits are tested before memory is taken, first `Ports`, then `Banks`.
 #[derive(Clone, Copy, Debug, PartialEq, Eq, Error)]
 pub enum NodeFault {
     /// Memory was refused.

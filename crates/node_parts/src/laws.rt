@@ -14,14 +14,14 @@ pub fn made_are_paired()
     ensures { MadeArePaired }
 {}
 
-/// A law and no work: where banks and a port are paired, a command that was judged for the port fits
-/// the bank of its place, so that it is applied.
+/// A law and no work: if banks and a port are paired, a command judged for the port fits the bank of its place. So it
+/// is applied.
 pub fn paired_commands_fit()
     ensures { PairedCommandsFit }
 {}
 
-/// A law and no work: a command that is applied with the share of its port leaves banks and ports
-/// paired, its own and every other.
+/// A law and no work: a command that is applied with the share of its port leaves banks and ports paired. That is so of
+/// its own port and of every other.
 pub fn pairs_stay()
     ensures own { OwnStaysPaired }
     ensures others { OthersStayPaired }
@@ -29,7 +29,7 @@ pub fn pairs_stay()
     extents_stay();
 }
 
-/// A law and no work: what a packet that was served leaves of banks and ports. Where they are paired, all of them stay so.
+/// A law and no work: what a packet that was served leaves of banks and ports. If they are paired, all of them stay so.
 pub fn packets_keep_pairs()
     ensures served { AnsweredAreServed }
     ensures all { LeavesAllPaired }
@@ -37,13 +37,13 @@ pub fn packets_keep_pairs()
     extents_stay();
 }
 
-/// A law and no work: where a command is applied, share and count agree before, and so they do afterwards.
+/// A law and no work: if a command is applied, share and count agree before, and so they do afterwards.
 pub fn shares_agree()
     ensures { AppliedSharesAgree }
 {}
 
-/// A law and no work: behind a port's own load, a command that the loaded slot judges is judged by the loaded
-/// program or a later one.
+/// A law and no work: after a port's own load, the loaded program or a later one judges each command that the loaded
+/// slot judges.
 pub fn loads_are_taken()
     ensures { LoadsAreTaken }
 {

@@ -1,10 +1,13 @@
 //! The parts of a node as plain values, and what becomes of one command: no lock, no reader and no wait.
 //!
-//! [`Banks::new`] makes the banks of a [`NodeConfig`] and each port's [`PortShares`] of them. A packet is admitted by
-//! its header ([`admit`]), judged by one run of a program in the port's [`RunContext`] ([`judge_by`]), and ends at a
-//! bank, at the port's staging ([`answer_staged`]), or as a load of what is staged there ([`load`]). What a whole
-//! packet does is said here once ([`Served`]), for whoever holds the parts: a node of one thread, a world of
-//! schedules, or a node that threads share.
+//! [`Banks::new`] makes the banks of a [`NodeConfig`] and each port's [`PortShares`] of them. A packet goes this way:
+//!
+//! - Its header admits it ([`admit`]).
+//! - One run of a program in the port's [`RunContext`] judges it ([`judge_by`]).
+//! - It ends at a bank, at the port's staging ([`answer_staged`]), or as a load of what is staged there ([`load`]).
+//!
+//! What a whole packet does is said here once ([`Served`]), for whoever holds the parts. That is a node of one thread,
+//! a world of schedules, or a node that threads share.
 #![tactic(auto)]
 
 mod banks;

@@ -1,4 +1,4 @@
-//! Loads: a program that was staged is verified and published.
+//! Loads: the node verifies a program that was staged, and publishes it.
 
 ghost use Rattle.std.specs.Prelude.{◌≡◌, ◌⊎◌, None, IfErr, IfOk, List, OnErr, OnOk, length};
 ghost use mathlib.Core.List.{IsPrefix};
@@ -59,14 +59,19 @@ fn program_of(alloc: Global, bytes: &[u8], maps: &MapSizes) -> Result<Accepted, 
     Ok(verify(alloc, image, maps)?)
 }
 
-/// Reads and verifies the program that control data ask to publish: everything of a load that comes before
-/// publishing. The program, accepted for those maps, and its slot.
+/// Reads and verifies the program that control data ask to publish: everything of a load that comes before publishing.
+/// It gives the program, accepted for those maps, and its slot.
 ///
 /// # Errors
 ///
-/// In this order: `Control` for a second byte that is not zero or a length over 16,384, `Slot` for a slot over 3,
-/// `Image` for bytes that spell no image, with its first fault, `Program` for a refusal of the verifier; the last two
-/// also where memory was refused ([`LoadRefusal::wants_memory`]).
+/// In this order:
+///
+/// - `Control` for a second byte that is not zero or a length over 16,384.
+/// - `Slot` for a slot over 3.
+/// - `Image` for bytes that spell no image, with its first fault.
+/// - `Program` for a refusal of the verifier.
+///
+/// The last two come also if memory was refused ([`LoadRefusal::wants_memory`]).
 #[tactic(auto, using(crate::proofs::Refusals::misdirected, crate::proofs::Refusals::unprepared, crate::proofs::Refusals::no_control_fault))]
 pub fn prepare(
     alloc: Global,
@@ -88,7 +93,7 @@ pub fn prepare(
     Ok((control.slot, accepted))
 }
 
-/// Publishes the staged program that control data ask for, of which the port then knows: its generation.
+/// Publishes the staged program that control data ask for, of which the port then knows, and gives its generation.
 fn publish_staged<K, S: ProgramStore<K>>(
     alloc: Global,
     reader: &mut K,
@@ -111,10 +116,11 @@ fn publish_staged<K, S: ProgramStore<K>>(
     Ok(generation)
 }
 
-/// Loads what a port staged, where the verdict on the control write is yes and its body is right, and leaves the reply:
-/// the program is verified for the maps of the node and published for the slot that the control data name, the port
-/// knows of it and notes it, and the load result tells its generation, or why the load was refused. Nothing else changes,
-/// whatever context and shares the port has. The conditions are a control write, and a port that knows a beginning of the list.
+/// Loads what the port staged, if the verdict on the control write is yes and its body is right, and leaves the reply.
+/// The program is verified for the maps of the node and published for the slot that the control data name. The port
+/// knows of it and notes it. The load result has its generation, or why the load was refused. Nothing else changes,
+/// whatever context and shares the port has. The conditions are a control write, and a port that knows a beginning of
+/// the list.
 pub fn load<K, S: ProgramStore<K>>(
     alloc: Global,
     reader: &mut K,

@@ -42,8 +42,8 @@ fn refusal_of_program(code: u8) -> Option<LoadRefusal>
     Some(LoadRefusal::Image(ImageFault::from_code(code - IMAGE_FAULTS)?))
 }
 
-/// Why a load is refused. It is tested in the order of the variants; the last two come in publishing, for which
-/// memory is taken only while generations are not full.
+/// Why a load is refused. It is tested in the order of the variants. The last two come in publishing, which takes
+/// memory only while generations are not full.
 #[derive(Clone, Copy, Debug, PartialEq, Eq, Error)]
 pub enum LoadRefusal {
     /// The second byte of the control data is not zero, or the length is over 16,384.
@@ -67,9 +67,13 @@ pub enum LoadRefusal {
 }
 
 impl LoadRefusal {
-    /// The number by which the load result names the refusal: 71 for control data, 66 for a slot, 32 more than
-    /// the number of an image's fault, the number of the verifier's refusal, and in publishing 65 for memory and
-    /// 67 where generations are full.
+    /// The number by which the load result names the refusal:
+    ///
+    /// - 71 for control data
+    /// - 66 for a slot
+    /// - 32 more than the number of an image's fault
+    /// - the number of the verifier's refusal
+    /// - in publishing 65 for memory, and 67 if generations are full
     #[tactic(auto, using(crate::proofs::Refusals::image_codes_few, crate::proofs::Codes::code_is_read))]
     pub fn code(self) -> u8
         ensures value { result ≡ load_refusal_code self }
@@ -85,9 +89,9 @@ impl LoadRefusal {
         }
     }
 
-    /// The refusal of a code, as [`LoadRefusal::code`] gives it. `None` where no refusal has it. A code does not tell the
-    /// slot, nor which fault of an instruction it is: the verifier's refusals are at slot 0, and of the faults of
-    /// instructions it is `Opcode` at slot 0.
+    /// The refusal of a code, as [`LoadRefusal::code`] gives it, or `None` if no refusal has it. A code does not give
+    /// the slot, nor which fault of an instruction it is. So the verifier's refusals are at slot 0, and of the faults
+    /// of instructions it is `Opcode` at slot 0.
     pub fn from_code(code: u8) -> Option<LoadRefusal>
         ensures value { result ≡ load_refusal_of_code code }
         ensures number { IfSome result (λ refusal. load_refusal_code refusal ≡ code) }
@@ -113,7 +117,7 @@ impl LoadRefusal {
         }
     }
 
-    /// The slot of the image at which it was refused, or 0 where there is none.
+    /// The slot of the image at which it was refused, or 0 if there is none.
     pub fn slot(self) -> u16
         ensures { result ≡ load_refusal_slot self }
     {

@@ -9,8 +9,8 @@ use rmap::Windows;
 use spw::PORTS;
 use std::marker::Model;
 
-/// What a run needs of a port: its number, the windows of its node, its seat at the cells of the node's maps, and the
-/// stack of the programs that run for it.
+/// What a run needs of a port: its number, the windows of its node, and its seat at the cells of the node's maps. It
+/// also has the stack of the programs that run for the port.
 #[derive(Drop)]
 pub struct RunContext<C: Counters + Drop> {
     pub(crate) port: u8,

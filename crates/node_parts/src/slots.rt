@@ -5,9 +5,14 @@ ghost use Rattle.node_parts.specs.Slots.{bank_slot_of, slot_of};
 
 use rmap::{Kind, Place};
 
-/// The slot of the program that judges a command of that kind at that place: 0 for reads of banks, 1 for
-/// writes to banks, 2 for read-modify-writes of banks, and 3 for every command to the boot window. A code
-/// that is not used is stopped by its header, and comes to no program.
+/// The slot of the program that judges a command of that kind at that place:
+///
+/// - 0 for reads of banks
+/// - 1 for writes to banks
+/// - 2 for read-modify-writes of banks
+/// - 3 for every command to the boot window
+///
+/// If a code is not used, its header stops the command, which comes to no program.
 pub fn slot(kind: Kind, place: Place) -> u8
     ensures value { result ≡ slot_of kind place }
     ensures few { result < 4 }

@@ -6,8 +6,8 @@ use bank::{Judged, answer};
 use node_programs::Staging;
 use rmap::{LOAD_REGISTER, Place, ReplyBuf, Status};
 
-/// Answers a judged command to the staging or to the load result, and leaves the reply: as a bank with room
-/// does it, without a journal. The status is that of the reply. The condition is one of these two places.
+/// Answers a judged command to the staging or to the load result, and leaves the reply. It does so as a bank with room
+/// does, without a journal. The status is that of the reply. The condition is one of these two places.
 pub fn answer_staged(staging: &mut Staging, judged: Judged, reply: &mut ReplyBuf) -> Status
     requires { IsStagingPlace judged.place }
     ensures { IsStaged staging.old staging.new judged result reply.new }

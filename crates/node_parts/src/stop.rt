@@ -37,8 +37,11 @@ fn checked(packet: &Packet, windows: &Windows, reply: &mut ReplyBuf) -> Result<P
     }
 }
 
-/// Admits the command of a packet if no check of its header holds; no program is run. A packet that
-/// stops comes back as it came, and `reply` holds the reply that is due then, if any.
+/// Admits the command of a packet if no check of its header holds. It runs no program.
+///
+/// # Errors
+///
+/// Why the packet stops, and the packet as it came. If a reply is due then, `reply` holds it.
 pub fn admit(
     packet: Packet,
     windows: &Windows,

@@ -1,4 +1,4 @@
--- Which program judges behind one publish more.
+-- Which program judges after one publish more.
 use Rattle.std.proofs.Common.{◌≡◌, ℕ, ◌+◌, ◌==◌, Bool, true, false, List, [], ◌∷◌, ◌++◌, length, Some, cond, ap, ◌∙◌, arith}
 use Rattle.bver.specs.Justified.{AcceptedValue}
 use Rattle.node_programs.specs.declared.publishes.Publish.{Publish}

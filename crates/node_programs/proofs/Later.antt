@@ -1,4 +1,4 @@
--- What is published for a slot behind a publish for it.
+-- What is published for a slot after a publish for it.
 use Rattle.std.proofs.Common.{◌≡◌, ◌<◌, inl, inr, ℕ, ◌+◌, ◌==◌, Bool, true, false, List, [], ◌∷◌, ◌++◌, length, Some, cond, refl, ap, sym, ◌∙◌, subst, arith, length-append}
 use Rattle.bver.specs.Justified.{AcceptedValue}
 use Rattle.node_programs.specs.declared.publishes.Publish.{Publish}

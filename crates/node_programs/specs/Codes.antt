@@ -9,8 +9,8 @@ publish_fault_code Memory = 1
 publish_fault_code Slot = 2
 publish_fault_code GenerationsFull = 3
 
--- why a program was not published, in a history of so many programs: after 2^32 - 1 publishes that there are so
--- many, before that want of memory
+-- why a program was not published, in a history of `count` programs: there were 2^32 - 1 publishes, or, before that,
+-- memory was refused
 pub record IsUnpublished (count : ℕ) (fault : PublishFault) : Type 0 where
   pub full : 2 ^ 32 ≤ count → fault ≡ GenerationsFull
   pub memory : count < 2 ^ 32 → fault ≡ Memory

@@ -17,7 +17,7 @@ abbrev pub AreOthers : ℕ → List Publish → Type 0
 AreOthers k [] = Unit {0}
 AreOthers k (p ∷ ps) = (p.slot ≢ k) × AreOthers k ps
 
--- the history has that program at that place, the factory's or one for the slot, and behind it none for the slot
+-- the history has that program at that place, the factory's or one for the slot, and after it none for the slot
 pub record IsLast (history : List Publish) (k : ℕ) (judge : AcceptedValue) (place : ℕ) : Type 0 where
   pub before : List Publish
   pub last : Publish
@@ -44,7 +44,7 @@ IsBelow =
 abbrev pub IsThatOrLater : AcceptedValue → ℕ → AcceptedValue × ℕ → Type 0
 IsThatOrLater program place shown = ((shown.0 ≡ program) × (shown.1 ≡ place)) ⊎ (place < shown.1)
 
--- behind a publish for a slot that program is published there, or a later one
+-- after a publish for a slot that program is published there, or a later one
 abbrev pub IsKeptOrLater : Type 0
 IsKeptOrLater = (history seen : List Publish) (slot : ℕ) (program judge : AcceptedValue) (generation : ℕ)
     → IsPrefix (longer_history history slot program) seen → judging_program seen slot ≡ Some (judge, generation)

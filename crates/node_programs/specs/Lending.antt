@@ -4,7 +4,7 @@ use Rattle.std.specs.Borrow.{Lends, MutBor, Fml, Array, u8}
 use Rattle.node_programs.specs.Staged.{Staged, staged}
 use Rattle.node_programs.specs.contracts.staging.Staging.{the_row}
 
--- those bytes written over the first of the others: all of them, where both are as many
+-- those bytes written over the first of the others: all of them, if both are as many
 abbrev pub overlaid_bytes : (old left : List ℕ) → List ℕ
 overlaid_bytes old left = take (length old) (left ++ drop (length left) old)
 

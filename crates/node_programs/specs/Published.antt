@@ -5,14 +5,14 @@ use Rattle.machine.specs.Sizes.{Maps}
 use Rattle.bver.specs.Justified.{AcceptedValue}
 use Rattle.node_programs.specs.declared.publishes.Publish.{Publish}
 
--- the last program for a slot, with its generation, where `best` judged before these and `next` is the
--- generation of the first of them
+-- the last program for a slot, with its generation; `best` judged before these and `next` is the generation of the
+-- first of them
 abbrev pub judging_from : AcceptedValue × ℕ → ℕ → List Publish → ℕ → AcceptedValue × ℕ
 judging_from best next [] slot = best
 judging_from best next (p ∷ ps) slot = judging_from (cond (p.slot == slot) (p.program, next) best) (next + 1) ps slot
 
--- the program that judges at a slot, with its generation: the last that was published for it, else the
--- factory program, with which each history begins, and 0
+-- the program that judges at a slot, with its generation: the last that was published for it. Else it is the factory
+-- program, with which each history begins, and 0
 abbrev pub judging_program : List Publish → ℕ → Option (AcceptedValue × ℕ)
 judging_program [] slot = None
 judging_program (f ∷ ps) slot = Some (judging_from (f.program, 0) 1 ps slot)

@@ -1,9 +1,9 @@
 //! The programs of a node as plain values: what was published, what a slot shows of it, and where the bytes of a
-//! program lie before it is published.
+//! program are before it is published.
 //!
 //! A list of [`Publish`]es says which program judges at each of four slots: the last that was published for it, and the
-//! factory program where there is none. [`Shown`] is what a slot has of that, and [`published_programs`] says how the
-//! list and its slots go on. A [`ProgramStore`] is what holds such a list. Nothing here waits: what threads share of a
+//! factory program if there is none. [`Shown`] is what a slot has of that, and [`published_programs`] says how the list
+//! and its slots go on. A [`ProgramStore`] is what holds such a list. Nothing here waits: what threads share of a
 //! node's programs is in `publish`.
 #![tactic(auto)]
 

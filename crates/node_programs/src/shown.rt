@@ -37,7 +37,11 @@ impl Shown {
         }
     }
 
-    /// Another owner of the program, with generation 0. Memory may be refused.
+    /// Another owner of the program, with generation 0.
+    ///
+    /// # Errors
+    ///
+    /// An error if memory is refused.
     pub fn first(program: &Arc<Accepted>) -> Result<Shown, AllocError>
         ensures { IfOk result (λ shown. shown ≡ (arc_value program.now, 0)) }
     {
@@ -47,7 +51,11 @@ impl Shown {
         })
     }
 
-    /// Another owner of the same program. Memory may be refused.
+    /// Another owner of the same program.
+    ///
+    /// # Errors
+    ///
+    /// An error if memory is refused.
     pub fn another(&self) -> Result<Shown, AllocError>
         ensures { IfOk result (λ shown. shown ≡ self.now) }
     {

@@ -1,4 +1,4 @@
-//! Where the bytes of a program lie before it is published.
+//! Where the bytes of a program are before it is published.
 
 ghost use Rattle.std.specs.Prelude.{◌≡◌, ◌<◌, IfOk, length, replicate, slice_get, slice_set};
 ghost use Rattle.node_programs.specs.Staged.{staged};
@@ -29,7 +29,7 @@ impl Model for Staging {
     ghost invariant = { λ s. length s.bytes.items ≡ STAGING_BYTES };
 }
 
-/// So many zero bytes.
+/// This many zero bytes.
 fn zeros(alloc: Global, size: usize) -> Result<Vec<u8>, AllocError>
     ensures { IfOk result (λ v. v.items ≡ replicate size 0) }
 {
@@ -41,6 +41,10 @@ impl Staging {
     ghost use Rattle.node_programs.specs.Lending.{LendsBytes};
 
     /// A staging of zero bytes, with a load result of zeros.
+    ///
+    /// # Errors
+    ///
+    /// An error if memory is refused.
     pub fn new(alloc: Global) -> Result<Staging, AllocError>
         ensures { IfOk result (λ s. s ≡ staged (replicate STAGING_BYTES 0) (replicate 8 0)) }
     {
@@ -50,7 +54,7 @@ impl Staging {
         })
     }
 
-    /// The byte at an address, or `None` behind the end.
+    /// The byte at an address, or `None` after the end.
     pub fn read(&self, address: u32) -> Option<u8>
         ensures { result ≡ slice_get self.now.bytes address }
     {

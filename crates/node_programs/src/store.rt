@@ -20,20 +20,20 @@ pub trait ProgramStore<K> {
     /// What a port knows of it.
     ghost known: { K → List Publish };
 
-    /// What becomes of what a port has, where it published that.
+    /// What becomes of what a port has, if it published that.
     ghost notes: { K → Publish → K → Type 0 };
 
     /// The maps for which each program was accepted, with their kinds: those of the factory program.
     fn sizes(&self) -> MapSizes
         ensures { result ≡ sizes_of (published self.now) };
 
-    /// Publishes a program for a slot, of which the port then knows: its generation. The conditions are a slot below 4, a
-    /// program that was accepted for the maps of the node, and a port that knows a beginning of the list.
+    /// Publishes a program for a slot, and gives its generation. The port then knows of it. The conditions are a slot
+    /// below 4, and a program that was accepted for the maps of the node. The port must know a beginning of the list.
     ///
     /// # Errors
     ///
-    /// `GenerationsFull` after 4,294,967,295 publishes, else `Memory` where memory was refused. What is published and
-    /// what the port has stay.
+    /// `GenerationsFull` after 4,294,967,295 publishes, else `Memory` if memory was refused. What is published and what
+    /// the port has stay.
     fn publish(
         &mut self,
         alloc: Global,

@@ -7,8 +7,8 @@ use Rattle.page_format.specs.Told.{IsTold, files_since}
 use Rattle.doing.specs.Doings.{DoesWords, words_given}
 use Rattle.doing.specs.declared.doing.Left.{Left}
 
--- the bytes that were given are words and a folder, the words were done over the folder, and the other bytes are what came of
--- that: status, output, what was told, and the files that the folder got
+-- the bytes that were given are words and a folder, and the words were done over the folder. The other bytes are what
+-- came of that: status, output, what standard error has, and the files that the folder got
 pub record Answers (given bytes : List ℕ) : Type 0 where
   pub words : List Text
   pub folder : FolderValue
@@ -21,7 +21,7 @@ pub record Answers (given bytes : List ℕ) : Type 0 where
 abbrev pub with_bytes : (room bytes : List ℕ) → List ℕ
 with_bytes room bytes = if nat_le (length bytes) (length room) then bytes ++ drop (length bytes) room else room
 
--- an answer of so many bytes was put into the room, if it fits
+-- an answer of this many bytes was put into the room, if it fits
 pub record IsAnswered (given old new : List ℕ) (count : ℕ) : Type 0 where
   pub bytes : List ℕ
   pub answers : Answers given bytes

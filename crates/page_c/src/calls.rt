@@ -9,13 +9,14 @@ use doing::{STANDARD_INPUT, do_words};
 use page_format::{Given, files_since, given_of, told_of};
 use std::alloc::{AllocError, Global};
 
-/// Where memory was refused.
+/// Memory was refused.
 const NO_MEMORY: u64 = 0;
 
-/// Where the bytes are no words and files.
+/// The bytes are no words and files.
 const NO_WORDS: u64 = 1;
 
-/// The bytes of what the words and files come to that the given bytes are. `None` where they are none.
+/// The bytes of what comes of the words and files that the given bytes are. `None` if the given bytes are no words and
+/// files.
 fn answer(alloc: Global, given: &[u8]) -> Result<Option<Vec<u8>>, AllocError>
     ensures { IfOk result (λ found. MatchOption found (IsNotGiven given.now)
         (λ bytes. Answers given.now bytes.items)) }
@@ -38,7 +39,7 @@ fn answer(alloc: Global, given: &[u8]) -> Result<Option<Vec<u8>>, AllocError>
     Ok(Some(bytes))
 }
 
-/// Puts bytes at the beginning of room, if they fit, and answers how many there are.
+/// Puts bytes at the beginning of room, if they fit, and returns how many there are.
 #[tactic(auto, using(crate::proofs::Answering::bytes_put))]
 fn put(room: &mut [u8], bytes: &[u8]) -> u64
     ensures counted { result ≡ length bytes.now }
@@ -51,9 +52,10 @@ fn put(room: &mut [u8], bytes: &[u8]) -> u64
     bytes.len() as u64
 }
 
-/// Does what the words of a command line ask for over files, both given as bytes, and puts the bytes of what came of it at the
-/// beginning of `told`, if they fit there. Answers how many bytes they are, which are more than 1; 0 if memory was refused, and 1
-/// if the bytes are no words and files. `page_format` says how words, files and what came of them are bytes.
+/// Does what the words of a command line ask for over files, both given as bytes. It puts the bytes of what came of it
+/// at the beginning of `told`, if they fit there. Returns how many bytes they are, which are more than 1; 0 if memory
+/// was refused, and 1 if the bytes are no words and files. `page_format` says how words, files and what came of them
+/// are bytes.
 #[unsafe(no_mangle)]
 pub extern "C" fn sandbar_perform(alloc: Global, given: &[u8], told: &mut [u8]) -> u64
     ensures nothing { result ≤ NO_WORDS → told.new ≡ told.old }

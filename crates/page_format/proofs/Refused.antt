@@ -78,7 +78,7 @@ no_piece_no_file bytes name middle named no_piece = record {
       no_piece.none content rest (record { short = begins.short; is = cut.1 });
 }
 
--- files that were read of a folder, and no file after them, where bytes are left
+-- files that were read of a folder, and no file after them, if bytes are left
 files_stop : (files others : FolderValue) (rest : List ℕ) → AreShort files → AreFiles others → 0 < length rest → BeginsNoFile rest
     → files_bytes files ++ rest ≡ files_bytes others
     → ⊥

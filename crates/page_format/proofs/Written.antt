@@ -15,7 +15,7 @@ piece_written (Ok it) old mid new piece first second =
     second ∙ ap (λ (r : List ℕ). r ++ piece) first ∙ append_assoc old (number_bytes (length piece)) piece
 piece_written (Err it) old mid new piece first second = tt
 
--- of these files all but the last are written
+-- these files are written, except the last ones, which are left
 pub record AreWritten (old : List ℕ) (files : FolderValue) (now : List ℕ) (left : FolderValue) : Type 0 where
   pub short : AreShort left → AreShort files
   pub is : now ++ files_bytes left ≡ old ++ files_bytes files

@@ -47,6 +47,6 @@ abbrev pub AreShort : FolderValue → Type 0
 AreShort [] = Unit {0}
 AreShort (file ∷ files) = IsShort file.0 × IsShort file.1 × AreShort files
 
--- the words behind references
+-- the words that references lead to
 abbrev pub words_value : List (Bor (List ℕ)) → List (List ℕ)
 words_value = map (λ word. word.now)

@@ -26,13 +26,13 @@ pub record BeginsWord (word rest bytes : List ℕ) : Type 0 where
 pub record BeginsNoWord (bytes : List ℕ) : Type 0 where
   pub none : (word rest : List ℕ) → BeginsWord word rest bytes → ⊥
 
--- they begin with these words, which are so many
+-- they begin with these words, which are this many
 pub record BeginsWords (count : ℕ) (words : List (List ℕ)) (rest bytes : List ℕ) : Type 0 where
   pub counted : length words ≡ count
   pub words_are : AreWords words
   pub is : bytes ≡ words_bytes words ++ rest
 
--- they do not begin with so many words
+-- they do not begin with this many words
 pub record BeginsNoWords (count : ℕ) (bytes : List ℕ) : Type 0 where
   pub none : (words : List (List ℕ)) (rest : List ℕ) → BeginsWords count words rest bytes → ⊥
 

@@ -3,11 +3,12 @@ use Rattle.std.specs.Prelude.{◌≡◌, ◌++◌, ◌-◌, ◌<◌, ◌^◌, �
 use Rattle.folders.specs.Folders.{FolderValue}
 use Rattle.page_format.specs.Pieces.{AreShort, IsShort, files_bytes, number_bytes, piece_bytes}
 
--- the files that a folder got since it had so many: the newest come first
+-- the files that a folder got since it had this many: the newest come first
 abbrev pub files_since : (count : ℕ) → FolderValue → FolderValue
 files_since count folder = take (length folder - count) folder
 
--- the bytes are this exit status, this output, this told text and these files: a number, two pieces, and then to the end the files
+-- the bytes are this exit status, this output, this reported text and these files: a number, two pieces, and then to
+-- the end the files
 pub record IsTold (status : ℕ) (out told : List ℕ) (files : FolderValue) (bytes : List ℕ) : Type 0 where
   pub status_fits : status < 2 ^ 32
   pub out_short : IsShort out

@@ -1,4 +1,4 @@
-//! What the format is good for.
+//! Laws of the format.
 
 ghost use Rattle.page_format.specs.Given.{IsGivenOnce};
 ghost use Rattle.page_format.specs.Told.{IsToldOnce};
@@ -8,7 +8,7 @@ pub fn given_is_read_once()
     ensures { IsGivenOnce }
 {}
 
-/// A law and no work: bytes are at most one status with its output, its told text and its files.
+/// A law and no work: bytes are at most one status with its output, its reported text and its files.
 pub fn told_is_read_once()
     ensures { IsToldOnce }
 {}

@@ -1,10 +1,10 @@
-//! How words and files, and what came of them, are bytes.
+//! How words and files, and their results, are bytes.
 //!
 //! A number is four bytes, the lowest first. A piece is its length, a number, and then its bytes.
 //!
-//! A host hands over the number of words, each word as a piece, and of each file its name and its bytes as two pieces. It gets
-//! back the exit status, a number; what standard output and standard error have, two pieces; and of each file that was written
-//! its name and its bytes, the newest first.
+//! A host hands over the number of words, each word as a piece, and of each file its name and its bytes as two pieces.
+//! It gets back the exit status, a number, and two pieces: what standard output and standard error have. After them
+//! come the name and the bytes of each file that was written, the newest first.
 #![tactic(auto)]
 
 mod laws;

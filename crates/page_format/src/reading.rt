@@ -1,4 +1,4 @@
-//! What a host hands over, read.
+//! Reading what a host hands over.
 
 ghost use Rattle.std.specs.Prelude.{◌≡◌, ◌<◌, IfOk, MatchOption, length};
 ghost use Rattle.page_format.specs.Given.{IsGiven, IsNotGiven};
@@ -46,7 +46,7 @@ fn word_of(bytes: &[u8]) -> Option<(&str, &[u8])>
     }
 }
 
-/// So many words at the beginning of bytes, and what comes after them.
+/// This many words at the beginning of bytes, and what comes after them.
 #[tactic(auto, using(crate::proofs::Found::no_words_found))]
 fn words_of(
     alloc: Global,
@@ -101,12 +101,12 @@ fn folder_of(
     Ok(Some(folder))
 }
 
-/// What a host hands over: the words of a command line, and a folder of files.
+/// The words of a command line and a folder of files, which a host hands over.
 #[derive(Drop)]
 pub struct Given<'a> {
     /// The words.
     pub words: Vec<&'a str>,
-    /// The files. Of two of one name the one that comes later is the file.
+    /// The files. If two have one name, the one that comes later is the file.
     pub folder: Folder<'static>,
 }
 

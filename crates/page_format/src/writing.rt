@@ -1,4 +1,4 @@
-//! What a host gets back, written.
+//! Writing what a host gets back.
 
 ghost use Rattle.std.specs.Prelude.{◌≡◌, ◌++◌, IfOk, OnOk};
 ghost use Rattle.folders.specs.Folders.{sheets_value};
@@ -42,8 +42,8 @@ fn add_sheets(bytes: &mut Vec<u8>, sheets: &[Sheet]) -> Result<(), AllocError>
     Ok(())
 }
 
-/// The bytes of what came of words: the exit status, what standard output and standard error have, and the files that were
-/// written, in this order.
+/// The bytes of the results of words: the exit status, what standard output and standard error have, and the written
+/// files, in this order.
 ///
 /// # Errors
 ///

@@ -50,7 +50,7 @@ kept_with words m k word map_there =
     ∙ ap (λ (row : List ℕ). set (complements words) m row) (sym (map-set complement (slice_index_or words m []) k word))
     ∙ sym (map-set (λ (row : List ℕ). map complement row) words m (set (slice_index_or words m []) k word))
 
--- of a pair that agrees
+-- a pair that agrees
 agreed : (word kept : ℕ) → kept ≡ complement word → agree word kept ≡ true
 agreed word kept is = eq-eqb kept (complement word) is
 

@@ -14,7 +14,7 @@ one_more : (sizes : Maps) (words between : List (List ℕ)) (before : List Call)
 one_more sizes words between [] q answer are of is = (of, is ∙ ap (λ (w : List (List ℕ)). told_by_words w q) are, ap (λ (w : List (List ℕ)). words_behind w q) are)
 one_more sizes words between (c ∷ cs) q answer are of is = (are.0, are.1, one_more sizes (words_behind words c.question) between cs q answer are.2 of is)
 
--- the later calls go on where the earlier ones ended
+-- the later calls begin with what the earlier ones left
 pub calls_go_on : CallsGoOn
 calls_go_on sizes words between behind [] calls before all = subst (λ (w : List (List ℕ)). AreCallsOn sizes w calls behind) (sym before) all
 calls_go_on sizes words between behind (c ∷ cs) calls before all = calls_go_on sizes (words_behind words c.question) between behind cs calls before.2 all.2
@@ -23,7 +23,7 @@ calls_go_on sizes words between behind (c ∷ cs) calls before all = calls_go_on
 pub fresh_in_order : (sizes : Maps) → AreInOrder (fresh_cells sizes)
 fresh_in_order sizes = record { cells = zero_cells sizes; calls = refl }
 
--- and behind a call
+-- and after a call
 pub called_in_order : (sizes : Maps) (words : List (List ℕ)) (asked : List Call) (q : Question) (answer : ℕ) → AreInOrder (cells_of sizes words asked) → IsOfCell sizes q → answer ≡ told_by_words words q
     → AreInOrder (cells_of sizes (words_behind words q) (asked ++ call q answer ∷ []))
 called_in_order sizes words asked q answer is of told = record {

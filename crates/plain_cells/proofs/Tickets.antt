@@ -28,12 +28,12 @@ word_written words map key word m k there inside true false at_map at_key =
     ap (λ (row : List ℕ). get_or row k 0) (get_or-set_at words map m _ [] (sym here) there) ∙ get_or-set_other (get_or words map []) key k word 0 (λ e. eqb-false key k at_key (sym e))
     ∙ ap (λ (x : ℕ). word_at words x k) here
 
--- the word of a counter behind a ticket of it
+-- the word of a counter after a ticket of it
 ticked : (drawn : Bool) → ℕ → ℕ
 ticked true word = (word + 1) % 2 ^ 64
 ticked false word = word
 
--- a ticket of the cell alone changes the word of a counter
+-- only a ticket of the cell changes the word of a counter
 by_helper : (helper : Helper) (same_map same_key : Bool) (here word argument : ℕ) (kind : MapKind) → IsTrue (takes_kind helper kind) → (same_map ≡ true → kind ≡ Counter) → (same_map ≡ true → same_key ≡ true → here ≡ word)
     → (if same_map && same_key then word_behind helper here argument else word) ≡ ticked (helper_number helper == helper_number helpers.Ticket && same_map && same_key) word
 unfolding ticked

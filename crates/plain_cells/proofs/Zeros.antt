@@ -30,7 +30,7 @@ zeros sizes k key = zero_by sizes.cells k key
 
 -- ---- words that are written
 
--- the words of each map are as many behind a write
+-- the words of each map are as many after a write
 pub map_keeps : (words : List (List ℕ)) (k : ℕ) (new : List ℕ) (map : ℕ) → k < length words → length new ≡ length (get_or words k []) → (own : Bool) → (map == k) ≡ own → length (get_or (set words k new) map []) ≡ length (get_or words map [])
 map_keeps words k new map below same true own =
     let here = eqb-true map k own in

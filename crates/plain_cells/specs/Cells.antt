@@ -12,7 +12,7 @@ pub record CellsValue : Type 0 where
   pub words : List (List ℕ)
   pub asked : List Call
 
--- the cells of these maps, with these words, behind these calls
+-- the cells of these maps, with these words, after these calls
 abbrev pub cells_of : Maps → List (List ℕ) → List Call → CellsValue
 cells_of sizes words asked = record { sizes = sizes; words = words; asked = asked }
 
@@ -25,12 +25,12 @@ pub record AreInOrder (c : CellsValue) : Type 0 where
   pub cells : AreCells c.sizes c.words
   pub calls : AreCallsOn c.sizes (zero_words c.sizes) c.asked c.words
 
--- the question was answered by the word of its cell, which then is what the helper makes of it; no other word changed
+-- The question was answered by the word of its cell, which then is what the helper makes of it. No other word changed.
 pub record IsCalled (q : Question) (answer : ℕ) (old new : CellsValue) : Type 0 where
   pub told : answer ≡ told_by_words old.words q
   pub left : new ≡ cells_of old.sizes (words_behind old.words q) (old.asked ++ call q answer ∷ [])
 
--- the calls were answered in order by the words of the cells, which are what they left behind them, and the maps stay
+-- The calls were answered in order by the words of the cells, which are then what the calls left, and the maps stay.
 pub record AreAsked (calls : List Call) (before after : CellsValue) : Type 0 where
   pub sizes : after.sizes ≡ before.sizes
   pub words : AreCallsOn before.sizes before.words calls after.words

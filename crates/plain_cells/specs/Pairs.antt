@@ -16,11 +16,11 @@ complement word = 2 ^ 64 - 1 - word
 abbrev pub agree : (word kept : ℕ) → Bool
 agree word kept = kept == complement word
 
--- what a helper tells of a cell: of a pair that does not agree the greatest word, as of a cell that is spent
+-- What a helper answers of a cell. If the pair does not agree, it is the greatest word, as for a cell that is spent.
 abbrev pub told_of_pair : Helper → (word kept argument : ℕ) → ℕ
 told_of_pair helper word kept argument = if agree word kept then told_of_word helper word argument else greatest
 
--- the word behind that: of a pair that does not agree as it was
+-- The word after that. If the pair does not agree it is as it was.
 abbrev pub word_of_pair : Helper → (word kept argument : ℕ) → ℕ
 word_of_pair helper word kept argument = if agree word kept then word_behind helper word argument else word
 
@@ -38,11 +38,11 @@ pub record PairsValue : Type 0 where
 abbrev pub complements : List (List ℕ) → List (List ℕ)
 complements words = map (λ row. map complement row) words
 
--- what the pairs tell to a question
+-- what the pairs answer to a question
 abbrev pub told_by_pairs : PairsValue → Question → ℕ
 told_by_pairs p q = told_of_pair q.helper (word_at p.words q.map q.key) (word_at p.kept q.map q.key) q.argument
 
--- the pairs behind a question
+-- the pairs after a question
 abbrev pub pairs_behind : PairsValue → Question → PairsValue
 pairs_behind p q = record {
   words = with_word p.words q.map q.key

@@ -13,7 +13,7 @@ use Rattle.machine.specs.declared.kinds.MapKind.TheVariants.{Counter}
 
 -- ---- words
 
--- the word of a cell; of one that is not there it says nothing
+-- The word of a cell. If there is no such cell it means nothing.
 abbrev pub word_at : List (List ℕ) → (map key : ℕ) → ℕ
 word_at words map key = slice_index (slice_index_or words map []) key
 
@@ -49,24 +49,25 @@ pub record AreCells (sizes : Maps) (words : List (List ℕ)) : Type 0 where
 
 -- ---- what helpers make of them
 
--- what a helper tells of a cell with that word: `count` and `ticket` the word, `peak` the greater of it and the argument
+-- what a helper answers of a cell with that word: `count` and `ticket` the word, `peak` the greater of it and the
+-- argument
 abbrev pub told_of_word : Helper → (word argument : ℕ) → ℕ
 told_of_word helpers.Count word argument = word
 told_of_word helpers.Ticket word argument = word
 told_of_word helpers.Peak word argument = max word argument
 
--- the word of the cell behind that: `count` leaves it, `ticket` counts itself, modulo 2^64, `peak` leaves the greater of
--- it and the argument
+-- The word of the cell after that. `count` leaves it, `ticket` counts itself, modulo 2^64, and `peak` leaves the
+-- greater of it and the argument.
 abbrev pub word_behind : Helper → (word argument : ℕ) → ℕ
 word_behind helpers.Count word argument = word
 word_behind helpers.Ticket word argument = (word + 1) % 2 ^ 64
 word_behind helpers.Peak word argument = max word argument
 
--- what the words tell to a question
+-- what the words answer to a question
 abbrev pub told_by_words : List (List ℕ) → Question → ℕ
 told_by_words words q = told_of_word q.helper (word_at words q.map q.key) q.argument
 
--- the words behind a question
+-- the words after a question
 abbrev pub words_behind : List (List ℕ) → Question → List (List ℕ)
 words_behind words q = with_word words q.map q.key (word_behind q.helper (word_at words q.map q.key) q.argument)
 
@@ -74,15 +75,15 @@ words_behind words q = with_word words q.map q.key (word_behind q.helper (word_a
 abbrev pub IsOfCell : Maps → Question → Type 0
 IsOfCell sizes q = IsAnswerable sizes q.helper q.map q.key q.argument
 
--- the calls were answered in order, the first by these words and each other by those that the one before it left; behind
--- the last the words are those
+-- The calls were answered in order, the first by these words and each other by those that the one before it left. After
+-- the last the words are those.
 abbrev pub AreCallsOn : Maps → (words : List (List ℕ)) → List Call → (behind : List (List ℕ)) → Type 0
 AreCallsOn sizes words [] behind = behind ≡ words
 AreCallsOn sizes words (c ∷ cs) behind =
     IsOfCell sizes c.question × (c.answer ≡ told_by_words words c.question)
     × AreCallsOn sizes (words_behind words c.question) cs behind
 
--- the law: of calls that were answered in order, the later ones were answered by the words that the earlier ones left
+-- the law: if calls were answered in order, the later ones were answered by the words that the earlier ones left
 abbrev pub CallsGoOn : Type 0
 CallsGoOn =
     (sizes : Maps) (words between behind : List (List ℕ)) (before calls : List Call)

@@ -6,7 +6,7 @@ ghost use Rattle.plain_cells.specs.Words.{told_of_word, word_behind};
 
 use machine::Helper;
 
-/// What a helper makes of the word of a cell, asked with that argument: what it tells, and the word behind that.
+/// What a helper makes of the word of a cell, asked with that argument: its answer, and the word after that.
 pub fn answered(helper: Helper, word: u64, argument: u64) -> (u64, u64)
     ensures told { result.0 ≡ told_of_word helper word argument }
     ensures behind { result.1 ≡ word_behind helper word argument }
@@ -24,9 +24,9 @@ pub fn answered(helper: Helper, word: u64, argument: u64) -> (u64, u64)
 /// What a helper makes of the word of a cell and of what is kept beside it, its complement.
 #[derive(Clone, Copy, Debug)]
 pub struct PairAnswer {
-    /// What it tells.
+    /// Its answer.
     pub told: u64,
-    /// The word behind that.
+    /// The word after that.
     pub word: u64,
     /// What is kept beside it then.
     pub kept: u64,
@@ -39,8 +39,8 @@ pub fn complement(word: u64) -> u64
     u64::MAX - word
 }
 
-/// What a helper makes of a pair, asked with that argument. A pair that does not agree is spent: it tells the greatest word, and
-/// stays as it is.
+/// What a helper makes of a pair, asked with that argument. A pair that does not agree is spent: the answer is the
+/// greatest word, and the pair stays as it is.
 pub fn answered_pair(helper: Helper, word: u64, kept: u64, argument: u64) -> PairAnswer
     ensures told { result.told ≡ told_of_pair helper word kept argument }
     ensures word { result.word ≡ word_of_pair helper word kept argument }

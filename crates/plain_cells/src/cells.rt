@@ -14,7 +14,8 @@ use machine::{Call, Helper, MapSizes, Question};
 use std::alloc::{AllocError, Global};
 use std::marker::Model;
 
-/// The cells of a node of one thread: a plain word for each, beside its complement. Contracts see the maps, the words, and the calls so far.
+/// The cells of a node of one thread: a plain word for each, beside its complement. Contracts see the maps, the words,
+/// and the calls so far.
 #[derive(Drop)]
 pub struct PlainCells {
     sizes: MapSizes,
@@ -36,6 +37,10 @@ impl Model for PlainCells {
 
 impl PlainCells {
     /// A word of 0 for each cell of those maps.
+    ///
+    /// # Errors
+    ///
+    /// `AllocError` if memory was refused.
     pub fn new(alloc: Global, sizes: &MapSizes) -> Result<PlainCells, AllocError>
         ensures { IfOk result (λ cells. cells ≡ fresh_cells sizes.now) }
     {

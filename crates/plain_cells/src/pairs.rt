@@ -27,6 +27,10 @@ impl Model for CellPairs {
 
 impl CellPairs {
     /// A word of 0 for each cell of maps of those sizes, beside its complement.
+    ///
+    /// # Errors
+    ///
+    /// `AllocError` if memory was refused.
     #[tactic(auto, using(crate::proofs::Agreeing::kept_zeros))]
     pub fn new(alloc: Global, sizes: &MapSizes) -> Result<CellPairs, AllocError>
         ensures { IfOk result (λ pairs. pairs ≡ whole_pairs (zero_words sizes.now)) }

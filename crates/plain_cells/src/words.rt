@@ -22,7 +22,7 @@ impl Model for Words {
 }
 
 impl Words {
-    /// That word so many times.
+    /// That word that many times.
     fn same(alloc: Global, count: u16, word: u64) -> Result<Words, AllocError>
         ensures { IfOk result (λ made. made ≡ replicate count word) }
     {
@@ -83,6 +83,10 @@ impl CellWords {
     }
 
     /// A word of 0 for each cell of maps of those sizes.
+    ///
+    /// # Errors
+    ///
+    /// `AllocError` if memory was refused.
     pub fn new(alloc: Global, sizes: &MapSizes) -> Result<CellWords, AllocError>
         ensures words { IfOk result (λ words. words ≡ zero_words sizes.now) }
         ensures cells { IfOk result (AreCells sizes.now) }

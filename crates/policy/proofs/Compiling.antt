@@ -65,7 +65,7 @@ quota_after slot (Some quota) behind = omega arith
 verdict_after : (slot code : ℕ) → slot_after slot (verdict_code code) ≡ slot + 2
 verdict_after slot code = omega arith
 
--- a first part, and the rest behind it
+-- a first part, and after it the rest
 cut_at : (program : Program) (slot other : ℕ) (xs ys : List Insn) → slot_after slot xs ≡ other → StandAt program slot (xs ++ ys)
     → StandAt program slot xs × StandAt program other ys
 cut_at program slot other xs ys same h =
@@ -84,7 +84,7 @@ small_code InvalidKey = omega arith
 small_code NotAuthorised = omega arith
 small_code InvalidLogicalAddress = omega arith
 
--- the conditions one behind the other are all of them
+-- the conditions one after the other are all of them
 all_five : (a b c d e : Bool) (met unmet : Decision)
     → (if a then (if b then (if c then (if d then (if e then met else unmet) else unmet) else unmet) else unmet) else unmet) ≡ (if a && b && c && d && e then met else unmet)
 all_five true true true true true met unmet = refl
@@ -94,7 +94,7 @@ all_five true true false d e met unmet = refl
 all_five true false c d e met unmet = refl
 all_five false b c d e met unmet = refl
 
--- the tests of a rule from one of them on
+-- the tests of a rule, from one of them
 abbrev from_quota : Rule → List Insn
 from_quota rule = quota_test rule.quota 2 ++ verdict_code (verdict_number rule.verdict)
 
@@ -110,7 +110,7 @@ from_initiator rule = field_test rule.initiator 7 0 (behind_initiator rule) ++ f
 abbrev from_key : Rule → List Insn
 from_key rule = field_test rule.key 6 3 (behind_key rule) ++ from_initiator rule
 
--- where its tests begin
+-- the slot at which the tests of a rule begin
 abbrev key_at : ℕ → Rule → ℕ
 key_at slot rule = slot + kind_slots rule.kind
 
@@ -129,11 +129,11 @@ quota_at slot rule = range_at slot rule + 4
 abbrev verdict_at : ℕ → Rule → ℕ
 verdict_at slot rule = quota_at slot rule + quota_slots rule.quota
 
--- where it ends
+-- the slot at which a rule ends
 abbrev pub end_of : ℕ → Rule → ℕ
 end_of slot rule = verdict_at slot rule + 2
 
--- the tests of a rule one behind the other
+-- the tests of a rule one after the other
 behind_each_other : (a b c d e f g : List Insn) → a ++ b ++ c ++ d ++ e ++ f ++ g ≡ a ++ (b ++ (c ++ (d ++ (e ++ (f ++ g)))))
 behind_each_other a b c d e f g = simp append_assoc
 
@@ -152,7 +152,7 @@ rule_after slot rule =
     ∙ after_both (quota_at slot rule) (verdict_at slot rule) (quota_test rule.quota 2) (verdict_code (verdict_number rule.verdict)) (quota_after (quota_at slot rule) rule.quota 2)
     ∙ verdict_after (verdict_at slot rule) (verdict_number rule.verdict)
 
--- the tests of a rule, each where it begins
+-- the tests of a rule, each at its first slot
 record StandsThere (program : Program) (slot : ℕ) (rule : Rule) : Type 0 where
   kind : StandAt program slot (kind_test rule.kind (behind_kind rule))
   key : StandAt program (key_at slot rule) (field_test rule.key 6 3 (behind_key rule))
@@ -173,7 +173,7 @@ rule_stands program slot rule whole =
     let quota = cut_at program (quota_at slot rule) (verdict_at slot rule) (quota_test rule.quota 2) (verdict_code (verdict_number rule.verdict)) (quota_after (quota_at slot rule) rule.quota 2) range.1 in
     record { kind = kind.0; key = key.0; initiator = initiator.0; extended = extended.0; range = range.0; quota = quota.0; verdict = quota.1 }
 
--- from a slot on, the rules decide, by all answers
+-- from a slot, the rules decide, whatever the answers
 pub record RulesEnd (m : Setting) (slot : ℕ) (rules : List Rule) : Type 0 where
   pub ends : (told : ℕ → ℕ) → AreWords told → EndsFrom m slot (decision rules m.header told)
 
@@ -222,7 +222,7 @@ port_rule_after slot own =
     after_both slot (slot + field_slots own.port) (port_test own.port (rule_slots own.rule)) (rule_code own.rule) (port_after slot own.port (rule_slots own.rule))
     ∙ rule_after (slot + field_slots own.port) own.rule
 
--- a rule that is asked stands before the others, and else they stand alone
+-- a rule that is asked comes before the others; without it only the others decide
 chosen : (t : Bool) (a b : List Rule) (header : Header) (told : ℕ → ℕ) → (if t then decision a header told else decision b header told) ≡ decision (if t then a else b) header told
 chosen true a b header told = refl
 chosen false a b header told = refl
@@ -235,7 +235,7 @@ pub later_asks : (a b : Bool) → b ≡ true → (a || b) ≡ true
 later_asks true b h = refl
 later_asks false b h = h
 
--- at a port: it is kept on the stack, where a rule asks it
+-- at a port, which is on the stack if a rule asks it
 pub rules_decide : (m : Setting) (port slot : ℕ) (rules : List PortRule) → (asks_ports rules ≡ true → m.held ≡ Some port) → All FitsPort rules
     → StandAt m.program slot (rules_code rules) → RulesEnd m slot (rules_at port rules)
 rules_decide m port slot [] held fits code = record { ends = λ told words. verdict_given m slot 10 (omega arith) code }
@@ -258,7 +258,7 @@ rules_decide m port slot (own ∷ rules) held fits code =
 
 -- ---- before the rules
 
--- no further than the first address
+-- the last address is no further than the first
 plain_last : (a b : Bool) (far near : ℕ) → not a ≡ true → (if a && b then far else near) ≡ near
 plain_last true b far near h = cc
 plain_last false b far near h = refl
@@ -286,12 +286,12 @@ moved_last held first last other registers stack h = record {
   port = h.port;
 }
 
--- so many slots after one
+-- the slot that is `count` slots after one
 abbrev pub at : (slot count : ℕ) → ℕ
 at slot zero = slot
 at slot (suc count) = at slot count + 1
 
--- the address, and where it is when the rules begin
+-- the address, and the slot at which the rules begin
 start : (m : Setting) (b port : ℕ) (stack : ℕ → Option ℕ) (d : Decision) → Keeps m.held stack → StandAt m.program b address_code
     → ((registers : ℕ → Value) → Stands m.held (address_of (fields_of m.header)) (address_of (fields_of m.header)) registers stack → Finishes m.program m.header (state (at b 5) registers stack) d)
     → Finishes m.program m.header (state b (entry_register port) stack) d
@@ -320,7 +320,7 @@ start m b port stack d keeps code rest =
     (next m.program header (state (at b 4) r4 stack) (state (at b 5) r5 stack) (applied Mov 9 (FromRegister 8)) d m.performs code.1.1.1.1.0 refl refl
     (rest r5 (record { front = refl; tail = refl; first_address = refl; last_address = refl; frame = refl; port = keeps }))))))
 
--- the last address where there is a length
+-- the last address if there is a length
 long : (m : Setting) (b : ℕ) (registers : ℕ → Value) (stack : ℕ → Option ℕ) (address length last : ℕ) (d : Decision) → Stands m.held address address registers stack
     → registers 0 ≡ Num length → length ≢ 0 → address < 2 ^ 32 → length < 2 ^ 24 → address + length - 1 ≡ last
     → insn_at m.program (at b 12) ≡ Some (applied Add 9 (FromRegister 0)) → insn_at m.program (at b 13) ≡ Some (applied Sub 9 (Immediate (pos 1)))
@@ -412,7 +412,7 @@ finish m b registers stack d code stands there =
 
 -- ---- the port
 
--- what is kept on the stack
+-- the port that is on the stack
 abbrev held_for : (asked : Bool) → (port : ℕ) → Option ℕ
 held_for true port = Some port
 held_for false port = None

@@ -1,4 +1,4 @@
--- Runs of a program from their front: what each kind of instruction does, and where instructions stand.
+-- Runs of a program from their front: what each kind of instruction does, and at which slots instructions are.
 use Rattle.std.proofs.Common.{◌≡◌, ◌<◌, ◌^◌, ◌+◌, ℕ, suc, Bool, true, false, List, [], ◌∷◌, ◌++◌, length, get_or, Option, Some, None, refl, sym, ap, ◌∙◌, subst, append_assoc, length-append}
 use Rattle.std.specs.Prelude.{ℤ, pos, is_some}
 use Rattle.std.specs.List.{flat_map}
@@ -25,18 +25,18 @@ Decision = List Call × ℕ
 abbrev pub IsOfFirst : Insn → Type 0
 IsOfFirst insn = knows_flow One (flow_of insn) ≡ true
 
--- each step of a program whose instruction is one of version 1 is what it does
+-- each step of a program does what its instruction does, if that is one of version 1
 abbrev pub Performs : Program → Type 0
 Performs program =
     (header : Header) (s : State) (insn : Insn) → insn_at program s.slot ≡ Some insn → IsOfFirst insn
     → step program header s ≡ perform header s insn
 
--- from a state on, some steps have these draws and give this verdict
+-- from a state, some steps have these draws and give this verdict
 pub record Finishes (program : Program) (header : Header) (s : State) (d : Decision) : Type 0 where
   pub steps : ℕ
   pub ends : Ends program header steps s d.0 d.1
 
--- what an outcome leaves to come, after so many steps
+-- what remains after an outcome that took this many steps
 abbrev Rest : Program → Header → ℕ → Decision → Outcome → Type 0
 Rest program header n d o = GoesOn (λ t calls. Ends program header n t calls d.1) (n ≡ 0) d.0 d.1 o
 
@@ -70,7 +70,8 @@ stopped program header s insn verdict performs here known done =
     let e : step program header s ≡ Verdict verdict = performed program header s insn (Verdict verdict) performs here known done in
     record { steps = 1; ends = subst (λ (o : Outcome). Rest program header 0 ([], verdict) o) (sym e) (refl, refl, refl) }
 
--- a jump over so many slots is one of two: where the test holds what ends at its target, else what ends behind it
+-- A jump ends in one of two ways. If the test holds, it ends as the code at its target does, else as the code after
+-- it does.
 pub branched : (program : Program) (header : Header) (slot skipped end : ℕ) (registers : ℕ → Value) (stack : ℕ → Option ℕ) (insn : Insn) (d : Decision) (t : Bool) → Performs program
     → insn_at program slot ≡ Some insn → IsOfFirst insn → perform header (state slot registers stack) insn ≡ branches (state slot registers stack) (pos skipped) t
     → slot + 1 + skipped ≡ end
@@ -83,19 +84,19 @@ branched program header slot skipped end registers stack insn d true performs he
 branched program header slot skipped end registers stack insn d false performs here known done target there behind =
     next program header (state slot registers stack) (state (slot + 1) registers stack) insn d performs here known done (behind refl)
 
--- ---- where instructions stand
+-- ---- at which slots instructions are
 
--- the instructions stand in the program from a slot on
+-- the instructions are in the program from a slot
 abbrev pub StandAt : Program → (slot : ℕ) → List Insn → Type 0
 StandAt program slot [] = Unit {0}
 StandAt program slot (insn ∷ insns) = (insn_at program slot ≡ Some insn) × StandAt program (slot + slots_of insn) insns
 
--- the slot behind instructions
+-- the slot after instructions
 abbrev pub slot_after : (slot : ℕ) → List Insn → ℕ
 slot_after slot [] = slot
 slot_after slot (insn ∷ insns) = slot_after (slot + slots_of insn) insns
 
--- two lists of instructions stand behind each other
+-- two lists of instructions follow each other
 pub split : (program : Program) (slot : ℕ) (xs ys : List Insn) → StandAt program slot (xs ++ ys) → StandAt program slot xs × StandAt program (slot_after slot xs) ys
 split program slot [] ys h = (tt, h)
 split program slot (x ∷ xs) ys h =

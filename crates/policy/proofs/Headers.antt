@@ -75,7 +75,7 @@ high_first a b c d = a * 16777216 + b * 65536 + c * 256 + d
 abbrev four_below : (a b c d : Option ℕ) → Option ℕ
 four_below a b c d = byte_below a (byte_below b (byte_below c (byte_below d (Some 0))))
 
--- four bytes of the tail, from a place on
+-- four bytes of the tail from a place
 pub word_loaded : (header : Header) → IsHeader header → (k : ℕ) → k ≤ 8 → place_of Tail 4 (pos 0 +ℤ pos k) ≡ Some k
     → (s : State) → loads header s LoadWord (Ptr Tail (pos 0)) (pos k)
     ≡ Some (Num (low_first (slice_index header.tail k) (slice_index header.tail (suc k)) (slice_index header.tail (suc (suc k))) (slice_index header.tail (suc (suc (suc k))))))
@@ -96,7 +96,7 @@ word_loaded header h k within there s =
     ap (λ (o : Option ℕ). load_value LoadWord (bytes_at header s.stack Tail 4 o)) there
     ∙ ap (λ (o : Option ℕ). load_value LoadWord o) bytes
 
--- the bytes the other way round
+-- the bytes in the other order
 pub word_swapped : (a b c d : ℕ) → a < 256 → b < 256 → c < 256 → d < 256
     → swapped_bytes ToBig Swap32 (low_first a b c d) ≡ high_first a b c d
 word_swapped a b c d ha hb hc hd = omega arith
@@ -156,7 +156,7 @@ word_moved v n below = moved Bits64 v (word (pos n)) ∙ ap (λ (k : ℕ). Some 
 pub bits_moved : (v : Value) (n : ℕ) → n < 2 ^ 32 → alu Mov Bits32 v (Num (word (cast_signed w32 n))) ≡ Some (Num n)
 bits_moved v n below = moved Bits32 v (word (cast_signed w32 n)) ∙ ap (λ (k : ℕ). Some (Num k)) (same_bits n below)
 
--- ---- tests the other way round
+-- ---- reversed tests
 
 pub below_fails : (a b : ℕ) → nat_lt a b ≡ not (nat_le b a)
 below_fails a b = grind (arith, nat_tests)

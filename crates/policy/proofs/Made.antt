@@ -17,7 +17,7 @@ use Rattle.policy.proofs.Refused.{lines_at}
 abbrev pub own_program : List PortRule → Program
 own_program rules = table_program (length (table_code rules)) rules
 
--- what holds of it holds of the image
+-- a property of it is one of the image
 pub made : (P : Program → Type 0) (given all : List PortRule) (image : Program) → IsMadeOf (table_code given) image → given ≡ all → P (own_program all) → P image
 made P given all image is same holds =
     let whole : image ≡ own_program all = is.whole ∙ ap (λ (rules : List PortRule). own_program rules) same in

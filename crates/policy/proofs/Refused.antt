@@ -1,4 +1,4 @@
--- What the faults of tables tell.
+-- What the faults of tables say.
 use Rattle.std.specs.Prelude.{All, ◌&&◌, ◌||◌, ◌+◌, ◌-◌, ◌*◌, is_some, nat_lt, if◌then◌else◌, option_map, slice_index}
 use Rattle.std.specs.Option.{option_or}
 use Rattle.std.proofs.Common.{◌≡◌, ◌≤◌, ℕ, suc, Bool, true, false, List, [], ◌∷◌, length, Option, Some, None, refl, ap, subst, arith}
@@ -110,7 +110,7 @@ inside sizes quota is =
 pub quota_inside : (sizes : Maps) (quota : Quota) → quota_fault sizes (Some quota) ≡ None → IsInside sizes quota.map quota.cell × (kind_of_map sizes quota.map ≡ Counter)
 quota_inside sizes quota none = inside sizes quota (met (has_cell sizes quota) NoCell none)
 
--- where rules have no fault, the quota of the first and the others have none
+-- if rules have no fault, the quota of the first and the others have none
 pub no_faults : (sizes : Maps) (rule : Rule) (rules : List Rule) → rules_fault sizes (rule ∷ rules) ≡ None → (quota_fault sizes rule.quota ≡ None) × (rules_fault sizes rules ≡ None)
 no_faults sizes rule rules none =
     let first : rule_fault sizes rule ≡ None = none_first (rule_fault sizes rule) (rules_fault sizes rules) none in
@@ -166,7 +166,7 @@ lines_have sizes line (rule ∷ rules) none =
     let faults = no_faults sizes rule rules none in
     All-cons (IsThere sizes) (at_every_port line rule) (on_lines (suc line) rules) faults.0 (lines_have sizes (suc line) rules faults.1)
 
--- the cells of a table without a fault are there
+-- the maps have the cells of a table without a fault
 pub table_cells : (sizes : Maps) (rules : List Rule) → compile_fault sizes rules ≡ None → HaveCells sizes (on_lines 1 rules)
 table_cells sizes rules none = lines_have sizes 1 rules (no_rules_fault sizes rules none)
 
@@ -212,7 +212,7 @@ told_have sizes reversed (own ∷ rules) none =
     All-cons (IsThere sizes) own rules (rule_there sizes own (first_none (rule_told sizes own) (rules_told sizes reversed rules) both))
     (told_have sizes reversed rules (second_none (rule_told sizes own) (rules_told sizes reversed rules) both))
 
--- the cells of a table without a fault are there
+-- the maps have the cells of a table without a fault
 pub policy_cells : (sizes : Maps) (policy : PolicyValue) → policy_fault sizes policy ≡ None → HaveCells sizes policy.rules
 policy_cells sizes policy none =
     told_have sizes policy.reversed policy.rules (second_none (length_told policy.version policy.rules) (rules_told sizes policy.reversed policy.rules) none)
@@ -251,7 +251,7 @@ rule_room : (t : Bool) (fault : TextFault) (rest : Option TextFault) → option_
 rule_room true fault rest is = cc
 rule_room false fault rest is = refl
 
--- and those behind it have
+-- and so have those after it
 rest_room : (t : Bool) (fault : TextFault) (r : Room) (rest : Option Room → Option TextFault) → option_or (if t then Some fault else None) (rest (if t then None else Some r)) ≡ None → rest (Some r) ≡ None
 rest_room true fault r rest is = cc
 rest_room false fault r rest is = is
@@ -265,7 +265,7 @@ ones_fit (own ∷ rules) r none =
     let fit : length rules ≤ r.left - 1 = ones_fit rules (room_left One r own) rest in
     omega (arith, ltb-false r.left 1 some, fit)
 
--- the slot that is still wanted to put the port on the stack
+-- the slot that is still needed to put the port on the stack
 abbrev port_wanted : (asks some : Bool) → ℕ
 port_wanted true some = 0
 port_wanted false some = if some then 1 else 0

@@ -1,5 +1,5 @@
--- What each test of a compiled table does: where its fact holds, what ends from the slot behind it ends from its
--- first slot, and where not, what ends from the end of its rule.
+-- What each test of a compiled table does. If its fact holds, its first slot ends as the slot after it does. If not,
+-- its first slot ends as the end of its rule does.
 use Rattle.std.proofs.Common.{◌≡◌, ◌<◌, ◌^◌, ◌+◌, ◌*◌, ℕ, Bool, true, false, [], ◌∷◌, Option, Some, None, refl, sym, ap, ◌∙◌, subst, arith}
 use Rattle.std.specs.Prelude.{pos, negsuc, is_some, ◌&&◌, ◌==◌, not, nat_lt, nat_le, bit_and, if◌then◌else◌, slice_index}
 use Rattle.bpf_parts.specs.declared.callee.Callee.TheVariants as callees
@@ -41,13 +41,13 @@ pub record Setting : Type 0 where
   pub performs : Performs program
   pub is_header : IsHeader header
 
--- the port stands on the last byte of the stack, if it is kept there
+-- the port is on the last byte of the stack, if it is kept there
 abbrev pub Keeps : (held : Option ℕ) → (stack : ℕ → Option ℕ) → Type 0
 Keeps None stack = Unit {0}
 Keeps (Some port) stack = stack 511 ≡ Some port
 
--- the registers from the first rule on: the parts of the header, these first and last addresses, and the end of the
--- stack, on which the port is kept
+-- The registers from the first rule: the parts of the header, these first and last addresses, and the end of the
+-- stack. The port is kept on the stack.
 pub record Stands (held : Option ℕ) (first last : ℕ) (registers : ℕ → Value) (stack : ℕ → Option ℕ) : Type 0 where
   pub front : registers 6 ≡ Ptr Front (pos 0)
   pub tail : registers 7 ≡ Ptr Tail (pos 0)
@@ -56,19 +56,19 @@ pub record Stands (held : Option ℕ) (first last : ℕ) (registers : ℕ → Va
   pub frame : registers 10 ≡ Ptr Stack (pos 0)
   pub port : Keeps held stack
 
--- those of the header
+-- those of the setting's header
 abbrev pub StandsOn : Setting → (registers : ℕ → Value) → (stack : ℕ → Option ℕ) → Type 0
 StandsOn m registers stack =
     Stands m.held (address_of (fields_of m.header)) (last_address_of (fields_of m.header)) registers stack
 
--- from a slot on, every such state ends with this decision
+-- from a slot, every such state ends with this decision
 pub record EndsFrom (m : Setting) (slot : ℕ) (d : Decision) : Type 0 where
   pub from : (registers : ℕ → Value) (stack : ℕ → Option ℕ) → StandsOn m registers stack → Finishes m.program m.header (state slot registers stack) d
 
 pub from_slot : (m : Setting) (slot other : ℕ) (d : Decision) → slot ≡ other → EndsFrom m slot d → EndsFrom m other d
 from_slot m slot other d same ends = subst (λ (k : ℕ). EndsFrom m k d) same ends
 
--- a write of r0 keeps what stands
+-- a write of r0 changes nothing of the others
 pub kept : (held : Option ℕ) (first last : ℕ) (registers : ℕ → Value) (stack : ℕ → Option ℕ) (value : Value) → Stands held first last registers stack → Stands held first last (register_after registers 0 value) stack
 kept held first last registers stack value h = record {
   front = h.front;
@@ -147,7 +147,7 @@ field_tested m slot base offset byte behind end (Some wanted) met unmet found co
 
 -- ---- the port
 
--- the port that is kept comes from the stack
+-- the load of the kept port from the stack
 port_load : (header : Header) (s : State) (port : ℕ) → s.stack 511 ≡ Some port → loads header s LoadByte (Ptr Stack (pos 0)) (negsuc 0) ≡ Some (Num port)
 unfolding little_endian
 port_load header s port is =
@@ -184,7 +184,7 @@ port_compared m slot port wanted behind end met unmet held code small target res
       (turned m (slot + 1) behind end after stack jump met unmet (port == wanted) code.1.0 refl done aim (kept _ _ _ registers stack (Num port) stands) on there);
 }
 
--- the port of a rule, which is kept where there is one
+-- the test of a rule's port, which is kept if there is one
 pub port_tested : (m : Setting) (slot port behind end : ℕ) (field : Option ℕ) (met unmet : Decision) → (is_some field ≡ true → m.held ≡ Some port)
     → StandAt m.program slot (port_test field behind) → IsPortField field
     → slot + field_slots field + behind ≡ end → EndsFrom m (slot + field_slots field) met → EndsFrom m end unmet
@@ -223,7 +223,7 @@ masked m slot mask wanted behind end holds met unmet code mask_fits wanted_fits 
       (turned m (slot + 1 + 1) behind end two stack jump met unmet holds code.1.1.0 refl done aim stand_two on there));
 }
 
--- what the command asks for
+-- the test of what the command asks for
 pub kind_tested : (m : Setting) (slot behind end : ℕ) (kind : RuleKind) (met unmet : Decision) → StandAt m.program slot (kind_test kind behind)
     → slot + kind_slots kind + behind ≡ end → EndsFrom m (slot + kind_slots kind) met → EndsFrom m end unmet
     → EndsFrom m slot (if has_kind kind (command_kind (fields_of m.header)) then met else unmet)
@@ -302,7 +302,7 @@ range_tested m slot low high behind end met unmet low_fits high_fits code target
 
 -- ---- the quota
 
--- a number is put into a register that no test keeps
+-- a number goes into a register that no test keeps
 number_next : (m : Setting) (slot register n : ℕ) (registers : ℕ → Value) (stack : ℕ → Option ℕ) (d : Decision) → n < 2 ^ 64 → (register == 10) ≡ false
     → insn_at m.program slot ≡ Some (set_to register n)
     → Finishes m.program m.header (state (slot + 1) (register_after registers register (Num n)) stack) d
@@ -315,7 +315,7 @@ number_next m slot register n registers stack d small writable here rest =
     ∙ ap (λ (b : Bool). (if b then Trap else Next t)) writable in
     next m.program m.header s t (set_to register n) d m.performs here refl done rest
 
--- a draw in front of one of two decisions
+-- a draw before one of two decisions
 abbrev after_draw : calls.Call → Decision → Decision
 after_draw c d = (c ∷ d.0, d.1)
 
@@ -355,7 +355,7 @@ drawn m slot end code answer quota rest small limited insns target behind there 
       subst (λ (e : Decision). Finishes m.program m.header s e) (drawn_first holds (draw quota answer) ([], code) rest) map;
 }
 
--- a quota, where the conditions of its rule hold
+-- a quota, if the conditions of its rule hold
 pub quota_tested : (m : Setting) (slot end code : ℕ) (quota : Option Quota) (told : ℕ → ℕ) (later : Decision) → told 0 < 2 ^ 64 → IsLimited quota
     → StandAt m.program slot (quota_test quota 2) → slot + quota_slots quota + 2 ≡ end
     → EndsFrom m (slot + quota_slots quota) ([], code) → EndsFrom m end later

@@ -1,6 +1,6 @@
--- The program that stands for a policy table, instruction by instruction (RFC 9669). While it runs r6 points to the
--- first four bytes of the header and r7 to its last twelve, r8 is the first address of the command and r9 the last;
--- r0 is what is compared.
+-- The program of a policy table, instruction by instruction (RFC 9669). While it runs, r6 points to the first four
+-- bytes of the header and r7 to its last twelve. The first address of the command is in r8, and the last in r9. The
+-- value that is compared is in r0.
 use Rattle.std.specs.Prelude.{ℕ, ◌+◌, Bool, pos, negsuc, if◌then◌else◌, List, [], ◌∷◌, ◌++◌, Option, Some, None}
 use Rattle.std.specs.Int.{w32, cast_signed}
 use Rattle.bpf_parts.specs.declared.callee.Callee.TheVariants as callees
@@ -43,11 +43,11 @@ loaded size dst base offset = Load size dst (record { base = base; offset = pos 
 abbrev pub applied : AluOp → (dst : ℕ) → Operand → Insn
 applied op dst src = Alu op Bits64 dst src
 
--- a register is set to a number
+-- a register that is set to a number
 abbrev pub set_to : (dst value : ℕ) → Insn
 set_to dst value = applied Mov dst (Immediate (pos value))
 
--- a register is set to a number of 32 bits, whose bits are the immediate's
+-- a register that is set to a number of 32 bits, whose bits are the immediate's
 abbrev pub set_to_bits : (dst value : ℕ) → Insn
 set_to_bits dst value = Alu Mov Bits32 dst (Immediate (cast_signed w32 value))
 
@@ -55,12 +55,12 @@ set_to_bits dst value = Alu Mov Bits32 dst (Immediate (cast_signed w32 value))
 abbrev pub swapped : (dst : ℕ) → Insn
 swapped dst = ByteSwap ToBig Swap32 dst
 
--- a jump over so many slots, where the condition holds of two words (section 4.3)
+-- a jump over `skipped` slots, if the condition holds of two words (section 4.3)
 abbrev pub skips_if : Condition → (dst : ℕ) → Operand → (skipped : ℕ) → Insn
 skips_if condition dst src skipped =
     Jump (record { condition = condition; width = Bits64; dst = dst; src = src }) (pos skipped)
 
--- ---- tests: each skips so many slots behind it, to the end of its rule, where it fails
+-- ---- tests: a test that fails skips `behind` slots after it, to the end of its rule
 
 -- the instruction byte under a mask is that number
 abbrev pub masked_test : (mask wanted behind : ℕ) → List Insn
@@ -101,23 +101,23 @@ verdict_code number = set_to 0 number ∷ Exit ∷ []
 
 -- ---- rules
 
--- how many slots of a rule stand behind its range
+-- how many slots of a rule come after the test of its range
 abbrev pub behind_range : Rule → ℕ
 behind_range rule = 2 + quota_slots rule.quota
 
--- behind its extended address
+-- after that of its extended address
 abbrev pub behind_extended : Rule → ℕ
 behind_extended rule = behind_range rule + 4
 
--- behind its initiator logical address
+-- after that of its initiator logical address
 abbrev pub behind_initiator : Rule → ℕ
 behind_initiator rule = behind_extended rule + field_slots rule.extended
 
--- behind its key
+-- after that of its key
 abbrev pub behind_key : Rule → ℕ
 behind_key rule = behind_initiator rule + field_slots rule.initiator
 
--- behind its kind
+-- after that of its kind
 abbrev pub behind_kind : Rule → ℕ
 behind_kind rule = behind_key rule + field_slots rule.key
 
@@ -140,8 +140,8 @@ address_code =
     applied Mov 6 (FromRegister 1) ∷ applied Mov 7 (FromRegister 2)
     ∷ loaded LoadWord 8 7 ADDRESS ∷ swapped 8 ∷ applied Mov 9 (FromRegister 8) ∷ []
 
--- the last address: with the increment bit and a data length that is not zero it is as many bytes behind the first
--- as the length says, less one
+-- the last address: with the increment bit and a data length that is not zero, the first address plus the length less
+-- one
 abbrev pub last_address_code : List Insn
 last_address_code =
     loaded LoadByte 0 6 INSTRUCTION ∷ applied And 0 (Immediate (pos INCREMENT_BIT))
@@ -156,11 +156,11 @@ last_address_code =
 abbrev pub port_place : MemoryOperand
 port_place = record { base = 10; offset = negsuc 0 }
 
--- the port, which is in r3 at entry, is put there
+-- the port, which is in r3 at entry, goes there
 abbrev pub port_kept : Insn
 port_kept = Store Byte port_place (FromRegister 3)
 
--- it is loaded from there
+-- a load of the port from there
 abbrev pub port_loaded : Insn
 port_loaded = Load LoadByte 0 port_place
 
@@ -169,16 +169,16 @@ abbrev pub port_test : Option ℕ → (behind : ℕ) → List Insn
 port_test None behind = []
 port_test (Some port) behind = port_loaded ∷ skips_if NotEqual 0 (Immediate (pos port)) behind ∷ []
 
--- a rule with a port: its port is asked before all else
+-- a rule with a port: its port is tested before all else
 abbrev pub port_rule_code : PortRule → List Insn
 port_rule_code own = port_test own.port (rule_slots own.rule) ++ rule_code own.rule
 
--- the rules in order, and after them the verdict where none matches
+-- the rules in order, and after them the verdict if none matches
 abbrev pub rules_code : List PortRule → List Insn
 rules_code [] = verdict_code (verdict_number NotAuthorised)
 rules_code (own ∷ rules) = port_rule_code own ++ rules_code rules
 
--- what puts the port on the stack, where a rule asks it
+-- the instruction that puts the port on the stack, if a rule asks it
 abbrev pub keep_code : (asked : Bool) → List Insn
 keep_code asked = if asked then port_kept ∷ [] else []
 

@@ -1,4 +1,4 @@
--- What a policy table is compiled to: its first fault, or a program that has its meaning.
+-- The result of compiling a policy table: its first fault, or a program that has its meaning.
 use Rattle.std.specs.Prelude.{◌≡◌, ◌<◌, ℕ, List, [], Option, Some, None, All}
 use Rattle.bpf.specs.Program.{Program}
 use Rattle.bpf.specs.declared.version.Version.TheVariants.{One}
@@ -21,7 +21,7 @@ use Rattle.policy_table.specs.declared.text_faults.TextFault.TheVariants as text
 
 -- ---- faults
 
--- why a table with this first fault is not compiled: that fault, or that memory was refused where there is none
+-- why a table with this first fault is not compiled: that fault, or memory is refused if there is none
 abbrev pub IsCompileFault : (first : Option PolicyFault) → PolicyFault → Type 0
 IsCompileFault first TooLong = first ≡ Some TooLong
 IsCompileFault first BadRange = first ≡ Some BadRange
@@ -36,8 +36,8 @@ IsPortFault (Some first) fault = fault ≡ first
 
 -- ---- meaning
 
--- On every header and port, and for all answers of the cells, the program has a run with the table's draws and
--- its verdict, and no other run.
+-- On every header and port, and for all answers of the cells, the program has a run with the table's draws and its
+-- verdict. It has no other run.
 pub record HasMeaning (rules : List Rule) (program : Program) : Type 0 where
   pub runs : (header : Header) (port : ℕ) (told : ℕ → ℕ) → IsHeader header → port < 32 → AreWords told
       → (n : ℕ) × Runs program header port (decision rules header told).0 n (decision rules header told).1
@@ -46,7 +46,8 @@ pub record HasMeaning (rules : List Rule) (program : Program) : Type 0 where
       → AreAnswered told calls → Runs program header port calls n verdict
       → (calls ≡ (decision rules header told).0) × (verdict ≡ (decision rules header told).1)
 
--- The same of a table with ports: at each port the draws and the verdict are those of the rules that are asked there.
+-- The same of a table with ports: at each port, the draws and the verdict are those of the rules that are asked
+-- there.
 pub record HasPortMeaning (rules : List PortRule) (program : Program) : Type 0 where
   pub runs : (header : Header) (port : ℕ) (told : ℕ → ℕ) → IsHeader header → port < 32 → AreWords told
       → (n : ℕ) × Runs program header port (port_decision rules header port told).0 n (port_decision rules header port told).1
@@ -55,23 +56,23 @@ pub record HasPortMeaning (rules : List PortRule) (program : Program) : Type 0 w
       → AreAnswered told calls → Runs program header port calls n verdict
       → (calls ≡ (port_decision rules header port told).0) × (verdict ≡ (port_decision rules header port told).1)
 
--- the call is of a cell that is there, in a counter map
+-- the call is of a cell of the maps, in a counter map
 pub record IsOfCounter (sizes : Maps) (c : Call) : Type 0 where
   pub inside : IsInside sizes c.question.map c.question.key
   pub kind : kind_of_map sizes c.question.map ≡ Counter
 
--- every cell that the table draws from is there, in a counter map
+-- the maps have every cell that the table draws from, in a counter map
 abbrev pub HasCells : Maps → List Rule → Type 0
 HasCells sizes rules =
     (header : Header) (told : ℕ → ℕ) → All (IsOfCounter sizes) (decision rules header told).0
 
--- every cell that the table draws from at a port is there, in a counter map
+-- the maps have every cell that the table draws from at a port, in a counter map
 abbrev pub HasPortCells : Maps → List PortRule → Type 0
 HasPortCells sizes rules =
     (header : Header) (port : ℕ) (told : ℕ → ℕ) → All (IsOfCounter sizes) (port_decision rules header port told).0
 
--- a program of a table: it has the table's meaning, version 1, no loop, and its weight as its budget, and the maps have
--- the cells that are drawn from
+-- A program of a table: it has the table's meaning, version 1, no loop, and its weight as its budget. The maps have
+-- the cells that it draws from.
 pub record IsCompiled (sizes : Maps) (rules : List Rule) (program : Program) : Type 0 where
   pub faultless : compile_fault sizes rules ≡ None
   pub meaning : HasMeaning rules program

@@ -1,4 +1,4 @@
--- What the program of a policy table means, and that it is justified: the laws of the compiler.
+-- The meaning of the program of a policy table, and that it is justified: the laws of the compiler.
 use Rattle.std.specs.Prelude.{◌≡◌, ◌≤◌, ℕ, List, [], length, None, All}
 use Rattle.std.specs.List.{flat_map}
 use Rattle.bpf.specs.Parts.{placed_slots}
@@ -18,7 +18,7 @@ use Rattle.policy_table.specs.declared.port_rules.PortRule.{PortRule}
 abbrev pub straight_program : (budget : ℕ) → List Insn → Program
 straight_program budget insns = program One budget [] (flat_map placed_slots insns)
 
--- a program is these instructions, without a loop, and each is performed once at most: their number is its budget
+-- a program is these instructions, without a loop, and a run performs each at most once: their number is its budget
 pub record IsMadeOf (insns : List Insn) (program : Program) : Type 0 where
   pub whole : program ≡ straight_program (length insns) insns
 
@@ -35,7 +35,7 @@ CodeHasMeaning =
 abbrev pub HaveCells : Maps → List PortRule → Type 0
 HaveCells sizes rules = All (λ own. quota_fault sizes own.rule.quota ≡ None) rules
 
--- the program of a table whose cells are there is justified, within the limits of the format and of its budget
+-- the program of a table whose cells the maps have is justified, within the limits of the format and of its budget
 abbrev pub CodeIsJustified : Type 0
 CodeIsJustified =
     (sizes : Maps) (rules : List PortRule) (budget : ℕ) → All FitsPort rules → HaveCells sizes rules

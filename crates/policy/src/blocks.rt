@@ -1,5 +1,5 @@
-//! The tests of compiled tables, and what comes before and behind them. A test that fails skips so many slots that
-//! stand behind it, to the end of its rule.
+//! The tests of compiled tables, and the code before and after them. A test that fails skips `behind` slots after it,
+//! to the end of its rule.
 
 ghost use Rattle.std.specs.Prelude.{◌≡◌, ◌≤◌, ◌<◌, ◌++◌, OnOk};
 ghost use Rattle.policy.specs.Code.{address_code, field_test, keep_code, kind_test, last_address_code, masked_test, port_place, port_test, quota_test, range_test, verdict_code};
@@ -16,7 +16,7 @@ use rmap::{
 };
 use std::alloc::AllocError;
 
-/// r0: what is compared, the answer of a helper, and the verdict.
+/// r0: the value that is compared, the answer of a helper, and the verdict.
 const VALUE: u8 = 0;
 
 /// r1 at entry: points to the first four bytes of the header.
@@ -50,6 +50,10 @@ const FIRST: u8 = 8;
 const LAST: u8 = 9;
 
 /// Tests that the instruction byte under a mask is that number.
+///
+/// # Errors
+///
+/// Memory is refused.
 fn push_masked(insns: &mut Vec<Insn>, mask: u8, wanted: u8, behind: u8) -> Result<(), AllocError>
     ensures { OnOk result (insns.new.items ≡ insns.old.items ++ masked_test mask wanted behind) }
 {
@@ -62,6 +66,10 @@ fn push_masked(insns: &mut Vec<Insn>, mask: u8, wanted: u8, behind: u8) -> Resul
 }
 
 /// Tests that the command is of the kind, by packet type and command code.
+///
+/// # Errors
+///
+/// Memory is refused.
 pub fn push_kind(insns: &mut Vec<Insn>, kind: RuleKind, behind: u8) -> Result<(), AllocError>
     ensures { OnOk result (insns.new.items ≡ insns.old.items ++ kind_test kind behind) }
 {
@@ -74,6 +82,10 @@ pub fn push_kind(insns: &mut Vec<Insn>, kind: RuleKind, behind: u8) -> Result<()
 }
 
 /// Tests that a byte of the header is that of the field.
+///
+/// # Errors
+///
+/// Memory is refused.
 pub fn push_field(
     insns: &mut Vec<Insn>,
     field: Option<u8>,
@@ -96,7 +108,7 @@ pub fn push_field(
     ])
 }
 
-/// The last byte of the stack, which has the port.
+/// The last byte of the stack, which holds the port.
 fn port_place() -> MemoryOperand
     ensures { result ≡ port_place }
 {
@@ -106,7 +118,11 @@ fn port_place() -> MemoryOperand
     }
 }
 
-/// Puts the port on the stack, where a rule asks it: a call unsets r3.
+/// Puts the port on the stack, if a rule asks it: a call unsets r3.
+///
+/// # Errors
+///
+/// Memory is refused.
 pub fn push_keep(insns: &mut Vec<Insn>, asked: bool) -> Result<(), AllocError>
     ensures { OnOk result (insns.new.items ≡ insns.old.items ++ keep_code asked) }
 {
@@ -121,6 +137,10 @@ pub fn push_keep(insns: &mut Vec<Insn>, asked: bool) -> Result<(), AllocError>
 }
 
 /// Tests that the port is that of the field.
+///
+/// # Errors
+///
+/// Memory is refused.
 pub fn push_port(insns: &mut Vec<Insn>, port: Option<u8>, behind: u8) -> Result<(), AllocError>
     ensures { OnOk result (insns.new.items ≡ insns.old.items ++ port_test port behind) }
 {
@@ -137,6 +157,10 @@ pub fn push_port(insns: &mut Vec<Insn>, port: Option<u8>, behind: u8) -> Result<
 }
 
 /// Tests that the address is not below the range, and the last address not above it.
+///
+/// # Errors
+///
+/// Memory is refused.
 pub fn push_range(insns: &mut Vec<Insn>, low: u32, high: u32, behind: u8) -> Result<(), AllocError>
     requires { behind ≤ 250 }
     ensures { OnOk result (insns.new.items ≡ insns.old.items ++ range_test low high behind) }
@@ -150,6 +174,10 @@ pub fn push_range(insns: &mut Vec<Insn>, low: u32, high: u32, behind: u8) -> Res
 }
 
 /// Draws a ticket of the quota's cell, and tests that it is below the limit.
+///
+/// # Errors
+///
+/// Memory is refused.
 pub fn push_quota(insns: &mut Vec<Insn>, quota: Option<Quota>, behind: u8) -> Result<(), AllocError>
     requires { IsLimited quota }
     ensures { OnOk result (insns.new.items ≡ insns.old.items ++ quota_test quota behind) }
@@ -175,6 +203,10 @@ pub fn push_quota(insns: &mut Vec<Insn>, quota: Option<Quota>, behind: u8) -> Re
 }
 
 /// Ends a run with the verdict.
+///
+/// # Errors
+///
+/// Memory is refused.
 pub fn push_verdict(insns: &mut Vec<Insn>, verdict: Verdict) -> Result<(), AllocError>
     ensures { OnOk result
         (insns.new.items ≡ insns.old.items ++ verdict_code (verdict_number verdict)) }
@@ -183,6 +215,10 @@ pub fn push_verdict(insns: &mut Vec<Insn>, verdict: Verdict) -> Result<(), Alloc
 }
 
 /// Finds the parts of the header and the first address.
+///
+/// # Errors
+///
+/// Memory is refused.
 pub fn push_address(insns: &mut Vec<Insn>) -> Result<(), AllocError>
     ensures { OnOk result (insns.new.items ≡ insns.old.items ++ address_code) }
 {
@@ -195,8 +231,11 @@ pub fn push_address(insns: &mut Vec<Insn>) -> Result<(), AllocError>
     ])
 }
 
-/// Finds the last address, which with the increment bit and a data length other than zero is further than the
-/// first.
+/// Finds the last address. It is after the first if the increment bit is set and the data length is more than one.
+///
+/// # Errors
+///
+/// Memory is refused.
 pub fn push_last_address(insns: &mut Vec<Insn>) -> Result<(), AllocError>
     ensures { OnOk result (insns.new.items ≡ insns.old.items ++ last_address_code) }
 {

@@ -1,5 +1,5 @@
-//! The program of a table: where its port and its addresses are found, a block of tests and a verdict for each rule, and the
-//! verdict where no rule matches.
+//! The program of a table. It finds its port and its addresses, and has a block of tests and a verdict for each rule.
+//! At its end is the verdict if no rule matches.
 
 ghost use Rattle.std.specs.Prelude.{◌≡◌, ◌≤◌, ◌++◌, All, IfOk, OnOk};
 ghost use Rattle.policy.specs.Code.{port_rule_code, rule_code, table_code};
@@ -51,6 +51,10 @@ fn push_port_rule(insns: &mut Vec<Insn>, own: &PortRule) -> Result<(), AllocErro
 }
 
 /// The instructions of a table with these rules.
+///
+/// # Errors
+///
+/// Memory is refused.
 pub fn table_insns(alloc: Global, rules: &[PortRule]) -> Result<Vec<Insn>, AllocError>
     requires { All FitsPort rules.now }
     ensures { IfOk result (λ insns. insns.items ≡ table_code rules.now) }

@@ -38,8 +38,8 @@ fn code_is_justified()
     refine_shrinks();
 }
 
-/// The image of these instructions, which have room in an image, without a loop. Each is performed once at most, so their
-/// number is its weight, and its budget.
+/// The image of these instructions, which have room in an image, without a loop. A run performs each at most once, so
+/// their number is its weight, and its budget.
 fn image_of(alloc: Global, insns: &[Insn]) -> Result<Image, AllocError>
     requires some { 1 ≤ length insns.now }
     requires few { length (flat_map placed_slots insns.now) ≤ 512 }
@@ -66,15 +66,19 @@ fn image_of_rules(alloc: Global, rules: &[PortRule]) -> Result<Image, AllocError
     image_of(alloc, insns.as_slice())
 }
 
-/// The image of a table: a run of it on any header makes exactly the table's draws and gives its verdict, whatever
-/// the cells answer. It is of version 1 and has no loop, and its budget is its weight. A node with these maps accepts
-/// it, whatever the table.
+/// The image of a table: on any header, and whatever the cells answer, a run makes exactly the table's draws and
+/// gives its verdict. It is of version 1 and has no loop, and its budget is its weight. A node with these maps
+/// accepts it, whatever the table.
 ///
 /// # Errors
 ///
-/// The first of these: `TooLong` for more than 12 rules; then, rule by rule, `BadRange` where the range of addresses
-/// ends before it begins, and `NoCell` where the maps do not have the cell of the quota, or it is in a peak map.
-/// `Memory` where there is none and memory was refused.
+/// The first of these, the last two rule by rule:
+///
+/// - `TooLong`: the table has more than 12 rules.
+/// - `BadRange`: the range of addresses ends before it begins.
+/// - `NoCell`: the maps do not have the cell of the quota, or it is in a peak map.
+///
+/// `Memory` if there is none of these and memory is refused.
 pub fn compile(alloc: Global, table: &Table, sizes: &MapSizes) -> Result<Image, PolicyFault>
     ensures compiled { IfOk result (IsCompiled sizes.now table.now) }
     ensures justified { IfOk result (λ image. IsJustified image sizes.now) }
@@ -90,13 +94,14 @@ pub fn compile(alloc: Global, table: &Table, sizes: &MapSizes) -> Result<Image, 
     Ok(image)
 }
 
-/// The image of a table of either version: a run of it on any header at a port makes exactly the draws of the rules that are
-/// asked at that port, and gives their verdict, whatever the cells answer. All else is as [`compile`] says, and the image of
-/// a table that asks no port is the same.
+/// The image of a table of either version: a run on any header at a port makes exactly the draws of its rules there.
+/// It gives their verdict, whatever the cells answer. All else is as [`compile`] says. If a table asks no port, the
+/// image is the same as there.
 ///
 /// # Errors
 ///
-/// The first fault of the table, with its place ([`Policy::fault_for`]). `Memory` where there is none and memory was refused.
+/// The first fault of the table, with its place ([`Policy::fault_for`]). `Memory` if there is none and memory is
+/// refused.
 pub fn compile_policy(alloc: Global, policy: &Policy, sizes: &MapSizes) -> Result<Image, TextFault>
     ensures compiled { IfOk result (IsPortCompiled sizes.now policy.now) }
     ensures justified { IfOk result (λ image. IsJustified image sizes.now) }

@@ -1,4 +1,4 @@
-//! The instructions that compiled tables are made of (RFC 9669).
+//! The instructions of compiled tables (RFC 9669).
 
 ghost use Rattle.std.specs.Prelude.{◌≡◌, ◌<◌, ◌≤◌, pos};
 ghost use Rattle.bpf_parts.specs.declared.operation.Operand.TheVariants.{FromRegister};
@@ -80,7 +80,7 @@ pub fn set_bits(dst: u8, value: u32) -> Insn
     }
 }
 
-/// Puts the low four bytes of a register in the other order.
+/// Reverses the order of a register's low four bytes.
 pub fn swap(dst: u8) -> Insn
     requires { dst ≤ 10 }
     ensures { result ≡ swapped dst }
@@ -92,7 +92,7 @@ pub fn swap(dst: u8) -> Insn
     }
 }
 
-/// A jump over so many slots, where the condition holds of two words.
+/// A jump over `skipped` slots, if the condition holds of two words.
 pub fn skip_if(condition: Condition, dst: u8, src: Operand, skipped: u8) -> Insn
     requires { dst ≤ 10 }
     ensures { result ≡ skips_if condition dst src skipped }

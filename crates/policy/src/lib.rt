@@ -1,8 +1,8 @@
-//! Policy tables as programs: [`compile`] makes the program that decides as a table does (ECSS-E-ST-50-52C,
+//! Policy tables as programs: [`compile`] makes a program that decides as the table does (ECSS-E-ST-50-52C,
 //! authorisation).
 //!
-//! A [`Table`] is read from text, one [`Rule`] a line, and [`Table::decide`] says what it means for the header of a
-//! command: both stand in the crate `policy_table`, which has no word of programs.
+//! A [`Table`] is read from text, one [`Rule`] a line. [`Table::decide`] says what it means for the header of a
+//! command. Both are in the crate `policy_table`, which does not know programs.
 #![tactic(auto)]
 
 mod blocks;

@@ -1,4 +1,4 @@
--- A table that draws of answers in order is told those answers.
+-- A table that draws of answers in order is given those answers.
 use Rattle.std.specs.Prelude.{if◌then◌else◌}
 use Rattle.std.proofs.Common.{◌≡◌, ℕ, suc, Bool, true, false, List, [], ◌∷◌, drop, get_or, Option, Some, None, refl, ap, ◌∙◌, arith}
 use Rattle.std.proofs.lemmas.Grind.{get_or_after_one}
@@ -12,11 +12,11 @@ use Rattle.policy_table.specs.declared.rules.Quota.{Quota}
 use Rattle.policy_table.specs.declared.rules.Rule.{Rule}
 use Rattle.policy_table.proofs.Outcomes.{decision_same}
 
--- what the rules are told that draw of answers in order
+-- the answers that rules are given that draw of answers in order
 abbrev given : List Rule → Header → List ℕ → ℕ → ℕ
 given rules header answers = told next_answer answers_after rules header answers
 
--- the same of the rest of them, behind a rule whose conditions hold
+-- the same of the rest of them, after a rule whose conditions hold
 abbrev given_held : Option Quota → List Rule → Header → List ℕ → ℕ → ℕ
 given_held quota rules header answers =
     told_by (ticket_before next_answer answers_after quota answers (λ left. tickets_given next_answer answers_after rules header left))

@@ -75,7 +75,7 @@ refined_bad (first ∷ rest) fault h =
     (either third wrong.RangeJoined fault refl h)
     (either fifth wrong.RuleJoined fault refl h))
 
--- what is told of a line that is none of its version
+-- the fault that is reported of a line that is none of its version
 pub told_bad : (version : TableVersion) (ranges : List RangeText) (text : List ℕ) (fault : StatementFault) → IsNoStatement version ranges text fault → IsOfLine fault
 told_bad version ranges text fault is =
     subst (λ (f : StatementFault). IsOfLine f) (sym is.told) (refined_bad (line_words version text) is.bad (line_bad version ranges text is.bad is.is_bad))
@@ -83,7 +83,7 @@ told_bad version ranges text fault is =
 code_five : (line : ℕ) (fault : StatementFault) (own : PolicyFault) → policy_fault_in fault ≡ own → own ≡ faults.BadLine → has_code 5 (Line line fault) ≡ true
 code_five line fault own is bad = rw (is ∙ bad) refl
 
--- it is the first of a list of it alone
+-- it is the first of a list of only it
 pub bad_first : (line : ℕ) (fault : StatementFault) → IsOfLine fault → first_of_code 5 (Line line fault ∷ []) ≡ Some (Line line fault)
 bad_first line fault is = rw (code_five line fault _ refl is) refl
 

@@ -16,3 +16,4 @@ mod ReadingSo
 mod FaultCodes
 mod ReportOf
 mod UnusedLines
+mod RangePlaces

@@ -1,4 +1,4 @@
--- A rule has no mismatch exactly where its conditions hold.
+-- A rule has no mismatch exactly if its conditions hold.
 use Rattle.std.specs.Prelude.{◌==◌, ◌&&◌, if◌then◌else◌, is_none, option_map}
 use Rattle.std.specs.Option.{option_or}
 use Rattle.std.proofs.Common.{◌≡◌, ℕ, Bool, true, false, Option, Some, None, refl, ap, ◌∙◌, nat_le}

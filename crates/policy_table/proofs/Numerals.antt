@@ -30,7 +30,7 @@ hex_cases digits k word (Err e) len some same h = λ n writes.
     let one : 0 < length word = omega (arith, len, some) in
     h ((one, writes.1), subst (λ (top : ℕ). digits_value 16 word < top) power below)
 
--- so many hexadecimal digits are read
+-- this many hexadecimal digits are read
 pub reads_hex : {E : Type 0} (digits k : ℕ) (word : List ℕ) (r : Result ℕ E) → length word ≡ digits → get_or word 0 0 ≢ 43 → 0 < digits → 16 ^ digits ≡ 2 ^ k
     → ParsesUnsigned k 16 word r → MatchOption (result_ok r) ((n : ℕ) → ¬ WritesHex digits word n) (WritesHex digits word)
 reads_hex digits k word r len front some same parses =
@@ -62,7 +62,7 @@ of_digit c h =
     let range = digit_from_value c h in
     both_true (nat_le 48 c) (nat_le c 57) (le-leb 48 c range.0) (le-leb c 57 range.1)
 
--- a text of digits alone
+-- a text of only digits
 pub digits_of : (word : List ℕ) → list_all is_ascii_digit word ≡ true → AllDigits 10 word
 digits_of [] e = tt
 digits_of (c ∷ word) e =

@@ -10,7 +10,7 @@ use Rattle.policy_table.specs.Passing.{draws_behind, passed_first, passed_rules}
 use Rattle.policy_table.specs.declared.mismatches.Passed.{Passed}
 use Rattle.policy_table.specs.declared.rules.Rule.{Rule}
 
--- the rule from which on the rest is told
+-- the rules that are passed from a rule on, by why that rule does not match
 from_rule : (rules : List Rule) (header : Header) (n : ℕ) (draws : List Call) (d : Rule) (why : Option Passed) → n < length rules → passed (get_or rules n d) header (slice_get draws 0) ≡ why
     → passed_rules (drop n rules) header draws ≡ passed_first why (λ left. passed_rules (drop (suc n) rules) header left) draws
 from_rule rules header n draws d why within is =
@@ -28,13 +28,13 @@ passes_one rules header n draws d why told whole within is so =
     ∙ ap (λ (k : ℕ). told ++ why ∷ rest k) (sym (add-one n))
     ∙ sym (append_assoc told (why ∷ []) (rest (n + 1)))
 
--- at one that matches all is told
+-- at one that matches, all that are passed are found
 pub stops_there : (rules : List Rule) (header : Header) (n : ℕ) (draws : List Call) (d : Rule) (told : List Passed) (whole : List Passed) → n < length rules
     → passed (get_or rules n d) header (slice_get draws 0) ≡ None → whole ≡ told ++ passed_rules (drop n rules) header draws → told ≡ whole
 stops_there rules header n draws d told whole within is so =
     sym (so ∙ ap (λ (more : List Passed). told ++ more) (from_rule rules header n draws d None within is) ∙ append-nil told)
 
--- and behind the last
+-- and after the last
 pub stops_behind : (rules : List Rule) (header : Header) (n : ℕ) (draws : List Call) (told : List Passed) (whole : List Passed)
     → drop n rules ≡ [] → whole ≡ told ++ passed_rules (drop n rules) header draws → told ≡ whole
 stops_behind rules header n draws told whole none so =

@@ -1,37 +1,11 @@
--- Rules with ports and ranges with names, one by one.
-use Rattle.std.specs.Prelude.{◌-◌, ◌^◌, min, bytes_eq, if◌then◌else◌}
-use Rattle.std.proofs.Common.{◌≡◌, ◌<◌, ◌+◌, ℕ, suc, Bool, true, false, List, [], ◌∷◌, ◌++◌, length, get_or, drop, Option, Some, sym, ap, ◌∙◌, arith, add-one, append_assoc}
+-- Rules with ports, one by one.
+use Rattle.std.specs.Prelude.{◌-◌, ◌^◌, min}
+use Rattle.std.proofs.Common.{◌≡◌, ◌<◌, ◌+◌, ℕ, suc, List, [], ◌∷◌, ◌++◌, length, get_or, drop, sym, ap, ◌∙◌, arith, add-one, append_assoc}
 use Rattle.std.proofs.Math.Seq.{drop-cons}
 use Rattle.policy_table.specs.Ports.{at_every_port, on_lines}
-use Rattle.policy_table.specs.Ranges.{RangeText, range_named, range_text, range_texts}
 use Rattle.policy_table.specs.Slots.{port_rule_slots, rules_slots}
 use Rattle.policy_table.specs.declared.port_rules.PortRule.{PortRule}
-use Rattle.policy_table.specs.declared.ranges.NamedRange.{NamedRange}
 use Rattle.policy_table.specs.declared.rules.Rule.{Rule}
-
--- ---- names
-
--- a range that has another name is passed
-pub named_behind : (ranges : List NamedRange) (i : ℕ) (d : NamedRange) (name : List ℕ) (total : Option RangeText) → i < length ranges
-    → bytes_eq (get_or ranges i d).name.now name ≡ false → range_named (range_texts (drop i ranges)) name ≡ total
-    → range_named (range_texts (drop (i + 1) ranges)) name ≡ total
-named_behind ranges i d name total within other whole =
-    let next : range_named (range_texts (drop i ranges)) name ≡ range_named (range_text (get_or ranges i d) ∷ range_texts (drop (suc i) ranges)) name =
-    ap (λ (rs : List NamedRange). range_named (range_texts rs) name) (drop-cons ranges i d within) in
-    let gone : range_named (range_text (get_or ranges i d) ∷ range_texts (drop (suc i) ranges)) name ≡ range_named (range_texts (drop (suc i) ranges)) name =
-    ap (λ (t : Bool). if t then Some (range_text (get_or ranges i d)) else range_named (range_texts (drop (suc i) ranges)) name) other in
-    ap (λ (k : ℕ). range_named (range_texts (drop k ranges)) name) (add-one i) ∙ sym (next ∙ gone) ∙ whole
-
--- the first that has it is found
-pub named_here : (ranges : List NamedRange) (i : ℕ) (d : NamedRange) (name : List ℕ) (total : Option RangeText) → i < length ranges
-    → bytes_eq (get_or ranges i d).name.now name ≡ true → range_named (range_texts (drop i ranges)) name ≡ total
-    → Some (range_text (get_or ranges i d)) ≡ total
-named_here ranges i d name total within own whole =
-    let next : range_named (range_texts (drop i ranges)) name ≡ range_named (range_text (get_or ranges i d) ∷ range_texts (drop (suc i) ranges)) name =
-    ap (λ (rs : List NamedRange). range_named (range_texts rs) name) (drop-cons ranges i d within) in
-    let here : range_named (range_text (get_or ranges i d) ∷ range_texts (drop (suc i) ranges)) name ≡ Some (range_text (get_or ranges i d)) =
-    ap (λ (t : Bool). if t then Some (range_text (get_or ranges i d)) else range_named (range_texts (drop (suc i) ranges)) name) own in
-    sym (next ∙ here) ∙ whole
 
 -- ---- lines
 

@@ -52,7 +52,7 @@ three_or_dash word quota dash writes =
     let three : length (parts_of word) ≡ 3 = ap (λ (ws : List (List ℕ)). length ws) writes.parts in
     omega (arith, one, three)
 
--- a decimal that is kept as the greatest number where it is above that one
+-- a decimal that is kept as the greatest number if it is above that one
 abbrev kept : ℕ → List ℕ → ℕ
 kept most word = min (digits_value 10 word) most
 

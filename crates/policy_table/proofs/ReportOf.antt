@@ -61,14 +61,14 @@ range_later : (line : ℕ) (reversed : Option ℕ) → IsEarlierRange line rever
 range_later line None before = tt
 range_later line (Some at) before = omega (arith, before)
 
--- where no range ends before it begins
+-- if no range ends before it begins
 plain_more : (sizes : Maps) (rules : List PortRule) (own : PortRule) → rules_told sizes None (rules ++ own ∷ []) ≡ option_or (rules_told sizes None rules) (rule_told sizes own)
 plain_more sizes [] own = or_none (rule_told sizes own)
 plain_more sizes (first ∷ rules) own =
     ap (λ (o : Option TextFault). option_or (rule_told sizes first) o) (plain_more sizes rules own)
     ∙ sym (or_assoc (rule_told sizes first) (rules_told sizes None rules) (rule_told sizes own))
 
--- where one does, above the rule
+-- if one does, above the rule
 ranged_more : (sizes : Maps) (at : ℕ) (rules : List PortRule) (own : PortRule) → at < own.line → rules_told sizes (Some at) (rules ++ own ∷ []) ≡ rules_told sizes (Some at) rules
 ranged_more sizes at [] own above = rw (lt-ltb at own.line above) refl
 ranged_more sizes at (first ∷ rules) own above =
@@ -151,7 +151,7 @@ fine_more version sizes line statement s fine =
     ∙ ap (λ (o : Option TextFault). option_or o (first_of_code 5 (statement_faults version sizes s.room line statement))) fine
     ∙ statement_five version sizes s.room line statement
 
--- where no rule is said
+-- if no rule is said
 long_same : (version : TableVersion) (sizes : Maps) (line : ℕ) (statement : Statement) (s : SurveyValue) (rest : List PortRule) → room_of version s.room statement ≡ None → length_told version (s.draft.rules ++ rest) ≡ option_or (first_of_code 1 s.faults) (length_from version s.room rest)
     → length_told version (s.draft.rules ++ rest) ≡ option_or (first_of_code 1 (with_statement version sizes line statement s).faults) (length_from version s.room rest)
 long_same version sizes line statement s rest room long =
@@ -159,7 +159,7 @@ long_same version sizes line statement s rest room long =
     one_more version sizes line statement s ∙ ap (λ (o : Option TextFault). option_or (first_of_code 1 s.faults) o) room ∙ or_none (first_of_code 1 s.faults) in
     long ∙ ap (λ (o : Option TextFault). option_or o (length_from version s.room rest)) (sym same)
 
--- where one is
+-- if one is
 long_more : (version : TableVersion) (sizes : Maps) (line : ℕ) (own : PortRule) (s : SurveyValue) (rest : List PortRule)
     → ((left : List PortRule) → length_told version (s.draft.rules ++ left) ≡ option_or (first_of_code 1 s.faults) (length_from version s.room left))
     → length_told version ((s.draft.rules ++ own ∷ []) ++ rest) ≡ option_or (first_of_code 1 (with_statement version sizes line (says.Rule own) s).faults) (length_from version (room_after version s.room own) rest)
@@ -250,7 +250,8 @@ lines_keep version sizes line [] old new fault finds is = subst (λ (s : SurveyV
 lines_keep version sizes line (text ∷ lines) old new fault finds is =
     lines_keep version sizes (suc line) lines finds.0 new fault finds.2 (line_keeps version sizes line text old finds.0 fault finds.1 is)
 
--- all lines are read, and what was found is what the table has; or the first that is not read has the first fault of its number
+-- all lines are read, and what was found is what the table has. Or the first that is not read has the first fault of
+-- its number
 abbrev IsRead : TableVersion → Maps → (line : ℕ) → List (List ℕ) → (old new : SurveyValue) → Type 0
 IsRead version sizes line lines old new =
     ((at : ℕ) × LinesWrite version line lines old.draft new.draft × IsClean version sizes at new)

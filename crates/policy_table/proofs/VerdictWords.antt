@@ -15,7 +15,7 @@ small InvalidKey = omega arith
 small NotAuthorised = omega arith
 small InvalidLogicalAddress = omega arith
 
--- the number of a verdict tells it
+-- the number of a verdict says which verdict it is
 told : (v : Verdict) → verdict_of (verdict_number v) ≡ v
 told Authorised = refl
 told InvalidKey = refl
@@ -39,7 +39,7 @@ is_decimal word v is =
     let numeral = decimal_is_IsNumeral (verdict_number v) (omega (arith, few)) in
     subst (λ (w : List ℕ). IsDecimal w × (digits_value 10 w ≡ verdict_number v)) (sym is) numeral
 
--- a decimal of the verdict's number is its word, where it has no leading zero
+-- a decimal of the verdict's number is its word, if it has no leading zero
 pub is_word : (word : List ℕ) (n : ℕ) (v : Verdict) → WritesCount word n → n ≡ verdict_number v → (get_or word 0 0 ≡ 48 → length word ≡ 1) → IsVerdict word v
 is_word word n v writes same alone =
     let few = small v in
@@ -47,7 +47,7 @@ is_word word n v writes same alone =
     let value : digits_value 10 word ≡ verdict_number v = omega (arith, few, kept, same) in
     sym (decimal-digits_value (numerals_by_value _ tells_digits) word writes.0.1 writes.0.0 alone (omega (arith, few, value))) ∙ ap decimal value
 
--- a number that is not that of the verdict that it stands for writes no verdict
+-- a number writes no verdict if it is not the number of the verdict that `verdict_of` gives for it
 pub is_none : (word : List ℕ) (n : ℕ) → WritesCount word n → n ≢ verdict_number (verdict_of n) → (v : Verdict) → ¬ IsVerdict word v
 is_none word n writes other v is =
     let few = small v in

@@ -15,7 +15,7 @@ use Rattle.policy_table.specs.declared.matching.Match.{Match}
 use Rattle.policy_table.specs.declared.rules.Quota.{Quota}
 use Rattle.policy_table.specs.declared.rules.Rule.{Rule}
 
--- the draws of a table, by which rule it decides, and what is left of the tickets behind it
+-- the draws of a table, by which rule it decides, and what is left of the tickets after it
 pub record Walk (S : Type 0) : Type 0 where
   pub calls : List Call
   pub found : Match
@@ -25,7 +25,7 @@ module _ {S : Type 0} (next : S → (map cell : ℕ) → ℕ) (leaves : S → (m
   abbrev pub walk_with : List Call → Match → S → (Walk S)
   walk_with calls found counts = record { calls = calls; found = found; left = counts }
 
-  -- a walk behind one rule more
+  -- a walk after one rule more
   abbrev pub later : (Walk S) → (Walk S)
   later w = walk_with w.calls (behind 1 w.found) w.left
 
@@ -93,7 +93,7 @@ module _ {S : Type 0} (next : S → (map cell : ℕ) → ℕ) (leaves : S → (m
 
   -- ---- rule by rule
 
-  -- a match behind so many rules and one more
+  -- a match after this many rules and one more
   behind_more : (n : ℕ) (m : Match) → behind n (behind 1 m) ≡ behind (n + 1) m
   behind_more n m = ap (λ (r : Option ℕ). record { rule = r; ticket = m.ticket; verdict = m.verdict }) (moved n m.rule)
     where
@@ -107,7 +107,7 @@ module _ {S : Type 0} (next : S → (map cell : ℕ) → ℕ) (leaves : S → (m
     pub found : (walk rules header counts).found ≡ behind n (walk (drop n rules) header now).found
     pub counts_are : (walk rules header counts).left ≡ (walk (drop n rules) header now).left
 
-  -- nothing stands before the first rule
+  -- no rule is before the first
   behind_none : (m : Match) → m ≡ behind 0 m
   behind_none m = ap (λ (r : Option ℕ). record { rule = r; ticket = m.ticket; verdict = m.verdict }) (same m.rule)
     where
@@ -155,7 +155,7 @@ module _ {S : Type 0} (next : S → (map cell : ℕ) → ℕ) (leaves : S → (m
       let rest : List Rule = drop (suc n) rules in
       from_rule rules header now n d within ∙ walk_if (holds rule header) true (walk_by rule.quota rule.verdict now (λ after. walk rest header after)) (later (walk rest header now)) is
 
-  -- the same where it has a quota
+  -- the same if it has a quota
   held_quota : (rules : List Rule) (header : Header) (now : S) (n : ℕ) (d : Rule) (quota : Quota) (t : Bool) → n < length rules → holds (get_or rules n d) header ≡ true
       → (get_or rules n d).quota ≡ Some quota → nat_lt (next now quota.map quota.cell) quota.limit ≡ t
       → walk (drop n rules) header now

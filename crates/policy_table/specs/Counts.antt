@@ -11,17 +11,17 @@ use Rattle.policy_table.specs.declared.rules.Rule.{Rule}
 abbrev pub cell_place : (map cell : ℕ) → Option ℕ
 cell_place map cell = if nat_lt cell 256 then Some (map * 256 + cell) else None
 
--- the count at a place, and 0 where there is none
+-- the count at a place, and 0 if there is none
 abbrev pub count_at : List ℕ → Option ℕ → ℕ
 count_at counts None = 0
 count_at counts (Some place) = slice_index counts place
 
--- one more at a place, modulo 2^64; no more where there is none
+-- one more at a place, modulo 2^64; no more if there is none
 abbrev pub one_more_at : List ℕ → Option ℕ → List ℕ
 one_more_at counts None = counts
 one_more_at counts (Some place) = slice_set counts place ((slice_index counts place + 1) % 2 ^ 64)
 
--- how many tickets of a cell were drawn, which is the number of the next; of a cell that no node has none ever is
+-- how many tickets of a cell were drawn, which is the number of the next. Of a cell that no node has it is always 0
 abbrev pub drawn_of : List ℕ → (map cell : ℕ) → ℕ
 drawn_of counts map cell = count_at counts (cell_place map cell)
 

@@ -18,8 +18,8 @@ use Rattle.policy_table.specs.declared.text_faults.TextFault.TheVariants.{Memory
 use Rattle.policy_table.specs.declared.versions.TableVersion.{TableVersion}
 use Rattle.policy_table.specs.declared.versions.TableVersion.TheVariants.{One, Two}
 
--- what lines said so far: the ranges that have names, the line of the first of them that ends before it begins, and the
--- rules, in order
+-- what lines said so far: the ranges that have names, the line of the first that ends before it begins, and the rules,
+-- in order
 pub record DraftValue : Type 0 where
   pub ranges : List RangeText
   pub reversed : Option ℕ
@@ -42,7 +42,8 @@ IsRuleStatement ranges line words (Range range reversed) = ⊥
 IsRuleStatement ranges line words (Rule own) =
     IsRuleLine ranges words own.rule own.port own.named × (own.line ≡ line)
 
--- the words of a line of version 2 say this: no words say nothing, `.range` gives a name to a range, and else they are a rule
+-- the words of a line of version 2 say this. No words say nothing, `.range` gives a name to a range, and else they are
+-- a rule
 abbrev pub IsStatementTwo : List RangeText → (line : ℕ) → (words : List (List ℕ)) → Statement → Type 0
 IsStatementTwo ranges line [] Nothing = Unit {0}
 IsStatementTwo ranges line [] (Range range reversed) = ⊥
@@ -65,8 +66,8 @@ abbrev pub IsStatement : TableVersion → List RangeText → (line : ℕ) → (t
 IsStatement One ranges line text statement = IsStatementOne line text statement
 IsStatement Two ranges line text statement = IsStatementTwo ranges line (statement_words text) statement
 
--- why the words of a line of version 2 say nothing that there is: a version, a directive that there is not, or why they
--- give no name to a range or are no rule
+-- why the words of a line of version 2 are no statement. They say a version, or an unknown directive. Or they give no
+-- name to a range, or are no rule, for this fault
 abbrev pub IsBadTwo : List RangeText → (words : List (List ℕ)) → StatementFault → Type 0
 IsBadTwo ranges [] fault = ⊥
 IsBadTwo ranges (first ∷ rest) fault =
@@ -85,7 +86,7 @@ abbrev pub line_words : TableVersion → (text : List ℕ) → List (List ℕ)
 line_words One text = words_of text
 line_words Two text = statement_words text
 
--- what is told of a line that is none of this version
+-- the fault that is reported of a line that is none of this version
 pub record IsNoStatement (version : TableVersion) (ranges : List RangeText) (text : List ℕ) (fault : StatementFault)
     : Type 0 where
   pub bad : StatementFault

@@ -20,7 +20,7 @@ kind_word Any = codes "any"
 abbrev pub IsKind : List ℕ → RuleKind → Type 0
 IsKind word kind = word ≡ kind_word kind
 
--- so many hexadecimal digits, in either case, write the number
+-- this many hexadecimal digits, in either case, write the number
 abbrev pub WritesHex : (digits : ℕ) → List ℕ → ℕ → Type 0
 WritesHex digits word n = (length word ≡ digits) × AllDigits 16 word × (n ≡ digits_value 16 word)
 
@@ -33,20 +33,20 @@ IsField word (Some byte) = WritesHex 2 word byte
 abbrev pub IsAddress : List ℕ → ℕ → Type 0
 IsAddress word address = WritesHex 8 word address
 
--- a decimal number: one digit or more, and digits alone
+-- a decimal number: one digit or more, and only digits
 abbrev pub IsDecimal : List ℕ → Type 0
 IsDecimal word = IsNumeral 10 word
 
--- a decimal number, kept as the greatest of 32 bits where it is above that one
+-- a decimal number, kept as the greatest of 32 bits if it is above that one
 abbrev pub WritesCount : List ℕ → ℕ → Type 0
 WritesCount word n = IsDecimal word × (n ≡ min (digits_value 10 word) (2 ^ 32 - 1))
 
--- what stands between the colons (58) of a word
+-- the parts of a word between its colons (58)
 abbrev pub parts_of : List ℕ → List (List ℕ)
 parts_of word = slice_split (λ code. code == 58) word
 
--- three decimals between colons are map, cell and limit: a map above 255 is kept as 255 and a cell above 65,535 as
--- 65,535, which no node has, and a limit is at most 2^31 - 1
+-- three decimals between colons are map, cell and limit. A map above 255 is kept as 255 and a cell above 65,535 as
+-- 65,535, which no node has. A limit is at most 2^31 - 1
 pub record WritesQuota (word : List ℕ) (quota : Quota) : Type 0 where
   pub map : List ℕ
   pub cell : List ℕ

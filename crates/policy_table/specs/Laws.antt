@@ -28,19 +28,19 @@ abbrev pub DrawsAreFew : Type 0
 DrawsAreFew =
     (rules : List Rule) (header : Header) (told : ℕ → ℕ) → length (decision rules header told).0 ≤ length rules
 
--- its draws are answered by what is told, in order
+-- the given answers answer its draws, in order
 abbrev pub DrawsAreAnswered : Type 0
 DrawsAreAnswered =
     (rules : List Rule) (header : Header) (told : ℕ → ℕ) → AreAnswered told (decision rules header told).0
 
--- where the first rule whose conditions hold has no quota, nothing is drawn, and the verdict is the rule's
+-- if the first rule whose conditions hold has no quota, nothing is drawn, and the verdict is the rule's
 abbrev pub FirstRuleDecides : Type 0
 FirstRuleDecides =
     (before after : List Rule) (rule : Rule) (header : Header) (told : ℕ → ℕ)
     → All (λ other. holds other header ≡ false) before → holds rule header ≡ true → rule.quota ≡ None
     → decision (before ++ rule ∷ after) header told ≡ ([], verdict_number rule.verdict)
 
--- where the conditions of no rule hold, nothing is drawn, and the command is not authorised
+-- if the conditions of no rule hold, nothing is drawn, and the command is not authorised
 abbrev pub NoRuleRefuses : Type 0
 NoRuleRefuses =
     (rules : List Rule) (header : Header) (told : ℕ → ℕ)

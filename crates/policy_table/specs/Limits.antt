@@ -3,7 +3,7 @@ use Rattle.std.specs.Prelude.{◌≤◌, ◌<◌, ◌^◌, ℕ, Option, Some, No
 use Rattle.policy_table.specs.declared.rules.Quota.{Quota}
 use Rattle.policy_table.specs.declared.rules.Rule.{Rule}
 
--- a field of a rule is a byte, where there is one
+-- a field of a rule is a byte, if there is one
 abbrev pub IsByteField : Option ℕ → Type 0
 IsByteField None = Unit {0}
 IsByteField (Some byte) = byte < 256

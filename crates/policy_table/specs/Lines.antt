@@ -6,8 +6,8 @@ use Rattle.policy_table.specs.declared.faults.PolicyFault.TheVariants.{TooLong, 
 use Rattle.policy_table.specs.declared.rules.Rule.{Rule}
 use Rattle.policy_table.specs.Fields.{IsKind, IsField, IsAddress, IsQuota, IsVerdict}
 
--- the line has eight words, and each is that of its field: kind, key, initiator logical address, extended address,
--- first and last address, quota and verdict
+-- the line has eight words, each of its field: kind, key, initiator logical address, extended address, first and last
+-- address, quota and verdict
 pub record IsRule (line : List ℕ) (rule : Rule) : Type 0 where
   pub kind : List ℕ
   pub key : List ℕ

@@ -10,8 +10,8 @@ use Rattle.rmap.specs.Verdict.{verdict_number}
 use Rattle.rmap.specs.declared.verdict.Verdict.{Verdict}
 use Rattle.rmap.specs.declared.verdict.Verdict.TheVariants.{NotAuthorised}
 
--- the quota of a rule whose conditions hold, where its ticket is below the limit; one without a quota has none, and where
--- the ticket is not below the limit the rest decides
+-- the quota of a rule whose conditions hold, if its ticket is below the limit. A rule without a quota has none. If the
+-- ticket is not below the limit, the rest decides
 abbrev pub matched_by : Option Quota → (told : ℕ → ℕ) → (rest : Option Quota) → Option Quota
 matched_by None told rest = None
 matched_by (Some quota) told rest = if nat_lt (told 0) quota.limit then Some quota else rest
@@ -44,12 +44,12 @@ first_match number ticket verdict = record { rule = Some number; ticket = ticket
 abbrev pub no_match : Match
 no_match = record { rule = None; ticket = None; verdict = NotAuthorised }
 
--- the same match where so many rules stand before
+-- the same match, if this many rules are before it
 abbrev pub behind : (before : ℕ) → Match → Match
 behind before m = record { rule = option_map (λ number. before + number) m.rule; ticket = m.ticket; verdict = m.verdict }
 
--- a rule whose conditions hold: without a quota it matches, with one where its ticket is below the limit; else a later
--- rule may
+-- a rule whose conditions hold. Without a quota it matches; with one it matches if its ticket is below the limit. Else
+-- a later rule may match
 abbrev pub match_by : Option Quota → Verdict → (told : ℕ → ℕ) → (rest : Match) → Match
 match_by None verdict told rest = first_match 1 None verdict
 match_by (Some quota) verdict told rest =
@@ -63,7 +63,7 @@ matched (rule ∷ rules) header told =
     then match_by rule.quota rule.verdict told (matched rules header (λ k. told (suc k)))
     else behind 1 (matched rules header told)
 
--- the rule of this number stands there, its conditions hold, and no rule before it matches
+-- the rule of this number is there, its conditions hold, and no rule before it matches
 pub record IsFirst (rules : List Rule) (header : Header) (told : ℕ → ℕ) (number : ℕ) : Type 0 where
   pub before : List Rule
   pub rule : Rule

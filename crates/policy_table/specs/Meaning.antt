@@ -41,13 +41,13 @@ abbrev pub agrees : Option ℕ → ℕ → Bool
 agrees None byte = true
 agrees (Some wanted) byte = byte == wanted
 
--- the last address that the command names, as an unbounded number: with increment and data it is as many bytes
--- further as there are behind the first
+-- the last address that the command names, as an unbounded number. With increment and data it is the first address, and
+-- one more for each byte after the first
 abbrev pub last_address_of : CommandValue → ℕ
 last_address_of c =
     if increments c && not (length_of c == 0) then address_of c + length_of c - 1 else address_of c
 
--- whether the addresses of the command, the first and the last, lie in the range
+-- whether the addresses of the command, the first and the last, are in the range
 abbrev pub lies_between : (low high : ℕ) → CommandValue → Bool
 lies_between low high c = nat_le low (address_of c) && nat_le (last_address_of c) high
 
@@ -68,8 +68,8 @@ draw quota answer = record {
   answer = answer;
 }
 
--- a rule whose conditions hold: without a quota it matches, with one it draws a ticket and matches where that is
--- below the limit; else the rest decides
+-- a rule whose conditions hold. Without a quota it matches; with one it draws a ticket, and matches if that is below
+-- the limit. Else the rest decides
 abbrev pub ruled : Option Quota → (code : ℕ) → (told : ℕ → ℕ) → (rest : List Call × ℕ) → List Call × ℕ
 ruled None code told rest = ([], code)
 ruled (Some quota) code told rest =
@@ -77,8 +77,8 @@ ruled (Some quota) code told rest =
     then (draw quota (told 0) ∷ [], code)
     else (draw quota (told 0) ∷ rest.0, rest.1)
 
--- the draws of a table on a header, each with its answer, and the number of the verdict, which is not authorised where
--- no rule matches; `told` are the answers in order
+-- the draws of a table on a header, each with its answer, and the number of the verdict. If no rule matches, the
+-- verdict is not authorised. `told` are the answers in order
 abbrev pub decision : List Rule → Header → (told : ℕ → ℕ) → List Call × ℕ
 decision [] header told = ([], verdict_number NotAuthorised)
 decision (rule ∷ rules) header told =
@@ -90,6 +90,6 @@ decision (rule ∷ rules) header told =
 abbrev pub AreWords : (told : ℕ → ℕ) → Type 0
 AreWords told = (k : ℕ) → told k < 2 ^ 64
 
--- answers from a list, and zeros behind them
+-- answers from a list, and zeros after them
 abbrev pub told_by : List ℕ → ℕ → ℕ
 told_by answers k = slice_index answers k

@@ -13,22 +13,22 @@ use Rattle.policy_table.specs.declared.mismatches.Passed.TheVariants.{Unlike, Sp
 use Rattle.policy_table.specs.declared.rules.Quota.{Quota}
 use Rattle.policy_table.specs.declared.rules.Rule.{Rule}
 
--- the two bytes where a field does not agree with a byte: any agrees with every byte
+-- the two bytes, if a field does not agree with a byte: any agrees with every byte
 abbrev pub other_byte : Option ℕ → (given : ℕ) → Option OtherByte
 other_byte None given = None
 other_byte (Some wanted) given = if given == wanted then None else Some (record { wanted = wanted; given = given })
 
--- a fact that has to hold, and what is told where it does not
+-- none if a fact holds, and else this mismatch
 abbrev pub unless : Bool → Mismatch → Option Mismatch
 unless holds told = if holds then None else Some told
 
--- how the addresses of a command, the first and the last, do not lie in the range
+-- how the addresses of a command, the first and the last, are not in the range
 abbrev pub range_mismatch : (low high : ℕ) → CommandValue → Option Mismatch
 range_mismatch low high c =
     option_or (unless (nat_le low (address_of c)) (Low low (address_of c)))
     (unless (nat_le (last_address_of c) high) (High high (last_address_of c)))
 
--- the first word of a rule that does not agree with a command, in the order of the tests: kind, key, initiator logical
+-- the first word of a rule that does not agree with a command. The order of the tests is kind, key, initiator logical
 -- address, extended address, first address, last address
 abbrev pub mismatch_of : Rule → CommandValue → Option Mismatch
 mismatch_of rule c =
@@ -42,12 +42,12 @@ mismatch_of rule c =
 abbrev pub mismatch : Rule → Header → Option Mismatch
 mismatch rule header = mismatch_of rule (fields_of header)
 
--- the ticket of a quota is not below its limit; nothing where it is, and where none was drawn
+-- the ticket of a quota is not below its limit; nothing if it is, and if none was drawn
 abbrev pub spent : Option Quota → (drawn : Option Call) → Option Passed
 spent None drawn = None
 spent (Some quota) None = None
 spent (Some quota) (Some call) = if nat_lt call.answer quota.limit then None else Some (Spent call quota.limit)
 
--- why a rule does not match a header, where this is its draw: its mismatch, or else a ticket that is not below its limit
+-- why a rule does not match a header, if this is its draw: its mismatch, or else a ticket that is not below its limit
 abbrev pub passed : Rule → Header → (drawn : Option Call) → Option Passed
 passed rule header drawn = option_or (option_map Unlike (mismatch rule header)) (spent rule.quota drawn)

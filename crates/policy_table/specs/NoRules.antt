@@ -6,7 +6,7 @@ use Rattle.policy_table.specs.declared.statement_faults.StatementFault.{Statemen
 use Rattle.policy_table.specs.declared.statement_faults.StatementFault.TheVariants.{LineCount, Word}
 use Rattle.policy_table.specs.declared.words.RuleWord.{RuleWord}
 
--- the line has so many words, which are not eight
+-- the line has this many words, which are not eight
 abbrev pub HasWords : (line : List ℕ) → (words : ℕ) → Type 0
 HasWords line words = (words ≡ length (words_of line)) × ¬ (length (words_of line) ≡ 8)
 

@@ -7,17 +7,17 @@ use Rattle.policy_table.specs.declared.mismatches.Passed.{Passed}
 use Rattle.policy_table.specs.declared.mismatches.Passed.TheVariants.{Unlike, Spent}
 use Rattle.policy_table.specs.declared.rules.Rule.{Rule}
 
--- the draws behind those of a rule that does not match
+-- the draws after those of a rule that does not match
 abbrev pub draws_behind : Passed → List Call → List Call
 draws_behind (Unlike mismatch) draws = draws
 draws_behind (Spent call limit) draws = drop 1 draws
 
--- a rule that does not match, before those behind it; none from the rule on that does
+-- a rule that does not match, before those after it; none from the rule on that matches
 abbrev pub passed_first : Option Passed → (later : List Call → List Passed) → (draws : List Call) → List Passed
 passed_first None later draws = []
 passed_first (Some why) later draws = why ∷ later (draws_behind why draws)
 
--- why rules do not match a header, up to the first that does, where these are their draws, in order
+-- why rules do not match a header, up to the first that does, if these are their draws, in order
 abbrev pub passed_rules : List Rule → Header → (draws : List Call) → List Passed
 passed_rules [] header draws = []
 passed_rules (rule ∷ rules) header draws =

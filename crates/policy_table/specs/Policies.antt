@@ -37,8 +37,8 @@ pub record ReadingValue : Type 0 where
 abbrev pub reading : TableVersion → ℕ → List (List ℕ) → ReadingValue
 reading version before lines = record { version = version; before = before; lines = lines }
 
--- the version of lines of which the first is not `.version 2`: a line that says a version is none of version 1, so they are
--- read as version 2, in which it is a fault
+-- the version of lines of which the first is not `.version 2`. If a line says a version, it is none of version 1. So
+-- the lines are read as version 2, in which it is a fault
 abbrev pub version_of : (lines : List (List ℕ)) → TableVersion
 version_of lines = if list_any has_version lines then Two else One
 
@@ -65,7 +65,7 @@ IsUnreadPolicy lines fault =
 
 -- ---- tables that are not compiled
 
--- the range of a rule ends before it begins; one that has a name is at fault in the line that gives it
+-- the range of a rule ends before it begins. If the range has a name, the line that gives the name is at fault instead
 abbrev pub is_reversed : PortRule → Bool
 is_reversed own = not own.named && nat_lt own.rule.high own.rule.low
 
@@ -75,11 +75,11 @@ rule_told sizes own =
     if is_reversed own then Some (Line own.line RuleOrder)
     else option_map (λ _. Line own.line (NoCell own.named)) (quota_fault sizes own.rule.quota)
 
--- the fault of the range that ends before it begins, where there is one
+-- the fault of the range that ends before it begins, if there is one
 abbrev pub reversed_told : (reversed : Option ℕ) → Option TextFault
 reversed_told reversed = option_map (λ line. Line line RangeOrder) reversed
 
--- whether that range stands before a line
+-- whether that range is before a line
 abbrev pub is_before : (reversed : Option ℕ) → (line : ℕ) → Bool
 is_before None line = false
 is_before (Some at) line = nat_lt at line

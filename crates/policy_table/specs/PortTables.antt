@@ -1,4 +1,4 @@
--- The table of a port: the rules that are asked there, the lines in which they stand, and which ports a rule names.
+-- The table of a port: the rules that are asked there, the lines in which they are, and which ports a rule names.
 use Rattle.std.specs.Prelude.{◌≡◌, ◌==◌, ◌||◌, ℕ, Bool, false, if◌then◌else◌, List, [], ◌∷◌, Option, Some, None}
 use Rattle.policy_table.specs.Meaning.{agrees}
 use Rattle.policy_table.specs.Ports.{rules_at}

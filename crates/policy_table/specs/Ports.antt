@@ -12,8 +12,8 @@ abbrev pub rules_at : (port : ℕ) → List PortRule → List Rule
 rules_at port [] = []
 rules_at port (own ∷ rules) = if agrees own.port port then own.rule ∷ rules_at port rules else rules_at port rules
 
--- the draws of a table on a header at a port, each with its answer, and the number of the verdict: what the rules that
--- are asked there decide, so that a rule of another port draws nothing
+-- the draws of a table on a header at a port, each with its answer, and the number of the verdict. The rules that are
+-- asked there decide, so that a rule of another port draws nothing
 abbrev pub port_decision : List PortRule → Header → (port : ℕ) → (told : ℕ → ℕ) → List Call × ℕ
 port_decision rules header port told = decision (rules_at port rules) header told
 
@@ -26,7 +26,7 @@ abbrev pub on_lines : (line : ℕ) → List Rule → List PortRule
 on_lines line [] = []
 on_lines line (rule ∷ rules) = at_every_port line rule ∷ on_lines (suc line) rules
 
--- a field holds a port, where there is one
+-- a field holds a port, if there is one
 abbrev pub IsPortField : Option ℕ → Type 0
 IsPortField None = Unit {0}
 IsPortField (Some port) = port < 32

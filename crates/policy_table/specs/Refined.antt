@@ -33,8 +33,8 @@ is_joined_at (Some word) = is_joined word
 abbrev pub begins_comment : List ℕ → Bool
 begins_comment word = begins_with 35 word || begins_with 47 word || begins_with 59 word
 
--- what is told of words that are no statement for a fault: a comment of another form, or two addresses that are one word,
--- and else that fault
+-- the fault to report for words that are no statement for a fault. It is a comment of another form, or two addresses
+-- that are one word, or else that fault
 abbrev pub refined : (words : List (List ℕ)) → StatementFault → StatementFault
 refined [] fault = fault
 refined (first ∷ rest) fault =

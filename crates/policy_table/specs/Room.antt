@@ -17,8 +17,8 @@ use Rattle.policy_table.specs.declared.versions.TableVersion.TheVariants.{One, T
 abbrev pub room : ℕ → Bool → Room
 room left asks = record { left = left; asks = asks }
 
--- the room of a table before its first rule: 12 rules in version 1, and in version 2 the slots of an image but the sixteen
--- that come before and after the rules
+-- the room of a table before its first rule: 12 rules in version 1. In version 2 it is the slots of an image, except
+-- the sixteen that come before and after the rules
 abbrev pub whole_room : TableVersion → Room
 whole_room One = room 12 false
 whole_room Two = room (MAX_SLOTS - 16) false
@@ -47,7 +47,7 @@ too_many Two r own = TooManySlots (room_taken Two r.asks own) r.left
 abbrev pub room_left : TableVersion → Room → PortRule → Room
 room_left version r own = room (r.left - room_taken version r.asks own) (r.asks || is_some own.port)
 
--- the fault of a rule for which there is no room, with its place; none where a rule before it had none
+-- the fault of a rule for which there is no room, with its place; none if a rule before it had no room
 abbrev pub room_told : TableVersion → Option Room → PortRule → Option TextFault
 room_told version None own = None
 room_told version (Some r) own = if is_too_much version r own then Some (Line own.line (too_many version r own)) else None

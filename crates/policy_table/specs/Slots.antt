@@ -24,7 +24,7 @@ abbrev pub quota_slots : Option Quota → ℕ
 quota_slots None = 0
 quota_slots (Some quota) = 5
 
--- how many slots a rule has, its port apart: its tests, four for the range, and two for the verdict
+-- how many slots a rule has without the test of its port: its tests, four for the range, and two for the verdict
 abbrev pub rule_slots : Rule → ℕ
 rule_slots rule =
     kind_slots rule.kind + field_slots rule.key + field_slots rule.initiator + field_slots rule.extended + 4
@@ -43,7 +43,7 @@ rules_slots (own ∷ rules) = port_rule_slots own + rules_slots rules
 abbrev pub asks_ports : List PortRule → Bool
 asks_ports rules = list_any (λ own. is_some own.port) rules
 
--- one slot puts the port on the stack, where a rule asks it
+-- one slot puts the port on the stack, if a rule asks it
 abbrev pub port_slots : List PortRule → ℕ
 port_slots rules = if asks_ports rules then 1 else 0
 

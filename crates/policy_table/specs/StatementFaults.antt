@@ -13,11 +13,11 @@ use Rattle.policy_table.specs.declared.statement_faults.StatementFault.TheVarian
 use Rattle.policy_table.specs.declared.words.RuleWord.{RuleWord}
 use Rattle.policy_table.specs.declared.words.RuleWord.TheVariants.{Kind, Key, Initiator, Extended, Low, High, Quota, Verdict}
 
--- the number of a word of a rule in its line: one less after a range that stands there by its name
+-- the number of a word of a rule in its line: one less after the name of a range
 abbrev pub word_place : RuleWord → (named : Bool) → ℕ
 word_place word named = if named && nat_lt 5 (word_number word) then word_number word - 1 else word_number word
 
--- the form of a word of a rule, as a user is told: in the place of LOW and HIGH a name may stand
+-- the form of a word of a rule, as it is printed: there may be a name in place of LOW and HIGH
 abbrev pub rule_form : RuleWord → (named : Bool) → List ℕ
 rule_form Kind named = word_form Kind
 rule_form Key named = word_form Key
@@ -34,7 +34,7 @@ abbrev pub port_place : (named : Bool) → ℕ
 port_place true = 8
 port_place false = 9
 
--- how many words a line of version 1 has that has not eight
+-- how many words a line of version 1 has, if these are not eight
 abbrev pub count_text : (words : ℕ) → List ℕ
 count_text zero = codes "has no words, and empty lines are of version 2, whose line 1 is .version 2"
 count_text (suc n) =

@@ -54,8 +54,8 @@ begins_with char (c ∷ cs) = c == char
 abbrev pub is_version : List ℕ → Bool
 is_version word = bytes_eq word (codes ".version") || bytes_eq word (239 ∷ 187 ∷ 191 ∷ codes ".version")
 
--- what the first word of a line makes it: it says a version, it gives a name to a range, it is a directive that there is
--- not (its first word begins with a point, 46), or it is a rule
+-- what the first word of a line makes it: it says a version, gives a name to a range, is an unknown directive, or is a
+-- rule. The first word of a directive begins with a point, 46
 abbrev pub word_kind : List ℕ → WordKind
 word_kind word =
     if is_version word then kinds.Version
@@ -74,7 +74,7 @@ has_version line = version_first (statement_words line)
 
 -- ---- rules
 
--- the two words of a range, whether it stands there by its name, and the words after it
+-- the two words of a range, whether the line has a name for it, and the words after it
 pub record SpanText : Type 0 where
   pub low : List ℕ
   pub high : List ℕ
@@ -85,7 +85,7 @@ pub record SpanText : Type 0 where
 abbrev pub span_text : Span → SpanText
 span_text span = record { low = span.low.now; high = span.high.now; named = span.named; rest = words_of span.rest.now }
 
--- a name stands for the two words of its range, and for itself, twice, where no range has it: so it is no address
+-- a name means the two words of its range. If no range has it, both words are the name itself, so that it is no address
 abbrev pub named_span : Option RangeText → (name : List ℕ) → (rest : List (List ℕ)) → SpanText
 named_span (Some range) name rest = record { low = range.low; high = range.high; named = true; rest = rest }
 named_span None name rest = record { low = name; high = name; named = true; rest = rest }
@@ -133,7 +133,7 @@ rule_parts ranges words =
       rest = verdict.1;
     })))))))))
 
--- what stands after a verdict: nothing, or `port` and a decimal number from 0 to 31
+-- what comes after a verdict: nothing, or `port` and a decimal number from 0 to 31
 abbrev pub IsPort : List (List ℕ) → Option ℕ → Type 0
 IsPort words None = words ≡ []
 IsPort words (Some port) = (number : List ℕ) × (words ≡ codes "port" ∷ number ∷ []) × WritesPort number port
@@ -142,7 +142,7 @@ IsPort words (Some port) = (number : List ℕ) × (words ≡ codes "port" ∷ nu
 abbrev pub IsNoPort : List (List ℕ) → Type 0
 IsNoPort words = (port : Option ℕ) → ¬ IsPort words port
 
--- the words are those of the rule, for this port or for all, where these ranges have names
+-- the words are those of the rule, for this port or for all, if these ranges have names
 pub record IsRuleLine (ranges : List RangeText) (words : List (List ℕ)) (rule : Rule) (port : Option ℕ) (named : Bool)
     : Type 0 where
   pub parts : PartsText
@@ -158,7 +158,7 @@ pub record HasBadRuleWord (ranges : List RangeText) (words : List (List ℕ)) (w
   pub first : IsFirstBad parts.words word
   pub is_named : named ≡ parts.named
 
--- the words are those of a rule, and what stands after its verdict is no port
+-- the words are those of a rule, and what comes after its verdict is no port
 pub record HasBadPort (ranges : List RangeText) (words : List (List ℕ)) (named : Bool) : Type 0 where
   pub parts : PartsText
   pub rule : Rule
@@ -167,7 +167,7 @@ pub record HasBadPort (ranges : List RangeText) (words : List (List ℕ)) (named
   pub no_port : IsNoPort parts.rest
   pub is_named : named ≡ parts.named
 
--- why the words are no rule: too few, a word that is none of its field, or what stands after the verdict
+-- why the words are no rule: too few, a word that is none of its field, or what comes after the verdict
 abbrev pub IsNoRuleLine : List RangeText → List (List ℕ) → StatementFault → Type 0
 IsNoRuleLine ranges words fault =
     ((fault ≡ RuleCount (length words)) × (rule_parts ranges words ≡ None))
@@ -201,8 +201,8 @@ pub record IsNew (ranges : List RangeText) (words : List (List ℕ)) (range : Ra
   pub has_name : is_name range.name ≡ true
   pub is_new : range_named ranges range.name ≡ None
 
--- why the words after `.range` define no range: not three; the first is no name, or that of a range above; the second or
--- the third is no address
+-- why the words after `.range` define no range. They are not three; the first is no name, or that of a range above; the
+-- second or the third is no address
 abbrev pub IsNoRange : List RangeText → List (List ℕ) → StatementFault → Type 0
 IsNoRange ranges words fault =
     ((fault ≡ RangeCount (length words)) × (three_words words ≡ None))

@@ -45,8 +45,8 @@ abbrev pub reversed_at : (line : ℕ) → (reversed : Bool) → Option ℕ
 reversed_at line true = Some line
 reversed_at line false = None
 
--- the faults of what a line says: of a range that it ends before it begins; of a rule that there is no room for it, that its
--- range ends before it begins, or that its quota has no cell
+-- the faults of what a line says. A range may end before it begins. For a rule there may be no room, its range may end
+-- before it begins, or its quota may have no cell
 abbrev pub statement_faults : TableVersion → Maps → Option Room → (line : ℕ) → Statement → List TextFault
 statement_faults version sizes room line Nothing = []
 statement_faults version sizes room line (Range range reversed) = listed (reversed_told (reversed_at line reversed))
@@ -69,8 +69,8 @@ with_statement version sizes line statement s =
 abbrev pub whole_range : (name : List ℕ) → RangeText
 whole_range name = record { name = name; low = codes "00000000"; high = codes "FFFFFFFF" }
 
--- the words of a line give this name to a range, if it is a new one, whatever is wrong with the line: so no rule below that
--- has the name is at fault for it
+-- the range of all addresses with the new name that the words of a line give, if they give one, whatever is wrong with
+-- the line. So no rule below that has the name is at fault for it
 abbrev pub named_by : List RangeText → (words : List (List ℕ)) → Option RangeText
 named_by ranges [] = None
 named_by ranges (first ∷ []) = None
@@ -84,7 +84,7 @@ abbrev pub with_named : Option RangeText → DraftValue → DraftValue
 with_named None d = d
 with_named (Some range) d = draft (d.ranges ++ range ∷ []) d.reversed d.rules
 
--- a line that says nothing that there is, for this fault
+-- a line that is no statement, because of this fault
 abbrev pub with_bad : TableVersion → (line : ℕ) → (text : List ℕ) → StatementFault → SurveyValue → SurveyValue
 with_bad version line text fault s =
     survey (with_named (named_by s.draft.ranges (line_words version text)) s.draft) s.room (s.faults ++ Line line fault ∷ [])
@@ -96,7 +96,7 @@ pub record FindsStatement (version : TableVersion) (sizes : Maps) (line : ℕ) (
   pub is : IsStatement version old.draft.ranges line text statement
   pub found : new ≡ with_statement version sizes line statement old
 
--- the line of this number says nothing that there is, for this fault
+-- the line of this number is no statement, because of this fault
 pub record FindsBad (version : TableVersion) (line : ℕ) (text : List ℕ) (old new : SurveyValue) : Type 0 where
   pub fault : StatementFault
   pub is : IsNoStatement version old.draft.ranges text fault
@@ -140,12 +140,12 @@ abbrev pub first_of : List TextFault → Option TextFault
 first_of [] = None
 first_of (fault ∷ faults) = Some fault
 
--- the fault that is reported: the first line that is none of its version (5), else the first rule for which there is no room
--- (1), else the first
+-- the fault that is reported. It is the first line that is none of its version (5), else the first rule for which there
+-- is no room (1), else the first
 abbrev pub reported : List TextFault → Option TextFault
 reported faults = option_or (first_of_code 5 faults) (option_or (first_of_code 1 faults) (first_of faults))
 
--- it is the fault of the lines for maps of these sizes, and there is none where they are a table without a fault
+-- it is the fault of the lines for maps of these sizes, and there is none if they are a table without a fault
 abbrev pub IsReported : Maps → (lines : List (List ℕ)) → Option TextFault → Type 0
 IsReported sizes lines None = (policy : PolicyValue) × WritesPolicy lines policy × (policy_fault sizes policy ≡ None)
 IsReported sizes lines (Some fault) = IsPolicyFault sizes lines fault

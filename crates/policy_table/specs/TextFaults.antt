@@ -11,12 +11,12 @@ abbrev pub text_fault_of : TextFault → PolicyFault
 text_fault_of Memory = faults.Memory
 text_fault_of (Line line fault) = policy_fault_in fault
 
--- the number of its line; 0 of a memory that was refused
+-- the number of its line; 0 if memory was refused
 abbrev pub fault_line : TextFault → ℕ
 fault_line Memory = 0
 fault_line (Line line fault) = line
 
--- the fault with its place, as a user is told
+-- the fault with its place, as it is printed
 abbrev pub text_fault_text : TextFault → List ℕ
 text_fault_text Memory = codes "no memory"
 text_fault_text (Line line fault) = codes "line " ++ decimal line ++ codes " " ++ statement_fault_text fault

@@ -6,12 +6,12 @@ use Rattle.policy_table.specs.Meaning.{holds}
 use Rattle.policy_table.specs.declared.rules.Quota.{Quota}
 use Rattle.policy_table.specs.declared.rules.Rule.{Rule}
 
--- what is left of tickets behind some draws, where this is left behind one of a cell
+-- what is left of tickets after some draws, if `after` is what is left after one of a cell
 abbrev pub left_behind : {Tickets : Type 0} → (after : Tickets → (map cell : ℕ) → Tickets) → Tickets → List Call → Tickets
 left_behind {Tickets} after tickets [] = tickets
 left_behind {Tickets} after tickets (c ∷ cs) = left_behind after (after tickets c.question.map c.question.key) cs
 
--- where this ticket is the next of a cell, and this is left behind it
+-- if `next` is the next ticket of a cell, and `after` is what is left after it
 module _ {Tickets : Type 0} (next : Tickets → (map cell : ℕ) → ℕ) (after : Tickets → (map cell : ℕ) → Tickets) where
   -- the ticket of a rule whose conditions hold, before those of the rest
   abbrev pub ticket_before : Option Quota → Tickets → (rest : Tickets → List ℕ) → List ℕ
@@ -29,10 +29,10 @@ module _ {Tickets : Type 0} (next : Tickets → (map cell : ℕ) → ℕ) (after
 
 -- ---- answers in order
 
--- the next of some answers, whatever the cell; 0 where none is left
+-- the next of some answers, whatever the cell; 0 if none is left
 abbrev pub next_answer : List ℕ → (map cell : ℕ) → ℕ
 next_answer answers map cell = slice_index answers 0
 
--- the answers behind it
+-- the answers after it
 abbrev pub answers_after : List ℕ → (map cell : ℕ) → List ℕ
 answers_after answers map cell = drop 1 answers

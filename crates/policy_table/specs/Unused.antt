@@ -1,7 +1,9 @@
 -- Ranges of a table that no rule names.
-use Rattle.std.specs.Prelude.{ℕ, suc, Bool, false, not, bytes_eq, if◌then◌else◌, List, [], ◌∷◌, ◌++◌, codes}
+use Rattle.std.specs.Prelude.{◌≡◌, is_some, ℕ, suc, Bool, false, not, bytes_eq, if◌then◌else◌, List, [], ◌∷◌, ◌++◌, codes}
 use Rattle.std.specs.Prelude.{Option, Some, None}
+use Rattle.std.specs.Borrow.{Bor}
 use Rattle.std.specs.List.{list_any}
+use Rattle.policy_table.specs.Ranges.{place_in}
 use Rattle.policy_table.specs.Refined.{fifth_word}
 use Rattle.policy_table.specs.Statements.{statement_words}
 
@@ -41,3 +43,7 @@ unused_from lines number (line ∷ rest) = number_if (is_unused lines line) numb
 -- the numbers of the lines of ranges that no rule names; lines count from 1
 abbrev pub unused_ranges : (lines : List (List ℕ)) → List ℕ
 unused_ranges lines = unused_from lines 1 lines
+
+-- the map has each word that one of the lines has in place of two addresses, and no other
+abbrev pub AreUsed : List (Bor (List ℕ) × ℕ) → (lines : List (List ℕ)) → Type 0
+AreUsed entries lines = (name : List ℕ) → is_some (place_in entries name) ≡ list_any (has_name name) lines

@@ -13,8 +13,8 @@ module _ {Tickets : Type 0} (next : Tickets → (map cell : ℕ) → ℕ) (after
   abbrev pub told : List Rule → Header → Tickets → ℕ → ℕ
   told rules header tickets = told_by (tickets_given next after rules header tickets)
 
-  -- the rule that matches was found, where draws are answered by the tickets; the calls grew by the draws, and the tickets
-  -- left are those behind them
+  -- the rule that matches was found, if the tickets answer the draws. The calls grew by the draws, and the tickets left
+  -- are those after them
   pub record IsWalked (rules : List Rule) (header : Header) (before left : Tickets) (old new : List Call) (found : Match) : Type 0 where
     pub found_is : found ≡ matched rules header (told rules header before)
     pub calls_are : new ≡ old ++ (decision rules header (told rules header before)).0

@@ -18,7 +18,7 @@ word_number High = 6
 word_number Quota = 7
 word_number Verdict = 8
 
--- the form of a word, as a user is told
+-- the form of a word, as it is printed
 abbrev pub word_form : RuleWord → List ℕ
 word_form Kind = codes "KIND is read, write, rmw or any, in lower case"
 word_form Key = codes "KEY is two hexadecimal digits, or *"

@@ -13,11 +13,11 @@ use crate::statement_faults::StatementFault;
 use crate::text_faults::TextFault;
 use machine::{Helper, MapSizes};
 
-/// The most rules of a table that is compiled, a choice: twelve with every field and a quota have 256 of the 512 slots
+/// The most rules of a table that is compiled, a choice. Twelve with every field and a quota have 256 of the 512 slots
 /// of an image.
 const MAX_RULES: usize = 12;
 
-/// Whether tickets are drawn from cells of the map: a map that is not there is taken for a counter map.
+/// Whether tickets are drawn from cells of the map. A map that is not there counts as a counter map.
 fn gives_tickets(sizes: &MapSizes, map: u8) -> bool
     ensures { result ≡ takes_kind Helper.Ticket (kind_of_map sizes.now map) }
 {

@@ -28,7 +28,7 @@ impl Model for Counts {
     ghost view = { λ c. c.counts.items };
 }
 
-/// The place of a cell among the counts, where a map may have the cell.
+/// The place of a cell among the counts, if a map may have the cell.
 fn cell_place(quota: &Quota) -> Option<usize>
     ensures { result ≡ cell_place quota.now.map quota.now.cell }
 {
@@ -41,6 +41,10 @@ fn cell_place(quota: &Quota) -> Option<usize>
 
 impl Counts {
     /// No ticket of any cell.
+    ///
+    /// # Errors
+    ///
+    /// An error if memory is refused.
     pub fn new(alloc: Global) -> Result<Counts, AllocError>
         ensures { IfOk result (λ counts. counts ≡ replicate 2048 0) }
     {
@@ -51,8 +55,8 @@ impl Counts {
         Ok(Counts { counts })
     }
 
-    /// Draws a ticket of a quota's cell: its number is how many were drawn before. Of a cell that no node has it is 0, and
-    /// none is counted.
+    /// Draws a ticket of a quota's cell. Its number is how many were drawn before. If no node has the cell, the number
+    /// is 0, and none is counted.
     pub fn draw(&mut self, quota: &Quota) -> Call
         ensures drawn { result ≡ draw quota.now (drawn_of self.old quota.now.map quota.now.cell) }
         ensures counts { self.new ≡ after_draw self.old quota.now.map quota.now.cell }

@@ -41,7 +41,7 @@ fn data_length(tail: &[u8; 12]) -> u32
     BigEndian::read_u24(&tail[LENGTH..])
 }
 
-/// The last address that a header names, its first four bytes and its last twelve; it may lie behind the last of 32
+/// The last address that a header names, by its first four bytes and its last twelve. It may be past the last of 32
 /// bits.
 pub fn last_address(front: &[u8; 4], tail: &[u8; 12]) -> u64
     ensures { result ≡ last_address_of (fields_of (header front.now tail.now)) }
@@ -55,7 +55,7 @@ pub fn last_address(front: &[u8; 4], tail: &[u8; 12]) -> u64
     }
 }
 
-/// How the addresses that a header names do not lie in the range.
+/// How the addresses that a header names are not in the range.
 fn range_mismatch(low: u32, high: u32, front: &[u8; 4], tail: &[u8; 12]) -> Option<Mismatch>
     ensures { result ≡ range_mismatch low high (fields_of (header front.now tail.now)) }
 {
@@ -94,16 +94,16 @@ fn first_mismatch(rule: &Rule, front: &[u8; 4], tail: &[u8; 12]) -> Option<Misma
 }
 
 impl Rule {
-    /// Whether the rule's conditions hold for a header: its first four bytes, target logical address to key,
-    /// and its last twelve, initiator logical address to header CRC.
+    /// Whether the rule's conditions hold for a header. `front` is its first four bytes, target logical address to key.
+    /// `tail` is its last twelve, initiator logical address to header CRC.
     pub fn holds(&self, front: &[u8; 4], tail: &[u8; 12]) -> bool
         ensures { result ≡ holds self.now (header front.now tail.now) }
     {
         self.mismatch(front, tail).is_none()
     }
 
-    /// The first word of the rule that does not agree with a header, in the order of the tests: kind, key, initiator
-    /// logical address, extended address, first address, last address. `None` where the rule's conditions hold.
+    /// The first word of the rule that does not agree with a header, or `None` if the rule's conditions hold. The order
+    /// of the tests is kind, key, initiator logical address, extended address, first address, last address.
     pub fn mismatch(&self, front: &[u8; 4], tail: &[u8; 12]) -> Option<Mismatch>
         ensures word { result ≡ mismatch self.now (header front.now tail.now) }
         ensures none { is_none result ≡ holds self.now (header front.now tail.now) }
@@ -111,8 +111,8 @@ impl Rule {
         first_mismatch(self, front, tail)
     }
 
-    /// Why the rule does not match a header, where this is the draw of its quota. `None` where it matches, and where it has
-    /// a quota and nothing was drawn.
+    /// Why the rule does not match a header, if this is the draw of its quota. `None` if it matches, or if it has a
+    /// quota and nothing was drawn.
     pub fn passed(&self, front: &[u8; 4], tail: &[u8; 12], drawn: Option<Call>) -> Option<Passed>
         ensures { result ≡ passed self.now (header front.now tail.now) drawn }
     {

@@ -4,12 +4,12 @@ ghost use Rattle.std.specs.Prelude.{◌≡◌, ◌<◌, ◌^◌, OnOk, IfErr, If
 ghost use Rattle.spw.specs.Line.{words_of};
 ghost use Rattle.policy_table.specs.Drafts.{HasBadLine, IsBad, IsBadTwo, IsNoStatement, IsRuleStatement, IsStatement, IsStatementOne, IsStatementTwo, IsUnreadLine, LinesWrite, TakesLine, after, empty_draft, line_words, with_range};
 ghost use Rattle.policy_table.specs.NoRules.{IsNoRule};
-ghost use Rattle.policy_table.specs.Ranges.{range_text, range_texts};
+ghost use Rattle.policy_table.specs.Ranges.{range_text};
 ghost use Rattle.policy_table.specs.Statements.{IsNoRuleLine};
 
 use crate::lines::read_rule;
 use crate::port_rules::PortRule;
-use crate::ranges::NamedRange;
+use crate::ranges::{NamedRange, NamedRanges};
 use crate::refining::refined;
 use crate::statement_faults::StatementFault;
 use crate::statements::{WordKind, read_range, read_rule_line, word_kind};
@@ -48,13 +48,13 @@ fn statement_one<'a>(line: usize, text: &str) -> Result<Statement<'a>, Statement
 
 /// The rule that the words of a line of version 2 are.
 fn rule_statement<'a>(
-    ranges: &[NamedRange<'_>],
+    ranges: &NamedRanges<'a>,
     line: usize,
-    code: &str,
+    code: &'a str,
 ) -> Result<Statement<'a>, StatementFault>
     ensures { MatchResult result
-        (IsRuleStatement (range_texts ranges.now) line (words_of code.now))
-        (IsNoRuleLine (range_texts ranges.now) (words_of code.now)) }
+        (IsRuleStatement ranges.now line (words_of code.now))
+        (IsNoRuleLine ranges.now (words_of code.now)) }
 {
     match read_rule_line(ranges, code) {
         Ok(read) => Ok(Statement::Rule(PortRule {
@@ -67,15 +67,15 @@ fn rule_statement<'a>(
     }
 }
 
-/// What a line of version 2 says, of which this is before the comment.
+/// What a line of version 2 says. `code` is its text before the comment.
 fn statement_two<'a>(
-    ranges: &[NamedRange<'a>],
+    ranges: &NamedRanges<'a>,
     line: usize,
     code: &'a str,
 ) -> Result<Statement<'a>, StatementFault>
     ensures { MatchResult result
-        (IsStatementTwo (range_texts ranges.now) line (words_of code.now))
-        (IsBadTwo (range_texts ranges.now) (words_of code.now)) }
+        (IsStatementTwo ranges.now line (words_of code.now))
+        (IsBadTwo ranges.now (words_of code.now)) }
 {
     let Some((first, rest)) = first_word(code) else {
         return Ok(Statement::Nothing);
@@ -91,7 +91,7 @@ fn statement_two<'a>(
     }
 }
 
-/// The text of a line that is read: in version 2 that before its comment.
+/// The text of a line that is read: in version 2 the text before its comment.
 pub fn code_of(version: TableVersion, text: &str) -> &str
     ensures { words_of result.now ≡ line_words version text.now }
 {
@@ -104,12 +104,12 @@ pub fn code_of(version: TableVersion, text: &str) -> &str
 /// What a line says in this version.
 fn plain_statement<'a>(
     version: TableVersion,
-    ranges: &[NamedRange<'a>],
+    ranges: &NamedRanges<'a>,
     line: usize,
     text: &'a str,
 ) -> Result<Statement<'a>, StatementFault>
-    ensures { MatchResult result (IsStatement version (range_texts ranges.now) line text.now)
-        (IsBad version (range_texts ranges.now) text.now) }
+    ensures { MatchResult result (IsStatement version ranges.now line text.now)
+        (IsBad version ranges.now text.now) }
 {
     match version {
         TableVersion::One => statement_one(line, text),
@@ -117,15 +117,19 @@ fn plain_statement<'a>(
     }
 }
 
-/// What the line of this number says in this version, if these ranges have names, or what is told of it.
+/// What the line of this number says in this version, if these ranges have names.
+///
+/// # Errors
+///
+/// Why the line is none of this version. [`refined`] makes the fault more exact.
 pub fn statement_in<'a>(
     version: TableVersion,
-    ranges: &[NamedRange<'a>],
+    ranges: &NamedRanges<'a>,
     line: usize,
     text: &'a str,
 ) -> Result<Statement<'a>, StatementFault>
-    ensures { MatchResult result (IsStatement version (range_texts ranges.now) line text.now)
-        (IsNoStatement version (range_texts ranges.now) text.now) }
+    ensures { MatchResult result (IsStatement version ranges.now line text.now)
+        (IsNoStatement version ranges.now text.now) }
 {
     match plain_statement(version, ranges, line, text) {
         Ok(statement) => Ok(statement),
@@ -136,18 +140,17 @@ pub fn statement_in<'a>(
 /// What the lines of a table said so far.
 #[derive(Debug, Drop)]
 pub struct Draft<'a> {
-    ranges: Vec<NamedRange<'a>>,
+    ranges: NamedRanges<'a>,
     reversed: Option<usize>,
     rules: Vec<PortRule>,
 }
 
 impl<'a> Model for Draft<'a> {
     ghost use Rattle.policy_table.specs.Drafts.{DraftValue, draft};
-    ghost use Rattle.policy_table.specs.Ranges.{range_texts};
 
     ghost Value = { DraftValue };
 
-    ghost view = { λ d. draft (range_texts d.ranges.items) d.reversed d.rules.items };
+    ghost view = { λ d. draft d.ranges d.reversed d.rules.items };
 }
 
 impl<'a> Draft<'a> {
@@ -156,20 +159,24 @@ impl<'a> Draft<'a> {
         ensures { result ≡ empty_draft }
     {
         Draft {
-            ranges: Vec::new(alloc),
+            ranges: NamedRanges::new(alloc),
             reversed: None,
             rules: Vec::new(alloc),
         }
     }
 
     /// The ranges that have names.
-    pub fn ranges(&self) -> &[NamedRange<'a>]
-        ensures { range_texts result.now ≡ self.now.ranges }
+    pub fn ranges(&self) -> &NamedRanges<'a>
+        ensures { result.now ≡ self.now.ranges }
     {
-        self.ranges.as_slice()
+        &self.ranges
     }
 
     /// Takes one range more.
+    ///
+    /// # Errors
+    ///
+    /// An error if memory is refused.
     pub fn add_range(
         &mut self,
         line: usize,
@@ -179,7 +186,7 @@ impl<'a> Draft<'a> {
         ensures { OnOk result
             (self.new ≡ with_range line (range_text range.entry) reversed self.old) }
     {
-        self.ranges.push(range).map_err(AllocError::from)?;
+        self.ranges.push(range)?;
         if reversed && self.reversed.is_none() {
             self.reversed = Some(line);
         }
@@ -187,6 +194,10 @@ impl<'a> Draft<'a> {
     }
 
     /// Takes what the line of this number says.
+    ///
+    /// # Errors
+    ///
+    /// An error if memory is refused.
     pub fn add(&mut self, line: usize, statement: Statement<'a>) -> Result<(), AllocError>
         ensures { OnOk result (self.new ≡ after line statement.entry self.old) }
     {
@@ -205,7 +216,7 @@ impl<'a> Draft<'a> {
         ensures taken { OnOk result (TakesLine version line text.now self.old self.new) }
         ensures fault { IfErr result (IsUnreadLine version line text.now self.old) }
     {
-        let statement = match statement_in(version, self.ranges.as_slice(), line, text) {
+        let statement = match statement_in(version, &self.ranges, line, text) {
             Ok(statement) => statement,
             Err(fault) => return Err(TextFault::Line { line, fault }),
         };
@@ -223,6 +234,10 @@ impl<'a> Draft<'a> {
 }
 
 /// What lines say, of which the first comes after the line of this number.
+///
+/// # Errors
+///
+/// The fault of the first line that is none of this version, with its place; `Memory` if memory is refused.
 pub fn read_lines<'a>(
     alloc: Global,
     version: TableVersion,

@@ -33,10 +33,10 @@ Compare the line with the table in docs/POLICIES.md; `rmapctl decide LINES TABLE
 /// Why a policy table is refused.
 #[derive(Clone, Copy, Debug, PartialEq, Eq, Error)]
 pub enum PolicyFault {
-    /// More than 12 rules; of version 2, a program of more slots than an image may have.
+    /// The table has more than 12 rules; in version 2, its program has more slots than an image may have.
     #[error("too many rules")]
     TooLong,
-    /// A rule's last address lies before its first.
+    /// A rule's last address is before its first.
     #[error("a range ends before it begins")]
     BadRange,
     /// Memory was refused.
@@ -65,7 +65,7 @@ impl PolicyFault {
         }
     }
 
-    /// The fault of a number, as [`PolicyFault::code`] gives it. `None` where no fault has it.
+    /// The fault of a number, as [`PolicyFault::code`] gives it. `None` if no fault has it.
     pub fn from_code(code: u8) -> Option<PolicyFault>
         ensures value { result ≡ policy_fault_of_code code }
         ensures number { IfSome result (λ fault. policy_fault_code fault ≡ code) }

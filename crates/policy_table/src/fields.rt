@@ -59,14 +59,15 @@ pub fn address_of(word: &str) -> Option<u32>
     u32::from_str_radix(word, 16).ok()
 }
 
-/// Whether a word has decimal digits alone.
+/// Whether a word has only decimal digits.
 fn has_digits_alone(word: &str) -> bool
     ensures { result ≡ list_all is_ascii_digit word.now }
 {
     word.bytes().all(|byte| byte.is_ascii_digit())
 }
 
-/// The number that decimal digits write, however many there are: past the greatest of 32 bits it is that one.
+/// The number that decimal digits write, however many there are. A number past the greatest of 32 bits is read as the
+/// greatest.
 fn count_of(word: &str) -> Option<u32>
     ensures { MatchOption result (¬ IsDecimal word.now) (WritesCount word.now) }
 {
@@ -76,7 +77,7 @@ fn count_of(word: &str) -> Option<u32>
     Some(word.parse().unwrap_or(u32::MAX))
 }
 
-/// The three parts of a word between its colons, where it has so many.
+/// The three parts of a word between its colons, if it has three.
 fn three_parts(word: &str) -> Option<(&str, &str, &str)>
     ensures { MatchOption result (¬ (length (parts_of word.now) ≡ 3))
         (λ parts. parts_of word.now ≡ parts.0.now ∷ parts.1.now ∷ parts.2.now ∷ []) }
@@ -91,8 +92,8 @@ fn three_parts(word: &str) -> Option<(&str, &str, &str)>
     }
 }
 
-/// The quota that a word writes: `-` for none, or `MAP:CELL:LIMIT` in decimal. A map past 255 is 255 and a cell
-/// past 65,535 is 65,535, which no node has.
+/// The quota that a word writes: `-` for none, or `MAP:CELL:LIMIT` in decimal. A map past 255 is read as 255 and a cell
+/// past 65,535 as 65,535, which no node has.
 pub fn quota_of(word: &str) -> Option<Option<Quota>>
     ensures { MatchOption result ((quota : Option Quota) → ¬ IsQuota word.now quota)
         (IsQuota word.now) }

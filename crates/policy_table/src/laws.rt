@@ -4,9 +4,9 @@ ghost use Rattle.policy_table.specs.Laws.{DrawsAreAnswered, DrawsAreFew, FirstRu
 ghost use Rattle.policy_table.specs.Lines.{TableIsUnambiguous};
 ghost use Rattle.policy_table.specs.Matching.{FirstMatches, MatchDecides};
 
-/// A table draws at most once a rule, and its draws are answered by what is told, in order. Where the first
-/// rule whose conditions hold has no quota, nothing is drawn, and the verdict is that rule's; where those of
-/// no rule hold, nothing is drawn, and the command is not authorised.
+/// A table draws at most once a rule, and the given answers answer its draws, in order. If the first rule whose
+/// conditions hold has no quota, nothing is drawn, and the verdict is that rule's. If the conditions of no rule hold,
+/// nothing is drawn, and the command is not authorised.
 pub fn decisions()
     ensures few { DrawsAreFew }
     ensures answered { DrawsAreAnswered }
@@ -14,7 +14,7 @@ pub fn decisions()
     ensures none { NoRuleRefuses }
 {}
 
-/// A rule speaks of a header as of the command whose header it is: the fields are the command's.
+/// A rule says of a header what it says of the command whose header it is: the fields are the command's.
 pub fn headers_have_fields()
     ensures { HeadersHaveFields }
 {}

@@ -1,9 +1,9 @@
 //! Policy tables as text and as what they mean: rules that say which verdict an application gives to a command
 //! (ECSS-E-ST-50-52C, authorisation).
 //!
-//! A [`Table`] is read from text, one [`Rule`] a line. [`Table::decide`] says what a table means for the
-//! header of a command: the tickets that it draws, and its verdict; [`Table::matched`] says by which rule it decides, and
-//! [`Rule::passed`] why a rule does not match. The program of a table is made in the crate `policy`.
+//! A [`Table`] is read from text, one [`Rule`] a line. [`Table::decide`] says what a table means for the header of a
+//! command: the tickets that it draws, and its verdict. [`Table::matched`] says by which rule it decides, and
+//! [`Rule::passed`] why a rule does not match. The crate `policy` makes the program of a table.
 #![tactic(auto)]
 
 mod checks;

@@ -37,7 +37,7 @@ pub struct Words<'a> {
     pub verdict: &'a str,
 }
 
-/// The eight words of a line, where it has so many.
+/// The eight words of a line, if it has eight.
 fn eight_words(line: &str) -> Option<Words<'_>>
     ensures { MatchOption result (¬ (length (words_of line.now) ≡ 8)) (λ words. words_of line.now
         ≡ words.kind.now ∷ words.key.now ∷ words.initiator.now ∷ words.extended.now
@@ -75,7 +75,11 @@ pub fn words_in(line: &str) -> usize
     words.count()
 }
 
-/// The rule that eight words write, or the first of them that is none of its field.
+/// The rule that eight words write.
+///
+/// # Errors
+///
+/// The first of the words that is none of its field.
 pub fn rule_of(words: &Words) -> Result<Rule, RuleWord>
     ensures { MatchResult result (AreWordsOf (texts_of words.now))
         (IsFirstBad (texts_of words.now)) }
@@ -116,7 +120,11 @@ pub fn rule_of(words: &Words) -> Result<Rule, RuleWord>
     })
 }
 
-/// The rule that a line writes, or why it writes none.
+/// The rule that a line writes.
+///
+/// # Errors
+///
+/// How many words the line has, if these are not eight; else the first of them that is none of its field.
 pub fn read_rule(line: &str) -> Result<Rule, StatementFault>
     ensures { MatchResult result (IsRule line.now) (IsNoRule line.now) }
 {
@@ -142,6 +150,10 @@ fn rule_in(line: &str) -> Result<Rule, PolicyFault>
 }
 
 /// The rules of the lines of a text. A line is ended by a line feed, which the last may lack.
+///
+/// # Errors
+///
+/// `BadLine` if a line writes no rule; `Memory` if memory is refused.
 pub fn read_rules(alloc: Global, text: &str) -> Result<Vec<Rule>, PolicyFault>
     ensures read { IfOk result (λ rules. IsTable text.now rules.items) }
     ensures fault { IfErr result (IsReadFault (lines_of text.now)) }

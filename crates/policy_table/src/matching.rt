@@ -14,11 +14,11 @@ use rmap::Verdict;
 /// By which rule a table decides.
 #[derive(Clone, Copy, Debug, PartialEq, Eq)]
 pub struct Match {
-    /// The number of the first rule that matches, from 1; `None` where none does.
+    /// The number of the first rule that matches, from 1; `None` if none does.
     pub rule: Option<usize>,
-    /// The draw of this rule, where it has a quota: its answer is the ticket.
+    /// The draw of this rule, if it has a quota: its answer is the ticket.
     pub ticket: Option<Call>,
-    /// Its verdict; not authorised where no rule matches.
+    /// Its verdict; not authorised if no rule matches.
     pub verdict: Verdict,
 }
 
@@ -33,8 +33,8 @@ fn by_rule(rule: &Rule, number: usize, ticket: Option<Call>) -> Match
     }
 }
 
-/// By which rule a table of these rules decides, where its draws are answered by those tickets. Each draw is appended to
-/// the calls, for which there is room.
+/// By which rule a table of these rules decides, if these tickets answer its draws. Each draw is appended to the calls,
+/// which must have room for one draw a rule.
 pub fn match_of<T: Tickets>(
     rules: &[Rule],
     front: &[u8; 4],

@@ -16,8 +16,8 @@ pub struct OtherByte {
     pub given: u8,
 }
 
-/// The first of a rule's words that does not agree with a command, and what both have there. QUOTA and VERDICT are no
-/// words that can disagree.
+/// The first of a rule's words that does not agree with a command, and what both have there. QUOTA and VERDICT cannot
+/// disagree.
 #[derive(Clone, Copy, Debug, PartialEq, Eq)]
 pub enum Mismatch {
     /// The command asks for something else.
@@ -33,18 +33,18 @@ pub enum Mismatch {
     Initiator(OtherByte),
     /// The extended address is another.
     Extended(OtherByte),
-    /// The first address lies before the range.
+    /// The first address is before the range.
     Low {
         /// The first address of the range.
         low: u32,
         /// The command's first address.
         address: u32,
     },
-    /// The last address lies behind the range.
+    /// The last address is after the range.
     High {
         /// The last address of the range.
         high: u32,
-        /// The command's last address, which may lie behind the last of 32 bits.
+        /// The command's last address, which may be past the last of 32 bits.
         last: u64,
     },
 }
@@ -63,7 +63,7 @@ pub enum Passed {
     },
 }
 
-/// The two bytes where a field does not agree with a byte.
+/// The two bytes, if a field does not agree with a byte.
 pub(crate) fn other_byte(wanted: Option<u8>, given: u8) -> Option<OtherByte>
     ensures { result ≡ other_byte wanted given }
 {
@@ -74,7 +74,7 @@ pub(crate) fn other_byte(wanted: Option<u8>, given: u8) -> Option<OtherByte>
     Some(OtherByte { wanted, given })
 }
 
-/// That the ticket of a quota is not below its limit. `None` where it is, and where none was drawn.
+/// That the ticket of a quota is not below its limit. `None` if it is, or if none was drawn.
 pub(crate) fn spent(quota: Option<Quota>, drawn: Option<Call>) -> Option<Passed>
     ensures { result ≡ spent quota drawn }
 {

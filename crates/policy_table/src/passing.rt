@@ -16,7 +16,7 @@ fn first_of(draws: &[Call]) -> Option<Call>
     draws.get(0).copied()
 }
 
-/// The draws behind those of a rule that does not match.
+/// The draws after those of a rule that does not match.
 fn draws_behind<'c>(why: &Passed, draws: &'c [Call]) -> &'c [Call]
     ensures { result.now ≡ draws_behind why.now draws.now }
 {
@@ -29,7 +29,11 @@ fn draws_behind<'c>(why: &Passed, draws: &'c [Call]) -> &'c [Call]
     }
 }
 
-/// Why the first of these rules do not match a header, up to the one that does, where these are their draws, in order.
+/// Why the first of these rules do not match a header, up to the one that does, if these are their draws, in order.
+///
+/// # Errors
+///
+/// An error if memory is refused.
 pub fn passed_rules(
     alloc: Global,
     rules: &[Rule],

@@ -47,6 +47,10 @@ impl Model for Policy {
 }
 
 /// Rules that are asked at every port, one a line.
+///
+/// # Errors
+///
+/// An error if memory is refused.
 pub fn on_lines(alloc: Global, rules: &[Rule]) -> Result<Vec<PortRule>, AllocError>
     ensures lines { IfOk result (λ all. all.items ≡ on_lines 1 rules.now) }
     ensures fit { IfOk result (λ all. All FitsFields rules.now → All FitsPort all.items) }
@@ -87,7 +91,7 @@ fn version_of(text: &str) -> TableVersion
     }
 }
 
-/// How the lines of a text are read whose first line is not `.version 2`.
+/// How the lines of a text are read, if its first line is not `.version 2`.
 fn plain_reading(text: &str) -> (TableVersion, usize, TextLines<'_>)
     ensures how { reading result.0 result.1 result.2
         ≡ reading (version_of (lines_of text.now)) 0 (lines_of text.now) }
@@ -114,7 +118,7 @@ fn reading_of(text: &str) -> (TableVersion, usize, TextLines<'_>)
     }
 }
 
-/// The fault of the range that ends before it begins, where there is one.
+/// The fault of the range that ends before it begins, if there is one.
 fn reversed_told(reversed: Option<usize>) -> Option<TextFault>
     ensures { result ≡ reversed_told reversed }
 {
@@ -125,7 +129,7 @@ fn reversed_told(reversed: Option<usize>) -> Option<TextFault>
     })
 }
 
-/// Whether the range that ends before it begins stands before a line.
+/// Whether the range that ends before it begins is before a line.
 fn is_before(reversed: Option<usize>, line: usize) -> bool
     ensures { result ≡ is_before reversed line }
 {
@@ -136,19 +140,19 @@ fn is_before(reversed: Option<usize>, line: usize) -> bool
 }
 
 impl Policy {
-    /// The table that a text writes, of version 2 where its first line is `.version 2`, and else of version 1.
+    /// The table that a text writes. It is of version 2 if its first line is `.version 2`, and else of version 1.
     ///
     /// In version 2 a semicolon begins a comment, and a line without words says nothing. `.range NAME LOW HIGH` gives a
-    /// name to a range of addresses: a letter, then letters, digits and underscores, and not eight hexadecimal digits. It
-    /// stands in the place of both addresses in each rule below. After the verdict `port P`, a decimal number from 0 to
-    /// 31, lets a rule be asked of commands at that port only, before it draws. All else is as in version 1
+    /// name to a range of addresses: a letter, then letters, digits and underscores, and not eight hexadecimal digits.
+    /// In each rule below, the name can be in place of both addresses. With `port P` after the verdict, a decimal
+    /// number from 0 to 31, a rule is asked only of commands at that port, before it draws. All else is as in version 1
     /// ([`Table::read`](crate::Table::read)).
     ///
     /// # Errors
     ///
-    /// The first line that is none of these, with its place; `Memory` where memory was refused. A line that says a version is a fault
-    /// of a table of version 2, except for line 1 that is `.version 2`; the lines of a text that has such a fault are read as
-    /// version 2.
+    /// The first line that is none of these, with its place; `Memory` if memory is refused. A line that says a version
+    /// is a fault of a table of version 2, except line 1 if it is `.version 2`. If a text has such a fault, its lines
+    /// are read as version 2.
     pub fn read(alloc: Global, text: &str) -> Result<Policy, TextFault>
         ensures read { IfOk result (WritesPolicy (lines_of text.now)) }
         ensures fault { IfErr result (IsUnreadPolicy (lines_of text.now)) }
@@ -163,13 +167,13 @@ impl Policy {
         })
     }
 
-    /// The table that a text writes, as [`Policy::read`] reads it, which compiles for a node with maps of these sizes but
-    /// for want of memory.
+    /// The table that a text writes, as [`Policy::read`] reads it. It compiles for a node with maps of these sizes,
+    /// unless memory is refused.
     ///
     /// # Errors
     ///
-    /// The first fault of the text with its place: of the first line that is not read, or that for which the table is not
-    /// compiled.
+    /// The first fault of the text with its place: of the first line that is not read, or that for which the table is
+    /// not compiled.
     pub fn read_for(alloc: Global, text: &str, sizes: &MapSizes) -> Result<Policy, TextFault>
         ensures read { IfOk result (WritesPolicy (lines_of text.now)) }
         ensures faultless { IfOk result (λ policy. policy_fault sizes.now policy ≡ None) }
@@ -207,11 +211,12 @@ impl Policy {
         rules_told(self.reversed, self.rules.as_slice(), sizes)
     }
 
-    /// The first fault of the table for a node with maps of these sizes, with its place: that for which it is not compiled.
+    /// The first fault of the table for a node with maps of these sizes, with its place: that for which it is not
+    /// compiled.
     ///
-    /// In this order: the first rule for which there is no room, as the thirteenth in version 1, or in version 2 the first that the 512
-    /// slots of an image do not have; then, line by line,
-    /// a range that ends before it begins, and a quota whose cell the maps do not have, or that is in a peak map.
+    /// First comes a rule for which there is no room. In version 1 it is the thirteenth, in version 2 the first that
+    /// the 512 slots of an image do not have. Then come, line by line, ranges that end before they begin, and quotas. A
+    /// quota is at fault if the maps do not have its cell, or if the cell is in a peak map.
     pub fn fault_for(&self, sizes: &MapSizes) -> Option<TextFault>
         ensures { result ≡ policy_fault sizes.now self.now }
     {
@@ -221,14 +226,16 @@ impl Policy {
         rules_told(self.reversed, self.rules.as_slice(), sizes)
     }
 
-    /// All faults of a text for a node with maps of these sizes, in the order of its lines; of one rule, that there is no room for it is
-    /// first. The fault that [`Policy::read_for`] gives is the first of them with the number 5, else the first with 1, else the first.
+    /// All faults of a text for a node with maps of these sizes, in the order of its lines. If there is no room for a
+    /// rule, that is the first of its faults. The fault that [`Policy::read_for`] gives is the first of them with the
+    /// number 5, else the first with 1, else the first.
     ///
-    /// A line that is at fault says nothing, and lines below are read without it; but a name that it gives to a range is known.
+    /// A line that is at fault says nothing, and lines below are read without it. But a name that it gives to a range
+    /// is known.
     ///
     /// # Errors
     ///
-    /// Where memory was refused.
+    /// An error if memory is refused.
     pub fn faults(alloc: Global, text: &str, sizes: &MapSizes) -> Result<Vec<TextFault>, AllocError>
         ensures all { IfOk result (λ all. AreFaults sizes.now (lines_of text.now) all.items) }
         ensures reported { IfOk result

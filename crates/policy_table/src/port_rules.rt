@@ -7,7 +7,7 @@ use crate::rules::Rule;
 pub struct PortRule {
     /// The rule.
     pub rule: Rule,
-    /// The port, 0 to 31, of the commands of which the rule is asked; `None` where it is asked at every port.
+    /// The port, 0 to 31, of the commands of which the rule is asked; `None` if it is asked at every port.
     pub port: Option<u8>,
     /// The number of its line, from 1.
     pub line: usize,

@@ -82,7 +82,7 @@ impl Policy {
     ///
     /// # Errors
     ///
-    /// Where memory was refused.
+    /// An error if memory is refused.
     pub fn table_at(&self, alloc: Global, port: u8) -> Result<Table, AllocError>
         ensures { IfOk result (λ table. table ≡ rules_at port self.now.rules) }
     {
@@ -94,7 +94,7 @@ impl Policy {
     ///
     /// # Errors
     ///
-    /// Where memory was refused.
+    /// An error if memory is refused.
     #[tactic(auto, using(crate::proofs::PortTables::lines_each))]
     pub fn lines_at(&self, alloc: Global, port: u8) -> Result<Vec<usize>, AllocError>
         ensures lines { IfOk result (λ lines. lines.items ≡ lines_at port self.now.rules) }

@@ -15,8 +15,8 @@ pub enum RuleKind {
     Any,
 }
 
-/// A limit on how often a rule may match, whatever its verdict: it draws a ticket of a counter cell, and matches where
-/// the ticket is below the limit. Where it does not match a later rule may, and let the command pass.
+/// A limit on how often a rule may match, whatever its verdict. The rule draws a ticket of a counter cell, and matches
+/// if the ticket is below the limit. If it does not match, a later rule may match and let the command pass.
 #[derive(Clone, Copy, Debug, PartialEq, Eq)]
 pub struct Quota {
     /// The index of the counter map.
@@ -39,12 +39,12 @@ pub struct Rule {
     pub initiator: Option<u8>,
     /// The extended address (ECSS-E-ST-50-52C, extended address field).
     pub extended: Option<u8>,
-    /// The first address of the range in which the command's bytes lie.
+    /// The first address of the range in which the command's bytes are.
     pub low: u32,
     /// The last address of the range.
     pub high: u32,
     /// The tickets that the rule draws, if it has a limit.
     pub quota: Option<Quota>,
-    /// The verdict where the rule matches: what an application answers to an authorisation request.
+    /// The verdict if the rule matches: what an application answers to an authorisation request.
     pub verdict: Verdict,
 }

@@ -36,7 +36,7 @@ pub fn quota_slots(quota: Option<Quota>) -> u8
     if quota.is_some() { 5 } else { 0 }
 }
 
-/// How many slots a rule has, its port apart: its tests, four for the range, and two for the verdict.
+/// How many slots a rule has without the test of its port: its tests, four for the range, and two for the verdict.
 pub fn rule_slots(rule: &Rule) -> u8
     ensures slots { result ≡ rule_slots rule.now }
     ensures few { result ≤ 20 }
@@ -65,8 +65,9 @@ pub fn asks_ports(rules: &[PortRule]) -> bool
     rules.iter().any(|own| own.port.is_some())
 }
 
-/// How many slots the program of a table of these rules has: those of its rules, sixteen before and after them, and one to
-/// put the port on the stack where a rule asks it; the greatest number where there are more.
+/// How many slots the program of a table of these rules has: those of its rules, and sixteen before and after them. If
+/// a rule asks the port, one more puts the port on the stack. If there are more than the greatest number, it is that
+/// number.
 pub fn table_slots(rules: &[PortRule]) -> usize
     ensures { result ≡ min (table_slots rules.now) (2 ^ 64 - 1) }
 {

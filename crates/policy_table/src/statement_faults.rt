@@ -7,7 +7,7 @@ use crate::faults::PolicyFault;
 use crate::words::RuleWord;
 use std::fmt;
 
-/// What is wrong with a line of a table: it is none of its version, its rule is not compiled, or there is no room for it.
+/// What is wrong with a line of a table: it is none of its version, its rule is not compiled, or there is no room.
 #[derive(Clone, Copy, Debug, PartialEq, Eq)]
 pub enum StatementFault {
     /// The first word is `.version`, and the line is not the first, or not `.version 2`.
@@ -16,7 +16,7 @@ pub enum StatementFault {
     Comment,
     /// The first word begins with a point, and is neither `.range` nor `.version`.
     Directive,
-    /// `.range` has so many words after it, and not three.
+    /// `.range` has this many words after it, and not three.
     RangeCount(usize),
     /// Both addresses of a range are one word.
     RangeJoined,
@@ -28,9 +28,9 @@ pub enum StatementFault {
     RangeLow,
     /// The last address of a range is no address.
     RangeHigh,
-    /// A line of a table of version 1 has so many words, and not eight.
+    /// A line of a table of version 1 has this many words, and not eight.
     LineCount(usize),
-    /// A rule of version 2 ends before its verdict: it has so many words.
+    /// A rule of version 2 ends before its verdict: it has this many words.
     RuleCount(usize),
     /// Both addresses of a rule are one word.
     RuleJoined,
@@ -38,21 +38,21 @@ pub enum StatementFault {
     Word {
         /// The first such word.
         word: RuleWord,
-        /// Whether the range stands there by its name.
+        /// Whether the line has a name for the range.
         named: bool,
     },
-    /// After the verdict stands something that is not `port P`.
+    /// After the verdict comes something that is not `port P`.
     Port {
-        /// Whether the range stands there by its name.
+        /// Whether the line has a name for the range.
         named: bool,
     },
-    /// In a range the last address lies before the first.
+    /// In a range the last address is before the first.
     RangeOrder,
-    /// In a rule the last address lies before the first.
+    /// In a rule the last address is before the first.
     RuleOrder,
     /// The maps do not have the cell of the quota, or it is in a peak map.
     NoCell {
-        /// Whether the range stands there by its name.
+        /// Whether the line has a name for the range.
         named: bool,
     },
     /// The rule is the thirteenth of a table of version 1.

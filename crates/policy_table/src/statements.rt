@@ -2,18 +2,18 @@
 
 ghost use Rattle.std.specs.Prelude.{◌≡◌, Some, None, option_map, MatchOption, MatchResult, IfOk, IfErr, codes, bytes_eq, length, [], ◌∷◌};
 ghost use Rattle.spw.specs.Line.{words_of};
-ghost use Rattle.policy_table.specs.Ranges.{range_named, range_text, range_texts};
+ghost use Rattle.policy_table.specs.Ranges.{range_named, range_text};
 ghost use Rattle.policy_table.specs.Statements.{IsNoPort, IsNoRange, IsNoRuleLine, IsPort, IsRange, IsRuleLine, begins_two, has_version, is_version, next_word, parts_text, range_words, rule_parts, span_text, three_words, word_kind};
 
 use crate::fields::address_of;
 use crate::lines::{Words, rule_of, words_in};
-use crate::ranges::{NamedRange, is_name, range_named};
+use crate::ranges::{NamedRange, NamedRanges, is_name};
 use crate::rules::Rule;
 use crate::statement_faults::StatementFault;
 use basm_lex::before_comment;
 use spw::{first_word, read_port};
 
-/// The first word of a text, and what stands after it.
+/// The first word of a text, and what comes after it.
 pub fn next_word(text: &str) -> Option<(&str, &str)>
     ensures { option_map (λ r. (r.0.now, words_of r.1.now)) result ≡ next_word (words_of text.now) }
 {
@@ -27,7 +27,7 @@ pub enum WordKind {
     Version,
     /// A line that gives a name to a range.
     Range,
-    /// A line of a directive that there is not.
+    /// A line of an unknown directive.
     Other,
     /// A rule.
     Rule,
@@ -79,7 +79,7 @@ pub fn begins_two(line: &str) -> bool
     first == ".version" && second == "2" && next_word(rest).is_none()
 }
 
-/// The two words of a range, whether it stands there by its name, and what stands after it.
+/// The two words of a range, whether the line has a name for it, and what comes after it.
 #[derive(Drop)]
 struct Span<'a> {
     low: &'a str,
@@ -88,11 +88,12 @@ struct Span<'a> {
     rest: &'a str,
 }
 
-/// The range that begins with this word, before a rest. A name that no range has stands for itself, twice.
+/// The range that begins with this word, before a rest. If the word is a name that no range has, both words are that
+/// name.
 #[tactic(auto, unfolding(crate::specs::Statements::range_words))]
-fn range_words<'a>(ranges: &[NamedRange<'a>], word: &'a str, rest: &'a str) -> Option<Span<'a>>
+fn range_words<'a>(ranges: &NamedRanges<'a>, word: &'a str, rest: &'a str) -> Option<Span<'a>>
     ensures { option_map span_text result
-        ≡ range_words (range_texts ranges.now) word.now (words_of rest.now) }
+        ≡ range_words ranges.now word.now (words_of rest.now) }
 {
     if !is_name(word) {
         let (high, rest) = next_word(rest)?;
@@ -103,7 +104,7 @@ fn range_words<'a>(ranges: &[NamedRange<'a>], word: &'a str, rest: &'a str) -> O
             rest,
         });
     }
-    let (low, high) = match range_named(ranges, word) {
+    let (low, high) = match ranges.named(word) {
         Some(range) => (range.low, range.high),
         None => (word, word),
     };
@@ -115,7 +116,7 @@ fn range_words<'a>(ranges: &[NamedRange<'a>], word: &'a str, rest: &'a str) -> O
     })
 }
 
-/// The words of a rule, with the two of its range, and what stands after its verdict.
+/// The words of a rule, with the two of its range, and what comes after its verdict.
 #[derive(Drop)]
 struct RuleParts<'a> {
     words: Words<'a>,
@@ -123,11 +124,11 @@ struct RuleParts<'a> {
     rest: &'a str,
 }
 
-/// The words of a rule, where there are so many.
+/// The words of a rule, if there are enough.
 #[tactic(auto, unfolding(crate::specs::Statements::rule_parts))]
-fn rule_parts<'a>(ranges: &[NamedRange<'a>], text: &'a str) -> Option<RuleParts<'a>>
+fn rule_parts<'a>(ranges: &NamedRanges<'a>, text: &'a str) -> Option<RuleParts<'a>>
     ensures { option_map parts_text result
-        ≡ rule_parts (range_texts ranges.now) (words_of text.now) }
+        ≡ rule_parts ranges.now (words_of text.now) }
 {
     let (kind, rest) = next_word(text)?;
     let (key, rest) = next_word(rest)?;
@@ -153,7 +154,7 @@ fn rule_parts<'a>(ranges: &[NamedRange<'a>], text: &'a str) -> Option<RuleParts<
     })
 }
 
-/// The port that stands after a verdict: `port P`, or nothing.
+/// The port that comes after a verdict: `port P`, or nothing.
 fn port_in(text: &str) -> Option<Option<u8>>
     ensures { MatchOption result (IsNoPort (words_of text.now)) (IsPort (words_of text.now)) }
 {
@@ -181,11 +182,19 @@ pub struct RuleLine {
     pub named: bool,
 }
 
-/// The rule that a text writes, where these ranges have names.
-pub fn read_rule_line(ranges: &[NamedRange<'_>], text: &str) -> Result<RuleLine, StatementFault>
+/// The rule that a text writes, if these ranges have names.
+///
+/// # Errors
+///
+/// How many words the text has, if it ends before its verdict; else the first of its words that is none of its field.
+/// Else `Port`, if the words after its verdict are not `port P`.
+pub fn read_rule_line<'a>(
+    ranges: &NamedRanges<'a>,
+    text: &'a str,
+) -> Result<RuleLine, StatementFault>
     ensures { MatchResult result
-        (λ r. IsRuleLine (range_texts ranges.now) (words_of text.now) r.rule r.port r.named)
-        (IsNoRuleLine (range_texts ranges.now) (words_of text.now)) }
+        (λ r. IsRuleLine ranges.now (words_of text.now) r.rule r.port r.named)
+        (IsNoRuleLine ranges.now (words_of text.now)) }
 {
     let Some(parts) = rule_parts(ranges, text) else {
         return Err(StatementFault::RuleCount(words_in(text)));
@@ -201,7 +210,7 @@ pub fn read_rule_line(ranges: &[NamedRange<'_>], text: &str) -> Result<RuleLine,
     }
 }
 
-/// The three words of a text, where it has so many.
+/// The three words of a text, if it has no more and no fewer.
 #[tactic(auto, unfolding(crate::specs::Statements::three_words))]
 fn three_words(text: &str) -> Option<NamedRange<'_>>
     ensures { option_map range_text result ≡ three_words (words_of text.now) }
@@ -215,15 +224,20 @@ fn three_words(text: &str) -> Option<NamedRange<'_>>
     }
 }
 
-/// The range that the text after `.range` defines, where these ranges have names already, and whether its last address
-/// lies before its first.
+/// The range that the text after `.range` defines, if these ranges have names already, and whether its last address is
+/// before its first.
+///
+/// # Errors
+///
+/// The first of these faults: the text does not have three words, its first word is no name, a range has that name, or
+/// an address is none.
 pub fn read_range<'a>(
-    ranges: &[NamedRange<'a>],
+    ranges: &NamedRanges<'a>,
     text: &'a str,
 ) -> Result<(NamedRange<'a>, bool), StatementFault>
     ensures { MatchResult result
-        (λ r. IsRange (range_texts ranges.now) (words_of text.now) (range_text r.0) r.1)
-        (IsNoRange (range_texts ranges.now) (words_of text.now)) }
+        (λ r. IsRange ranges.now (words_of text.now) (range_text r.0) r.1)
+        (IsNoRange ranges.now (words_of text.now)) }
 {
     let Some(range) = three_words(text) else {
         return Err(StatementFault::RangeCount(words_in(text)));
@@ -231,7 +245,7 @@ pub fn read_range<'a>(
     if !is_name(range.name) {
         return Err(StatementFault::RangeName);
     }
-    if range_named(ranges, range.name).is_some() {
+    if ranges.named(range.name).is_some() {
         return Err(StatementFault::RangeTwice);
     }
     let Some(low) = address_of(range.low) else {

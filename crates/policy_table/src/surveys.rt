@@ -3,7 +3,7 @@
 ghost use Rattle.std.specs.Prelude.{◌≡◌, ◌<◌, ◌^◌, ◌+◌, ◌++◌, IfOk, OnOk, length, suc, option_map};
 ghost use Rattle.spw.specs.Line.{words_of};
 ghost use Rattle.policy_table.specs.Policies.{reading, reversed_told, rule_told};
-ghost use Rattle.policy_table.specs.Ranges.{range_text, range_texts};
+ghost use Rattle.policy_table.specs.Ranges.{range_text};
 ghost use Rattle.policy_table.specs.Room.{room_told};
 ghost use Rattle.policy_table.specs.Surveys.{FindsLine, HasFaults, empty_survey, first_of_code, has_code, listed, named_by, reported, reversed_at, room_behind, statement_faults, with_bad, with_statement};
 
@@ -11,7 +11,7 @@ use crate::checks::rule_told;
 use crate::drafts::{Draft, Statement, code_of, statement_in};
 use crate::faults::PolicyFault;
 use crate::port_rules::PortRule;
-use crate::ranges::{NamedRange, is_name, range_named};
+use crate::ranges::{NamedRange, NamedRanges, is_name};
 use crate::room::{Room, room_after, room_told, whole_room};
 use crate::statement_faults::StatementFault;
 use crate::text_faults::TextFault;
@@ -106,12 +106,12 @@ fn room_behind(version: TableVersion, room: Option<Room>, statement: &Statement<
 }
 
 /// The range of all addresses that has the new name that the words of a line give, if they give one.
-fn named_by<'a>(ranges: &[NamedRange<'_>], code: &'a str) -> Option<NamedRange<'a>>
-    ensures { option_map range_text result ≡ named_by (range_texts ranges.now) (words_of code.now) }
+fn named_by<'a>(ranges: &NamedRanges<'_>, code: &'a str) -> Option<NamedRange<'a>>
+    ensures { option_map range_text result ≡ named_by ranges.now (words_of code.now) }
 {
     let (first, rest) = first_word(code)?;
     let (name, _rest) = first_word(rest)?;
-    if first == ".range" && is_name(name) && range_named(ranges, name).is_none() {
+    if first == ".range" && is_name(name) && ranges.named(name).is_none() {
         Some(NamedRange {
             name,
             low: "00000000",
@@ -157,7 +157,7 @@ impl<'a> Survey<'a> {
         self.draft.add(line, statement)
     }
 
-    /// Takes the line of this number, which says nothing that there is, for this fault.
+    /// Takes the line of this number, which is no statement, because of this fault.
     fn add_bad(
         &mut self,
         version: TableVersion,
@@ -195,6 +195,10 @@ impl<'a> Survey<'a> {
 }
 
 /// The faults of lines, of which the first comes after the line of this number.
+///
+/// # Errors
+///
+/// An error if memory is refused.
 pub fn survey_lines(
     alloc: Global,
     version: TableVersion,
@@ -234,8 +238,8 @@ fn first_of_code(code: u8, faults: &[TextFault]) -> Option<TextFault>
     None
 }
 
-/// The fault that is reported of all: the first line that is none of its version, else the first rule for which there is no room,
-/// else the first.
+/// The fault that is reported of all. It is the first line that is none of its version, else the first rule for which
+/// there is no room, else the first.
 pub fn reported(faults: &[TextFault]) -> Option<TextFault>
     ensures { result ≡ reported faults.now }
 {

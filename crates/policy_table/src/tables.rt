@@ -46,7 +46,7 @@ impl Model for Table {
     ghost invariant = { λ t. All FitsFields t.rules.items };
 }
 
-/// What rules say of a header. Each draw is appended to the calls, for which there is room.
+/// What rules say of a header. Each draw is appended to the calls, which must have room for one draw a rule.
 fn decide_by(
     rules: &[Rule],
     front: &[u8; 4],
@@ -77,15 +77,19 @@ impl Table {
 
     /// The table that a text writes, one rule a line.
     ///
-    /// A line is ended by a line feed, which the last may lack. It has eight words, with spaces between
-    /// them: kind (`read`, `write`, `rmw` or `any`), key, initiator logical address and extended address
-    /// (two hexadecimal digits, or `*` for any), first and last address (eight hexadecimal digits), quota
-    /// (`-` for none, or `MAP:CELL:LIMIT` in decimal, with a limit of at most 2,147,483,647) and verdict
-    /// (`0`, `3`, `10` or `12`). The empty text is the table without rules.
+    /// A line is ended by a line feed, which the last may lack. It has eight words, with spaces between them:
+    ///
+    /// - kind: `read`, `write`, `rmw` or `any`
+    /// - key, initiator logical address and extended address: two hexadecimal digits, or `*` for any
+    /// - first and last address: eight hexadecimal digits
+    /// - quota: `-` for none, or `MAP:CELL:LIMIT` in decimal, with a limit of at most 2,147,483,647
+    /// - verdict: `0`, `3`, `10` or `12`
+    ///
+    /// The empty text is the table without rules.
     ///
     /// # Errors
     ///
-    /// `BadLine` where a line is none of these, a blank one too; `Memory` where memory was refused.
+    /// `BadLine` if a line is none of these, a blank one too; `Memory` if memory is refused.
     pub fn read(alloc: Global, text: &str) -> Result<Table, PolicyFault>
         ensures read { IfOk result (IsTable text.now) }
         ensures fault { IfErr result (IsReadFault (lines_of text.now)) }
@@ -109,13 +113,13 @@ impl Table {
         self.rules.as_slice()
     }
 
-    /// What the table says of a header, without being compiled: the first four bytes of the header, target
-    /// logical address to key, and the last twelve, initiator logical address to header CRC. The answers of
-    /// its draws are taken in order, and 0 where none is left. Each draw is appended to the calls.
+    /// What the table says of a header, without being compiled. `front` is the first four bytes of the header, target
+    /// logical address to key. `tail` is its last twelve, initiator logical address to header CRC. The answers of the
+    /// draws are taken in order, and 0 if none is left. Each draw is appended to the calls.
     ///
     /// # Errors
     ///
-    /// Where memory was refused; the calls are as they were.
+    /// An error if memory is refused. The calls are then as they were.
     pub fn decide(
         &self,
         front: &[u8; 4],
@@ -133,12 +137,12 @@ impl Table {
         Ok(decide_by(self.rules.as_slice(), front, tail, answers, calls))
     }
 
-    /// By which rule the table decides on a header, whose parts are those of [`Table::decide`], where its draws are answered
-    /// by counts. Each draw is appended to the calls, and counted.
+    /// By which rule the table decides on a header, if counts answer its draws. The parts of the header are those of
+    /// [`Table::decide`]. Each draw is appended to the calls, and counted.
     ///
     /// # Errors
     ///
-    /// Where memory was refused; calls and counts are as they were.
+    /// An error if memory is refused. Calls and counts are then as they were.
     pub fn matched(
         &self,
         front: &[u8; 4],
@@ -161,11 +165,12 @@ impl Table {
         Ok(match_of(self.rules.as_slice(), front, tail, counts, calls))
     }
 
-    /// Why the rules before the one that decides on a header do not match, where these are the draws of the table, in order.
+    /// Why the rules before the one that decides on a header do not match, if these are the draws of the table, in
+    /// order.
     ///
     /// # Errors
     ///
-    /// Where memory was refused.
+    /// An error if memory is refused.
     pub fn passed(
         &self,
         alloc: Global,

@@ -42,7 +42,7 @@ impl TextFault {
         self.fault().code()
     }
 
-    /// The number of the line, from 1; 0 of a memory that was refused.
+    /// The number of the line, from 1; 0 if memory was refused.
     pub fn line(self) -> usize
         ensures { result ≡ fault_line self }
     {

@@ -16,7 +16,7 @@ pub(crate) trait Tickets {
     /// The ticket of a cell that is drawn next.
     ghost next: { Self → ℕ → ℕ → ℕ };
 
-    /// What is left behind that draw.
+    /// What is left after that draw.
     ghost after: { Self → ℕ → ℕ → Self };
 
     /// Draws a ticket of a quota's cell.
@@ -42,7 +42,7 @@ impl Quota {
     }
 }
 
-/// Answers that are given in order, whatever the cell; 0 where none is left.
+/// Answers that are given in order, whatever the cell; 0 if none is left.
 #[derive(Debug, Drop)]
 pub(crate) struct Answers<'a> {
     left: &'a [u64],

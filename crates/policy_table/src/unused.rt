@@ -1,14 +1,16 @@
 //! Ranges of a table that no rule names.
 
-ghost use Rattle.std.specs.Prelude.{◌≡◌, ◌++◌, IfOk, OnOk, option_map};
-ghost use Rattle.std.specs.List.{list_any};
+ghost use Rattle.std.specs.Prelude.{◌≡◌, ◌++◌, ◌||◌, ℕ, List, IfOk, OnOk, is_some, option_map};
 ghost use Rattle.spw.specs.Line.{lines_of, words_of};
-ghost use Rattle.policy_table.specs.Unused.{has_name, is_named_by_none, is_unused, is_word, number_if, range_name, unused_ranges};
+ghost use Rattle.policy_table.specs.Ranges.{place_in};
+ghost use Rattle.policy_table.specs.Unused.{AreUsed, has_name, is_named_by_none, is_unused, number_if, range_name, unused_ranges};
 
+use crate::ranges::add_place;
 use crate::refining::fifth_word;
 use basm_lex::before_comment;
 use spw::{first_word, lines_of};
 use std::alloc::{AllocError, Global};
+use std::collections::BTreeMap;
 
 /// The name that a text gives to a range, if it gives one.
 fn range_name(text: &str) -> Option<&str>
@@ -19,51 +21,51 @@ fn range_name(text: &str) -> Option<&str>
     if first == ".range" { Some(name) } else { None }
 }
 
-/// Whether there is a word, and it is this one.
-fn is_word(word: Option<&str>, name: &str) -> bool
-    ensures { result ≡ is_word (option_map (λ word. word.now) word.entry) name.now }
+/// Adds the word that a line has in place of two addresses, if it has one.
+fn add_used<'a>(
+    used: &mut BTreeMap<&'a str, usize>,
+    line: &'a str,
+    number: usize,
+) -> Result<(), AllocError>
+    ensures { OnOk result ((name : List ℕ) → is_some (place_in used.new.entries name)
+        ≡ (is_some (place_in used.old.entries name) || has_name name line.now)) }
 {
-    match word {
-        Some(word) => word == name,
-        None => false,
+    match fifth_word(before_comment(line)) {
+        Some(word) => add_place(used, word, number),
+        None => Ok(()),
     }
 }
 
-/// Whether a line has this name in place of two addresses.
-fn has_name(name: &str, line: &str) -> bool
-    ensures { result ≡ has_name name.now line.now }
+/// The words that the lines of a text have in place of two addresses, each with the number of a line.
+fn used_in<'a>(alloc: Global, text: &'a str) -> Result<BTreeMap<&'a str, usize>, AllocError>
+    ensures { IfOk result (λ used. AreUsed used.entries (lines_of text.now)) }
 {
-    is_word(fifth_word(before_comment(line)), name)
-}
-
-/// Whether a line of a text has this name in place of two addresses.
-fn is_named_in(text: &str, name: &str) -> bool
-    ensures { result ≡ list_any (has_name name.now) (lines_of text.now) }
-{
+    let mut used = BTreeMap::new(alloc);
+    let mut number: usize = 0;
     for line in lines_of(text) {
-        if has_name(name, line) {
-            return true;
-        }
+        number += 1;
+        add_used(&mut used, line, number)?;
     }
-    false
+    Ok(used)
 }
 
-/// Whether there is a name, and no line of a text has it in place of two addresses.
-fn is_named_by_none(text: &str, name: Option<&str>) -> bool
-    ensures { result ≡ is_named_by_none (lines_of text.now)
-        (option_map (λ name. name.now) name.entry) }
+/// Whether there is a name, and it is none of these words.
+fn is_named_by_none(used: &BTreeMap<&str, usize>, name: Option<&str>) -> bool
+    ensures { (lines : List (List ℕ)) → AreUsed used.now.entries lines
+        → result ≡ is_named_by_none lines (option_map (λ name. name.now) name.entry) }
 {
     match name {
-        Some(name) => !is_named_in(text, name),
+        Some(name) => !used.contains_key(name),
         None => false,
     }
 }
 
-/// Whether a line gives a name to a range that no line of a text has.
-fn is_unused(text: &str, line: &str) -> bool
-    ensures { result ≡ is_unused (lines_of text.now) line.now }
+/// Whether a line gives a name to a range that is none of the words that lines have in place of two addresses.
+fn is_unused(used: &BTreeMap<&str, usize>, line: &str) -> bool
+    ensures { (lines : List (List ℕ)) → AreUsed used.now.entries lines
+        → result ≡ is_unused lines line.now }
 {
-    is_named_by_none(text, range_name(before_comment(line)))
+    is_named_by_none(used, range_name(before_comment(line)))
 }
 
 /// Adds a number, if it is wanted.
@@ -80,15 +82,16 @@ fn push_if(numbers: &mut Vec<usize>, wanted: bool, number: usize) -> Result<(), 
 ///
 /// # Errors
 ///
-/// If memory was refused.
+/// An error if memory is refused.
 pub fn unused_ranges(alloc: Global, text: &str) -> Result<Vec<usize>, AllocError>
     ensures { IfOk result (λ lines. lines.items ≡ unused_ranges (lines_of text.now)) }
 {
+    let used = used_in(alloc, text)?;
     let mut unused = Vec::new(alloc);
     let mut number: usize = 0;
     for line in lines_of(text) {
         number += 1;
-        push_if(&mut unused, is_unused(text, line), number)?;
+        push_if(&mut unused, is_unused(&used, line), number)?;
     }
     Ok(unused)
 }

@@ -42,7 +42,7 @@ done_behind j h after is left =
     let number = (end.applied parts.0).number ∙ left_some before.bank share j.judged parts.1 in
     subst (λ (o : Option ℕ). IfSome o (λ n. IsDoneBehind h.pass.programs before.chain.number h.front after.front share j.judged is.ended.result j.reply)) number end.done
 
--- a command that was done after what somebody saw was done after what he had seen before
+-- a command that was done after what somebody saw was done after what this one had seen before
 pub done_since : (bank : ℕ) (known first reached : List Link) (share : ShareValue) (j : JudgedValue) (result : Applied) (reply : List ℕ) → IsPrefix known first → IsDone bank first reached share j result reply → IsDone bank known reached share j result reply
 done_since bank known first reached share j result reply begins done = record {
   place = done.place;
@@ -52,14 +52,14 @@ done_since bank known first reached share j result reply begins done = record {
   reply_is = done.reply_is;
 }
 
--- a moment before what somebody saw is one before what he saw later
+-- a moment before what somebody saw is one before what this one saw later
 pub shown_before : (known seen later : List Link) (j : Judging) → IsPrefix seen later → IsByShown known seen j → IsByShown known later j
 shown_before known seen later j begins is = record { at = is.at; after = is.after; before = prefix_trans is.at seen later is.before begins; shown = is.shown }
 
 pub shown_begins : (known seen : List Link) (j : Judging) → IsByShown known seen j → IsPrefix known seen
 shown_begins known seen j is = prefix_trans known is.at seen is.after is.before
 
--- so it stands in the history behind the program that judged it
+-- so it is in the history after the program that judged it
 unfoldable pub entered : (port : ℕ) (known : List Link) (j : Judging) (h after : Standing) → IsJudgedBehind port j h.pass → IsByShown known h.front j → IsBanked j h after → j.entered ≡ true → HasEntered port known after.front j
 unfolding done_since done_behind
 entered port known j h after by moment is left = let behind = done_behind j h after is left in record {

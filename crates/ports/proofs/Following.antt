@@ -60,7 +60,7 @@ stays_on h between after a b = record {
   count = b.count ∙ a.count;
 }
 
--- a run leaves a port what it was, but for its calls and the programs that it has seen more
+-- a run leaves a port what it was, except for its calls and the programs that it has seen more
 run_stays : (h between : PassValue) (p : Cargo) (j : JudgedValue) → IsJudgement h between p j → Stays h between
 run_stays h between p j is = record {
   programs = subst (λ l. IsPrefix h.programs l) (sym (ap (λ (x : PassValue). x.programs) is.asked)) is.taken.longer;
@@ -195,7 +195,7 @@ is_at : (entered : Bool) (k n : ℕ) → k ≡ n → bit (entered && eqb n k) �
 is_at entered k n same = let here : eqb n k ≡ true = grind (arith, nat_tests) in
     rw here (elim entered as (λ e. bit (e && true) ≡ bit e) [ true ↦ refl | false ↦ refl ])
 
--- the port's numbers where it has another share of one bank
+-- the port's numbers if it has another share of one bank
 shared_number : (k n : ℕ) (h : PassValue) (share : ShareValue) (entered : Bool) → share.number ≡ number_at h n + bit entered → k < length h.shares → number_at (with_share h (Bank n) share) k ≡ number_at h k + bit (entered && eqb n k)
 shared_number k n h share entered is below = elim (cases_eq k n) [
   | inl same ↦

@@ -45,7 +45,7 @@ missing_at_end [] = tt
 missing_at_end (None ∷ told) = tt
 missing_at_end (Some report ∷ told) = missing_at_end told
 
--- One more report, where the sum is missing.
+-- One more report, if the sum is missing.
 pub one_missing : (told : List (Option Report)) (report old new : Option Report) → IfNone old (IsOneMissing told) → IfNone new ((old ≡ None) ⊎ (report ≡ None)) → IfNone new (IsOneMissing (told ++ report ∷ []))
 one_missing told report old (Some sum) was is = tt
 one_missing told report old None was (inl none) = missing_before told (report ∷ []) (subst (λ o. IfNone o (IsOneMissing told)) none was)

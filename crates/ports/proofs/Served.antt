@@ -51,7 +51,7 @@ module _ {J S : Type 0} (sent : S → List SentReply) (failed : S → ℕ) (bank
     abbrev pub AreBack : Type 0
     AreBack = (k : ℕ) (end : Ended J S) (worker : Worker J S) → k < length ended → IsBack sent failed (slice_index_or old k worker) (slice_index_or ended k end).worker (slice_index_or ended k end).report
 
-    -- Where none is missing, the workers can serve their ports again: first those of the threads, then the rest.
+    -- If none is missing, the workers can serve their ports again: first those of the threads, then the rest.
     pub can_serve : AreServed banks (length old) ports old → AreBack → AreLast rest old → length (returned ++ rest) ≡ length old → AreServed banks (length old) ports (returned ++ rest)
     can_serve were each (front, old_is) long = record {
       len = were.len;
@@ -75,7 +75,7 @@ module _ {J S : Type 0} (sent : S → List SentReply) (failed : S → ℕ) (bank
           (cases_lt k (length ended));
     }
 
-    -- Where each has a report, each served its port.
+    -- If each has a report, each served its port.
     pub have_served : AreServed banks (length old) ports old → AreBack → length ended ≡ length old → (total : Report) → IsTotalOf (map (λ (e : Ended J S). e.report) ended) total
         → EntriesAreNoLoads → LoadsAreListed → ShareOneHistory returned → HaveServed sent failed banks ports old returned total
     have_served were each long total told no_loads listed history =
@@ -111,13 +111,13 @@ module _ {J S : Type 0} (sent : S → List SentReply) (failed : S → ℕ) (bank
               publishes_are_all no_loads listed (standing_of (slice_index_or old k w)) (standing_of (slice_index_or returned k w)) it.packets it.served.deeds history.whole it.served.worked (history.asked k w low);
         }
 
-    -- Where a thread could not be made, fewer workers came back than went in.
+    -- If a thread could not be made, fewer workers came back than went in.
     pub one_is_gone : length ended + length rest < length old → IsShort old (returned ++ rest)
     one_is_gone fewer =
         let many : length returned ≡ length ended = length-map ended (λ (e : Ended J S). e.worker) in
         inl (omega (arith, many, length-append returned rest, fewer))
 
-    -- Where a report is missing, its worker came back as it went in.
+    -- If a report is missing, its worker came back as it went in.
     pub one_is_same : AreBack → length ended ≡ length old → IsOneMissing (map (λ (e : Ended J S). e.report) ended) → IsShort old (returned ++ rest)
     one_is_same each long missing =
         let (k, told, none) = missing_at (map (λ (e : Ended J S). e.report) ended) missing in
@@ -133,7 +133,7 @@ module _ {J S : Type 0} (sent : S → List SentReply) (failed : S → ℕ) (bank
               ∙ subst (IsBack sent failed (slice_index_or old k worker) (slice_index_or ended k end).worker) report (each k end worker low),
         ))
 
-    -- Where a thread could not be made, the workers of the others came back, and behind them the rest, as they went in.
+    -- If a thread could not be made, the workers of the others came back, and after them the rest, as they went in.
     pub have_come_back : AreBack → AreLast rest old → length ended + length rest ≤ length old → length old ≤ length ended + length rest + 1 → HaveComeBack sent failed old (returned ++ rest)
     have_come_back each last most few =
         let many : length returned ≡ length ended = length-map ended (λ (e : Ended J S). e.worker) in
@@ -192,7 +192,7 @@ known_more {J} {S} grow n ended old new d below longer here known = λ k e low.
     subst (λ (x : Ended J S). IsTold new x.worker) (sym at) here)
     (cases_lt k n)
 
--- Where no thread was started, all came back as they went in.
+-- If no thread was started, all came back as they went in.
 pub all_came_back : {J S : Type 0} (sent : S → List SentReply) (failed : S → ℕ) (old : List (Worker J S)) → HaveComeBack sent failed old old
 all_came_back {J} {S} sent failed old = record {
   first = [];
@@ -204,7 +204,7 @@ all_came_back {J} {S} sent failed old = record {
   few = omega arith;
 }
 
--- Where no thread was started, the first came back as it went in, if there is one.
+-- If no thread was started, the first came back as it went in, if there is one.
 pub none_served : {J S : Type 0} (old : List (Worker J S)) → IsShort old old
 none_served [] = inr (inl refl)
 none_served (worker ∷ workers) = inr (inr (0, omega arith, λ other. refl))

@@ -6,7 +6,7 @@ use Rattle.std.proofs.lemmas.List.{length-append}
 use Rattle.ports.specs.Serves.{AreLast}
 
 module _ {X : Type 0} (first rest ahead : List X) (worker : X) where
-  -- While there is no rest the worker is none of those ahead any more.
+  -- If there is no rest the worker is none of those ahead any more.
   pub gone : rest ≡ [] → AreLast (rest ++ worker ∷ ahead) first → AreLast (rest ++ ahead) first
   gone none (front, is) = (
     front ++ worker ∷ [],
@@ -17,7 +17,7 @@ module _ {X : Type 0} (first rest ahead : List X) (worker : X) where
   pub rests : AreLast (rest ++ worker ∷ ahead) first → AreLast ((rest ++ worker ∷ []) ++ ahead) first
   rests (front, is) = (front, is ∙ ap (λ l. front ++ l) (sym (append_assoc rest (worker ∷ []) ahead)))
 
-  -- While there is no rest the worker stands at the place behind those that have a thread.
+  -- If there is no rest the worker is at the place after those that have a thread.
   pub next_is : (n : ℕ) (other : X) → rest ≡ [] → AreLast (rest ++ worker ∷ ahead) first → n + length (worker ∷ ahead) ≡ length first → get_or first n other ≡ worker
   next_is n other none (front, is) many =
       let all : first ≡ front ++ worker ∷ ahead = is ∙ ap (λ l. front ++ (l ++ worker ∷ ahead)) none in

@@ -89,7 +89,7 @@ follow_prefix port known (j ∷ js) reached is = by j.entered is (λ from rest. 
 
 -- ---- one command
 
--- what a command left at a bank: its entry, behind as many of its port as the share counted
+-- what a command left at a bank: its entry, after as many of its port as the share counted
 record HasLeft (port k : ℕ) (j : Judging) (h after : Standing) : Type 0 where
   before : List EntryValue
   entry : EntryValue
@@ -158,7 +158,7 @@ judged_left k j p h after is here =
 
 -- ---- all commands
 
--- an entry that stands in a history stands in one that goes on from it
+-- an entry that is in a history is in one that goes on from it
 entry_in_longer : (port : ℕ) (front log : List Link) (n : ℕ) (j : Judging) (e : EntryValue) → IsPrefix front log → IsEntryOf port front n j e → IsEntryOf port log n j e
 entry_in_longer port front log n j e begins is = record {
   known = is.known;

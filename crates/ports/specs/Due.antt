@@ -1,6 +1,6 @@
--- What became of the packets that a worker took, and the replies that are due then (ECSS-E-ST-50-52C). Banks and the
--- publisher stand behind locks: a command that left an entry stands in the one history of the node, and so does a load that
--- published; of any other it is known that some bank, or some list of publishes, was what it met.
+-- What became of the packets that a worker took, and the replies that are due then (ECSS-E-ST-50-52C). Locks guard the
+-- banks and the publisher. So a command that left an entry is in the one history of the node, and so is a load that
+-- published. Of any other it is known that some bank, or some list of publishes, was what it met.
 use Rattle.std.specs.Prelude.{◌≡◌, ◌⊎◌, ℕ, Bool, true, false, ◌&&◌, List, [], ◌∷◌, length, map, filter, Option, None, Some}
 use mathlib.Core.List.{IsPrefix}
 use Rattle.machine.specs.declared.calls.Call.{Call}
@@ -34,16 +34,16 @@ pub record Standing : Type 0 where
   pub asked : List Due
   pub front : List Link
 
--- the port that has this, asked for that, and knows so much
+-- the port that has this, asked for that, and knows that beginning of the history
 abbrev pub stand : PassValue → List Due → List Link → Standing
 stand pass asked front = record { pass = pass; asked = asked; front = front }
 
--- the port with that pass, which knows so much
+-- the port with that pass, which knows that beginning of the history
 abbrev pub standing : PortPass → List Link → Standing
 standing port front = stand port.pass port.asked front
 
--- a command that was judged: the program and the calls of its run, whether it left an entry in a bank's journal, what it
--- published, if it did, and the reply that is due
+-- A command that was judged: the program and the calls of its run, and whether it left an entry in a bank's journal. It
+-- also has what the command published, if it did, and the reply that is due.
 pub record Judging : Type 0 where
   pub judged : JudgedValue
   pub program : AcceptedValue
@@ -52,14 +52,14 @@ pub record Judging : Type 0 where
   pub loaded : Option Publish
   pub reply : List ℕ
 
--- what became of a packet: it was no command; or it was answered without a verdict, and that reply is due; or it was
--- judged
+-- What became of a packet. It was no command, or it was answered without a verdict, and that reply is due, or it was
+-- judged.
 pub data Deed : Type 0 where
   Dropped : Deed
   Answered : List ℕ → Deed
   Judged : Judging → Deed
 
--- the reply that is due, which is empty where none is
+-- the reply that is due, which is empty if none is
 abbrev pub reply_in : Deed → List ℕ
 reply_in Dropped = []
 reply_in (Answered reply) = reply
@@ -101,15 +101,16 @@ pub record IsDropped (p : Cargo) (h after : Standing) : Type 0 where
   pub discarded : discard_of p.bytes ≡ Some discard
   pub same : after ≡ h
 
--- a check of the header answered the packet, or none did and the reply is the general error of a packet that no program
--- judged; the port is as it was
+-- A check of the header answered the packet, or none did and the reply is the general error of a packet that no program
+-- judged. The port is as it was.
 pub record IsUnjudged (reply : List ℕ) (p : Cargo) (h after : Standing) : Type 0 where
   pub answered : ((status : Status) × IsStopped (stops.Answered status) p h.pass.windows reply)
       ⊎ IsUnread p h.pass.windows reply
   pub same : after ≡ h
 
--- a judged command ended at some bank with its chain: where it left an entry, that is the last of the history that the port
--- then knows, its port asked for it, and status and reply are the definition's on the replay of what stands before it there
+-- A judged command ended at some bank with its chain. If it left an entry, that is the last of the history that the
+-- port then knows, and its port asked for it. Status and reply are then the definition's on the replay of what is
+-- before it there.
 pub record HasFinished (known reached : List Link) (holder after : PassValue) (asked asks : List Due) (j : JudgedValue)
     (reply : List ℕ) : Type 0 where
   pub before : KeptValue
@@ -119,7 +120,8 @@ pub record HasFinished (known reached : List Link) (holder after : PassValue) (a
   pub finished : IsFinishedAt before behind known reached holder after j result reply
   pub asks_for : AsksForEntry before.chain.number holder j result asked asks
 
--- the command's place is a bank, and it ended at some bank, where it left an entry if it was applied and there was room
+-- The command's place is a bank, and it ended at some bank. If it was applied and there was room, it left an entry
+-- there.
 pub record IsBanked (judging : Judging) (h after : Standing) : Type 0 where
   pub number : ℕ
   pub place : judging.judged.place ≡ Bank number
@@ -129,8 +131,8 @@ pub record IsBanked (judging : Judging) (h after : Standing) : Type 0 where
       ≡ (takes ended.before (share_of h.pass judging.judged.place) judging.judged
       && has_room ended.before.bank judging.judged.port)
 
--- what a port knows of the history by a load: there was a moment after all that the port knew, at which that list had been
--- published and the port had done what it asked for; and there was one after it, at which both are what the load left
+-- What a port knows of the history by a load. At one moment after all that the port knew, that list had been published
+-- and the port had done what it asked for. At a later moment both are what the load left.
 pub record HasMet (port : ℕ) (known reached : List Link) (old new : List Publish) (asked asks : List Due) : Type 0 where
   pub met : List Link
   pub seen : IsPrefix known met
@@ -140,8 +142,8 @@ pub record HasMet (port : ℕ) (known reached : List Link) (old new : List Publi
   pub publishes : publishes_of reached ≡ new
   pub does : done_for port reached ≡ asks
 
--- a judged control write ended, where some list had been published, which began with all that the port knew; its port asked
--- for what it published, and for nothing else; and where in the history that was
+-- A judged control write ended when some list had been published, which began with all that the port knew. Its port
+-- asked for what it published, and for nothing else. The port knows where in the history that was.
 pub record HasLoadEnd (known reached : List Link) (holder after : PassValue) (asked asks : List Due) (j : JudgedValue)
     (reply : List ℕ) : Type 0 where
   pub old : List Publish
@@ -153,9 +155,9 @@ pub record HasLoadEnd (known reached : List Link) (holder after : PassValue) (as
   pub asks_for : AsksForLoad holder.port loaded old new asked asks
   pub moment : HasMet holder.port known reached old new asked asks
 
--- a judged command ended in the boot window, where some list had been published, which began with all that the port
--- knew; its port asked for what it published, and for nothing else. Of a control write the port knows where in the history that
--- was, and it forgets nothing
+-- A judged command ended in the boot window when some list had been published, which began with all that the port knew.
+-- Its port asked for what it published, and for nothing else. Of a control write the port knows where in the history
+-- that was, and it forgets nothing.
 pub record IsWindowed (judging : Judging) (h after : Standing) : Type 0 where
   pub old : List Publish
   pub new : List Publish
@@ -168,8 +170,8 @@ pub record IsWindowed (judging : Judging) (h after : Standing) : Type 0 where
   pub moment : judging.judged.place ≡ Control
       → HasMet h.pass.port h.front after.front old new h.asked after.asked
 
--- the command of the packet was judged in one run, which left the port so, by the programs that readers saw at one moment of the
--- history, after what the port knew; and it ended at some bank or in the boot window
+-- The command of the packet was judged in one run, which left the port so. The programs are those that readers saw at
+-- one moment of the history, after what the port knew. The command ended at some bank or in the boot window.
 pub record IsJudged (judging : Judging) (p : Cargo) (h after : Standing) : Type 0 where
   pub between : PassValue
   pub reached : List Link
@@ -180,7 +182,7 @@ pub record IsJudged (judging : Judging) (p : Cargo) (h after : Standing) : Type 
   pub ended : IsBanked judging (stand between h.asked reached) after
       ⊎ IsWindowed judging (stand between h.asked reached) after
 
--- what became of one packet and of its port: it was dropped, answered without a run, or judged
+-- what became of one packet and of its port: the packet was dropped, answered without a run, or judged
 abbrev pub IsDealt : Deed → Cargo → (h after : Standing) → Type 0
 IsDealt Dropped p h after = IsDropped p h after
 IsDealt (Answered reply) p h after = IsUnjudged reply p h after
@@ -193,7 +195,7 @@ Worked h [] (d ∷ ds) after = ⊥
 Worked h (p ∷ ps) [] after = ⊥
 Worked h (p ∷ ps) (d ∷ ds) after = (between : Standing) × IsDealt d p h between × Worked between ps ds after
 
--- some such deed became of the packet and of the port, with that reply; the packet was no command or not
+-- Some such deed became of the packet and of the port, with that reply. The packet was no command or not.
 pub record HasDealt (p : Cargo) (h after : Standing) (reply : List ℕ) (dropped : Bool) : Type 0 where
   pub deed : Deed
   pub dealt : IsDealt deed p h after

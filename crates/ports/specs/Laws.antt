@@ -23,8 +23,8 @@ use Rattle.annals.specs.Shown.{shown_of}
 use Rattle.target.specs.Lines.{CountsAllOf}
 use Rattle.ports.specs.Due.{Judging, Deed, Standing, Worked, judgings}
 
--- the verdict on a command is that of a run, for that port and with its calls, of the program that a beginning of those
--- publishes has in the command's slot
+-- The verdict on a command is that of a run, for that port and with its calls. A beginning of those publishes has the
+-- program of the run in the command's slot.
 pub record IsByPublished (published : List Publish) (port : ℕ) (judging : Judging) : Type 0 where
   pub seen : List Publish
   pub begins : IsPrefix seen published
@@ -82,8 +82,8 @@ WorkersSharesCount =
     (h after : Standing) (packets : List Cargo) (deeds : List Deed) → Worked h packets deeds after
     → SharesCount h.pass after.pass deeds
 
--- at one moment after what was known, and not after what was reached, readers saw the program in the command's slot by which it
--- was judged: so that was the last of its slot then
+-- At one moment after what was known, and not after what was reached, readers saw in the command's slot the program
+-- that judged it. So that program was then the last of its slot.
 pub record IsByShown (known reached : List Link) (judging : Judging) : Type 0 where
   pub at : List Link
   pub after : IsPrefix known at
@@ -91,9 +91,9 @@ pub record IsByShown (known reached : List Link) (judging : Judging) : Type 0 wh
   pub shown : judging_program (shown_of at) (slot_of (command_kind (command_of judging.judged.packet)) judging.judged.place)
       ≡ Some (judging.program, judging.judged.generation)
 
--- the command was done at a bank: it is the last of a history that goes on from what its port knew, and status and reply are
--- the definition's on the replay of what stands before it there; before it stands the publish of the program by which it was
--- judged, which was the last of its slot that readers saw at a moment after what its port knew
+-- The command was done at a bank. It is the last of a history that goes on from what its port knew. Status and reply
+-- are the definition's on the replay of what is before it there. Before it comes the publish of the program that judged
+-- it. Readers saw that program as the last of its slot at a moment after what its port knew.
 pub record HasEntered (port : ℕ) (known reached : List Link) (judging : Judging) : Type 0 where
   pub bank : ℕ
   pub share : ShareValue
@@ -102,8 +102,8 @@ pub record HasEntered (port : ℕ) (known reached : List Link) (judging : Judgin
   pub by : IsByPublished (publishes_of done.last.before) port judging
   pub moment : IsByShown known done.last.before judging
 
--- the entries of a port stand in the history in the order of its packets, each behind all that the port knew then; from what
--- left no entry the port may know more
+-- The entries of a port are in the history in the order of its packets, each after all that the port knew then. From
+-- what left no entry the port may know more.
 abbrev pub EntriesFollow : (port : ℕ) (known : List Link) → List Judging → (reached : List Link) → Type 0
 EntriesFollow port known [] reached = IsPrefix known reached
 EntriesFollow port known (judging ∷ judgings) reached =
@@ -111,8 +111,8 @@ EntriesFollow port known (judging ∷ judgings) reached =
     ((between : List Link) × HasEntered port known between judging × EntriesFollow port between judgings reached)
     (EntriesFollow port known judgings reached)
 
--- the entry is that of the command, which is the one of that number of its port at its bank, and stands in the history with the
--- status that the command was answered there
+-- The entry is that of the command, which is the one of that number of its port at its bank. It is in the history with
+-- the status of the command's answer there.
 pub record IsEntryOf (port : ℕ) (log : List Link) (number : ℕ) (judging : Judging) (entry : EntryValue) : Type 0 where
   pub known : List Link
   pub reached : List Link
@@ -128,23 +128,24 @@ AreEntriesOf port log number (judging ∷ judgings) [] = ⊥
 AreEntriesOf port log number (judging ∷ judgings) (entry ∷ entries) =
     IsEntryOf port log number judging entry × AreEntriesOf port log (number + 1) judgings entries
 
--- at each bank, the entries of the port in that history, but for those that its share counted at first, are those of its
--- commands that left one there, in order and each once
+-- At each bank, the entries of the port in that history are those that its share counted at first, and then those of
+-- its commands. Each command that left one there has one, in order and each once.
 abbrev pub AreAllEntries : List Link → PassValue → List Deed → Type 0
 AreAllEntries log h deeds =
     (k : ℕ) → k < length h.shares
     → AreEntriesOf h.port log (number_at h k) (filter (is_entry_at k) (judgings deeds))
     (drop (number_at h k) (entries_by h.port k log))
 
--- a history that goes on from what a worker knows in the end, and has no entries of its port but those that its shares count,
--- has none that no command of the worker left
+-- Let a history go on from what a worker knows in the end, with only those entries of its port that the shares count.
+-- Then the entries of the port in it are those that `AreAllEntries` gives.
 abbrev pub WorkersEntriesAreAll : Type 0
 WorkersEntriesAreAll =
     (h after : Standing) (packets : List Cargo) (deeds : List Deed) (log : List Link) → Worked h packets deeds after
     → IsPrefix after.front log → CountsAllOf after.pass log → AreAllEntries log h.pass deeds
 
--- each command of a worker that left an entry stands in the history that its port knows in the end, in order, with the status
--- and the reply of the definition on what stands before it, behind the publish of the program by which it was judged
+-- Each command of a worker that left an entry is in the history that its port knows in the end, in order. It has the
+-- status and the reply of the definition on what is before it there. It comes after the publish of the program by which
+-- it was judged.
 abbrev pub WorkersEntriesFollow : Type 0
 WorkersEntriesFollow =
     (h after : Standing) (packets : List Cargo) (deeds : List Deed) → Worked h packets deeds after
@@ -160,12 +161,13 @@ abbrev pub loaded_by : List Judging → List Publish
 loaded_by [] = []
 loaded_by (judging ∷ judgings) = with_loaded judging.loaded (loaded_by judgings)
 
--- the publishes of the port in that history, but for those that it had asked for at first, are those of its commands that
--- published, in order and each once
+-- The publishes of the port in that history are those that it had asked for at first, and then those of its commands
+-- that published. The latter are in order and each once.
 abbrev pub AreAllPublishes : List Link → Standing → List Deed → Type 0
 AreAllPublishes log h deeds = loads_by h.pass.port log ≡ loads_in h.asked ++ loaded_by (judgings deeds)
 
--- a history that has of a port what it asked for, and nothing else, has no publish of it that no command of the worker published
+-- If a history has of a port what it asked for, and nothing else, its publishes of the port are those that
+-- `AreAllPublishes` gives.
 abbrev pub WorkersPublishesAreAll : Type 0
 WorkersPublishesAreAll =
     (h after : Standing) (packets : List Cargo) (deeds : List Deed) (log : List Link) → Worked h packets deeds after

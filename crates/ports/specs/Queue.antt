@@ -13,13 +13,14 @@ use Rattle.ports.specs.declared.port.ServePass.{ServePass}
 abbrev pub log : Bool → Bool → List Item → List Item → Log
 log puts takes put taken = record { puts = puts; takes = takes; put = put; taken = taken }
 
--- a pass that may put is the writer's and has what was put, and a pass that may take is the reader's and has what was
--- taken
+-- A pass that may put is the writer's and has what was put. A pass that may take is the reader's and has what was
+-- taken.
 abbrev pub Fits : (writer reader : ℕ) → (put taken : List Item) → ℕ → Log → Type 0
 Fits writer reader put taken pass v =
     (v.puts ≡ true → (pass ≡ writer) × (v.put ≡ put)) × (v.takes ≡ true → (pass ≡ reader) × (v.taken ≡ taken))
 
--- in order: what was put is what was taken, then what the queue holds; one pass at most puts, and one at most takes
+-- In order: what was put is what was taken, and then what the queue holds. At most one pass puts, and at most one
+-- takes.
 abbrev pub InOrder : List Item → List Log → Type 0
 InOrder items views = (writer : ℕ) × (reader : ℕ) × (put : List Item) × (taken : List Item) × (put ≡ taken ++ items)
     × ((pass : ℕ) (v : Log) → get_elem? views pass ≡ some v → Fits writer reader put taken pass v)
@@ -44,7 +45,7 @@ IsPutPassOf port p = IsPassOf port.queue p.pass × ((view p.pass).puts ≡ true)
 abbrev pub IsServePassOf : Port → ServePass → Type 0
 IsServePassOf port p = IsPassOf port.queue p.pass × ((view p.pass).takes ≡ true)
 
--- the second pass is the first, later: of the port of which that was, and it may take
+-- The second pass is the first, later: it is of the same port, and it may take.
 abbrev pub IsServePassAfter : (old new : ServePass) → Type 0
 IsServePassAfter old new = IsSamePass old.pass new.pass × ((view new.pass).takes ≡ true)
 

@@ -20,13 +20,13 @@ use Rattle.ports.specs.declared.starts.Start.{Start}
 use Rattle.ports.specs.declared.worker.Worker.{Worker}
 use Rattle.ports.specs.declared.worker.Report.{Report}
 
--- the worker is that of the port, at a node of so many banks: it takes from the port's queue and has a share
--- of each bank
+-- The worker is that of the port, at a node of that many banks. It takes from the port's queue and has a share of each
+-- bank.
 pub record IsWorkerOf {J S : Type 0} (banks : ℕ) (port : Port) (worker : Worker J S) : Type 0 where
   pub pass : IsServePassOf port worker.serve_pass
   pub shares : length worker.pass.pass.shares ≡ banks
 
--- there are so many ports, and below that number each worker is that of the port at its place
+-- there are that many ports, and below that number each worker is that of the port at its place
 pub record AreServed {J S : Type 0} (banks n : ℕ) (ports : List Port) (workers : List (Worker J S)) : Type 0 where
   pub len : length ports ≡ n
   pub each : (k : ℕ) (port : Port) (worker : Worker J S) → k < n
@@ -39,7 +39,7 @@ pub record HasReturned {J S : Type 0} (sent : S → List SentReply) (failed : S 
   pub pass : IsServePassAfter old.serve_pass new.serve_pass
   pub shares : length new.pass.pass.shares ≡ length old.pass.pass.shares
 
--- what a thread gives back of its worker: the worker as it went in, or with a report, where it served its port
+-- what a thread gives back of its worker: the worker as it went in, or with a report if it served its port
 abbrev pub IsBack : {J S : Type 0} → (S → List SentReply) → (S → ℕ) → Worker J S → Worker J S → Option Report → Type 0
 IsBack sent failed old new report = MatchOption report (new ≡ old) (HasReturned sent failed old new)
 
@@ -70,7 +70,7 @@ pub record IsTotalOf (told : List (Option Report)) (total : Report) : Type 0 whe
   pub all : told ≡ map Some reports
   pub added : total ≡ total_of reports
 
--- the worker came back: as it went in, or behind its port's end mark
+-- the worker came back: as it went in, or after its port's end mark
 abbrev pub HasComeBack : {J S : Type 0} → (S → List SentReply) → (S → ℕ) → Worker J S → Worker J S → Type 0
 HasComeBack sent failed old new = (report : Option Report) × IsBack sent failed old new report
 
@@ -84,8 +84,8 @@ IsShort {J} {S} old new = (length new < length old) ⊎ (length old ≡ 0)
 abbrev pub AreLast : {X : Type 0} → List X → List X → Type 0
 AreLast {X} last all = (front : List X) × (all ≡ front ++ last)
 
--- what came back of workers that could not all be started: first those that had a thread, each come back,
--- then the last ones, as they went in; at most one is missing, the one between them
+-- What came back of workers that could not all be started. First come those that had a thread, each come back, and then
+-- the last ones, as they went in. At most one is missing, the one between them.
 pub record HaveComeBack {J S : Type 0} (sent : S → List SentReply) (failed : S → ℕ)
     (old new : List (Worker J S)) : Type 0 where
   pub first : List (Worker J S)
@@ -97,14 +97,14 @@ pub record HaveComeBack {J S : Type 0} (sent : S → List SentReply) (failed : S
   pub most : length new ≤ length old
   pub few : length old ≤ length new + 1
 
--- all that the worker's port knows stands in that history, and all that it asked for, done
+-- all that the worker's port knows is in that history, and so is all that it asked for, done
 abbrev pub IsTold : {J S : Type 0} → List Link → Worker J S → Type 0
 IsTold log worker =
     IsPrefix worker.front log × IsPrefix worker.pass.asked (done_for worker.pass.pass.port log)
 
--- what the workers know of the history of their node begins one list, which has no entries of their ports but those that their
--- shares count, and of their ports what they asked for, and nothing else; at each moment of it readers saw no program that was not
--- published, and in the end they see all
+-- What the workers know of the history of their node begins one list. It has no entries of their ports except those
+-- that their shares count. Of their ports it has what they asked for, and nothing else. At each moment of it readers
+-- saw no program that was not published, and in the end they see all.
 pub record ShareOneHistory {J S : Type 0} (workers : List (Worker J S)) : Type 0 where
   pub whole : List Link
   pub begin : All (λ (w : Worker J S). IsPrefix w.front whole) workers
@@ -113,10 +113,10 @@ pub record ShareOneHistory {J S : Type 0} (workers : List (Worker J S)) : Type 0
   pub listed : AreListed whole
   pub shown : length (publishes_of whole) ≤ shown_in whole
 
--- each worker served its port until the end mark and stands at its place again; that report is the sum of theirs; what they
--- know of the history of the node's banks begins one list, and of that list each entry of a worker's port, but for those
--- that its shares counted at first, is that of one command of the worker, in the order of its packets at each bank, and each
--- publish of its port, but for those that it had asked for at first, that of one of its loads
+-- Each worker served its port until the end mark and is at its place again. That report is the sum of theirs. What they
+-- know of the history of the node's banks begins one list. Each entry of a worker's port in it, except those that its
+-- shares counted at first, is that of one command of the worker. At each bank these are in the order of its packets.
+-- Each publish of its port in it, except those that it had asked for at first, is that of one of its loads.
 pub record HaveServed {J S : Type 0} (sent : S → List SentReply) (failed : S → ℕ) (banks : ℕ) (ports : List Port)
     (old new : List (Worker J S)) (total : Report) : Type 0 where
   pub reports : List Report
@@ -133,7 +133,7 @@ pub record HaveServed {J S : Type 0} (sent : S → List SentReply) (failed : S �
   pub publishes : (k : ℕ) (worker : Worker J S) (report : Report) (below : k < length old)
       → AreAllPublishes history.whole (standing_of (slice_index_or old k worker)) (each k worker report below).served.deeds
 
--- the list is empty and has room for so many
+-- the list is empty and has room for that many
 abbrev pub HasRoomFor : {X Z : Type 0} → ℕ → Vec X Z → Type 0
 HasRoomFor n list = (vec_len list ≡ 0) × (n ≤ vec_capacity list)
 

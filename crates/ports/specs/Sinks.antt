@@ -1,7 +1,7 @@
 -- What a sink does with a reply.
 use Rattle.std.specs.Prelude.{◌≡◌, ℕ, ◌+◌, List, [], ◌∷◌, ◌++◌, map, min}
 
--- a reply, behind the number of the port at which it was due
+-- a reply, after the number of the port at which it was due
 abbrev pub SentReply : Type 0
 SentReply = ℕ × List ℕ
 

@@ -8,14 +8,14 @@ use Rattle.ports.specs.Due.{Deed, Standing, Worked, due, discarded, standing}
 use Rattle.ports.specs.Queue.{taken_of}
 use Rattle.ports.specs.Sinks.{SentReply, cut, sent_at}
 
--- the second list is the first without so many of its replies
+-- the second list is the first without that many of its replies
 abbrev pub IsThinned : List SentReply → List SentReply → ℕ → Type 0
 IsThinned [] kept lost = (kept ≡ []) × (lost ≡ 0)
 IsThinned (r ∷ rs) kept lost =
     ((rest : List SentReply) × (kept ≡ r ∷ rest) × IsThinned rs rest lost)
     ⊎ ((fewer : ℕ) × (lost ≡ suc fewer) × IsThinned rs kept fewer)
 
--- the sink took these replies in order, all but the lost ones, which it counts
+-- the sink took these replies in order, except the lost ones, which it counts
 pub record HasTaken (sent sent' : List SentReply) (failed failed' : ℕ)
     (replies : List SentReply) (lost : ℕ) : Type 0 where
   pub kept : List SentReply
@@ -27,8 +27,8 @@ pub record HasTaken (sent sent' : List SentReply) (failed failed' : ℕ)
 abbrev pub report_sum : Report → Report → Report
 report_sum a b = record { discarded = cut (a.discarded + b.discarded); lost = cut (a.lost + b.lost) }
 
--- of each packet and of the port became what is due, the sink took the replies that were due, with the port's number,
--- and the report counts the packets that were no command and the replies that were lost
+-- What is due became of each packet and of the port. The sink took the replies that were due, with the port's number.
+-- The report counts the packets that were no command and the replies that were lost.
 pub record HasServed {S : Type 0} (sent : S → List SentReply) (failed : S → ℕ) (h after : Standing) (sink sink' : S)
     (packets : List Cargo) (report : Report) : Type 0 where
   pub deeds : List Deed

@@ -1,11 +1,12 @@
-//! What is told of a worker's way from packet to packet.
+//! What a worker reports on its way from packet to packet.
 
-/// What a worker calls round each packet. No lock is held meanwhile.
+/// What a worker calls round each packet. The worker holds no lock meanwhile.
 pub trait Gate {
-    /// The packet of that number at that port was taken, and is to be judged. Packets count from 0.
+    /// The worker took the packet of that number at that port, and is to judge it. Packets count from 0.
     fn before(&self, port: u8, number: u64);
 
-    /// The packet of that number at that port was dealt with: its reply was handed to the sink, where one was due.
+    /// The worker dealt with the packet of that number at that port. If a reply was due, the worker handed it to the
+    /// sink.
     fn after(&self, port: u8, number: u64);
 }
 

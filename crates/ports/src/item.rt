@@ -12,8 +12,8 @@ pub enum Item {
     Mark,
 }
 
-/// What a pass may do, what it has put and what it has taken, in order: the view of a pass, which stands in
-/// contracts alone. No value of it is made.
+/// What a pass may do, what it has put and what it has taken, in order: the view of a pass, which only contracts use.
+/// No value of it is made.
 pub struct Log {
     pub puts: bool,
     pub takes: bool,

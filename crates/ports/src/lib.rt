@@ -1,7 +1,9 @@
-//! The ports of a target, as threads serve them: a [`Port`] is a queue that one producer fills ([`Port::put`], and at
-//! the end [`Port::close`]), and a [`Worker`] takes from it in order, judges each packet, and hands the replies that
-//! are due to its [`Sink`] ([`work`]). [`serve`] has all ports served, each in a thread of its own. What is taken is a
-//! beginning of what was put, in order, each once.
+//! The ports of a target, as threads serve them.
+//!
+//! A [`Port`] is a queue that one producer fills ([`Port::put`], and at the end [`Port::close`]). A [`Worker`] takes
+//! from it in order, judges each packet, and hands the replies that are due to its [`Sink`] ([`work`]). [`serve`] has
+//! all ports served, each in a thread of its own. What a worker takes is a beginning of what the producer put, in
+//! order, each item once.
 #![tactic(auto)]
 
 mod gate;

@@ -1,4 +1,4 @@
-//! The whole way of one packet, with the node's banks and publisher behind their locks.
+//! The whole way of one packet, with the node's banks and publisher, which locks guard.
 
 ghost use Rattle.std.specs.Prelude.{◌≡◌, ◌<◌, length};
 ghost use Rattle.rmap.specs.declared.places.Place.TheVariants.{Control};
@@ -16,8 +16,9 @@ use std::alloc::Global;
 use std::sync::{MutexGuard, Wait};
 use target::{BankLock, Family, Front, Node, Pass, Step, finish, judge, load, stage};
 
-/// Ends a judged command at the bank behind the lock. Where it leaves an entry, that is the last of the history that the port
-/// then knows. The condition is the lock of the bank that is the command's place, of which the pass has a share.
+/// Ends a judged command at the bank that the lock guards. If it leaves an entry, that is the last of the history that
+/// the port then knows. The condition is the lock of the bank that is the command's place, of which the pass has a
+/// share.
 fn finish_locked<R: Wait, J: Family>(
     rt: &R,
     lock: &BankLock<J>,
@@ -83,11 +84,15 @@ fn load_locked<R: Wait, J: Family, Q: Wait + Drop>(
 }
 
 /// Serves one packet of a port: judges it, and ends it at the bank of its place, at the port's staging, or as a load.
-/// `reply` holds the reply that is due then, if any. Whether the packet was no command. The lock of the bank is held
-/// round `finish` alone, the publisher's round `load` and what the port learns there, and none round `judge`. A command that leaves
-/// an entry at a bank is the last of the history that the port then knows. Of a load the port knows where in that history it was. Of
-/// any other it is said that some bank, or some list of publishes, was what it met. The program that judges is the last of its slot that readers saw at one moment after what the port knew.
-/// The condition is a pass with a share of each bank of the node.
+/// `reply` holds the reply that is due then, if any. The call says whether the packet was no command.
+///
+/// It holds the lock of the bank only round `finish`. It holds the publisher's only round `load` and what the port
+/// learns there. It holds none round `judge`.
+///
+/// A command that leaves an entry at a bank is the last of the history that the port then knows. Of a load the port
+/// knows where in that history it was. Any other command met some bank, or some list of publishes, and the contract
+/// says no more. The program that judges is the last of its slot that readers saw at one moment after what the port
+/// knew. The condition is a pass with a share of each bank of the node.
 pub(crate) fn serve_packet<R: Wait, J: Family, Q: Wait + Drop>(
     rt: &R,
     alloc: Global,

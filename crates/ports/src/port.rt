@@ -83,11 +83,11 @@ impl Lesson<Item, Log> for Total {
     ghost fact = { λ v items. v.put ≡ v.taken ++ items };
 }
 
-/// Why an item was not put: the queue was full, or 2^62 items were put.
+/// Why the queue took no item: it was full, or 2^62 items were put.
 #[derive(Clone, Copy, Debug, PartialEq, Eq)]
 pub struct Full;
 
-/// A port: its queue, and what wakes its worker. Producer and worker share it; each has a pass of its own.
+/// A port: its queue, and what wakes its worker. Producer and worker share it, and each has a pass of its own.
 #[derive(Drop)]
 pub struct Port {
     queue: RuledArrayQueue<Item, Log, InOrder>,
@@ -109,8 +109,8 @@ pub struct ServePass {
 }
 
 impl Port {
-    /// A port whose queue is empty and has room for so many items, and the passes of its producer and of its
-    /// worker. The condition is a capacity of 1 to [`MAX_CAPACITY`]. Its room is taken here, and does not grow.
+    /// A port whose queue is empty and has room for that many items, and the passes of its producer and of its worker.
+    /// The condition is a capacity of 1 to [`MAX_CAPACITY`]. The call takes the room, which does not grow.
     ///
     /// # Errors
     ///
@@ -161,13 +161,13 @@ impl Port {
         Ok(())
     }
 
-    /// Puts a packet at the queue's end. It may wait for a thread that is taking. The condition is this port's
-    /// pass.
+    /// Puts a packet at the queue's end. It may wait for a thread that is taking. The condition is this port's pass.
     ///
     /// # Errors
     ///
-    /// [`Full`], with the packet as it came, where the queue is full or 2^62 items were put: proved is that as many were
-    /// put as it has room for, and that it was full at some moment of the call is tested. Nothing was put.
+    /// [`Full`], with the packet as it came, if the queue is full or 2^62 items were put. Nothing was put. It is proved
+    /// that as many items were put as the queue has room for. It is tested that the queue was full at some moment of
+    /// the call.
     pub fn put<R: Wait>(
         &self,
         rt: &R,
@@ -188,12 +188,12 @@ impl Port {
         }
     }
 
-    /// Puts the end mark at the queue's end: the worker that takes it ends. It may wait for a thread that is
-    /// taking. The condition is this port's pass.
+    /// Puts the end mark at the queue's end: the worker that takes it ends. It may wait for a thread that is taking.
+    /// The condition is this port's pass.
     ///
     /// # Errors
     ///
-    /// [`Full`], as of [`Port::put`]. No end mark was put.
+    /// [`Full`], as of [`Port::put`]. The queue has no new end mark.
     pub fn close<R: Wait>(&self, rt: &R, pass: &mut PutPass) -> Result<(), Full>
         requires { IsPutPassOf self.now pass.old }
         ensures pass { IsPutPassOf self.now pass.new }
@@ -207,7 +207,7 @@ impl Port {
         }
     }
 
-    /// Takes the item at the queue's front. It waits for one, and parks where a look found none. The condition is this
+    /// Takes the item at the queue's front. It waits for one, and parks if a look found none. The condition is this
     /// port's pass.
     pub fn take<R: Wait>(&self, rt: &R, pass: &mut ServePass) -> Item
         requires { IsServePassOf self.now pass.old }
@@ -224,10 +224,10 @@ impl Port {
         unreachable!()
     }
 
-    /// Takes the worker's pass back into the producer's, and so ends the port: the producer may still put, and
-    /// nobody takes. What the worker has taken is a beginning of what was put, in order, each once. What its port has
-    /// of its node, and knows of the history of the node's banks, stays with the worker's other fields. The condition
-    /// is two passes of this port.
+    /// Takes the worker's pass back into the producer's, and so ends the port: the producer may still put, and nobody
+    /// takes. What the worker has taken is a beginning of what was put, in order, each once. The worker's other fields
+    /// keep what its port has of its node, and what it knows of the history of the node's banks. The condition is two
+    /// passes of this port.
     pub fn rejoin(&self, pass: &mut PutPass, serve_pass: ServePass)
         requires puts { IsPutPassOf self.now pass.old }
         requires serves { IsServePassOf self.now serve_pass }

@@ -23,7 +23,7 @@ use thiserror::Error;
 /// Why ports were not served.
 #[derive(Clone, Copy, Debug, PartialEq, Eq, Error)]
 pub enum ServeFault {
-    /// A worker could not be started: memory was refused, or a thread.
+    /// A worker could not be started: memory was refused, or no thread could be made.
     #[error("no memory")]
     Memory,
 }
@@ -57,7 +57,7 @@ fn join_each<R: Threads, T: Drop, P: Promise<T>>(
     all
 }
 
-/// The sum of two reports, where both are there.
+/// The sum of two reports, if both are there.
 fn both(total: Option<Report>, report: Option<Report>) -> Option<Report>
     ensures sum { IfSome result (IsSumOf total report) }
     ensures none { IfNone result ((total ≡ None) ⊎ (report ≡ None)) }
@@ -78,8 +78,8 @@ fn show_all<R: Wait, J: Family, Q: Wait + Drop>(rt: &R, node: &Node<J, Q>, known
     MutexGuard::unlock(guard);
 }
 
-/// What anybody knew of the history, all that the workers know of it, all that their ports did there, and all that was published,
-/// which readers see.
+/// What anybody knew of the history, all that the workers know of it, all that their ports did there, and all that was
+/// published. Readers see all these publishes.
 fn all_known<R: Wait, J: Family, Q: Wait + Drop, S: Sink + Drop>(
     rt: &R,
     node: &Node<J, Q>,
@@ -99,9 +99,10 @@ fn all_known<R: Wait, J: Family, Q: Wait + Drop, S: Sink + Drop>(
     known
 }
 
-/// The workers that came back, in order, in a list that has the room, and the sum of their reports where each served. What
-/// the workers know of the history begins one list, which has no entries of their ports but those that their shares count, and
-/// of their ports what they asked for.
+/// The workers that came back, in order, in a list that has the room, and, if each served, the sum of their reports.
+///
+/// What the workers know of the history begins one list. It has no entries of their ports except those that their
+/// shares count. Of their ports it has what they asked for.
 fn gather<R: Wait, J: Family, Q: Wait + Drop, S: Sink + Drop>(
     rt: &R,
     node: &Node<J, Q>,
@@ -132,7 +133,7 @@ fn gather<R: Wait, J: Family, Q: Wait + Drop, S: Sink + Drop>(
     (workers, total)
 }
 
-/// The sum of the reports, where all workers were started.
+/// The sum of the reports, if all workers were started.
 fn of_all(all: bool, total: Option<Report>) -> Option<Report>
     ensures sum { IfSome result (λ report. (all ≡ true) × (total ≡ Some report)) }
     ensures none { IfNone result ((all ≡ false) ⊎ (total ≡ None)) }
@@ -140,7 +141,7 @@ fn of_all(all: bool, total: Option<Report>) -> Option<Report>
     if all { total } else { None }
 }
 
-/// The workers, and behind them the rest, for which there is room.
+/// The workers, and after them the rest, for which there is room.
 fn with_rest<T: Drop>(mut workers: Vec<T>, rest: Vec<T>) -> Vec<T>
     requires { vec_len workers + vec_len rest ≤ vec_capacity workers }
     ensures { result.items ≡ workers.items ++ rest.items }
@@ -154,22 +155,24 @@ fn with_rest<T: Drop>(mut workers: Vec<T>, rest: Vec<T>) -> Vec<T>
 }
 
 /// Serves each port by the worker at its place, each in a thread of its own, until every worker has taken its port's
-/// end mark. No worker takes a packet before all threads were started. It waits for the threads. The conditions are
-/// one worker a port, in order, with the port's serve pass, and passes that have as many banks as the node.
+/// end mark. No worker takes a packet before all threads were started. It waits for the threads. The conditions are one
+/// worker a port, in order, with the port's serve pass, and passes that have as many banks as the node.
 ///
-/// What comes back are the workers, in order, and the sum of their reports. Each command that left an entry at a bank stands
-/// in what its worker knows then of the history of the node's banks, and what the workers know begins one list. Of that list
-/// each entry of a worker's port, but for those that the port had left before, is that of one of these commands: at each bank
-/// they stand in the order of the port's packets, each once. And each publish of a worker's port there, but for those that the
-/// port had asked for before, is that of one of its loads, in the order of its packets, each once. Of entries and publishes of
-/// ports that were not served nothing is said.
+/// What comes back are the workers, in order, and the sum of their reports. What the workers know of the history of the
+/// node's banks begins one list. Each command that left an entry at a bank is in what its worker knows of it.
+///
+/// - Each entry of a worker's port in that list, except those that the port had left before, is that of one of these
+///   commands. At each bank they are in the order of the port's packets, each once.
+/// - Each publish of a worker's port there, except those that the port had asked for before, is that of one of its
+///   loads. They are in the order of its packets, each once.
+/// - Of entries and publishes of ports that were not served the contract says nothing.
 ///
 /// # Errors
 ///
-/// [`ServeFault::Memory`]: memory was refused, or a thread could not be made. The workers come back in order, each as it
-/// went in or behind its port's end mark; at most one is missing, the one whose thread could not be made. Where none is,
-/// they may serve their ports again. It comes only where fewer workers come back than went in, or one of them is as it
-/// went in, or there are none. That no packet was taken then is tested.
+/// [`ServeFault::Memory`]: memory was refused, or a thread could not be made. The workers come back in order, each as
+/// it went in or after its port's end mark. At most one is missing, the one whose thread could not be made. If none is
+/// missing, they may serve their ports again. The fault comes only if fewer workers come back than went in, or one of
+/// them is as it went in, or there are none. It is tested that no packet was taken then.
 pub fn serve<
     R: Threads + Wait + Sync,
     J: Family + Send + Sync + 'static,

@@ -16,7 +16,7 @@ pub trait Sink {
     ghost use Rattle.std.specs.Prelude.{List, ℕ};
     ghost use Rattle.ports.specs.Sinks.{IsSent, IsUnsent};
 
-    /// The replies taken, in order, each behind the number of its port.
+    /// The replies taken, in order, each after the number of its port.
     ghost sent: { Self → List (ℕ × List ℕ) };
 
     /// How many replies were not taken, at most 2^64 - 1.
@@ -26,13 +26,13 @@ pub trait Sink {
     ///
     /// # Errors
     ///
-    /// The reply was not taken, and counts among the failures.
+    /// The sink did not take the reply, and counts it among the failures.
     fn send(&mut self, port: u8, reply: &[u8]) -> Result<(), SinkFault>
         ensures sent { MatchResult result
             (λ _. IsSent (sent self.old) (sent self.new) (failed self.old) (failed self.new) port reply.now)
             (λ _. IsUnsent (sent self.old) (sent self.new) (failed self.old) (failed self.new)) };
 
-    /// How many replies were not taken; it stays at 2^64 - 1.
+    /// How many replies the sink did not take. The count stays at 2^64 - 1.
     fn failures(&self) -> u64
         ensures failures { result ≡ failed self.now };
 }
@@ -59,7 +59,7 @@ impl Model for Replies {
     } };
 }
 
-/// The bytes of a reply, as their own list behind the others.
+/// Adds the bytes of a reply, as a list of their own, after the others.
 fn keep(alloc: Global, replies: &mut Vec<Vec<u8>>, reply: &[u8]) -> Result<(), AllocError>
     ensures kept { OnOk result
         (map vec_items replies.new.items ≡ map vec_items replies.old.items ++ reply.now ∷ []) }
@@ -99,7 +99,7 @@ impl Sink for Replies {
     ///
     /// # Errors
     ///
-    /// The port is another, or memory was refused: the list is as it was.
+    /// The port is another, or memory was refused. The list is as it was.
     fn send(&mut self, port: u8, reply: &[u8]) -> Result<(), SinkFault> {
         if port != self.port || keep(self.alloc, &mut self.replies, reply).is_err() {
             self.failed = self.failed.saturating_add(1);

@@ -15,7 +15,7 @@ use std::thread;
 use std::thread::{Promise, PromisedHandle, Threads};
 use target::{Family, Node};
 
-/// What a thread gives back: its worker, and the worker's report where it served.
+/// What a thread gives back: its worker, and the worker's report if it served.
 #[derive(Drop)]
 pub(crate) struct Ended<J: Family, S: Sink + Drop> {
     pub worker: Worker<J, S>,
@@ -25,7 +25,7 @@ pub(crate) struct Ended<J: Family, S: Sink + Drop> {
 /// The thread of a worker.
 pub(crate) type Thread<J, S> = PromisedHandle<Ended<J, S>, Start<J, S>>;
 
-/// What a thread promises: the worker that comes back, with a report, is this one behind its end mark.
+/// What a thread promises: the worker that comes back with a report is this one after its end mark.
 #[derive(Drop)]
 pub(crate) struct Start<J: Family, S: Sink + Drop>(Snapshot<Worker<J, S>>);
 
@@ -35,7 +35,7 @@ impl<J: Family, S: Sink + Drop> Promise<Ended<J, S>> for Start<J, S> {
     ghost kept_by = { λ p r. IsBack S.sent S.failed p.0.value r.worker r.report };
 }
 
-/// Serves the port where all threads were started, and else hands the worker back as it came.
+/// Serves the port if all threads were started. Otherwise it hands the worker back as it came.
 fn worked_on<R: Wait, J: Family, Q: Wait + Drop, S: Sink + Drop, G: Gate>(
     rt: &R,
     alloc: Global,
@@ -64,7 +64,7 @@ fn worked_on<R: Wait, J: Family, Q: Wait + Drop, S: Sink + Drop, G: Gate>(
     }
 }
 
-/// The port of a worker, which stands at this place.
+/// The port of a worker, which is at this place.
 fn port_of<'a, J: Family, S: Sink + Drop, Q: Wait + Drop>(
     node: &Node<J, Q>,
     ports: &'a [Port],
@@ -87,7 +87,7 @@ pub(crate) struct Started<J: Family, S: Sink + Drop> {
     pub all: bool,
 }
 
-/// Starts a thread for each worker, as far as threads can be made. They begin to serve once all were started, and have
+/// Starts a thread for each worker, as far as threads can be made. They begin to serve after all were started, and have
 /// ended when this returns.
 pub(crate) fn start_each<
     R: Threads + Wait + Sync,

@@ -7,7 +7,7 @@ use crate::port::ServePass;
 use crate::sink::Sink;
 use target::{Family, Front, Pass};
 
-/// What serves a port: what the port has of its node and knows of its history, what takes from its queue, and where its replies go.
+/// What serves a port: what the port has of its node and knows of its history, what takes from its queue, and its sink.
 #[derive(Drop)]
 pub struct Worker<J: Family, S: Sink + Drop> {
     /// What the port has of its node.
@@ -16,7 +16,7 @@ pub struct Worker<J: Family, S: Sink + Drop> {
     pub front: Front<J>,
     /// What takes from the port's queue.
     pub serve_pass: ServePass,
-    /// Where the port's replies go.
+    /// The sink of the port's replies.
     pub sink: S,
 }
 

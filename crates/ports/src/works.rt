@@ -18,7 +18,7 @@ use std::alloc::Global;
 use std::sync::Wait;
 use target::{Family, Front, Node, Pass};
 
-/// Hands a reply to the sink, where there is one. How many replies were lost: 0 or 1.
+/// Hands a reply to the sink, if there is one. It gives how many replies were lost: 0 or 1.
 #[tactic(auto, using(crate::proofs::Sending::lost_one))]
 fn send<S: Sink>(sink: &mut S, port: u8, reply: &[u8]) -> u64
     ensures { HasTaken (S.sent sink.old) (S.sent sink.new) (S.failed sink.old) (S.failed sink.new)
@@ -33,8 +33,8 @@ fn send<S: Sink>(sink: &mut S, port: u8, reply: &[u8]) -> u64
     }
 }
 
-/// Serves one packet, and hands the reply that is due to the sink. The report of this packet alone. `reply` is where the
-/// reply is written. The condition is a pass with a share of each bank of the node.
+/// Serves one packet, and hands the reply that is due to the sink. It gives the report of only this packet. `reply` is
+/// where the reply is written. The condition is a pass with a share of each bank of the node.
 fn one_more<R: Wait, J: Family, Q: Wait + Drop, S: Sink>(
     rt: &R,
     alloc: Global,
@@ -58,15 +58,15 @@ fn one_more<R: Wait, J: Family, Q: Wait + Drop, S: Sink>(
 
 /// Serves a port until the end mark: takes packet after packet, serves each, and hands the reply that is due to the
 /// worker's sink. Round each packet it calls the gate, with the port and the number of the packet, which wraps past
-/// 2^64 - 1. It waits for packets, and for the locks of banks and of the publisher, and holds none while it calls the
+/// 2^64 - 1. It waits for packets, and for the locks of banks and of the publisher. It holds none while it calls the
 /// gate or the sink, or while a program runs. The condition is a worker of that port, whose pass has a share of each
 /// bank of the node.
 ///
-/// A command that left an entry at a bank stands in the one history of the node's banks, behind all that the port knew, and
-/// its status and reply are the definition's on the replay of what stands before it there. The port asks in its line for each
-/// entry and each publish of its commands, in the order of its packets, and for nothing else. Of any other command at a bank, and
-/// of a load, it is said that some bank, or some list of publishes, was what it met: a lock hides which. What the gate
-/// is told, and that no lock is held meanwhile, is tested.
+/// A command that left an entry at a bank is in the one history of the node's banks, after all that the port knew. Its
+/// status and reply are the definition's on the replay of what is before it there. The port asks in its line for each
+/// entry and each publish of its commands, in the order of its packets, and for nothing else. Any other command at a
+/// bank met some bank, and a load met some list of publishes: a lock hides which. It is tested what the gate is given,
+/// and that the worker holds no lock meanwhile.
 pub fn work<R: Wait, J: Family, Q: Wait + Drop, S: Sink + Drop, G: Gate>(
     rt: &R,
     alloc: Global,

@@ -9,20 +9,20 @@ use Rattle.publish.specs.Reached.{Known, known}
 pub use Rattle.lemmas.proofs.Prefixes.{prefix_same}
 use Rattle.lemmas.proofs.Prefixes.{prefix_trans, prefix_whole, prefix_length}
 
--- what stands in a beginning stands in the whole, at the same place
+-- what is in a beginning is in the whole, at the same place
 pub prefix_get : {A : Type 0} (xs ys : List A) (k : ℕ) (x : A) → IsPrefix xs ys → slice_get xs k ≡ Some x → slice_get ys k ≡ Some x
 prefix_get [] ys k x p h = absurd cc
 prefix_get (y ∷ xs) [] k x p h = absurd (cc (p.1))
 prefix_get (y ∷ xs) (z ∷ ys) zero x p h = cc (p.1, h)
 prefix_get (y ∷ xs) (z ∷ ys) (suc k) x p h = prefix_get xs ys k x (p.0, cc (p.1)) h
 
--- a reader that was told of programs which what it knew begins
+-- a reader that learnt of programs which what it knew begins
 pub learnt : (old new : Known) (told programs : List Publish) → told ≡ programs → IsPrefix old.programs programs → (length old.programs ≤ length told → new ≡ known told old.inside) → new.programs ≡ programs
 learnt old new told programs is begins longer =
     let less : length old.programs ≤ length told = subst (λ (l : List Publish). length old.programs ≤ length l) (sym is) (prefix_length old.programs programs begins) in
     ap (λ (r : Known). r.programs) (longer less) ∙ is
 
--- of two beginnings of one history that with fewer publishes has those that begin the other's
+-- two beginnings of one history: the one with fewer publishes has those that begin the other's
 pub prefix_of_two : (xs ys : List Link) → PublishesGrow → IsPrefix xs ys ⊎ IsPrefix ys xs → length (publishes_of xs) ≤ length (publishes_of ys) → IsPrefix (publishes_of xs) (publishes_of ys)
 prefix_of_two xs ys grow (inl p) le = grow xs ys p
 prefix_of_two xs ys grow (inr p) le = prefix_same (publishes_of xs) (publishes_of ys) (prefix_whole (publishes_of ys) (publishes_of xs) (grow ys xs p) le)
@@ -31,7 +31,7 @@ pub swapped : {A B : Type 0} → A ⊎ B → B ⊎ A
 swapped (inl a) = inr a
 swapped (inr b) = inl b
 
--- a moment after what somebody saw is one after what he had seen before
+-- a moment after what somebody saw is one after what this one had seen before
 pub taken_since : (known first reached : List Link) (programs same : List Publish) → IsPrefix known first → programs ≡ same → IsTakenAt first reached programs → IsTakenAt known reached same
 taken_since known first reached programs same begins is at = record {
   at = at.at;

@@ -15,11 +15,11 @@ IsFirst sizes first = (first.0 ≤ 3) × (first.1.sizes ≡ sizes)
 abbrev pub first_entry : ℕ × AcceptedValue → Publish
 first_entry first = entry first.0 first.1
 
--- the publishes of a node: its factory program, and behind it those in order
+-- the publishes of a node: its factory program, and after it those in order
 abbrev pub programs_with : (factory : AcceptedValue) → List (ℕ × AcceptedValue) → List Publish
 programs_with factory firsts = entry 0 factory ∷ map first_entry firsts
 
--- the line, once it asked for them in order
+-- the line, after it asked for them in order
 abbrev pub line_with_firsts : LineValue → List (ℕ × AcceptedValue) → LineValue
 line_with_firsts line [] = line
 line_with_firsts line (first ∷ firsts) = line_with_firsts (line_loading line (first_entry first)) firsts

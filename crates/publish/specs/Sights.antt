@@ -1,4 +1,4 @@
--- The rule of the table of programs, and what a reader's step on it tells.
+-- The rule of the table of programs, and what a reader's step on it reports.
 use Rattle.std.specs.Prelude.{◌≡◌, ℕ, List}
 use mathlib.Core.List.{IsPrefix}
 use mathlib.Core.Option.{some}

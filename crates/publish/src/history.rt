@@ -1,5 +1,5 @@
-//! The history of a node's programs, and the right to add to it: the chain of the publishes in the node's annals. It exists
-//! in proofs alone: what is kept is its length.
+//! The history of a node's programs, and the right to add to it: the chain of the publishes in the node's annals. It
+//! exists only in proofs: what is kept is its length.
 
 ghost use Rattle.std.specs.Prelude.{◌≡◌, ◌<◌, ◌≤◌, ◌^◌, ◌∷◌, [], IfOk, length};
 ghost use Rattle.std.specs.Arc.{arc_value};
@@ -44,12 +44,12 @@ impl Opened {
         }
     }
 
-    /// The chain of its publishes, in which nothing was published yet, the instrument's line, and the word that counts what readers
-    /// see: nobody adds to other chains.
+    /// The chain of its publishes, in which nothing was published yet, the instrument's line, and the word that counts
+    /// what readers see. Nobody adds to other chains.
     ///
     /// # Errors
     ///
-    /// The chain has begun already (no test met that).
+    /// `AllocError` if the chain has begun already (no test met that).
     pub fn into_publishes<J: Family>(self) -> Result<(Chain<J>, Line<J>, ShownCount<J>), AllocError>
         requires { self ≡ J.book }
         ensures number { IfOk result (λ made. made.0.number ≡ publishes_chain) }
@@ -222,7 +222,7 @@ impl Front {
         }
     }
 
-    /// Takes over another beginning where that is not shorter. Either begins the longer one.
+    /// Takes over another beginning if that is not shorter. Either begins the longer one.
     pub(crate) fn advance(&mut self, other: &Front)
         requires { other.now.family ≡ self.old.family }
         ensures longer { length self.old.programs ≤ length other.now.programs

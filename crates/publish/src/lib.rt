@@ -1,10 +1,12 @@
 //! Who judges now: four program slots that every port reads and one publisher changes.
 //!
 //! [`Programs::new`] makes the [`Publisher`] and a [`Reader`] for each port. The list of publishes is a chain of the
-//! node's annals, and what is known of it is carried by tokens of that one history, which exists in proofs alone: a
-//! [`Reader`] knows a beginning of it, [`Publisher::install`] adds to it, as a line asks, and tells how far it went then
-//! ([`Told`]), [`Reader::take`] shows the program that judges at a slot ([`Taken`]), and [`Reader::tell`] lets its port know in that
-//! history what the reader knows.
+//! node's annals. Tokens of that one history, which exists only in proofs, carry what is known of it:
+//!
+//! - A [`Reader`] knows a beginning of the list.
+//! - [`Publisher::install`] adds to it, as a line asks, and gives how far it went then ([`Told`]).
+//! - [`Reader::take`] shows the program that judges at a slot ([`Taken`]).
+//! - [`Reader::tell`] lets its port know in that history what the reader knows.
 #![tactic(auto)]
 
 mod history;

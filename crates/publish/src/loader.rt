@@ -1,4 +1,4 @@
-//! What a port has to load with.
+//! What a port needs to load.
 
 use crate::reader::Reader;
 use annals::{Family, Line};

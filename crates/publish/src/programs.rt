@@ -23,13 +23,13 @@ use std::sync::{Arc, Wait};
 pub struct Programs;
 
 impl Programs {
-    /// The programs of a node: what publishes them, so many readers of them, and the instrument's line of the history, which asked
-    /// for the factory program. Each slot begins with that, of generation 0. The publisher keeps `rt`, since its end waits for
-    /// readers.
+    /// The programs of a node: what publishes them, that many readers, and the instrument's line of the history, which
+    /// asked for the factory program. Each slot begins with that program, of generation 0. The publisher keeps `rt`,
+    /// since its end waits for readers.
     ///
     /// # Errors
     ///
-    /// Memory is refused, or the history has begun already (no test met that).
+    /// `AllocError` if memory was refused, or the history has begun already (no test met that).
     pub fn new<J: Family, R: Wait + Drop>(
         alloc: Global,
         rt: R,
@@ -57,14 +57,16 @@ impl Programs {
         Ok((publisher, readers, line))
     }
 
-    /// The programs of a node whose history has chains of banks as well, as [`Programs::new`] makes them, behind which these were
-    /// published in order, each for its slot: the readers know of all of them. The line asks for the factory program and for
-    /// these. Conditions: the chain of its publishes, in which nothing was published; programs that were accepted for the maps of
-    /// the factory program, slots of 0 to 3, and at most 4,294,967,295 publishes.
+    /// The programs of a node whose history has chains of banks as well, as [`Programs::new`] makes them. After the
+    /// factory program these were published in order, each for its slot, and the readers know of all of them. The line
+    /// asks for the factory program and for these.
+    ///
+    /// The conditions are the chain of its publishes, in which nothing was published, and programs that were accepted
+    /// for the maps of the factory program. Others are slots of 0 to 3, and at most 4,294,967,295 publishes.
     ///
     /// # Errors
     ///
-    /// Memory is refused.
+    /// `AllocError` if memory was refused.
     pub fn with_chain<J: Family, R: Wait + Drop>(
         alloc: Global,
         rt: R,
@@ -138,7 +140,7 @@ fn install_all<J: Family, R: Wait + Drop>(
     for index in 0..firsts.len() {
         let first = &firsts[index];
         let program = first.1.copy()?;
-        // Memory alone can be refused to it: the slot is one of four, and a generation is left.
+        // It can only be refused memory: the slot is one of four, and a generation is left.
         let Ok(_told) = publisher.install(line, first.0, program) else {
             return Err(AllocError);
         };
@@ -146,7 +148,7 @@ fn install_all<J: Family, R: Wait + Drop>(
     Ok(())
 }
 
-/// So many readers of a table.
+/// That many readers of a table.
 fn entrances<J: Family>(
     alloc: Global,
     writer: &Writer<Table, Table, Sight, InFamily<J>>,

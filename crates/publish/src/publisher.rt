@@ -64,13 +64,17 @@ impl<J: Family, R: Wait + Drop> Publisher<J, R> {
         self.writer.published().shown(0).program().sizes()
     }
 
-    /// Publishes a program for a slot, as the line asks, and tells it. It may wait for readers. The condition is a program that was
-    /// accepted for the maps of the node ([`Reader::sizes`](crate::Reader::sizes)).
+    /// Publishes a program for a slot, as the line asks, and gives how far the history went then. It may wait for
+    /// readers. The condition is a program that was accepted for the maps of the node
+    /// ([`Reader::sizes`](crate::Reader::sizes)).
     ///
     /// # Errors
     ///
-    /// `Slot` for a slot above 3; `GenerationsFull` after 4,294,967,295 publishes; `Memory` where memory was
-    /// refused. What is published stays as it was.
+    /// - `Slot` for a slot above 3.
+    /// - `GenerationsFull` after 4,294,967,295 publishes.
+    /// - `Memory` if memory was refused.
+    ///
+    /// What is published stays as it was.
     pub fn install(
         &mut self,
         line: &mut Line<J>,
@@ -129,7 +133,7 @@ impl<J: Family, R: Wait + Drop> Publisher<J, R> {
         Ok(())
     }
 
-    /// Somebody learns so much of the node's history that it has all that was published, and that readers see all of it.
+    /// Somebody learns enough of the node's history that it has all that was published, and that readers see all of it.
     pub fn tell(&self, known: &mut annals::Front<J>)
         ensures old { IsPrefix known.old known.new }
         ensures told { IsPrefix self.now (publishes_of known.new) }
@@ -187,7 +191,7 @@ impl<J: Family, R: Wait + Drop> ProgramStore<Loader<J>> for Publisher<J, R> {
     }
 }
 
-/// The writer once readers see what is pending.
+/// The writer after readers see what is pending.
 fn flushed<J: Family, R: Wait>(
     rt: &R,
     writer: Writer<Table, Table, Sight, InFamily<J>>,
@@ -212,7 +216,7 @@ fn flushed<J: Family, R: Wait>(
     (writer, ())
 }
 
-/// The writer once readers see the table.
+/// The writer after readers see the table.
 fn shown<J: Family, R: Wait>(
     rt: &R,
     writer: Writer<Table, Table, Sight, InFamily<J>>,

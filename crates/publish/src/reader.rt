@@ -22,9 +22,9 @@ use std::marker::Model;
 use std::mem;
 use std::sync::Arc;
 
-/// What a port has of the table of programs: how it enters, and how far the history is known to it. It is outside of the
-/// table or inside, and always can enter again. Contracts see it as the programs that it knows, and those of the table in
-/// which it is.
+/// What a port has of the table of programs: how it enters, and how far it knows the history. It is outside of the
+/// table or inside, and always can enter again. Contracts see it as the programs that it knows, and those of the table
+/// in which it is.
 pub struct Reader<J: Family> {
     outside: Option<Entrance<Table, Sight, InFamily<J>>>,
     inside: Option<Reading<Table, Sight, InFamily<J>>>,
@@ -61,7 +61,7 @@ impl<J: Family> Drop for Reader<J> {
     }
 }
 
-/// The program of a slot, as it was taken. The table keeps it for as long as this is held.
+/// The program of a slot, as it was taken. The table keeps it while this is held.
 pub struct Taken<'a, J: Family> {
     reader: &'a mut Reader<J>,
     slot: u8,
@@ -69,7 +69,7 @@ pub struct Taken<'a, J: Family> {
 }
 
 impl<J: Family> Reader<J> {
-    /// A reader that knows so much.
+    /// A reader that knows that beginning.
     pub(crate) fn new(
         entrance: Entrance<Table, Sight, InFamily<J>>,
         shown_count: Arc<ShownCount<J>>,
@@ -113,7 +113,7 @@ impl<J: Family> Reader<J> {
         self.sizes
     }
 
-    /// Takes in what a publisher told, where that is no less than is known.
+    /// Takes in what a publisher gave, if that is no less than is known.
     pub fn learn(&mut self, told: &Told<J>)
         ensures longer { length self.old.programs ≤ length told.now
             → self.new ≡ known told.now self.old.inside }
@@ -126,10 +126,15 @@ impl<J: Family> Reader<J> {
         self.known.advance(told.front());
     }
 
-    /// Takes the program of a slot, which is below 4: there is one moment of the node's history, not before what somebody knew
-    /// and not after what he then knows, at which readers saw exactly the programs of the table that is taken. `None` where a
-    /// program that was taken was never let go of, where the publisher is gone, and where the table shows less than is known or
-    /// was seen (no test met that).
+    /// Takes the program of a slot, which is below 4. At one moment of the node's history readers saw exactly the
+    /// programs of the table that is taken. That moment is not before what somebody knew and not after what this one
+    /// then knows.
+    ///
+    /// It is `None` in three cases:
+    ///
+    /// - A program that was taken was never let go of.
+    /// - The publisher is gone.
+    /// - The table shows less than is known or was seen (no test met that).
     pub fn take(&mut self, front: &mut annals::Front<J>, slot: u8) -> Option<Taken<'_, J>>
         requires slot { slot < 4 }
         ensures known { IsPrefix front.old front.new }
@@ -152,7 +157,7 @@ impl<J: Family> Reader<J> {
         }
     }
 
-    /// Enters the table, where it shows no less than is known and was seen, and knows that.
+    /// Enters the table, if it shows no less than is known and was seen, and knows that.
     fn enter(&mut self, front: &mut annals::Front<J>) -> bool
         ensures front { IsPrefix front.old front.new }
         ensures moment { result ≡ true → IsTakenAt front.old front.new self.new.programs }

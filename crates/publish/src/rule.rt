@@ -1,4 +1,4 @@
-//! The rule of the table of programs, and what the steps on it tell.
+//! The rule of the table of programs, and what the steps on it report.
 
 use crate::table::Table;
 use annals::Family;

@@ -45,7 +45,7 @@ impl Model for Table {
 }
 
 impl Table {
-    /// The table of a history that has the factory program alone.
+    /// The table of a history that has only the factory program.
     pub(crate) fn first(factory: Arc<Accepted>, front: Front) -> Result<Table, AllocError>
         requires { front.programs ≡ entry 0 (arc_value factory) ∷ [] }
         ensures { IfOk result (λ t. t ≡ front) }

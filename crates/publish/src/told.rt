@@ -1,4 +1,4 @@
-//! What a publisher tells.
+//! What a publisher reports.
 
 ghost use Rattle.std.specs.Prelude.{◌≡◌, ◌<◌, ◌≤◌, ◌+◌, ◌^◌, length};
 ghost use Rattle.publish.specs.Reached.{reached};
@@ -26,7 +26,7 @@ impl<J: Family> Model for Told<J> {
 }
 
 impl<J: Family> Told<J> {
-    /// What tells so much.
+    /// A report that the history goes that far.
     pub(crate) fn new(front: Front) -> Told<J>
         requires family { front.family ≡ J.book }
         requires some { 0 < length front.programs }

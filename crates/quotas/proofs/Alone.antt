@@ -1,5 +1,5 @@
--- A quota of N matches at most N commands of a node of one thread: the matching draw of each is told how many tickets of
--- the cell were drawn before it, which is below N.
+-- A quota of N matches at most N commands of a node of one thread. The matching draw of each is answered by how many
+-- tickets of the cell were drawn before it, which is below N.
 use Rattle.std.specs.Prelude.{◌==◌, ◌&&◌, IsTrue, if◌then◌else◌}
 use Rattle.std.proofs.Common.{◌≡◌, ◌<◌, ◌≤◌, ◌+◌, ◌^◌, ℕ, Bool, true, false, List, [], ◌∷◌, ◌++◌, length, refl, ap, subst, ◌∙◌, arith, inl, inr, length-append}
 use Rattle.std.proofs.lemmas.Bool.{and_from, eq-eqb}
@@ -49,7 +49,7 @@ ends_of map key limit (sets number address bytes fresh old s) m = absurd m
 
 -- ---- what the last draw is told
 
--- the words before the last call, which it was answered by
+-- the words before the last call, by which it was answered
 record IsLastOn (sizes : Maps) (words : List (List ℕ)) (before : List Call) (c : Call) : Type 0 where
   between : List (List ℕ)
   calls : AreCallsOn sizes words before between
@@ -77,7 +77,7 @@ counter_is : (kind : MapKind) → IsTrue (takes_kind helpers.Ticket kind) → ki
 counter_is Counter takes = refl
 counter_is Peak takes = cc
 
--- the last ticket of the calls is told one less than were drawn with it
+-- the answer to the last ticket of the calls is one less than were drawn with it
 told_last : TicketsAreCounted → (sizes : Maps) (words behind : List (List ℕ)) (calls : List Call) (map key limit word : ℕ) → AreCells sizes words → AreCallsOn sizes words calls behind
     → (kind_of_map sizes map ≡ Counter → word_at words map key ≡ word) → word + tickets_in calls map key < 2 ^ 64 → EndsLow calls map key limit
     → (0 < tickets_in calls map key) × (word + tickets_in calls map key ≤ limit)
@@ -98,7 +98,7 @@ calls_on sizes Unread p old new h after reply answered words behind is = absurd 
 calls_on sizes (Done result) p old new h after reply answered words behind is = is
 calls_on sizes (Window status) p old new h after reply answered words behind is = is
 
--- behind a call on a node
+-- after a call on a node
 record GoesOn (before after : SingleNodeValue) (calls : List Call) : Type 0 where
   on : AreCallsOn (sizes_of before.programs) before.words calls after.words
   sizes : sizes_of after.programs ≡ sizes_of before.programs
@@ -132,7 +132,7 @@ goes_on {before} {after} (sets number address bytes fresh old s) some = record {
 on_maps : (sizes : Maps) {before after : SingleNodeValue} (deed : Deed before after) → sizes_of before.programs ≡ sizes → GoesOn before after (calls_of deed) → AreCallsOn sizes before.words (calls_of deed) after.words
 on_maps sizes {before} {after} deed same goes = subst (λ (s : Maps). AreCallsOn s before.words (calls_of deed) after.words) same goes.on
 
--- what stands behind a way of a fresh node: the word of a counter is how many tickets of it were drawn
+-- what is so after a way of a fresh node: the word of a counter is how many tickets of it were drawn
 record Stands (sizes : Maps) (map key : ℕ) {first last : SingleNodeValue} (way : Way first last) : Type 0 where
   sizes_are : sizes_of last.programs ≡ sizes
   some : 0 < length last.programs

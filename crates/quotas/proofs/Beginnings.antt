@@ -1,4 +1,4 @@
--- Beginnings of a history: of two of one history one begins the other, and tickets only rise.
+-- Beginnings of a history. Of two beginnings of one history one begins the other, and tickets only rise.
 use Rattle.std.specs.Prelude.{◌&&◌, ◌==◌, if◌then◌else◌, ◌%◌, ◌^◌}
 use Rattle.std.proofs.Common.{◌≡◌, ◌<◌, ◌≤◌, ◌+◌, ◌⊎◌, ℕ, Bool, true, false, Option, Some, None, refl, sym, ap, ap₂, ◌∙◌, arith, inl, inr}
 use Rattle.std.proofs.lemmas.Bool.{and_from, and_parts, cases_lt, eqb-true}
@@ -18,7 +18,7 @@ ordered whole y = inr y
 ordered (longer x) whole = inl (longer x)
 ordered (longer x) (longer y) = ordered x y
 
--- one that begins the other is it, or begins what stands before its last event
+-- one that begins the other is it, or begins what is before its last event
 pub same_or_shorter : {a b : History} {event other : Event} {outcome end : Outcome} → Begins (Then a event outcome) (Then b other end) → ((a ≡ b) × (event ≡ other)) ⊎ Begins (Then a event outcome) b
 same_or_shorter whole = inl (refl, refl)
 same_or_shorter (longer x) = inr x

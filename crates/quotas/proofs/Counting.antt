@@ -54,7 +54,7 @@ later : (h : History) (port : ℕ) (o : Open) (answers : List ℕ) (last : ℕ) 
 later h port o answers last event outcome was =
     record { before = was.before; event = was.event; within = longer was.within; own = was.own; is_open = was.is_open }
 
--- a Take tells nothing
+-- a Take answers nothing
 not_taken : (h : History) (generation : ℕ) (event : Event) (o : Open) (answers : List ℕ) (last : ℕ) → taken_by h generation event ≡ Some o → o.answers ≡ answers ++ last ∷ [] → ⊥
 not_taken h generation (Take port packet) o answers last e is = no_end answers last (ap (λ (x : Open). x.answers) (some-is _ o e) ∙ is)
 not_taken h generation (Count port) o answers last e is = none-is o e
@@ -131,7 +131,7 @@ asked_for program header port before c (answered {calls = calls} {n = n} {s = s}
 
 -- ---- the event that told it
 
--- an event that is told something where the program asks `ticket` for a cell draws a ticket of that
+-- an event that is answered when the program asks `ticket` for a cell draws a ticket of that
 ticket_asked : (n : Node) (h : History) (event : Event) (told map key : ℕ) (o : Open) → IsOutcomeAtButTold n h event (Told told) → opened h (port_of event) ≡ Some o
     → turn_at n h (port_of event) ≡ Some (turns.Ask (question helpers.Ticket map key 0)) → draws (turn_at n h (port_of event)) event map key ≡ true
 ticket_asked n h (Take port packet) told map key o at is_open asks =
@@ -152,7 +152,7 @@ ticket_asked n h (Publish port) told map key o at is_open asks =
     let by_open : IsPublishedBy n h port o (turn_of n port o) (Told told) = subst (λ (x : Option Open). IsPublishOutcome n h port x (Told told)) is_open at in
     let no : Told told ≡ Refused = subst (λ (t : Option Turn). IsPublishedBy n h port o t (Told told)) stands by_open in cc
 
--- something is told at a port of the node alone
+-- something is answered only at a port of the node
 told_there : (n : Node) (h : History) (event : Event) (told : ℕ) → IsLawful n (Then h event (Told told)) → IsOutcomeAtButTold n h event (Told told)
 told_there n h event told lawful = by (cases_lt (port_of event) n.ports)
   where
@@ -162,7 +162,7 @@ told_there n h event told lawful = by (cases_lt (port_of event) n.ports)
 
 -- ---- the match
 
--- a run of the command's program on what it was told
+-- a run of the command's program on its answers
 record HasRun (n : Node) (port : ℕ) (o : Open) : Type 0 where
   safe : IsSafe (program_of n o) n.sizes
   header : IsHeader (header_in o.packet)

@@ -1,4 +1,5 @@
--- Decisions that end by the match of a rule with a quota: their last draw is that rule's, and was told less than its limit.
+-- Decisions that end by the match of a rule with a quota. Their last draw is that rule's, and its answer is less than
+-- its limit.
 use Rattle.std.specs.Prelude.{nat_lt, if◌then◌else◌}
 use Rattle.std.proofs.Common.{◌≡◌, ◌<◌, ◌≤◌, ℕ, suc, Bool, true, false, List, [], ◌∷◌, ◌++◌, Option, Some, None, refl, sym, ap, ap₂, ◌∙◌, subst, arith}
 use Rattle.std.proofs.lemmas.Bool.{ltb-true}
@@ -13,7 +14,7 @@ use Rattle.policy_table.specs.declared.rules.Rule.{Rule}
 use Rattle.sched.specs.Turns.{answers_of}
 use Rattle.quotas.proofs.Ends.{answers_behind, snoc_last}
 
--- the last of the calls is a draw of the quota that was told less than its limit
+-- the last of the calls is a draw of the quota whose answer is less than its limit
 pub record EndsInDraw (calls : List Call) (quota : Quota) : Type 0 where
   pub before : List Call
   pub answer : ℕ
@@ -60,7 +61,7 @@ ends_in_draw (rule ∷ rules) header told quota e =
 abbrev pub drawn_of : (map key answer : ℕ) → Call
 drawn_of map key answer = record { question = record { helper = helpers.Ticket; map = map; key = key; argument = 0 }; answer = answer }
 
--- the last of the calls draws a ticket of the cell, and was told less than the limit
+-- the last of the calls draws a ticket of the cell, and its answer is less than the limit
 pub record EndsLow (calls : List Call) (map key limit : ℕ) : Type 0 where
   pub before : List Call
   pub answer : ℕ
@@ -78,7 +79,7 @@ ends_below rules header calls map key own_limit limit e small =
       below = omega (arith, l.below, e.of_limit, small);
     }
 
--- what the last call was told is below the limit
+-- the answer to the last call is below the limit
 pub match_below : (rules : List Rule) (header : Header) (calls : List Call) (map key limit : ℕ) (before : List ℕ) (answer : ℕ) → EndsByMatch rules header calls map key limit
     → answers_of calls ≡ before ++ answer ∷ [] → answer < limit
 match_below rules header calls map key limit before answer ends answered =

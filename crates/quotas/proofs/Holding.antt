@@ -1,5 +1,5 @@
--- A quota of N matches at most N commands: the matching draw of each has a number of its own below N, how many tickets of
--- the cell were drawn before.
+-- A quota of N matches at most N commands. The matching draw of each has a number of its own below N: how many tickets
+-- of the cell were drawn before.
 use Rattle.std.specs.Prelude.{◌≢◌, ◌^◌, All}
 use Rattle.std.proofs.Common.{◌≡◌, ◌<◌, ◌⊎◌, ℕ, suc, List, [], ◌∷◌, length, Option, Some, refl, sym, ap, ap₂, ◌∙◌, arith, inl, inr}
 use Rattle.std.proofs.lemmas.List.Elements.{All-head, All-tail}

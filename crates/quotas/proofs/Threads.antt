@@ -1,5 +1,5 @@
--- A quota of N matches at most N commands of ports that threads serve: the matching draw of each is told a number below N, and
--- no two tickets of a cell have one number.
+-- A quota of N matches at most N commands of ports that threads serve. The answer to the matching draw of each is a
+-- number below N, and no two tickets of a cell have one number.
 use Rattle.std.specs.Prelude.{◌==◌, ◌&&◌, cond, nat_lt, filter, map, count_by}
 use Rattle.std.specs.List.{flat_map}
 use Rattle.std.proofs.Common.{◌≡◌, ◌<◌, ◌≤◌, ◌+◌, ℕ, zero, suc, Bool, true, false, List, [], ◌∷◌, ◌++◌, refl, sym, ap, ap₂, ◌∙◌, subst, arith, inl, inr}
@@ -24,7 +24,7 @@ use Rattle.sched.specs.Looking.{header_in}
 abbrev low : ℕ → List ℕ → ℕ
 low limit numbers = count_by (λ k. nat_lt k limit) numbers
 
--- how often the number stands among those
+-- how often the number is among those
 abbrev often : ℕ → List ℕ → ℕ
 often m numbers = count_by (λ k. k == m) numbers
 
@@ -63,7 +63,7 @@ none_low : (xs : List ℕ) → low 0 xs ≡ 0
 none_low [] = refl
 none_low (x ∷ xs) = omega (arith, low_first 0 x xs, none_low xs, never x)
 
--- of numbers that stand there once, as many as it says are below a limit
+-- if each number is there at most once, at most as many are below a limit as it says
 few_low : (xs : List ℕ) → ((m : ℕ) → often m xs ≤ 1) → (limit : ℕ) → low limit xs ≤ limit
 few_low xs once zero = omega (arith, none_low xs)
 few_low xs once (suc m) = omega (arith, higher m xs, few_low xs once m, once m)

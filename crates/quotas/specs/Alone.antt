@@ -20,7 +20,7 @@ use Rattle.spw.specs.Cargo.{Cargo}
 
 -- ---- what is done to a node
 
--- a call on a node of one thread that changes it: a packet is served, a journal is handed out, or bytes are set
+-- A call on a node of one thread that changes it: a packet is served, a journal is handed out, or bytes are set.
 pub data Deed : (before after : SingleNodeValue) → Type 0 where
   serves : {before after : SingleNodeValue} (served : Served) (port : ℕ) (packet : Cargo) (reply : List ℕ)
       → Serves served port packet before after reply → Deed before after
@@ -59,8 +59,8 @@ tickets_on (further way deed) map key = tickets_on way map key + tickets_in (cal
 
 -- ---- matches
 
--- the program that judged has the meaning of some rules, and the calls of its run are a decision on the header of the
--- packet which ends by the match of a rule on the cell with at most that limit
+-- The program that judged has the meaning of some rules. The calls of its run are a decision on the header of the
+-- packet. That decision ends by the match of a rule on the cell with at most that limit.
 pub record IsMatch (map key limit : ℕ) {h after : PassValue} {p : Cargo} {j : JudgedValue}
     (judgement : IsJudgement h after p j) : Type 0 where
   pub rules : List Rule
@@ -85,7 +85,7 @@ IsMatchOf map key limit {before} {after} (serves served port packet reply s) =
 IsMatchOf map key limit (rotates number fresh old s) = ⊥
 IsMatchOf map key limit (sets number address bytes fresh old s) = ⊥
 
--- on the way some calls, so many, served packets whose commands such rules matched
+-- on the way that many calls served packets whose commands such rules matched
 abbrev pub AreMatches : (map key limit : ℕ) {first last : SingleNodeValue} → Way first last → (count : ℕ) → Type 0
 AreMatches map key limit here count = count ≡ 0
 AreMatches map key limit (further way deed) count =
@@ -94,8 +94,8 @@ AreMatches map key limit (further way deed) count =
 
 -- ---- the law
 
--- whatever is done to a node of one thread since it was made, while fewer than 2^64 tickets of a cell were drawn, rules on
--- the cell with limits of at most N match at most N commands, over all ports and all programs
+-- Whatever is done to a node of one thread, rules on a cell with limits of at most N match at most N commands. That is
+-- since it was made, over all ports and all programs, while fewer than 2^64 tickets of the cell were drawn.
 abbrev pub QuotasHoldAlone : Type 0
 QuotasHoldAlone =
     (config : NodeConfig) (factory : AcceptedValue) (first last : SingleNodeValue) (way : Way first last)

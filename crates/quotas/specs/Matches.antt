@@ -17,13 +17,13 @@ use Rattle.sched.specs.Lawful.{IsLawful}
 use Rattle.sched.specs.Looking.{Node, draws, header_in, program_of, tickets, turn_at}
 use Rattle.sched.specs.Turns.{answers_of}
 
--- behind the history the event draws a ticket of the cell, and is told that
+-- after the history the event draws a ticket of the cell, and gets that answer
 pub record IsDraw (n : Node) (h : History) (event : Event) (outcome : Outcome) (map key answer : ℕ) : Type 0 where
   pub asked : draws (turn_at n h (port_of event)) event map key ≡ true
   pub told : outcome ≡ Told answer
 
--- with that answer the calls that a program made since its command was taken are a decision which ends by the match of
--- a rule with this quota: the program has the meaning of some rules
+-- With that answer the calls that a program made since its command was taken are a decision. That decision ends by the
+-- match of a rule with this quota. The program has the meaning of some rules.
 pub record EndsWith (n : Node) (o : Open) (map key limit answer : ℕ) : Type 0 where
   pub rules : List Rule
   pub meaning : HasMeaning rules (program_of n o)
@@ -31,8 +31,8 @@ pub record EndsWith (n : Node) (o : Open) (map key limit answer : ℕ) : Type 0 
   pub answered : answers_of calls ≡ o.answers ++ answer ∷ []
   pub match : EndsByMatch rules (header_in o.packet) calls map key limit
 
--- behind the history the event is a draw of the cell by which a rule with this quota matches: that of the command which
--- is open at its port
+-- After the history the event is a draw of the cell by which a rule with this quota matches. The command is the one
+-- which is open at its port.
 pub record IsMatchAt (n : Node) (h : History) (event : Event) (outcome : Outcome) (map key limit : ℕ) : Type 0 where
   pub answer : ℕ
   pub draw : IsDraw n h event outcome map key answer
@@ -44,8 +44,8 @@ pub record IsMatchAt (n : Node) (h : History) (event : Event) (outcome : Outcome
 abbrev pub from_take : (port : ℕ) → Open → History
 from_take port o = Then o.before (Take port o.packet) (Taken o.generation)
 
--- a command of the history, by where it was taken, one of whose draws there is a match of a rule on the cell with at
--- most that limit
+-- A command of the history, by the place of its Take. One of its draws there is a match of a rule on the cell with at
+-- most that limit.
 pub record IsMatched (n : Node) (h : History) (map key limit : ℕ) (take : History) : Type 0 where
   pub before : History
   pub event : Event
@@ -68,15 +68,15 @@ pub record Matches (n : Node) (h : History) (map key limit : ℕ) (takes : List 
 
 -- ---- the law
 
--- in every lawful history, while fewer than 2^64 tickets of a cell were drawn, at most as many commands match by rules
--- on it as the greatest of their limits says, over all ports and all programs
+-- In every lawful history, at most as many commands match by rules on a cell as the greatest of their limits says. That
+-- is over all ports and all programs, while fewer than 2^64 tickets of the cell were drawn.
 abbrev pub QuotasHold : Type 0
 QuotasHold =
     (n : Node) (h : History) (map key limit : ℕ) (takes : List History) → IsLawful n h → tickets n h map key < 2 ^ 64
     → Matches n h map key limit takes → length takes ≤ limit
 
--- where the program of a command that is done has the meaning of rules, and their decision on its header, by what it
--- was told, ends by the match of a rule with a quota, the command matched in the history, by that quota
+-- Let the program of a done command have the meaning of rules. If their decision on its header and answers ends by the
+-- match of a quota's rule, the command matched in the history by that quota.
 abbrev pub MatchesAreCounted : Type 0
 MatchesAreCounted =
     (n : Node) (h : History) (event : Event) (status : Status) (reply : List ℕ) (loaded : Option (List ℕ)) (o : Open)

@@ -13,7 +13,8 @@ use Rattle.spw.specs.Cargo.{Cargo}
 
 -- ---- what was done at the ports
 
--- a port with a fresh seat was served: what it had and knew at first and in the end, its packets, and what became of them
+-- A port with a fresh seat that was served: what it had and knew at first and in the end, its packets, and what became
+-- of them.
 pub record PortRun : Type 0 where
   pub first : Standing
   pub last : Standing
@@ -32,8 +33,8 @@ judged_at runs = flat_map (λ (run : PortRun). judgings run.deeds) runs
 
 -- ---- matches
 
--- the program that judged the command has the meaning of some rules, and the calls of its run are a decision on the header of
--- the packet which ends by the match of a rule on the cell with at most that limit
+-- The program that judged the command has the meaning of some rules. The calls of its run are a decision on the header
+-- of the packet. That decision ends by the match of a rule on the cell with at most that limit.
 pub record HasMatched (map key limit : ℕ) (judging : Judging) : Type 0 where
   pub rules : List Rule
   pub meaning : HasMeaning rules judging.program.program
@@ -41,7 +42,7 @@ pub record HasMatched (map key limit : ℕ) (judging : Judging) : Type 0 where
   pub small : own_limit ≤ limit
   pub match : EndsByMatch rules (header_in judging.judged.packet) judging.calls map key own_limit
 
--- some of the commands, so many, were matched by such rules
+-- that many of the commands were matched by such rules
 abbrev pub HaveMatched : (map key limit : ℕ) → List Judging → (count : ℕ) → Type 0
 HaveMatched map key limit [] count = count ≡ 0
 HaveMatched map key limit (judging ∷ judgings) count =
@@ -50,9 +51,9 @@ HaveMatched map key limit (judging ∷ judgings) count =
 
 -- ---- the law
 
--- the seats of these ports came back to the cells, which tell that so many tickets of a cell were drawn, and each number below
--- that once; if these were fewer than 2^64, rules on the cell with limits of at most N match at most N of the commands that
--- were judged, over all ports and all programs
+-- The seats of these ports came back to the cells. These report how many tickets of a cell were drawn, and each number
+-- below that once. Let fewer than 2^64 be drawn. Then rules on the cell with limits of at most N match at most N of the
+-- judged commands, over all ports and programs.
 abbrev pub QuotasHoldInThreads : Type 0
 QuotasHoldInThreads =
     (it : CellsValue) (runs : List PortRun) (map key limit drawn count : ℕ) → calls_back it ≡ calls_at runs

@@ -47,7 +47,7 @@ shift_parts : (x : ℕ) → shift x ≡ bit_xor (x / 2) (added (x % 2))
 shift_parts x =
     bit_cases (λ b. step b (x / 2) ≡ bit_xor (x / 2) (added b)) (sym (xor_zero_r (x / 2))) refl (x % 2) (omega arith)
 
--- what steps leave of the bits that stay, and what they make of the n bits that are shifted out, where p is 2^n
+-- what steps leave of the bits that stay, and what they make of the n bits that are shifted out, for p equal to 2^n
 abbrev IsSplit : ℕ → ℕ → Type 0
 IsSplit n p = (x : ℕ) → shifts n x ≡ bit_xor (x / p) (shifts n (x % p))
 
@@ -295,7 +295,7 @@ down a b = a / 2 ^ b
 abbrev up : ℕ → ℕ → ℕ
 up a b = a * 2 ^ b % 2 ^ 16
 
--- what is added for the bits that are shifted out, which stand at the top of a lane
+-- what is added for the bits that are shifted out, which are at the top of a lane
 abbrev fed : ℕ → ℕ
 fed out = bit_xor (bit_xor (down out 8) (down out 9)) (down out 10)
 

@@ -1,4 +1,4 @@
--- Steps of a sum without carry are the sum of the steps, so each byte of a chunk can be taken alone.
+-- Steps of a sum without carry are the sum of the steps, so each byte of a chunk can be taken by itself.
 use Rattle.std.proofs.Common.{◌≡◌, ℕ, zero, suc, ◌+◌, ◌*◌, ◌/◌, ◌%◌, ◌<◌, ◌==◌, if◌then◌else◌, List, [], ◌∷◌, length, take, drop, fold, get_or, refl, sym, ap, ◌∙◌, arith}
 use Rattle.std.specs.Prelude.{bit_xor}
 use Rattle.std.specs.Int.Bits.{xor_assoc, xor_zero_r}
@@ -91,7 +91,7 @@ crc_from-sum register byte bytes =
 
 -- ---- chunks
 
--- eight bytes, each alone
+-- eight bytes, each by itself
 pub crc_from-chunk : (register : ℕ) (chunk : List ℕ) → length chunk ≡ 8 → crc_from register chunk ≡ sum_of (bit_xor register (get_or chunk 0 0) ∷ get_or chunk 1 0 ∷ get_or chunk 2 0 ∷ get_or chunk 3 0 ∷ get_or chunk 4 0 ∷ get_or chunk 5 0 ∷ get_or chunk 6 0 ∷ get_or chunk 7 0 ∷ [])
 crc_from-chunk register (a ∷ b ∷ c ∷ d ∷ e ∷ f ∷ g ∷ h ∷ []) long = crc_from-sum register a (b ∷ c ∷ d ∷ e ∷ f ∷ g ∷ h ∷ [])
 crc_from-chunk register (a ∷ b ∷ c ∷ d ∷ e ∷ f ∷ g ∷ h ∷ i ∷ more) long = absurd (omega (arith, long))

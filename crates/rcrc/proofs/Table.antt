@@ -1,4 +1,4 @@
--- Each entry of the tables is so many steps of the register.
+-- Each entry of the tables is that many steps of the register.
 use Rattle.std.proofs.Common.{◌≡◌, ℕ, suc, ◌*◌, ◌<◌, Bool, true, eqb, [], get_or, refl}
 use Rattle.std.proofs.lemmas.Bool.{agree_below, agree_below_at, eqb-true}
 use Rattle.rcrc.specs.Crc.{shifts}

@@ -1,8 +1,7 @@
 -- The 8-bit CRC of RMAP, as the standard's register computes it.
 use Rattle.std.specs.Prelude.{ℕ, zero, suc, ◌/◌, ◌%◌, ◌==◌, if◌then◌else◌, List, bit_xor, fold}
 
--- one step of the register: a right shift, and 0xE0 where the bit shifted out was 1
--- (ECSS-E-ST-50-52C, 8-bit CRC)
+-- One step of the register: a right shift, and 0xE0 if the bit shifted out was 1 (ECSS-E-ST-50-52C, 8-bit CRC).
 abbrev pub shift : ℕ → ℕ
 shift register = if register % 2 == 1 then bit_xor (register / 2) 0xE0 else register / 2
 

@@ -9,7 +9,7 @@ use Rattle.std.specs.Prelude.{length, slice_index_or, if◌then◌else◌}
 abbrev pub coefficient : List Bool → ℕ → Bool
 coefficient p k = slice_index_or p k false
 
--- two polynomials are one where their coefficients are the same
+-- two polynomials are one if their coefficients are the same
 abbrev pub IsSame : List Bool → List Bool → Type 0
 IsSame p q = (k : ℕ) → coefficient p k ≡ coefficient q k
 

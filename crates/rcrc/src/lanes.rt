@@ -1,7 +1,7 @@
 //! Many bytes at a time, in the lanes of a vector.
 //!
-//! 127 steps leave every register as it was. So what 16 bytes more make of a register, by 128 steps,
-//! one step makes of it, and a block of four times 16 bytes moves each of its words by few steps.
+//! 127 steps leave every register as it was. So what 16 bytes more make of a register, by 128 steps, one step makes of
+//! it. A block of four times 16 bytes moves each of its words by few steps.
 
 ghost use Rattle.std.specs.Prelude.{◌≡◌, ◌≤◌, slice_range, ◌+◌};
 ghost use Rattle.rcrc.specs.Crc.{shift, crc_from, crc_of};
@@ -61,8 +61,7 @@ fn word(block: &[u8; BLOCK], at: usize) -> u16x8
 
 /// What is before four words and the words, each after as many steps as words follow, added up.
 ///
-/// The bits that steps shift out of a lane are added up first: what steps make of them is made of
-/// their sum.
+/// The bits that steps shift out of a lane are added up first, and the steps then work on their sum.
 #[inline(always)]
 fn stepped(before: u16x8, first: u16x8, second: u16x8, third: u16x8, fourth: u16x8) -> u16x8
     ensures { result ≡ steps_added before first second third fourth }

@@ -11,12 +11,10 @@ ghost use Rattle.rcrc.specs.Polynomial.{IsRemainder, RemainderIsUnique};
 use lanes::{BLOCK, after_block, bytes_with};
 use tables::shifted;
 
-/// The CRC of `bytes` (ECSS-E-ST-50-52C, 8-bit CRC): the register starts at 0 and takes in one byte
-/// after another.
+/// The CRC of `bytes` (ECSS-E-ST-50-52C, 8-bit CRC): the register starts at 0 and takes in one byte after another.
 ///
-/// As a polynomial over two elements, with the lowest bit of the first byte as its highest
-/// coefficient and bit 0 of the CRC as that of x^7, it is the remainder of the bytes times x^8 by
-/// x^8 + x^2 + x + 1.
+/// As a polynomial over two elements, it is the remainder of the bytes times x^8 by x^8 + x^2 + x + 1. The lowest bit
+/// of the first byte is the highest coefficient of the bytes, and bit 0 of the CRC is that of x^7.
 pub fn crc(bytes: &[u8]) -> u8
     ensures value { result ≡ crc_of bytes.now }
     ensures remainder { IsRemainder bytes.now result }
@@ -63,8 +61,8 @@ fn after_chunks(start: u8, bytes: &[u8]) -> u8
     after_bytes(register, rest)
 }
 
-/// The register after a chunk of bytes: shifts of a sum without carry are the sum of the shifts, so
-/// each byte is looked up alone, the first with the register.
+/// The register after a chunk of bytes. Shifts of a sum without carry are the sum of the shifts. So each byte is looked
+/// up by itself, the first with the register.
 fn after_chunk(register: u8, chunk: &[u8; 8]) -> u8
     ensures { result ≡ crc_from register chunk.now }
 {

@@ -3,8 +3,8 @@
 ghost use Rattle.std.specs.Prelude.{◌≡◌, suc, ◌*◌, ◌<◌};
 ghost use Rattle.rcrc.specs.Crc.{shifts};
 
-/// A table of all sums without carry of the bytes given: entry `n` is the sum of those whose bit is
-/// set in `n`, bit 0 for the first of them.
+/// A table of all sums without carry of the bytes given. Entry `n` is the sum of those whose bit is set in `n`, bit 0
+/// for the first of them.
 macro_rules! sums {
     ([$($sum:expr),*]) => { [$($sum),*] };
     ([$($sum:expr),*] $byte:literal $($more:literal)*) => {
@@ -12,8 +12,8 @@ macro_rules! sums {
     };
 }
 
-/// Table `k` has what `8 * (k + 1)` shifts of the register make of each byte. Shifts of a sum are the
-/// sum of the shifts, so what they make of each bit, bit 0 first, gives the table.
+/// Table `k` has what `8 * (k + 1)` shifts of the register make of each byte. Shifts of a sum are the sum of the
+/// shifts. So what they make of each bit, bit 0 first, gives the table.
 const TABLES: [[u8; 256]; 8] = [
     sums!([0] 0x91 0xE3 0x07 0x0E 0x1C 0x38 0x70 0xE0),
     sums!([0] 0x6D 0xDA 0x75 0xEA 0x15 0x2A 0x54 0xA8),

@@ -1,4 +1,4 @@
--- Regions that have no point of a command together, as one of their fields tells.
+-- Regions that have no point of a command together, as one of their fields shows.
 use Rattle.std.proofs.Common.{◌≡◌, Bool, true, false, ◌&&◌, sym, ◌∙◌}
 use Rattle.std.specs.Prelude.{MatchBool, not, MatchOption, Option, Some, None, is_some}
 use Rattle.regions.specs.ByteSets.{HaveNoByte}
@@ -28,7 +28,7 @@ pub by_last_test : (one other : Region) (t : Bool) → MatchBool t (Unit {0}) (H
 by_last_test one other true h = tt
 by_last_test one other false h = by_last one other h
 
--- where a region of the points of both is bare
+-- if a region of the points of both is bare
 pub by_both : (one other both : Region) (o : Option Point) → ((p : Point) → HasCommand p → lies_in both p ≡ (lies_in one p && lies_in other p)) → MatchOption o (IsBare both) (IsIn both)
     → MatchBool (is_some o) (Unit {0}) (AreApart one other)
 by_both one other both None is bare = λ p has e f. absurd (cc (sym (bare p has) ∙ is p has ∙ joined (lies_in one p) (lies_in other p) e f))

@@ -71,7 +71,7 @@ without al ah bl bh byte fl fh = by_half (nat_lt byte 128)
     by_half true = bit_of_both al (bit_not w128 bl) (byte % 128) ∙ ap (λ t. has_bit al (byte % 128) && t) (bit_of_not bl (byte % 128) fl (place_fits byte))
     by_half false = bit_of_both ah (bit_not w128 bh) (byte % 128) ∙ ap (λ t. has_bit ah (byte % 128) && t) (bit_of_not bh (byte % 128) fh (place_fits byte))
 
--- the bit of a place alone
+-- only the bit of a place
 same_place : (k i : ℕ) → has_bit (2 ^ k) i ≡ (i == k)
 same_place k i = by_test (i == k) refl
   where
@@ -105,7 +105,7 @@ only_high byte other high inside fits = by_half (nat_lt other 128) refl
         shifted : (other - 128 == byte - 128) ≡ (other == byte)
         shifted = let ge : 128 ≤ other = grind (arith, nat_tests) in grind (arith, nat_tests)
 
--- where the lower half has a bit, no byte below the lowest is in a set
+-- if the lower half has a bit, no byte below the lowest is in a set
 pub below_low : (low high place : ℕ) → place < 128 → ((j : ℕ) → j < place → has_bit low j ≡ false) → (other : ℕ) → other < place → has_bit (half_of low high other) (other % 128) ≡ false
 below_low low high place inside none other lt = by_half (nat_lt other 128) refl
   where
@@ -113,7 +113,7 @@ below_low low high place inside none other lt = by_half (nat_lt other 128) refl
     by_half true e = let same : other % 128 ≡ other = omega arith in ap (λ i. has_bit low i) same ∙ none other lt
     by_half false e = let ge : 128 ≤ other = grind (arith, nat_tests) in absurd (omega arith)
 
--- where it has none, no byte below the lowest of the higher half is
+-- if it has none, no byte below the lowest of the higher half is
 pub below_high : (low high place : ℕ) → place < 128 → ((i : ℕ) → has_bit low i ≡ false) → ((j : ℕ) → j < place → has_bit high j ≡ false) → (other : ℕ) → other < place + 128 → has_bit (half_of low high other) (other % 128) ≡ false
 below_high low high place inside bare none other lt = by_half (nat_lt other 128) refl
   where

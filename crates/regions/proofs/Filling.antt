@@ -28,7 +28,7 @@ at_more (c ∷ cells) cell p t e = kept (lies_in c.region p) (at_more cells cell
     kept true h = ap (λ (cs : List Cell). c ∷ cs) h
     kept false h = h
 
--- where all tests have one outcome in the region, and the answer at one of its points is no, it is one cell
+-- if all tests have one outcome in the region, and the answer at one of its points is no, it is one cell
 pub cell_filled : (tests : List (Point → Bool)) (number : ℕ) (holds fails : Point → Type 0) (cell : Cell) (cells : List Cell) → IsCutBy tests number cell.region → length tests ≤ number → IsIn cell.region cell.point → fails cell.point
     → IsFilled tests holds fails cell.region cells (cells ++ cell ∷ [])
 cell_filled tests number holds fails cell cells cut all in_ answer p has = by_lies (lies_in cell.region p) refl
@@ -43,7 +43,7 @@ cell_filled tests number holds fails cell cells cut all in_ answer p has = by_li
     })
     by_lies false e = at_more cells cell p false e ∙ append-nil (cells_at cells p)
 
--- and where it is yes, it is none
+-- and if it is yes, it is none
 pub none_filled : (tests : List (Point → Bool)) (number : ℕ) (holds fails : Point → Type 0) (region : Region) (q : Point) (cells : List Cell) → IsSettledBy tests holds → IsCutBy tests number region → length tests ≤ number → IsIn region q → holds q
     → IsFilled tests holds fails region cells cells
 none_filled tests number holds fails region q cells settled cut all in_ answer p has = by_lies (lies_in region p) refl
@@ -84,7 +84,7 @@ pub on_ok : {A E : Type 0} (r : Result A E) (P Q : Type 0) → (P → Q) → OnO
 on_ok (Ok x) P Q f h = f h
 on_ok (Err e) P Q f h = h
 
--- what is known of a part at which the filling of a region has come, by itself
+-- what is known by itself of a part that the filling of a region has reached
 pub record IsFilling (tests : List (Point → Bool)) (holds fails : Point → Type 0) (region : Region) (number : ℕ) (part : Region) (at : ℕ) (shape : Region) (sides : ℕ) (old mid : List Cell) : Type 0 where
   pub sides_left : sides ≤ 8
   pub further : number ≤ at

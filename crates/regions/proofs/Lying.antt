@@ -87,7 +87,7 @@ on_back stretch address le lt = joined (nat_le stretch.start address) (nat_lt ad
     below : (a b : ℕ) → a < b → nat_lt a b ≡ true
     below a b t = grind (arith, nat_tests)
 
--- where a condition is met beside those of a region, and then so many more, these are one more
+-- a condition beside those of a region, and then `n` more, are one more than `n`
 pub met_more : (region inside result shape : Region) (p : Point) (n left : ℕ) (side : Side) → left ≡ suc n → side ≡ side_of left → lies_in inside p ≡ (lies_in region p && meets side shape p)
     → lies_in result p ≡ (lies_in inside p && meets_last n shape p) → lies_in result p ≡ (lies_in region p && meets_last left shape p)
 met_more region inside result shape p n left side one own e f =

@@ -3,7 +3,7 @@ use Rattle.std.proofs.Common.{◌≡◌, ◌<◌, ◌≤◌, ◌+◌, ◌-◌, �
 use Rattle.std.specs.Prelude.{MatchOption, Option, Some, None, is_some}
 use Rattle.std.proofs.lemmas.Bool.{cases_lt}
 use Rattle.regions.specs.Points.{HasCommand}
-use Rattle.regions.specs.Questions.{HoldsOn, IsCutBy, IsCutTo, IsSettledBy, IsShapeAt, IsUnderWay, IsUnmixed}
+use Rattle.regions.specs.Questions.{HoldsOn, HoldsWhere, IsCutBy, IsCutTo, IsSettledBy, IsShapeAt, IsUnderWay, IsUnmixed}
 use Rattle.regions.specs.Regions.{AreApart, AreCut, IsBare, IsIn, LiesWithin, lies_in, meets, meets_last, side_of}
 use Rattle.regions.specs.declared.points.Point.{Point}
 use Rattle.regions.specs.declared.regions.Region.{Region}
@@ -28,7 +28,7 @@ part_of region part test is p in_part =
 pub still_cut : (tests : List (Point → Bool)) (number : ℕ) (region part : Region) → ((p : Point) → IsIn part p → IsIn region p) → IsCutBy tests number region → IsCutBy tests number part
 still_cut tests number region part of cut k d before there p q in_p in_q = cut k d before there p q (of p in_p) (of q in_q)
 
--- one more is cut, where its test has one outcome
+-- one more is cut if its test has one outcome
 pub one_more : (tests : List (Point → Bool)) (number : ℕ) (part : Region) → IsCutBy tests number part → ((d : Point → Bool) → IsUnmixed part (get_or tests number d)) → IsCutBy tests (number + 1) part
 one_more tests number part cut unmixed k d before there = by_place (cases_lt k number)
   where
@@ -94,7 +94,7 @@ last_inside tests number shape inside to cut =
 pub begun : (tests : List (Point → Bool)) (number : ℕ) (shape region : Region) → IsShapeAt tests number shape → IsUnderWay tests number shape 8 region
 begun tests number shape region at some = record { there = at.there; same = λ d p in_p. sym (at.same d p in_p.0) }
 
--- where all tests have one outcome in the region, one point answers for all
+-- if all tests have one outcome in the region, one point answers for all
 pub answered : (tests : List (Point → Bool)) (number : ℕ) (region : Region) (holds : Point → Type 0) (q : Point) → IsSettledBy tests holds → IsCutBy tests number region → length tests ≤ number → IsIn region q → holds q → HoldsOn holds region
 answered tests number region holds q settled cut all in_q answer p has lies =
     settled p q has in_q.0 (λ k d there. cut k d (omega arith) there p q (has, lies) in_q) answer
@@ -110,7 +110,7 @@ none_of (Some p) P Q none h = absurd (cc)
 pub nothing_cut : (tests : List (Point → Bool)) (region : Region) → IsCutBy tests 0 region
 nothing_cut tests region k d before there = absurd (omega arith)
 
--- what is known of both parts behind a cut
+-- what is known of both parts after a cut
 pub record IsStep (tests : List (Point → Bool)) (number : ℕ) (region shape : Region) (left : ℕ) (inside outside : Region) : Type 0 where
   pub there : number < length tests
   pub out_cut : IsCutBy tests (number + 1) outside
@@ -146,7 +146,7 @@ pub rank_some : (left : ℕ) → 0 < left → rank left ≡ left
 rank_some zero h = absurd (omega arith)
 rank_some (suc left) h = refl
 
--- where a region and a shape are apart, the test of the shape has one outcome in the region
+-- if a region and a shape are apart, the test of the shape has one outcome in the region
 pub apart_cut : (tests : List (Point → Bool)) (number : ℕ) (region shape : Region) → IsShapeAt tests number shape → AreApart region shape → IsCutBy tests number region → IsCutBy tests (number + 1) region
 apart_cut tests number region shape at apart cut =
     one_more tests number region cut (λ d p q in_p in_q. constant (get_or tests number d p) (get_or tests number d q) false (failed d p in_p) (failed d q in_q))
@@ -154,7 +154,7 @@ apart_cut tests number region shape at apart cut =
     failed : (d : Point → Bool) (r : Point) → IsIn region r → get_or tests number d r ≡ false
     failed d r in_r = sym (at.same d r in_r.0) ∙ false_of (lies_in shape r) (apart r in_r.0 in_r.1)
 
--- where a region lies within a shape, the test of the shape has one outcome in the region
+-- if a region lies within a shape, the test of the shape has one outcome in the region
 pub within_cut : (tests : List (Point → Bool)) (number : ℕ) (region shape : Region) → IsShapeAt tests number shape → LiesWithin region shape → IsCutBy tests number region → IsCutBy tests (number + 1) region
 within_cut tests number region shape at within cut =
     one_more tests number region cut (λ d p q in_p in_q. constant (get_or tests number d p) (get_or tests number d q) true (passed d p in_p) (passed d q in_q))
@@ -162,7 +162,15 @@ within_cut tests number region shape at within cut =
     passed : (d : Point → Bool) (r : Point) → IsIn region r → get_or tests number d r ≡ true
     passed d r in_r = sym (at.same d r in_r.0) ∙ within r in_r.0 in_r.1
 
--- what is known of a part at which a search of a region has come, by itself
+-- if a region lies within a shape at whose points it holds, it holds on the region
+pub passed_within : (tests : List (Point → Bool)) (number : ℕ) (region shape : Region) (holds : Point → Type 0) → IsShapeAt tests number shape → LiesWithin region shape → HoldsWhere tests holds number → HoldsOn holds region
+passed_within tests number region shape holds at within passes p has lies = passes (λ _. true) p has at.there (sym (at.same (λ _. true) p has) ∙ within p has lies)
+
+-- with no side left too
+pub passed_inside : (tests : List (Point → Bool)) (number : ℕ) (shape inside : Region) (holds : Point → Type 0) → IsCutTo tests number shape 0 inside → HoldsWhere tests holds number → HoldsOn holds inside
+passed_inside tests number shape inside holds to passes p has lies = passes (λ _. true) p has to.there (to.same (λ _. true) p (has, lies))
+
+-- what is known by itself of a part that a search of a region has reached
 pub record IsOnWay (tests : List (Point → Bool)) (holds : Point → Type 0) (region : Region) (number : ℕ) (part : Region) (at : ℕ) (shape : Region) (sides : ℕ) : Type 0 where
   pub sides_left : sides ≤ 8
   pub further : number ≤ at

@@ -1,4 +1,4 @@
--- Regions whose points all lie in another, as each of their fields tells.
+-- Regions whose points all lie in another, as each of their fields shows.
 use Rattle.std.proofs.Common.{◌≡◌, ◌≤◌, ◌<◌, ℕ, Bool, true, false, ◌&&◌, ◌||◌, not, sym, ◌∙◌, refl, arith}
 use Rattle.std.specs.Prelude.{MatchBool, MatchOption, Option, Some, None, is_none}
 use Rattle.rmap.specs.declared.kind.Kind.{Kind}
@@ -37,7 +37,7 @@ each_kind one other read write rmw kind.Write has = write has
 each_kind one other read write rmw kind.Rmw has = rmw has
 each_kind one other read write rmw kind.Unused has = absurd (cc)
 
--- each field tells
+-- each field shows it
 pub within : (one other : Region) (t : Bool) → HasEachAddress one.first other.first → HasEachAddress one.last other.last → HasEachByte one.keys other.keys → HasEachByte one.initiators other.initiators
     → HasEachByte one.extended other.extended → MatchBool t (HasEachKind one.kinds other.kinds) (Unit {0}) → MatchBool t (LiesWithin one other) (Unit {0})
 within one other false first last keys initiators extended kinds = tt

@@ -1,4 +1,4 @@
--- What of a command a rule looks at, and which of it some command has.
+-- The part of a command that a rule looks at, and which such parts some command has.
 use Rattle.std.specs.Prelude.{◌≡◌, ◌≤◌, ◌<◌, ◌-◌, ◌^◌, ◌==◌, ◌&&◌, ◌||◌, ℕ, Bool, true, false, nat_le, nat_lt}
 use Rattle.rmap.specs.declared.kind.Kind.{Kind}
 use Rattle.rmap.specs.declared.kind.Kind.TheVariants.{Read, Rmw, Unused, Write}
@@ -9,8 +9,8 @@ use Rattle.regions.specs.declared.stretches.Stretch.{Stretch}
 abbrev pub is_rmw_distance : ℕ → Bool
 is_rmw_distance d = d == 0 || (d == 1 || (d == 3 || (d == 5 || d == 7)))
 
--- the distance from the first address to the last of a command of this kind that a node may bring to its table: of a read
--- or a write with at most 4,096 bytes of data, or of a read-modify-write
+-- the distance from the first address to the last of a command of this kind that a node may bring to its table. It is
+-- that of a read or a write with at most 4,096 bytes of data, or of a read-modify-write
 abbrev pub is_distance : Kind → ℕ → Bool
 is_distance Read d = nat_lt d 4096
 is_distance Write d = nat_lt d 4096

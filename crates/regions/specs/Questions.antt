@@ -27,7 +27,7 @@ pub record IsShapeAt (tests : List (Point → Bool)) (number : ℕ) (region : Re
 abbrev pub AreTestedAlike : (p q : Point) → (Point → Bool) → Type 0
 AreTestedAlike p q test = test p ≡ test q
 
--- where all of the tests have one outcome at two points, what holds at one holds at the other
+-- if all of the tests have one outcome at two points, what holds at one holds at the other
 abbrev pub IsSettledBy : List (Point → Bool) → (Point → Type 0) → Type 0
 IsSettledBy tests holds = (p q : Point) → HasCommand p → HasCommand q → All (AreTestedAlike p q) tests → holds q → holds p
 
@@ -35,12 +35,12 @@ IsSettledBy tests holds = (p q : Point) → HasCommand p → HasCommand q → Al
 abbrev pub IsUnmixed : Region → (Point → Bool) → Type 0
 IsUnmixed region test = (p q : Point) → IsIn region p → IsIn region q → AreTestedAlike p q test
 
--- so it is with so many of the tests, the first ones
+-- so it is with the first `number` of the tests
 abbrev pub IsCutBy : List (Point → Bool) → (number : ℕ) → Region → Type 0
 IsCutBy tests number region = (k : ℕ) (d : Point → Bool) → k < number → k < length tests → IsUnmixed region (get_or tests k d)
 
--- all points of the region meet the conditions of a shape but for so many sides, the last ones, and the shape has the points
--- of the test of that number
+-- all points of the region meet the conditions of a shape, except the last `left` ones. The shape has the points of the
+-- test of that number
 pub record IsCutTo (tests : List (Point → Bool)) (number : ℕ) (shape : Region) (left : ℕ) (region : Region) : Type 0 where
   pub there : number < length tests
   pub same : (d : Point → Bool) (p : Point) → IsIn region p → get_or tests number d p ≡ meets_last left shape p
@@ -48,3 +48,8 @@ pub record IsCutTo (tests : List (Point → Bool)) (number : ℕ) (shape : Regio
 -- so it is while sides are left
 abbrev pub IsUnderWay : (tests : List (Point → Bool)) (number : ℕ) (shape : Region) (left : ℕ) (region : Region) → Type 0
 IsUnderWay tests number shape left region = 0 < left → IsCutTo tests number shape left region
+
+-- it holds at each point of a command at which the test of that number has the outcome true
+abbrev pub HoldsWhere : (tests : List (Point → Bool)) → (holds : Point → Type 0) → (number : ℕ) → Type 0
+HoldsWhere tests holds number =
+    (d : Point → Bool) (p : Point) → HasCommand p → number < length tests → get_or tests number d p ≡ true → holds p

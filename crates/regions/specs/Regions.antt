@@ -36,7 +36,7 @@ meets side.FirstBefore region p = nat_lt p.first region.first.end
 meets side.LastFrom region p = nat_le region.last.start p.last
 meets side.LastBefore region p = nat_lt p.last region.last.end
 
--- the sides in turn, by how many are left, counted with it
+-- the sides in turn, by how many are left, itself counted
 abbrev pub side_of : (left : ℕ) → Side
 side_of left =
     if left == 8 then side.Kind
@@ -48,7 +48,7 @@ side_of left =
     else if left == 2 then side.LastFrom
     else side.LastBefore
 
--- whether a point meets the conditions of so many sides, the last ones
+-- whether a point meets the conditions of the last `left` sides
 abbrev pub meets_last : (left : ℕ) → Region → Point → Bool
 meets_last zero region p = true
 meets_last (suc left) region p = meets (side_of (suc left)) region p && meets_last left region p

@@ -16,7 +16,7 @@ pub record LieOn (one other : Stretch) (first last : ℕ) : Type 0 where
 abbrev pub HasNoSpan : Kind → (one other : Stretch) → Type 0
 HasNoSpan kind one other = (first last : ℕ) → IsSpan kind first last → LieOn one other first last → ⊥
 
--- none that lies so far from its first address to its last does
+-- no command with this distance from its first address to its last lies there
 abbrev pub HasNoneAt : (distance : ℕ) → (one other : Stretch) → Type 0
 HasNoneAt distance one other = (first : ℕ) → first + distance < 2 ^ 32 → LieOn one other first (first + distance) → ⊥
 
@@ -31,7 +31,7 @@ pub record IsWantedReach (wanted : Bool) (kind : Kind) (one other : Stretch) (re
   pub is_wanted : wanted ≡ true
   pub is_reach : IsReach kind one other reach
 
--- no command of this kind lies there, where it is wanted
+-- if this kind is wanted, no command of it lies there
 abbrev pub HasNoWanted : (wanted : Bool) → Kind → (one other : Stretch) → Type 0
 HasNoWanted wanted kind one other = wanted ≡ true → HasNoSpan kind one other
 

@@ -43,7 +43,7 @@ impl ByteSet {
         }
     }
 
-    /// One byte alone.
+    /// Only one byte.
     pub fn only(byte: u8) -> ByteSet
         ensures { (other : ℕ) → other < 256 → has_byte result other ≡ (other == byte) }
     {

@@ -19,9 +19,10 @@ pub struct Cell {
     pub point: Point,
 }
 
-/// Appends the cells of a region. Each test before that of a number has one outcome at all points of the region; and while
-/// sides are left, they meet the conditions of its shape but for so many, the last ones. It calls itself as deep as
-/// [`search`](crate::search) does.
+/// Appends the cells of a region. Each test before that of a number has one outcome at all points of the region. While
+/// sides are left, the points meet the conditions of its shape, except the last `left` ones.
+///
+/// It calls itself as deep as [`search`](crate::search) does.
 fn fill_from<Q: Question>(
     question: &Q,
     region: &Region,
@@ -80,8 +81,12 @@ fn fill_from<Q: Question>(
     }
 }
 
-/// The cells at whose points the answer is no: each point that a command has lies in one of them alone, with the outcomes of
-/// the tests at the point of the cell, or in none where the answer is yes.
+/// The cells at whose points the answer is no. Each point that a command has lies in only one of them, with the
+/// outcomes of the tests at the point of the cell. Or it lies in none, and then the answer is yes.
+///
+/// # Errors
+///
+/// Only if memory is refused.
 pub fn cells<Q: Question>(alloc: Global, question: &Q) -> Result<Vec<Cell>, AllocError>
     requires few { length (Q.tests question.now) < 2 ^ 64 }
     requires settled { IsSettledBy (Q.tests question.now) (Q.holds question.now) }

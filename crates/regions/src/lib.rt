@@ -1,9 +1,10 @@
 //! The commands that a node may bring to its policy table, as points, and regions of them.
 //!
-//! A [`Point`] is what of a command a rule looks at. A [`Region`] is a product of sets, one a field, which is [cut](Region::cut)
-//! by a side of another and tells one of its [points](Region::witness), if a command has one. [`search`] cuts all commands by the
-//! regions of which a [`Question`] speaks, until one point answers it for all of a region; [`cells`] gives all regions that are
-//! left then, and at which the answer is no.
+//! A [`Point`] is the part of a command that a rule looks at. A [`Region`] is a product of sets, one a field. It is
+//! [cut](Region::cut) by a side of another, and gives one of its [points](Region::witness), if a command has one.
+//!
+//! [`search`] cuts all commands by the regions of which a [`Question`] speaks, until one point answers it for all of a
+//! region. [`cells`] gives all regions that are left then, and at which the answer is no.
 #![tactic(auto)]
 
 mod byte_sets;

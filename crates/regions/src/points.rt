@@ -1,8 +1,8 @@
-//! What of a command a rule looks at.
+//! The part of a command that a rule looks at.
 
 use rmap::Kind;
 
-/// What of a command a rule looks at (ECSS-E-ST-50-52C, command formats).
+/// The part of a command that a rule looks at (ECSS-E-ST-50-52C, command formats).
 #[derive(Clone, Copy, Debug, PartialEq, Eq)]
 pub struct Point {
     /// What the command asks for.

@@ -1,7 +1,7 @@
 //! Questions on all points that a command has.
 
 ghost use Rattle.std.specs.Prelude.{◌≡◌, ◌≤◌, ◌<◌, ◌^◌, Bool, List, MatchBool, MatchOption, length};
-ghost use Rattle.regions.specs.Questions.{HoldsAll, HoldsOn, IsCutBy, IsFound, IsSettledBy, IsShapeAt, IsUnderWay};
+ghost use Rattle.regions.specs.Questions.{HoldsAll, HoldsOn, HoldsWhere, IsCutBy, IsFound, IsSettledBy, IsShapeAt, IsUnderWay};
 ghost use Rattle.regions.specs.declared.points.Point.{Point};
 ghost use Rattle.regions.specs.declared.regions.Region.{Region};
 
@@ -11,13 +11,13 @@ use crate::sides::{SIDES, side_of};
 
 /// A question on a point, whose answer is the same at all points at which some tests have the same outcomes.
 pub trait Question {
-    /// The tests by which it is settled.
+    /// The tests that settle it.
     ghost tests: { Self → List (Point → Bool) };
 
-    /// What holds at a point where the answer is yes.
+    /// The property of a point at which the answer is yes.
     ghost holds: { Self → Point → Type 0 };
 
-    /// What holds at a point where the answer is no.
+    /// The property of a point at which the answer is no.
     ghost fails: { Self → Point → Type 0 };
 
     /// The points at which the test of that number, from 0 on, has the outcome true.
@@ -25,20 +25,27 @@ pub trait Question {
         ensures { MatchOption result (length (tests self.now) ≤ number)
             (IsShapeAt (tests self.now) number) };
 
+    /// Whether the answer is yes wherever the test of that number has the outcome true, as far as is known. A search
+    /// does not look further there.
+    fn passes(&self, number: usize) -> bool
+        ensures { MatchBool result (HoldsWhere (tests self.now) (holds self.now) number) (Unit {0}) };
+
     /// The answer at a point.
     fn ask(&self, point: &Point) -> bool
         ensures { MatchBool result (holds self.now point.now) (fails self.now point.now) };
 }
 
-/// A point of a region at which the answer is no. Each test before that of a number has one outcome at all points of the
-/// region; and while sides are left, they meet the conditions of its shape but for so many, the last ones.
+/// A point of a region at which the answer is no. Each test before that of a number has one outcome at all points of
+/// the region. While sides are left, the points meet the conditions of its shape, except the last `left` ones.
 ///
-/// It calls itself on what is outside of a side, and goes on with what is inside by itself. A region is cut by a shape only
-/// if some command has a point of both, so what is outside has fewer kinds, bytes of one field or addresses of one stretch,
-/// counted as far as shapes tell them apart. So the calls are at most as deep as there are edges of shapes, and one more. Kinds
-/// have two edges. The shapes of rules and of the lines of their chart tell apart what the rules do: a rule adds at most seven
-/// edges, one for each of its three bytes, and its first and its last address in either stretch. Two tables have at most 24
-/// rules, so 170 edges.
+/// It calls itself on what is outside of a side, and goes on with what is inside by itself. A region is cut by a shape
+/// only if some command has a point of both. So what is outside has fewer kinds, bytes of one field or addresses of one
+/// stretch, counted as far as shapes separate them. The calls are at most as deep as there are edges of shapes, and one
+/// more.
+///
+/// Kinds have two edges. The shapes of rules and of the lines of their chart separate what the rules do. A rule adds at
+/// most seven edges: one for each of its three bytes, and its first and its last address in either stretch. Two tables
+/// have at most 24 rules, so 170 edges.
 fn search_from<Q: Question>(
     question: &Q,
     region: &Region,
@@ -71,6 +78,9 @@ fn search_from<Q: Question>(
                 };
             };
             if part.is_within(&next) {
+                if question.passes(at) {
+                    return None;
+                }
                 at += 1;
                 continue 'cuts;
             }
@@ -88,6 +98,9 @@ fn search_from<Q: Question>(
         }
         part = inside;
         if sides == 1 {
+            if question.passes(at) {
+                return None;
+            }
             sides = 0;
             at += 1;
             continue 'cuts;
@@ -96,7 +109,7 @@ fn search_from<Q: Question>(
     }
 }
 
-/// A point that a command has at which the answer is no, or `None` where it is yes at each of a region.
+/// A point of a region that a command has and at which the answer is no, or `None` if it is yes at each.
 pub fn search_in<Q: Question>(question: &Q, region: &Region) -> Option<Point>
     requires few { length (Q.tests question.now) < 2 ^ 64 }
     requires settled { IsSettledBy (Q.tests question.now) (Q.holds question.now) }
@@ -106,7 +119,7 @@ pub fn search_in<Q: Question>(question: &Q, region: &Region) -> Option<Point>
     search_from(question, region, 0, region, 0)
 }
 
-/// A point that a command has at which the answer is no, or `None` where it is yes at each.
+/// A point that a command has at which the answer is no, or `None` if it is yes at each.
 pub fn search<Q: Question>(question: &Q) -> Option<Point>
     requires few { length (Q.tests question.now) < 2 ^ 64 }
     requires settled { IsSettledBy (Q.tests question.now) (Q.holds question.now) }

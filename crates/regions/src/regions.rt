@@ -184,7 +184,7 @@ impl Region {
         (self.inside(shape, side), self.outside(shape, side))
     }
 
-    /// The points that meet the conditions of so many sides of another region, the last ones.
+    /// The points that meet the conditions of the last `left` sides of another region.
     fn met(self, shape: &Region, left: u8) -> Region
         requires { left ≤ SIDES }
         ensures { (p : Point) → HasCommand p → lies_in result p
@@ -226,7 +226,7 @@ impl Region {
 
     /// Whether the values of each field that lie in the region lie in the other too. Then so do its points.
     #[tactic(auto, using(crate::proofs::Within::within))]
-    pub(crate) fn is_within(&self, other: &Region) -> bool
+    pub fn is_within(&self, other: &Region) -> bool
         ensures { MatchBool result (LiesWithin self.now other.now) (Unit {0}) }
     {
         if !self.first.is_within(other.first) {

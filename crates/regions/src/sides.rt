@@ -16,18 +16,18 @@ pub enum Side {
     Extended,
     /// The first address is not below its first addresses.
     FirstFrom,
-    /// The first address is not behind its first addresses.
+    /// The first address is not after its first addresses.
     FirstBefore,
     /// The last address is not below its last addresses.
     LastFrom,
-    /// The last address is not behind its last addresses.
+    /// The last address is not after its last addresses.
     LastBefore,
 }
 
 /// How many sides a region has.
 pub(crate) const SIDES: u8 = 8;
 
-/// The side behind which so many are left, counted with it.
+/// The side at which this many are left, itself counted.
 pub(crate) fn side_of(left: u8) -> Side
     ensures { result ≡ side_of left }
 {

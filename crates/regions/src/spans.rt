@@ -10,7 +10,7 @@ use crate::regions::Kinds;
 use crate::stretches::Stretch;
 use rmap::Kind;
 
-/// How far the last address of a read or a write is from its first at most, and one more: as many bytes as it has data.
+/// How far the last address of a read or a write is from its first at most, and one more. It is the most bytes of data.
 const FAR: u64 = 4096;
 
 /// Where commands end.
@@ -40,7 +40,8 @@ fn far_span(one: &Stretch, other: &Stretch) -> Option<(u32, u32)>
     Some((first as u32, last as u32))
 }
 
-/// The first address of a command that begins on one stretch and ends on another, so far behind it, if there is one.
+/// The first address of a command that begins on one stretch and ends on another, at this distance after that, if there
+/// is one.
 fn first_at(one: &Stretch, other: &Stretch, distance: u64) -> Option<u32>
     requires { distance < 8 }
     ensures { MatchOption result (HasNoneAt distance one.now other.now)
@@ -80,7 +81,7 @@ fn rmw_span(one: &Stretch, other: &Stretch) -> Option<(u32, u32)>
     None
 }
 
-/// A command of a kind that begins on one stretch and ends on another, where it is wanted.
+/// A command of a kind that begins on one stretch and ends on another, if it is wanted.
 fn reach_if(wanted: bool, kind: Kind, one: &Stretch, other: &Stretch) -> Option<Reach>
     requires { is_used kind ≡ true }
     ensures { MatchOption result (HasNoWanted wanted kind one.now other.now)

@@ -3,12 +3,12 @@
 ghost use Rattle.std.specs.Prelude.{◌≡◌, ℕ, ◌&&◌, MatchBool, max, min, nat_lt, not};
 ghost use Rattle.regions.specs.Points.{HasEachAddress, HaveNoAddress, lies_on};
 
-/// The addresses from one to before another; none, where that is not greater.
+/// The addresses from one to before another; none, if that is not greater.
 #[derive(Clone, Copy, Debug, PartialEq, Eq)]
 pub struct Stretch {
     /// The first address.
     pub start: u64,
-    /// The address behind the last.
+    /// The address after the last.
     pub end: u64,
 }
 

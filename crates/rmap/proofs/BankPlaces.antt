@@ -1,4 +1,4 @@
--- A bank that a command has as its place is one under the windows, and the command's bytes lie in it.
+-- If the place of a command is a bank, the windows have it, and the command's bytes lie in it.
 use Rattle.std.proofs.Common.{◌≡◌, ℕ, Bool, true, false, cond, eqb, Option, None, Some, refl, sym, ap, subst, ◌∙◌}
 use Rattle.std.specs.Prelude.{slice_get}
 use Rattle.std.proofs.lemmas.Option.{slice_get_within}
@@ -53,6 +53,6 @@ in_window w c k (Some range) e h =
     let window : slice_get w.banks k ≡ Some range = subst (λ n. slice_get w.banks n ≡ Some range) same e in
     record { below = slice_get_within w.banks k range window; range = range; window = window; inside = found.0 }
 
--- a bank that a command has as its place is there, and the command's bytes lie in it
+-- if the place of a command is a bank, the windows have it, and the command's bytes lie in it
 pub lies_in_bank : (c : CommandValue) (w : WindowsValue) (place : Place) → place_of c w ≡ Some place → IsWithinBank w c place
 lies_in_bank c w place h k at = in_window w c k (slice_get w.banks (extended_of c)) refl (h ∙ ap (λ x. Some x) at)

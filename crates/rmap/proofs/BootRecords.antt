@@ -1,4 +1,4 @@
--- The records of the boot window are read as they are written.
+-- A reader of the boot window's records reads what was written.
 use Rattle.std.proofs.Common.{◌≡◌, ◌<◌, ◌/◌, ◌%◌, ◌*◌, ◌+◌, ◌++◌, ◌∷◌, [], ℕ, List, Option, Some, get_or, length, refl, sym, ap, ap₂, subst, ◌∙◌, arith}
 use Rattle.std.specs.Prelude.{All, drop}
 use Rattle.byteorder.specs.Endian.{big_bytes, big_number}
@@ -7,14 +7,14 @@ use Rattle.rmap.specs.declared.boot_records.ControlData.{ControlData}
 use Rattle.rmap.specs.declared.boot_records.LoadResult.{LoadResult}
 use Rattle.rmap.specs.BootRecords.{AreReadAs, control_bytes, control_of, load_result_bytes, load_result_of}
 
--- two bytes of a length are read as it
+-- the two bytes of a length are read as that length
 control_back : (control : ControlData) → control.length < 65536 → AreReadAs control (control_bytes control)
 control_back control few behind =
     let count : control.length / 256 % 256 * 256 + control.length % 256 ≡ control.length = omega (arith, few) in
     let made : ℕ → ControlData = λ l. record { slot = control.slot; zero = control.zero; length = l } in
     ap made count
 
--- and so are bytes that are those
+-- bytes that are equal to those are read so too
 pub control_is_read : (control : ControlData) (bytes : List ℕ) → control.length < 65536 → bytes ≡ control_bytes control → AreReadAs control bytes
 control_is_read control bytes few is = subst (λ (l : List ℕ). AreReadAs control l) (sym is) (control_back control few)
 
@@ -25,7 +25,7 @@ result_back r near few =
     let made : ℕ → ℕ → Option LoadResult = λ p g. Some (record { code = r.code; place = p; generation = g }) in
     ap₂ made place generation
 
--- the eight bytes of a load result are read as it
+-- the eight bytes of a load result are read as that load result
 pub result_is_read : (r : LoadResult) (bytes : List ℕ) → r.place < 65536 → r.generation < 4294967296 → bytes ≡ load_result_bytes r → load_result_of bytes ≡ Some r
 result_is_read r bytes near few is = ap load_result_of is ∙ result_back r near few
 
@@ -35,7 +35,7 @@ four_again a b c d lc ld =
     let low : (c * 256 + d) % 256 ≡ d = omega arith in
     rw (high, low) refl
 
--- four bytes are written as they are read
+-- writing what was read of four bytes gives the four bytes
 pub control_again : (bytes : List ℕ) (result : ControlData) → All IsByte bytes → result ≡ control_of bytes → length bytes ≡ 4 → control_bytes result ≡ bytes
 control_again bytes result bound is count =
     ap control_bytes is ∙ subst (λ (l : List ℕ). control_bytes (control_of l) ≡ l) (sym (of_four bytes count))
@@ -57,7 +57,7 @@ eight_again (x0 ∷ x1 ∷ x2 ∷ x3 ∷ x4 ∷ []) h b z = let no : ⊥ = omega
 eight_again (x0 ∷ x1 ∷ x2 ∷ x3 ∷ x4 ∷ x5 ∷ []) h b z = let no : ⊥ = omega arith in absurd no
 eight_again (x0 ∷ x1 ∷ x2 ∷ x3 ∷ x4 ∷ x5 ∷ x6 ∷ []) h b z = let no : ⊥ = omega arith in absurd no
 
--- eight bytes whose second is zero are written as they are read
+-- writing what was read of eight bytes, the second of them zero, gives the eight bytes
 pub result_again : (bytes : List ℕ) (code place generation : ℕ) → All IsByte bytes → length bytes ≡ 8 → get_or bytes 1 0 ≡ 0 → code ≡ get_or bytes 0 0 → place ≡ big_number 2 (drop 2 bytes) → generation ≡ big_number 4 (drop 4 bytes)
     → load_result_bytes (record { code = code; place = place; generation = generation }) ≡ bytes
 result_again bytes code place generation bound count zero c p g = rw (c, p, g) (eight_again bytes count bound zero)

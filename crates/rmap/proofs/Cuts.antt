@@ -13,7 +13,7 @@ use Rattle.spw.specs.declared.packets.End.{End}
 use Rattle.rmap.specs.declared.discard.Discard.{Discard}
 use Rattle.rmap.specs.declared.discard.Discard.TheVariants.{Short, Protocol, Reply, HeaderCrc}
 
--- the parts are cut where a reply address of n bytes puts them
+-- the parts are cut at the places that a reply address of n bytes gives
 pub record IsCut (bytes : List ℕ) (n : ℕ) (c : CommandValue) : Type 0 where
   pub front : c.front ≡ take 4 bytes
   pub reply_address : c.reply_address ≡ take n (drop 4 bytes)
@@ -21,7 +21,7 @@ pub record IsCut (bytes : List ℕ) (n : ℕ) (c : CommandValue) : Type 0 where
   pub body : c.body ≡ drop 12 (drop n (drop 4 bytes))
   pub long : 16 + n ≤ length bytes
 
--- joined again they are the bytes
+-- the parts, joined again, are the bytes
 bytes_of-cut : (bytes : List ℕ) (n : ℕ) (c : CommandValue) → IsCut bytes n c → bytes ≡ bytes_of c
 bytes_of-cut bytes n c h =
     let rest : drop n (drop 4 bytes) ≡ drop (4 + n) bytes = drop-drop n 4 bytes in
@@ -84,7 +84,7 @@ is_header bytes n c cut count protocol type crc =
       crc = crc ∙ ap crc_of (sym (header_of-cut bytes n c cut));
     }
 
--- a command is cut from the front of its bytes
+-- a command has the parts that are cut from the front of its bytes
 pub cut_of : (bytes : List ℕ) (c : CommandValue) → IsCommand bytes c → IsCut bytes (length c.reply_address) c
 cut_of bytes c h =
     let whole : bytes ≡ c.front ++ (c.reply_address ++ (c.tail ++ c.body)) = h.parts ∙ append_assoc (c.front ++ c.reply_address) c.tail c.body ∙ append_assoc c.front c.reply_address (c.tail ++ c.body) in
@@ -142,11 +142,11 @@ only_command bytes c d h k end =
     let body : c.body ≡ d.body = cut.body ∙ ap (λ (n : ℕ). drop 12 (drop n (drop 4 bytes))) count ∙ sym cut'.body in
     same_parts c d front path tail body end
 
--- where bytes are discarded, no command stands to them
+-- if bytes are discarded, they are no command
 pub refused : (bytes : List ℕ) (d : Discard) → discard_of bytes ≡ Some d → (c : CommandValue) → IsCommand bytes c → ⊥
 refused bytes d h c command = let e : None ≡ Some d = sym (not_discarded bytes c command) ∙ h in cc
 
--- the tests of a discard where none holds
+-- no test of a discard holds
 record IsKept (short is_rmap is_reply cut is_right : Bool) : Type 0 where
   pub long : short ≡ false
   pub rmap : is_rmap ≡ true
@@ -162,7 +162,7 @@ kept false true true d e h = absurd cc
 kept false false c d e h = absurd cc
 kept true b c d e h = absurd cc
 
--- what is not discarded is a command
+-- bytes that are not discarded are a command
 pub read_as : (bytes : List ℕ) (end : End) → discard_of bytes ≡ None → IsReadAs bytes end
 read_as bytes end h =
     let n = 4 * (get_or bytes 2 0 % 4) in

@@ -1,4 +1,4 @@
--- The first 4,200 bytes of a packet that has as many are checked as the whole packet is.
+-- The first 4,200 bytes of a packet that has at least as many are checked as the whole packet is.
 use Rattle.std.proofs.Common.{◌≡◌, ℕ, ◌+◌, ◌-◌, ◌*◌, ◌%◌, ◌≤◌, ◌<◌, List, true, false, cond, eqb, ltb, length, get_or, take, drop, Option, None, Some, refl, ap, ◌∙◌, arith}
 use Rattle.std.specs.Prelude.{◌==◌, ◌&&◌, not, is_none, option_map, slice_get}
 use Rattle.std.proofs.lemmas.List.{drop-take, take-take, get_or-take, length-take-le, length-drop}
@@ -22,14 +22,14 @@ use Rattle.lemmas.proofs.Options.{passed, unmapped}
 few : (byte : ℕ) → 4 * (byte % 4) ≤ 12
 few byte = omega arith
 
--- a byte of the first 4,200
+-- a byte of the first 4,200 is the same in the whole
 byte_of : (bytes : List ℕ) (k : ℕ) → k < 4200 → get_or (take 4200 bytes) k 0 ≡ get_or bytes k 0
 byte_of bytes k below = get_or-take 4200 bytes k 0 below
 
 front_of : (bytes : List ℕ) (k : ℕ) → k ≤ 4200 → take k (take 4200 bytes) ≡ take k bytes
 front_of bytes k few = take-take k 4200 bytes few
 
--- so many bytes from a place on
+-- `count` bytes from a place on are the same in the first 4,200 and in the whole
 part_of : (bytes : List ℕ) (place count : ℕ) → place + count ≤ 4200 → take count (drop place (take 4200 bytes)) ≡ take count (drop place bytes)
 part_of bytes place count few =
     let rest : 4200 ≡ place + (4200 - place) = omega (arith, few) in
@@ -63,7 +63,7 @@ header p =
       tail = ap (λ n. take 12 (drop (4 + n) (take 4200 p.bytes))) same ∙ part_of p.bytes (4 + path_length p.bytes) 12 (omega (arith, path));
     }
 
--- a command of these parts
+-- the command of these parts
 of_parts : (front reply_address tail body : List ℕ) → End → CommandValue
 of_parts f r t b e = record { front = f; reply_address = r; tail = t; body = b; end = e }
 
@@ -106,7 +106,7 @@ checks p w =
     let d = command_of p in
     same_checks c.front d.front c.tail d.tail c.reply_address d.reply_address c.body d.body p.end w same.front same.tail
 
--- what passes the checks of its header wants at most 4,097 bytes behind it
+-- if the header passes its checks, at most 4,097 bytes should follow it
 few_wanted : (c : CommandValue) (w : WindowsValue) → header_line c w ≡ None → length_of c ≤ 4096
 few_wanted c w allowed =
     let used = passed (not (is_used (command_kind c))) (faults.UnusedCode (record { 0 = instruction_of c })) _ (unmapped header_status (header_check c w) allowed) in
@@ -123,7 +123,7 @@ wanted Write n few = omega (arith, few)
 wanted Rmw n few = omega (arith, few)
 wanted Unused n few = omega arith
 
--- both have more bytes behind the header than are wanted
+-- if both have more bytes after the header than should follow, the checks of their bodies agree
 both_long : (end : End) (c d : CommandValue) → wanted_length c < length c.body → wanted_length d < length d.body → body_line_at end c ≡ body_line_at end d
 both_long Eep c d k l = refl
 both_long Eop c d k l =
@@ -133,7 +133,7 @@ both_long Eop c d k l =
     let d_many : ltb (wanted_length d) (length d.body) ≡ true = grind (arith, nat_tests) in
     rw (c_few, d_few, c_many, d_many) refl
 
--- so many bytes behind the header are more than are wanted
+-- 4,200 bytes or more have more bytes after the header than should follow it
 long_body : (p : Cargo) (w : WindowsValue) → 4200 ≤ length p.bytes → header_line (command_of p) w ≡ None → wanted_length (command_of p) < length (command_of p).body
 long_body p w long allowed =
     let c = command_of p in

@@ -1,4 +1,4 @@
--- Kinds and the increment bit by masks.
+-- Masks decide the kinds and the increment bit.
 use Rattle.std.proofs.Common.{◌≡◌, ℕ, Bool, true, false, refl, sym, ap, ◌∙◌, arith}
 use Rattle.std.specs.Prelude.{◌↔◌, ◌==◌, bit_and, not}
 use Rattle.std.proofs.lemmas.Bool.{agree_below_at}

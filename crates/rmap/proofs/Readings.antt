@@ -1,4 +1,4 @@
--- The bytes of a packet, cut into parts, are the command that stands to them.
+-- The bytes of a packet, cut into parts, are the parts of the command that they are.
 use Rattle.std.proofs.Common.{◌≡◌, ℕ, ◌+◌, ◌++◌, List, length, get_or, take, drop, None, refl, sym, ap, ◌∙◌, arith, append_assoc}
 use Rattle.std.proofs.lemmas.List.{drop-drop, take_at, drop_at, get_or_append_left}
 use Rattle.spw.specs.Cargo.{Cargo}

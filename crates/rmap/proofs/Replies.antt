@@ -22,7 +22,7 @@ length-path_or_zero (byte ∷ rest) address h = h
 length-reply_path_of : (address : List ℕ) → length (reply_path_of address) ≤ length address
 length-reply_path_of address = length-path_or_zero (without_leading_zeros address) address (length-without_leading_zeros address)
 
--- what read form adds to a reply
+-- read form adds at most five bytes and the data
 length-read : (form : Bool) (bytes : List ℕ) (crc : ℕ) → length (cond form [] (0 ∷ big_bytes 3 (length bytes))) + length (cond form [] (bytes ++ crc ∷ [])) ≤ 5 + length bytes
 length-read true bytes crc = omega arith
 length-read false bytes crc = omega (arith, length-append bytes (crc ∷ []))
@@ -41,7 +41,7 @@ length-reply_of c status bytes h few =
     let whole : length (reply_path_of c.reply_address ++ with_crc (reply_header c status bytes) ++ reply_body c bytes) ≤ 4121 = omega (arith, length-joined (reply_path_of c.reply_address) (reply_header c status bytes) (reply_body c bytes) (crc_of (reply_header c status bytes))) in
     elim (wants_reply c) as (λ b. length (cond b (reply_path_of c.reply_address ++ with_crc (reply_header c status bytes) ++ reply_body c bytes) []) ≤ 4121) [ true ↦ whole | false ↦ omega arith ]
 
--- the CRCs of a reply are remainders where those of its header and of its data are
+-- the CRCs of a reply are remainders if those of its header and of its data are
 pub has_remainders : (c : CommandValue) (status : Status) (bytes reply : List ℕ) → wants_reply c ≡ true → reply ≡ reply_of c status bytes → IsRemainder (reply_header c status bytes) (crc_of (reply_header c status bytes)) → (writes c ≡ false → IsRemainder bytes (crc_of bytes)) → HasRemainders c bytes reply
 has_remainders c status bytes reply wanted is header read = record {
   header = reply_header c status bytes;

@@ -1,12 +1,12 @@
--- The records of the boot window as bytes. The standard leaves open what stands under an address
--- (ECSS-E-ST-50-52C, address field): this is a choice of this target.
+-- The records of the boot window as bytes. The standard leaves to the target what is at an address (ECSS-E-ST-50-52C,
+-- address field): this is a choice of this target.
 use Rattle.std.specs.Prelude.{◌≡◌, ℕ, ◌+◌, ◌*◌, ◌==◌, if◌then◌else◌, List, [], ◌∷◌, ◌++◌, drop, slice_index, Option, Some, None}
 use Rattle.byteorder.specs.Endian.{big_bytes, big_number}
 use Rattle.rmap.specs.declared.boot_records.ControlData.{ControlData}
 use Rattle.rmap.specs.declared.boot_records.LoadResult.{LoadResult}
 
--- what the data of a control write ask: a slot, a byte that is zero, and how many bytes the image has, the
--- most significant byte first
+-- The data of a control write as read from bytes: the slot, a byte that must be zero, and the length of the image.
+-- The length has its more significant byte first.
 abbrev pub control_of : List ℕ → ControlData
 control_of bytes = record {
   slot = slice_index bytes 0;
@@ -14,11 +14,11 @@ control_of bytes = record {
   length = slice_index bytes 2 * 256 + slice_index bytes 3;
 }
 
--- the data of a control write that asks so
+-- the bytes of the data of this control write
 abbrev pub control_bytes : ControlData → List ℕ
 control_bytes control = (control.slot ∷ control.zero ∷ []) ++ big_bytes 2 control.length
 
--- the bytes ask so, whatever follows them
+-- the bytes are read as this control write, whatever follows them
 abbrev pub AreReadAs : ControlData → List ℕ → Type 0
 AreReadAs control bytes = (behind : List ℕ) → control_of (bytes ++ behind) ≡ control
 

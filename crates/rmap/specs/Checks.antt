@@ -26,12 +26,12 @@ use Rattle.rmap.specs.Command.{CommandValue, target_of, instruction_of, extended
 use Rattle.rmap.specs.Command.{verifies, increments}
 use Rattle.rmap.specs.Windows.{WindowsValue, begins_inside, place_of}
 
--- whether data and mask have the same length, of at most four bytes (ECSS-E-ST-50-52C,
--- read-modify-write command format, data length field)
+-- whether data and mask have the same length of at most four bytes (ECSS-E-ST-50-52C, read-modify-write command
+-- format, data length field)
 abbrev pub is_rmw_length : ℕ → Bool
 is_rmw_length n = n == 0 || (n == 2 || (n == 4 || (n == 6 || n == 8)))
 
--- whether it is a read-modify-write of a length that no data and mask have
+-- whether the command is a read-modify-write of a length that no data and mask have
 abbrev pub has_wrong_rmw_length : Kind → ℕ → Bool
 has_wrong_rmw_length Rmw n = not (is_rmw_length n)
 has_wrong_rmw_length Read n = false
@@ -57,8 +57,8 @@ miss_in (Some bank) c =
 abbrev pub miss_of : CommandValue → WindowsValue → NoPlace
 miss_of c w = miss_in (slice_get w.banks (extended_of c)) c
 
--- the first check of the header that holds, with what it found; the verify buffer has 1,024 bytes, and a command at most
--- 4,096 bytes of data
+-- The first check of the header that stops the command, with what it found. At most 1,024 bytes are verified, and a
+-- command has at most 4,096 bytes of data.
 abbrev pub header_check : CommandValue → WindowsValue → Option HeaderFault
 header_check c w =
     if not (is_used (command_kind c)) then Some (faults.UnusedCode (record { 0 = instruction_of c }))
@@ -69,7 +69,7 @@ header_check c w =
     else if is_none (place_of c w) then Some (faults.NoPlace (miss_of c w))
     else None
 
--- the status by which a fault of the header is answered
+-- the status in the reply after a fault of the header
 abbrev pub header_status : HeaderFault → Status
 header_status (faults.UnusedCode instruction) = UnusedCode
 header_status (faults.OtherNode target node) = InvalidLogicalAddress
@@ -78,15 +78,15 @@ header_status (faults.TooManyToVerify count) = VerifyBufferOverrun
 header_status (faults.TooManyBytes count) = NotAuthorised
 header_status (faults.NoPlace miss) = NotAuthorised
 
--- the status of the first check of the header that holds
+-- the status of the first check of the header that stops the command
 abbrev pub header_line : CommandValue → WindowsValue → Option Status
 header_line c w = option_map header_status (header_check c w)
 
--- no check of the header holds, and the bytes of the command have that place
+-- no check of the header stops the command, and its bytes have that place
 abbrev pub HasPlace : CommandValue → WindowsValue → Place → Type 0
 HasPlace c w place = (header_check c w ≡ None) × (place_of c w ≡ Some place)
 
--- the first check of the header that holds is that one, and found that
+-- the first check of the header that stops the command is that one, and found that
 abbrev pub Faults : CommandValue → WindowsValue → HeaderFault → Type 0
 Faults c w fault = header_check c w ≡ Some fault
 
@@ -106,12 +106,12 @@ wanted_length c = if carries_data (command_kind c) then length_of c + 1 else 0
 abbrev pub data_of : CommandValue → List ℕ
 data_of c = take (length_of c) c.body
 
--- whether the byte behind the data is not their CRC (ECSS-E-ST-50-52C, data CRC field)
+-- whether the byte after the data is not their CRC (ECSS-E-ST-50-52C, data CRC field)
 abbrev pub has_wrong_data_crc : CommandValue → Bool
 has_wrong_data_crc c =
     carries_data (command_kind c) && not (slice_index c.body (length_of c) == crc_of (data_of c))
 
--- the first check of what follows the header that holds, with what is wanted and what was found
+-- the first check of what follows the header that stops the command, with the right value and the found one
 abbrev pub content_check : CommandValue → Option BodyFault
 content_check c =
     if nat_lt (length c.body) (wanted_length c) then Some (TooFewBytes (length c.body) (wanted_length c))
@@ -119,26 +119,26 @@ content_check c =
     else if has_wrong_data_crc c then Some (WrongDataCrc (slice_index c.body (length_of c)) (crc_of (data_of c)))
     else None
 
--- the first check of the body that holds, by how the packet ended
+-- the first check of the body that stops the command, by how the packet ended
 abbrev pub body_check_at : End → CommandValue → Option BodyFault
 body_check_at Eep c = Some ErrorEnd
 body_check_at Eop c = content_check c
 
--- the first check of the body that holds
+-- the first check of the body that stops the command
 abbrev pub body_check : CommandValue → Option BodyFault
 body_check c = body_check_at c.end c
 
--- the status by which a fault of the body is answered
+-- the status in the reply after a fault of the body
 abbrev pub body_status : BodyFault → Status
 body_status ErrorEnd = ErrorEndOfPacket
 body_status (TooFewBytes found wanted) = EarlyEndOfPacket
 body_status (TooManyBehind found wanted) = TooMuchData
 body_status (WrongDataCrc found right) = InvalidDataCrc
 
--- the status of the first check of the body that holds, by how the packet ended
+-- the status of the first check of the body that stops the command, by how the packet ended
 abbrev pub body_line_at : End → CommandValue → Option Status
 body_line_at end c = option_map body_status (body_check_at end c)
 
--- the status of the first check of the body that holds
+-- the status of the first check of the body that stops the command
 abbrev pub body_line : CommandValue → Option Status
 body_line c = body_line_at c.end c

@@ -1,5 +1,4 @@
--- The numbers that stand for a discard in outputs, and for a status in a reply (ECSS-E-ST-50-52C,
--- error and status codes).
+-- The number of a discard in outputs, and the byte of a status in a reply (ECSS-E-ST-50-52C, error and status codes).
 use Rattle.std.specs.Prelude.{ℕ, ◌==◌, if◌then◌else◌, Option, Some, None}
 use Rattle.rmap.specs.declared.discard.Discard.{Discard}
 use Rattle.rmap.specs.declared.discard.Discard.TheVariants.{Short, Protocol, Reply, HeaderCrc}
@@ -40,7 +39,7 @@ status_code NotAuthorised = 10
 status_code RmwDataLength = 11
 status_code InvalidLogicalAddress = 12
 
--- the status that a byte stands for, if it stands for one
+-- the status of a byte, if one has it
 abbrev pub status_of_code : ℕ → Option Status
 status_of_code code =
     if code == 0 then Some Success

@@ -20,7 +20,7 @@ pub record CommandValue : Type 0 where
   pub reply_address : List ℕ
   -- initiator logical address, transaction identifier, extended address, address, data length, header CRC
   pub tail : List ℕ
-  -- what follows the header: data and data CRC, where the command has them
+  -- what follows the header: data and data CRC, if the command has them
   pub body : List ℕ
   pub end : End
 
@@ -40,7 +40,7 @@ instruction_of c = slice_index c.front 2
 abbrev pub key_of : CommandValue → ℕ
 key_of c = slice_index c.front 3
 
--- the initiator logical address field, the first byte behind the reply address
+-- the initiator logical address field, the first byte after the reply address
 abbrev pub initiator_of : CommandValue → ℕ
 initiator_of c = slice_index c.tail 0
 
@@ -92,7 +92,8 @@ bytes_of c = c.front ++ c.reply_address ++ c.tail ++ c.body
 abbrev pub header_of : CommandValue → List ℕ
 header_of c = c.front ++ c.reply_address ++ take 11 c.tail
 
--- a header of RMAP: each part has its length, the protocol is 1, it is no reply, and its CRC is right
+-- a header of RMAP: each part has its length, the protocol identifier is 1, the packet is no reply, and the header
+-- CRC is right
 pub record IsHeader (c : CommandValue) : Type 0 where
   pub front : length c.front ≡ 4
   pub reply_address : length c.reply_address ≡ reply_address_length (instruction_of c)
@@ -106,7 +107,7 @@ pub record IsCommand (bytes : List ℕ) (c : CommandValue) : Type 0 where
   pub header : IsHeader c
   pub parts : bytes ≡ bytes_of c
 
--- how many bytes the header has, as the instruction in the third byte announces them
+-- how many bytes the header has, by the instruction in the third byte
 abbrev pub header_length : List ℕ → ℕ
 header_length bytes = 16 + reply_address_length (slice_index bytes 2)
 
@@ -129,21 +130,21 @@ discard_of bytes =
 abbrev pub IsDiscarded : List ℕ → Discard → Type 0
 IsDiscarded bytes reason = discard_of bytes ≡ Some reason
 
--- any command that stands to the packet's bytes, with the packet's end, is the one that is given
+-- if the packet's bytes are a command with the packet's end, that command is given
 abbrev pub GivesAnyCommandOf : Cargo → Result CommandValue Discard → Type 0
 GivesAnyCommandOf p given = (c : CommandValue) → IsCommand p.bytes c → c.end ≡ p.end → given ≡ Ok c
 
--- the four fields in front of the reply address
+-- the four fields before the reply address
 abbrev pub front_fields : CommandValue → List ℕ
 front_fields c = target_of c ∷ protocol_of c ∷ instruction_of c ∷ key_of c ∷ []
 
--- the fields behind the reply address, each with its most significant byte first
+-- the fields after the reply address, each with its most significant byte first
 abbrev pub tail_fields : CommandValue → List ℕ
 tail_fields c =
     initiator_of c ∷ [] ++ big_bytes 2 (transaction_of c) ++ extended_of c ∷ []
     ++ big_bytes 4 (address_of c) ++ big_bytes 3 (length_of c) ++ header_crc_of c ∷ []
 
--- how many bytes the reply address has, as the third byte announces them
+-- how many bytes the reply address has, by the third byte
 abbrev pub path_length : List ℕ → ℕ
 path_length bytes = reply_address_length (slice_index bytes 2)
 

@@ -7,8 +7,8 @@ use Rattle.rmap.specs.declared.discard.Flaw.{Flaw}
 use Rattle.rmap.specs.declared.discard.Flaw.TheVariants.{TooShort, OtherProtocol, IsReply, WrongHeaderCrc}
 use Rattle.rmap.specs.Command.{header_length}
 
--- what is found where bytes are discarded for that reason: the protocol identifier that is not 1, or the last byte of the
--- header and the CRC of those before it
+-- What is found in bytes that are discarded for that reason. It may be the protocol identifier that is not 1, or the
+-- last byte of the header and the right CRC.
 abbrev pub flaw_of : List ℕ → Discard → Flaw
 flaw_of bytes Short = TooShort
 flaw_of bytes Protocol = OtherProtocol (slice_index bytes 1)

@@ -32,7 +32,7 @@ has_increment_bit instruction = bit_at instruction 2 == 1
 abbrev pub reply_address_length : ℕ → ℕ
 reply_address_length instruction = 4 * (instruction % 4)
 
--- codes 0010 and 0011 read, 0111 is a read-modify-write, 1000 to 1111 write, and the rest is unused
+-- codes 0010 and 0011 read, 0111 is a read-modify-write, 1000 to 1111 write, and the others are unused
 abbrev pub kind_of_code : ℕ → Kind
 kind_of_code code =
     if code == 2 || code == 3 then Read
@@ -40,7 +40,7 @@ kind_of_code code =
     else if nat_le 8 code then Write
     else Unused
 
--- what an instruction asks for; any packet type but that of a command asks for nothing that is used
+-- what an instruction asks for; any packet type except that of a command is unused
 abbrev pub kind_of : ℕ → Kind
 kind_of instruction =
     if packet_type instruction == 1 then kind_of_code (command_code instruction) else Unused

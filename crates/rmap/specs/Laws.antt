@@ -15,7 +15,7 @@ use Rattle.rmap.specs.Windows.{WindowsValue}
 use Rattle.rmap.specs.Checks.{header_check, header_line, body_line}
 use Rattle.rmap.specs.Reply.{reply_of}
 
--- a command that stands to the bytes and whose packet ended so
+-- a command that the bytes are, and whose packet ended so
 pub record IsReadAs (bytes : List ℕ) (end : End) : Type 0 where
   pub parts : CommandValue
   pub command : IsCommand bytes parts
@@ -25,7 +25,7 @@ pub record IsReadAs (bytes : List ℕ) (end : End) : Type 0 where
 abbrev pub CommandsAreKept : Type 0
 CommandsAreKept = (bytes : List ℕ) (c : CommandValue) → IsCommand bytes c → discard_of bytes ≡ None
 
--- what is not discarded is a command, however its packet ended
+-- bytes that are not discarded are a command, however the packet ended
 abbrev pub KeptAreCommands : Type 0
 KeptAreCommands = (bytes : List ℕ) (end : End) → discard_of bytes ≡ None → IsReadAs bytes end
 
@@ -39,15 +39,15 @@ RepliesAreShort =
     (c : CommandValue) (status : Status) (bytes : List ℕ) → IsHeader c → length bytes ≤ MAX_DATA
     → length (reply_of c status bytes) ≤ MAX_REPLY
 
--- the bytes of a command are its fields in the standard's order, with the reply address between them
--- and the body behind them
+-- the bytes of a command are its fields in the standard's order, with the reply address between them and the body
+-- after them
 abbrev pub CommandsAreLaidOut : Type 0
 CommandsAreLaidOut =
     (bytes : List ℕ) (c : CommandValue) → IsCommand bytes c → All (λ b. b < 256) bytes → bytes ≡ front_fields c
     ++ c.reply_address ++ tail_fields c ++ c.body
 
--- an instruction byte is of a kind exactly where under the kind's mask it is the kind's bits, and it has no
--- increment exactly where it is 0 under the increment bit (ECSS-E-ST-50-52C, instruction field)
+-- An instruction byte is of a kind if and only if, under the kind's mask, it is the kind's bits. It has no increment
+-- if and only if it is 0 under the increment bit (ECSS-E-ST-50-52C, instruction field).
 pub record MasksTellKinds : Type 0 where
   pub read : (byte : ℕ) → byte < 256 → (bit_and byte READ_MASK ≡ READ_BITS) ↔ (kind_of byte ≡ Read)
   pub write : (byte : ℕ) → byte < 256 → (bit_and byte WRITE_MASK ≡ WRITE_BITS) ↔ (kind_of byte ≡ Write)
@@ -64,8 +64,8 @@ pub record HaveSameHeader (c d : CommandValue) : Type 0 where
 abbrev pub cut_to_longest : Cargo → Cargo
 cut_to_longest p = record { bytes = take MAX_PACKET p.bytes; end = p.end }
 
--- of a packet with 4,200 bytes or more the first 4,200 are discarded for the same reason, have the same header, and are
--- stopped by the same check of it; and where no check of the header stops them, the same check of the body does
+-- A packet has 4,200 bytes or more. Its first 4,200 are discarded for the same reason, or have the same header. The
+-- same check of the header stops both. If none does, the same check of the body stops both.
 pub record LongPacketIsCut : Type 0 where
   pub discarded : (p : Cargo) → MAX_PACKET ≤ length p.bytes
       → discard_of (cut_to_longest p).bytes ≡ discard_of p.bytes

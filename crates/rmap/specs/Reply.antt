@@ -14,12 +14,12 @@ abbrev pub without_leading_zeros : List ℕ → List ℕ
 without_leading_zeros [] = []
 without_leading_zeros (byte ∷ rest) = if byte == 0 then without_leading_zeros rest else byte ∷ rest
 
--- a path, or where none is left the first byte of its address, a zero
+-- a path, or if it is empty the first byte of its address, a zero
 abbrev pub path_or_zero : List ℕ → List ℕ → List ℕ
 path_or_zero [] address = take 1 address
 path_or_zero (byte ∷ rest) address = byte ∷ rest
 
--- the reply path: the reply address without its leading zeros, or one zero where it has nothing else
+-- the reply path: the reply address without its leading zeros, or one zero if nothing else is in it
 -- (ECSS-E-ST-50-52C, reply address field)
 abbrev pub reply_path_of : List ℕ → List ℕ
 reply_path_of address = path_or_zero (without_leading_zeros address) address
@@ -39,7 +39,7 @@ reply_header c status bytes =
     initiator_of c ∷ 1 ∷ reply_instruction (instruction_of c) ∷ status_code status ∷ target_of c ∷ []
     ++ big_bytes 2 (transaction_of c) ++ read_fields c bytes
 
--- some bytes, and their CRC behind them
+-- some bytes, and after them their CRC
 abbrev pub with_crc : List ℕ → List ℕ
 with_crc bytes = bytes ++ crc_of bytes ∷ []
 
@@ -47,7 +47,7 @@ with_crc bytes = bytes ++ crc_of bytes ∷ []
 abbrev pub reply_body : CommandValue → List ℕ → List ℕ
 reply_body c bytes = if writes c then [] else with_crc bytes
 
--- the reply, or nothing where none is wanted
+-- the reply, or nothing if the command wants none
 abbrev pub reply_of : CommandValue → Status → List ℕ → List ℕ
 reply_of c status bytes =
     if wants_reply c then reply_path_of c.reply_address ++ with_crc (reply_header c status bytes) ++ reply_body c bytes
@@ -57,8 +57,8 @@ reply_of c status bytes =
 abbrev pub HasRemainder : List ℕ → Type 0
 HasRemainder bytes = IsRemainder bytes (crc_of bytes)
 
--- the CRC of a reply's header is the remainder of the header, and in read form that of its data the
--- remainder of the data (ECSS-E-ST-50-52C, header CRC field and data CRC field)
+-- The CRC of a reply's header is the remainder of the header. In read form the CRC of the data is the remainder of
+-- the data (ECSS-E-ST-50-52C, header CRC field and data CRC field).
 pub record HasRemainders (c : CommandValue) (bytes reply : List ℕ) : Type 0 where
   pub header : List ℕ
   pub header_crc : ℕ

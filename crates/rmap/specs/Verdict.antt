@@ -8,8 +8,7 @@ use Rattle.rmap.specs.declared.verdict.Verdict.TheVariants.{Authorised, InvalidK
 use Rattle.rmap.specs.declared.verdict.Verdict.TheVariants.{InvalidLogicalAddress}
 use Rattle.rmap.specs.Codes.{status_code}
 
--- the verdict that a word stands for: 0 is yes, 3 and 12 are statuses of their own, and any other word is not
--- authorised
+-- the verdict of a word: 0 is authorised, 3 and 12 are statuses of their own, and any other word is not authorised
 abbrev pub verdict_of : ℕ → Verdict
 verdict_of word =
     if word == 0 then Authorised
@@ -17,8 +16,8 @@ verdict_of word =
     else if word == 12 then InvalidLogicalAddress
     else NotAuthorised
 
--- the status of a command with that verdict, success where nothing else stops it (ECSS-E-ST-50-52C, error and
--- status codes)
+-- the status of a command with that verdict, success if nothing else stops it (ECSS-E-ST-50-52C, error and status
+-- codes)
 abbrev pub verdict_status : Verdict → Status
 verdict_status Authorised = statuses.Success
 verdict_status InvalidKey = statuses.InvalidKey

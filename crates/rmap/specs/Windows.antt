@@ -1,5 +1,5 @@
--- Where the bytes of a command lie. The standard leaves open what is behind the addresses
--- (ECSS-E-ST-50-52C, extended address field and address field): this is a choice of this target.
+-- Where the bytes of a command lie. The standard leaves to the target what is at the addresses (ECSS-E-ST-50-52C,
+-- extended address field and address field): this is a choice of this target.
 use Rattle.std.specs.Prelude.{◌≡◌, ◌<◌, ℕ, ◌+◌, Bool, true, ◌==◌, ◌&&◌, ◌||◌, not, nat_le, nat_lt, if◌then◌else◌, List, length, slice_get}
 use Rattle.std.specs.Prelude.{Option, None, Some}
 use Rattle.rmap.specs.declared.boot.TheConstants.{BOOT_WINDOW, STAGING_SIZE, LOAD_REGISTER, LOAD_RESULT_SIZE}
@@ -26,7 +26,7 @@ lies_inside base size c =
     nat_le base (address_of c) && nat_lt (address_of c) (base + size)
     && (not (increments c) || nat_le (address_of c + length_of c) (base + size))
 
--- staging is as a bank of 16,384 bytes at 0, for every kind that is used
+-- the staging is like a bank of 16,384 bytes at 0, for every kind that is used
 abbrev pub is_staged : CommandValue → Bool
 is_staged c = is_used (command_kind c) && lies_inside 0 STAGING_SIZE c
 
@@ -34,7 +34,7 @@ is_staged c = is_used (command_kind c) && lies_inside 0 STAGING_SIZE c
 abbrev pub is_register : ℕ → CommandValue → Bool
 is_register size c = address_of c == LOAD_REGISTER && length_of c == size && increments c
 
--- at 0x10000 the load result is read whole, and a control write written whole
+-- a read at 0x10000 takes the whole load result, and a write there is a whole control write
 abbrev pub load_register_of : Kind → CommandValue → Option Place
 load_register_of Read c = if is_register LOAD_RESULT_SIZE c then Some LoadResult else None
 load_register_of Write c = if is_register CONTROL_SIZE c then Some Control else None
@@ -46,7 +46,7 @@ abbrev pub boot_place : CommandValue → Option Place
 boot_place c =
     if is_staged c then Some Staging else load_register_of (command_kind c) c
 
--- the bank of the extended address, where the command's bytes lie in it, or else the boot window
+-- the bank of the extended address if the command's bytes lie in it; without such a bank, the boot window
 abbrev pub bank_place : Option (ℕ × ℕ) → CommandValue → Option Place
 bank_place None c = if extended_of c == BOOT_WINDOW then boot_place c else None
 bank_place (Some bank) c = if lies_inside bank.0 bank.1 c then Some (Bank (extended_of c)) else None
@@ -55,13 +55,13 @@ bank_place (Some bank) c = if lies_inside bank.0 bank.1 c then Some (Bank (exten
 abbrev pub place_of : CommandValue → WindowsValue → Option Place
 place_of c w = bank_place (slice_get w.banks (extended_of c)) c
 
--- under those windows there is a bank of that number, and the bytes of the command lie in it
+-- the windows have a bank of that number, and the bytes of the command lie in it
 pub record LiesInBank (w : WindowsValue) (c : CommandValue) (k : ℕ) : Type 0 where
   pub below : k < length w.banks
   pub range : ℕ × ℕ
   pub window : slice_get w.banks k ≡ Some range
   pub inside : lies_inside range.0 range.1 c ≡ true
 
--- where the place is a bank, there is that bank, and the bytes of the command lie in it
+-- if the place is a bank, the windows have it, and the bytes of the command lie in it
 abbrev pub IsWithinBank : WindowsValue → CommandValue → Place → Type 0
 IsWithinBank w c place = (k : ℕ) → place ≡ Bank k → LiesInBank w c k

@@ -5,7 +5,7 @@ ghost use Rattle.rmap.specs.Checks.{body_status};
 
 use crate::status::Status;
 
-/// The check of a command's body that holds, with what it found (ECSS-E-ST-50-52C, error and status codes).
+/// The check of a command's body that stops it, with what it found (ECSS-E-ST-50-52C, error and status codes).
 #[derive(Clone, Copy, Debug, PartialEq, Eq)]
 pub enum BodyFault {
     /// The packet ended in an error end of packet.
@@ -21,20 +21,20 @@ pub enum BodyFault {
     TooManyBytes {
         /// How many follow it.
         found: usize,
-        /// How many should.
+        /// How many should follow it.
         wanted: usize,
     },
     /// The data CRC is not that of the data.
     WrongDataCrc {
         /// The data CRC.
         found: u8,
-        /// That of the data.
+        /// The right CRC of the data.
         right: u8,
     },
 }
 
 impl BodyFault {
-    /// The status by which the command is answered.
+    /// The status in the reply to the command.
     pub fn status(self) -> Status
         ensures { result ≡ body_status self }
     {

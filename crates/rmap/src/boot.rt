@@ -1,5 +1,5 @@
-//! The boot window: what every node has beside its banks, by which programs are loaded. The standard
-//! leaves what stands under an address to the target.
+//! The boot window, by which an initiator loads programs. Every node has it beside its banks. The standard leaves to
+//! the target what is at an address.
 
 ghost use Rattle.std.specs.Prelude.{◌≡◌};
 ghost use Rattle.rmap.specs.Windows.{boot_place, is_register};
@@ -11,13 +11,13 @@ use crate::places::Place;
 /// The extended address of the boot window.
 pub const BOOT_WINDOW: u8 = 0xFF;
 
-/// The bytes of a port's staging, which begins at address 0 of the boot window.
+/// The size in bytes of a port's staging, which begins at address 0 of the boot window.
 pub const STAGING_SIZE: u32 = 16_384;
 
 /// The address of the load result and of control writes in the boot window.
 pub const LOAD_REGISTER: u32 = 0x10000;
 
-/// The greatest slot of a program.
+/// The highest slot of a program.
 pub const LAST_SLOT: u8 = 3;
 
 /// The bytes of a load result.
@@ -26,14 +26,14 @@ pub const LOAD_RESULT_SIZE: u32 = 8;
 /// The bytes of a control write.
 pub const CONTROL_SIZE: u32 = 4;
 
-/// Whether the command is for exactly those bytes of the register, with increment.
+/// Whether the command is for exactly those bytes of the load register, with increment.
 fn is_register(command: &Command, size: u32) -> bool
     ensures { result ≡ is_register size command.now }
 {
     command.address() == LOAD_REGISTER && command.length() == size && command.increments()
 }
 
-/// The place in the boot window.
+/// The place of the command's bytes in the boot window.
 pub(crate) fn boot_place(command: &Command) -> Option<Place>
     ensures { result ≡ boot_place command.now }
 {

@@ -1,4 +1,4 @@
-//! The records of the boot window: what a control write asks for, and the load result.
+//! The records of the boot window: the data of a control write, and the load result.
 
 ghost use Rattle.std.specs.Prelude.{◌≡◌, IfSome, Some, length, slice_index};
 ghost use Rattle.rmap.specs.BootRecords.{AreReadAs, control_bytes, control_of, load_result_bytes, load_result_of};
@@ -8,11 +8,11 @@ use byteorder::{BigEndian, ByteOrder};
 /// The data of a control write.
 #[derive(Clone, Copy, Debug)]
 pub struct ControlData {
-    /// The slot that the program is for.
+    /// The slot for the program.
     pub slot: u8,
-    /// A byte that is to be zero.
+    /// A byte that must be zero.
     pub zero: u8,
-    /// How many bytes the image has, from the first of the staging on.
+    /// How many bytes the image has, from the first byte of the staging.
     pub length: u16,
 }
 
@@ -24,9 +24,9 @@ fn byte_at(bytes: &[u8], place: usize) -> u8
 }
 
 impl ControlData {
-    /// Reads the data of a control write: slot, a byte that is to be zero, and the length of the image in two bytes,
-    /// the most significant first. What lacks counts as zero, and what follows is not read. Of four bytes
-    /// [`ControlData::bytes`] gives the same again.
+    /// Reads the data of a control write: the slot, a byte that must be zero, and the length of the image in two
+    /// bytes. The more significant byte comes first. If bytes are missing, they count as zero. It reads no byte after
+    /// the first four. If there are exactly four bytes, [`ControlData::bytes`] gives the same four.
     #[tactic(auto, using(crate::proofs::BootRecords::control_again))]
     pub fn read(bytes: &[u8]) -> ControlData
         ensures value { result ≡ control_of bytes.now }
@@ -40,8 +40,8 @@ impl ControlData {
         }
     }
 
-    /// The data of a control write that asks so: the slot, the byte that is to be zero, and the length, the most
-    /// significant byte first. [`ControlData::read`] reads them again, whatever follows them.
+    /// The data of this control write: the slot, the byte that must be zero, and the length in two bytes, the most
+    /// significant first. [`ControlData::read`] reads the same again, whatever follows.
     #[tactic(auto, using(crate::proofs::BootRecords::control_is_read))]
     pub fn bytes(self) -> [u8; 4]
         ensures value { result ≡ control_bytes self }
@@ -53,19 +53,19 @@ impl ControlData {
     }
 }
 
-/// What the load register tells of the last load of its port.
+/// What the load register says of the last load of its port.
 #[derive(Clone, Copy, Debug, PartialEq, Eq)]
 pub struct LoadResult {
     /// The number of the refusal, or 0.
     pub code: u8,
-    /// The slot of the image at which it was refused, or 0.
+    /// The slot of the image at which the verifier refused it, or 0.
     pub place: u16,
-    /// The generation of the program that was published, or 0.
+    /// The generation of the program that the load published, or 0.
     pub generation: u32,
 }
 
 impl LoadResult {
-    /// The load result of a program that was published with that generation.
+    /// The load result after a program is published with that generation.
     pub fn published(generation: u32) -> LoadResult
         ensures { result ≡ record { code = 0; place = 0; generation = generation } }
     {
@@ -77,7 +77,8 @@ impl LoadResult {
     }
 
     /// Reads a load result: its code, a zero byte, its place in two bytes and its generation in four, the most
-    /// significant first. `None` if the second byte is not zero. [`LoadResult::bytes`] gives the same bytes again.
+    /// significant first. It gives `None` if the second byte is not zero. [`LoadResult::bytes`] gives the same bytes
+    /// again.
     #[tactic(auto, using(crate::proofs::BootRecords::result_again))]
     pub fn read(bytes: &[u8; 8]) -> Option<LoadResult>
         ensures value { result ≡ load_result_of bytes.now }
@@ -93,8 +94,8 @@ impl LoadResult {
         })
     }
 
-    /// The eight bytes of a load result: its code, a zero byte, its place in two bytes and its generation in four, the
-    /// most significant first. [`LoadResult::read`] reads them again.
+    /// The eight bytes of a load result: its code, a zero byte, its place in two bytes and its generation in four.
+    /// Each number has its most significant byte first. [`LoadResult::read`] reads them again.
     #[tactic(auto, using(crate::proofs::BootRecords::result_is_read))]
     pub fn bytes(self) -> [u8; 8]
         ensures value { result ≡ load_result_bytes self }

@@ -16,14 +16,14 @@ use crate::windows::Windows;
 use rcrc::crc;
 use spw::End;
 
-/// The most bytes that a command with the verify bit may have.
+/// The most bytes of data that a command with the verify bit may have.
 pub const VERIFY_BUFFER: u32 = 1024;
 
 /// The most bytes of data that a command may have.
 pub const MAX_DATA: u32 = 4096;
 
-/// Where the command's bytes lie, or `None` where that is not allowed. A read-modify-write counts by
-/// its whole data length, data and mask.
+/// Where the command's bytes lie, or `None` if the command is not allowed there. The place of a read-modify-write
+/// covers its whole data length, data and mask.
 pub fn place(command: &Command, windows: &Windows) -> Option<Place>
     ensures { result ≡ place_of command.now windows.now }
 {
@@ -37,7 +37,8 @@ pub fn place(command: &Command, windows: &Windows) -> Option<Place>
     }
 }
 
-/// Whether a read-modify-write has a length that is not that of up to four bytes of data and mask.
+/// Whether the command is a read-modify-write whose length is not that of at most four bytes of data and a mask of as
+/// many.
 fn has_wrong_rmw_length(kind: Kind, length: u32) -> bool
     ensures { result ≡ has_wrong_rmw_length kind length }
 {
@@ -63,7 +64,7 @@ fn begins_inside(command: &Command, base: u32, size: u32) -> bool
     u64::from(base) <= address && address < u64::from(base) + u64::from(size)
 }
 
-/// Why the command's bytes have no place, where [`place`] gives none.
+/// Why the command's bytes have no place, if [`place`] gives none.
 fn miss(command: &Command, windows: &Windows) -> NoPlace
     ensures { result ≡ miss_of command.now windows.now }
 {
@@ -81,10 +82,18 @@ fn miss(command: &Command, windows: &Windows) -> NoPlace
     }
 }
 
-/// Where the bytes of the command lie, or the first check of its header that holds: an unused code, a logical
-/// address other than the node's, a wrong length of a read-modify-write, more than 1,024 bytes to
-/// verify, more than 4,096 bytes, then a place that is not allowed (ECSS-E-ST-50-52C, error and
-/// status codes).
+/// The place of the command's bytes, if the header passes all checks.
+///
+/// # Errors
+///
+/// The first check that stops the command (ECSS-E-ST-50-52C, error and status codes):
+///
+/// 1. `UnusedCode`: the packet type is reserved, or the command code is unused.
+/// 2. `OtherNode`: the target logical address is not the node's.
+/// 3. `WrongRmwLength`: the data length of a read-modify-write is not 0, 2, 4, 6 or 8.
+/// 4. `TooManyToVerify`: there are more than 1,024 bytes to verify.
+/// 5. `TooManyBytes`: there are more than 4,096 bytes.
+/// 6. `NoPlace`: the bytes have no place, or the command is not allowed there.
 pub fn header_check(command: &Command, windows: &Windows) -> Result<Place, HeaderFault>
     ensures { MatchResult result (HasPlace command.now windows.now) (Faults command.now windows.now) }
 {
@@ -113,9 +122,12 @@ pub fn header_check(command: &Command, windows: &Windows) -> Result<Place, Heade
     }
 }
 
-/// Where the bytes of the command lie, or the status of the first check of its header that holds: that of
-/// [`header_check`]. A bank that is the place is one of the
-/// windows', and the bytes lie in it.
+/// The place of the command's bytes, if the header passes all checks. If the place is a bank, the windows have that
+/// bank, and the bytes lie in it.
+///
+/// # Errors
+///
+/// The status of the fault that [`header_check`] gives.
 pub fn checked_place(command: &Command, windows: &Windows) -> Result<Place, Status>
     ensures checked { MatchResult result (Passes command.now windows.now) (Stops command.now windows.now) }
     ensures inside { IfOk result (IsWithinBank windows.now command.now) }
@@ -126,15 +138,15 @@ pub fn checked_place(command: &Command, windows: &Windows) -> Result<Place, Stat
     }
 }
 
-/// The status of the first check of the header that holds, or `None`: that of [`checked_place`].
+/// The status of the first check of the header that stops the command, or `None`. It is that of [`checked_place`].
 pub fn header_fault(command: &Command, windows: &Windows) -> Option<Status>
     ensures { result ≡ header_line command.now windows.now }
 {
     checked_place(command, windows).err()
 }
 
-/// The bytes that should follow the header: data and one byte of CRC behind a write and a read-modify-write, none
-/// behind a read and an unused code.
+/// How many bytes should follow the header: the data and one byte of CRC for a write and a read-modify-write, else
+/// none.
 fn wanted_length(command: &Command) -> usize
     ensures { result ≡ wanted_length command.now }
 {
@@ -144,8 +156,8 @@ fn wanted_length(command: &Command) -> usize
     }
 }
 
-/// The first check of what follows the header that holds, however the packet ended: too few or too many bytes, then a
-/// wrong data CRC (ECSS-E-ST-50-52C, error and status codes).
+/// The first check of what follows the header that stops the command, however the packet ended. The checks are, in
+/// this order: too few bytes, too many bytes, a wrong data CRC (ECSS-E-ST-50-52C, error and status codes).
 pub fn content_check(command: &Command) -> Option<BodyFault>
     ensures { result ≡ content_check command.now }
 {
@@ -163,7 +175,8 @@ pub fn content_check(command: &Command) -> Option<BodyFault>
     (found != right).then_some(BodyFault::WrongDataCrc { found, right })
 }
 
-/// The first check of the body that holds, or `None`: an error end of packet, then those of [`content_check`].
+/// The first check of the body that stops the command, or `None`: an error end of packet, then those of
+/// [`content_check`].
 pub fn body_check(command: &Command) -> Option<BodyFault>
     ensures { result ≡ body_check command.now }
 {
@@ -173,7 +186,7 @@ pub fn body_check(command: &Command) -> Option<BodyFault>
     }
 }
 
-/// The status of the first check of the body that holds, or `None`: that of [`body_check`].
+/// The status of the first check of the body that stops the command, or `None`. It is that of [`body_check`].
 pub fn body_fault(command: &Command) -> Option<Status>
     ensures { result ≡ body_line command.now }
 {

@@ -17,8 +17,8 @@ use std::marker::Model;
 /// The protocol identifier of RMAP (ECSS-E-ST-50-52C, protocol identifier field).
 pub const PROTOCOL: u8 = 0x01;
 
-/// A command with a right header, lent from the bytes of its packet (ECSS-E-ST-50-52C, write command
-/// format, read command format, read-modify-write command format). Nothing is said yet of its body.
+/// A command with a right header, lent from the bytes of its packet (ECSS-E-ST-50-52C, write command format, read
+/// command format, read-modify-write command format). Its body may still be wrong.
 #[derive(Debug, Drop)]
 pub struct Command<'a> {
     front: &'a [u8; 4],
@@ -40,12 +40,18 @@ impl<'a> Model for Command<'a> {
 }
 
 impl<'a> Command<'a> {
-    /// The command that the packet's bytes are, or why they are none: fewer bytes than the header
-    /// has (`Short`), another protocol identifier than 1 (`Protocol`), packet type 00 (`Reply`), or a
-    /// wrong header CRC (`HeaderCrc`), tested in the order Short for the first three bytes, Protocol,
-    /// Reply, Short for the whole header, HeaderCrc. How the packet ended plays no part here.
+    /// The command that the packet's bytes are, with the packet's end. The result is the same however the packet
+    /// ended. If the bytes are a command, the result is that command.
     ///
-    /// Any command that stands to the bytes, with the packet's end, is the one that is given.
+    /// # Errors
+    ///
+    /// The first of these tests that fails gives the reason:
+    ///
+    /// 1. `Short`: the packet has at least three bytes.
+    /// 2. `Protocol`: the protocol identifier is 1.
+    /// 3. `Reply`: the packet type is not 00.
+    /// 4. `Short`: the packet has the whole header.
+    /// 5. `HeaderCrc`: the header CRC is that of the header.
     pub fn view(packet: &'a Packet) -> Result<Command<'a>, Discard>
         ensures command { MatchResult result (IsCommand packet.now.bytes)
             (IsDiscarded packet.now.bytes) }
@@ -85,8 +91,8 @@ impl<'a> Command<'a> {
         })
     }
 
-    /// The command that the packet's bytes are, once it is known that they are one: cut by lengths
-    /// alone.
+    /// The command that the packet's bytes are. The condition is that they are one. This only cuts them by their
+    /// lengths.
     pub fn again(packet: &'a Packet) -> Command<'a>
         requires { discard_of packet.now.bytes ≡ None }
         ensures { result ≡ command_of packet.now }
@@ -94,7 +100,7 @@ impl<'a> Command<'a> {
         Command::of_bytes(packet.bytes(), packet.end())
     }
 
-    /// The same of the bytes of a packet that ended so, where the packet itself is not at hand.
+    /// The same for bytes of a packet and its end, if the packet itself is not at hand.
     pub fn of_bytes(bytes: &'a [u8], end: End) -> Command<'a>
         requires { discard_of bytes.now ≡ None }
         ensures { result ≡ command_of (record { bytes = bytes.now; end = end }) }
@@ -136,7 +142,7 @@ impl<'a> Command<'a> {
         self.tail
     }
 
-    /// What follows the header: data and data CRC, where the command has them.
+    /// What follows the header: data and data CRC, if the command has them.
     pub fn body(&self) -> &'a [u8]
         ensures { result.now ≡ self.now.body }
     {
@@ -211,8 +217,8 @@ impl<'a> Command<'a> {
         BigEndian::read_u24(&tail[field::LENGTH..])
     }
 
-    /// Whether the command's bytes lie in the range of that base and size: its address does, and with
-    /// increment its data do not pass the end.
+    /// Whether the command's bytes lie in the range of that base and size. The first address must be in it, and with
+    /// increment the data must not pass its end.
     pub fn lies_inside(&self, base: u32, size: u32) -> bool
         ensures { result ≡ lies_inside base size self.now }
     {
@@ -223,35 +229,35 @@ impl<'a> Command<'a> {
             && (!self.increments() || address + u64::from(self.length()) <= end)
     }
 
-    /// What the command asks for; a reserved packet type is `Unused`.
+    /// What the command asks for. A reserved packet type is `Unused`.
     pub fn kind(&self) -> Kind
         ensures { result ≡ command_kind self.now }
     {
         self.instruction().kind()
     }
 
-    /// Bit 5: a reply has the form of a write reply.
+    /// Bit 5: the reply has the form of a write reply.
     pub fn writes(&self) -> bool
         ensures { result ≡ writes self.now }
     {
         self.instruction().writes()
     }
 
-    /// Bit 4: the data is to be checked before memory changes.
+    /// Bit 4: the target checks the data before it changes memory.
     pub fn verifies(&self) -> bool
         ensures { result ≡ verifies self.now }
     {
         self.instruction().verifies()
     }
 
-    /// Bit 3: a reply is to be sent.
+    /// Bit 3: the target sends a reply.
     pub fn wants_reply(&self) -> bool
         ensures { result ≡ wants_reply self.now }
     {
         self.instruction().wants_reply()
     }
 
-    /// Bit 2: each byte has the next address; else all have the one address.
+    /// Bit 2: each byte has the next address; without it all bytes have the one address.
     pub fn increments(&self) -> bool
         ensures { result ≡ increments self.now }
     {

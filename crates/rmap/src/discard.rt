@@ -27,8 +27,8 @@ const HEADER_CRC: &str = "\
 The last byte of the header is its CRC, over all bytes of the header before it but the path to the target.
 Compute it anew after every change of the header.";
 
-/// Why a packet is discarded without a reply (ECSS-E-ST-50-52C, error and status codes: packets that
-/// are no RMAP command with a right header are not answered).
+/// Why the target discards a packet without a reply. It answers no packet that is not an RMAP command with a right
+/// header (ECSS-E-ST-50-52C, error and status codes).
 #[derive(Clone, Copy, Debug, PartialEq, Eq, Error)]
 pub enum Discard {
     /// Fewer bytes than the header has.
@@ -59,7 +59,7 @@ impl Discard {
         }
     }
 
-    /// The reason of a number, as [`Discard::code`] gives it. `None` where no reason has it.
+    /// The reason of a number, as [`Discard::code`] gives it, or `None` if no reason has it.
     pub fn from_code(code: u8) -> Option<Discard>
         ensures value { result ≡ discard_of_code code }
         ensures number { IfSome result (λ reason. discard_code reason ≡ code) }
@@ -73,7 +73,7 @@ impl Discard {
         }
     }
 
-    /// What to say of the reason beside its name: when it comes, and what to do, in lines of at most 113 columns.
+    /// What to say of the reason beside its name: when it comes, and what to do. The lines have at most 113 columns.
     pub fn advice(self) -> &'static str {
         match self {
             Discard::Short => SHORT,
@@ -84,7 +84,7 @@ impl Discard {
     }
 }
 
-/// What was found where a packet is discarded: [`Discard`], with the bytes that are wrong and those that are right.
+/// What was found in a packet that is discarded: [`Discard`], with the bytes that are wrong and the right ones.
 #[derive(Clone, Copy, Debug, PartialEq, Eq)]
 pub enum Flaw {
     /// Fewer bytes than the header has.
@@ -100,13 +100,13 @@ pub enum Flaw {
     WrongHeaderCrc {
         /// The header CRC.
         found: u8,
-        /// That of the header.
+        /// The right CRC of the header.
         right: u8,
     },
 }
 
 impl Flaw {
-    /// What was found in these bytes. The condition is that they are discarded for that reason.
+    /// What was found in these bytes. The condition is that the target discards them for that reason.
     pub fn of(bytes: &[u8], reason: Discard) -> Flaw
         requires { IsDiscarded bytes.now reason }
         ensures { result ≡ flaw_of bytes.now reason }

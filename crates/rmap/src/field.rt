@@ -1,6 +1,5 @@
-//! Where the fields of a header stand (ECSS-E-ST-50-52C, write command format, read command format,
-//! read-modify-write command format), in the order of its bytes. The reply address lies between the
-//! front and the tail.
+//! The offsets of the fields of a header, in the order of its bytes (ECSS-E-ST-50-52C, write command format, read
+//! command format, read-modify-write command format). The reply address lies between the front and the tail.
 
 /// The target logical address, in the front.
 pub const TARGET: usize = 0;
@@ -32,5 +31,5 @@ pub const LENGTH: usize = 8;
 /// The header CRC, in the tail.
 pub const HEADER_CRC: usize = 11;
 
-/// The bytes of a header without a reply address and without its CRC.
+/// How many bytes a header has without its reply address and its CRC.
 pub const CHECKED: usize = 15;

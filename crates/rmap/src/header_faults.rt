@@ -19,19 +19,19 @@ pub enum NoPlace {
         /// The address.
         address: u32,
     },
-    /// The address is in the bank, and with increment the last one is behind it.
+    /// The address is in the bank, and with increment the last address is past its end.
     BehindBank {
         /// The first address.
         address: u32,
         /// How many bytes there are, with increment.
         length: u32,
     },
-    /// It is neither of the two commands that the load register takes: a read of its 8 bytes, and a write of 4.
+    /// The command is neither of the two that the load register takes: a read of its 8 bytes, and a write of 4.
     OtherAtRegister {
         /// The address, in the load register.
         address: u32,
     },
-    /// The bytes are not in the staging, and not at the load register.
+    /// The bytes are neither in the staging nor at the load register.
     OutsideBootWindow {
         /// The address.
         address: u32,
@@ -40,7 +40,7 @@ pub enum NoPlace {
     },
 }
 
-/// The check of a command's header that holds, with what it found (ECSS-E-ST-50-52C, error and status codes).
+/// The check of a command's header that stops it, with what it found (ECSS-E-ST-50-52C, error and status codes).
 #[derive(Clone, Copy, Debug, PartialEq, Eq)]
 pub enum HeaderFault {
     /// The packet type is reserved, or the command code is unused.
@@ -55,17 +55,17 @@ pub enum HeaderFault {
         /// The node's logical address.
         node: u8,
     },
-    /// The length of a read-modify-write is not that of up to four bytes of data, with a mask of as many.
+    /// The length of a read-modify-write is not that of at most four bytes of data and a mask of as many.
     WrongRmwLength {
         /// The data length, in bytes.
         length: u32,
     },
-    /// More bytes are to be verified than the verify buffer has, [`VERIFY_BUFFER`](crate::VERIFY_BUFFER).
+    /// The command has more bytes to verify than the verify buffer has, [`VERIFY_BUFFER`](crate::VERIFY_BUFFER).
     TooManyToVerify {
         /// The data length, in bytes.
         length: u32,
     },
-    /// There are more bytes of data than a command may have, [`MAX_DATA`](crate::MAX_DATA).
+    /// The command has more bytes of data than a command may have, [`MAX_DATA`](crate::MAX_DATA).
     TooManyBytes {
         /// The data length, in bytes.
         length: u32,
@@ -75,7 +75,7 @@ pub enum HeaderFault {
 }
 
 impl HeaderFault {
-    /// The status by which the command is answered.
+    /// The status in the reply to the command.
     pub fn status(self) -> Status
         ensures { result ≡ header_status self }
     {

@@ -7,26 +7,24 @@ ghost use Rattle.rmap.specs.Reply.{reply_instruction};
 
 use crate::kind::Kind;
 
-/// The bits of an instruction by which a read is known: packet type, write bit, verify bit and reply bit. The increment
-/// bit may be either (ECSS-E-ST-50-52C, instruction field).
+/// The bits of an instruction that show a read: packet type, write bit, verify bit and reply bit. The increment bit
+/// may be either (ECSS-E-ST-50-52C, instruction field).
 pub const READ_MASK: u8 = 0b1111_1000;
 
-/// What an instruction is under [`READ_MASK`] where it is a read, and nowhere else: packet type 01 and code 001x.
+/// What an instruction under [`READ_MASK`] is if and only if it is a read: packet type 01 and code 001x.
 pub const READ_BITS: u8 = 0b0100_1000;
 
-/// The bits of an instruction by which a write is known: packet type and write bit (ECSS-E-ST-50-52C, instruction
-/// field).
+/// The bits of an instruction that show a write: packet type and write bit (ECSS-E-ST-50-52C, instruction field).
 pub const WRITE_MASK: u8 = 0b1110_0000;
 
-/// What an instruction is under [`WRITE_MASK`] where it is a write, and nowhere else: packet type 01 and code 1xxx.
+/// What an instruction under [`WRITE_MASK`] is if and only if it is a write: packet type 01 and code 1xxx.
 pub const WRITE_BITS: u8 = 0b0110_0000;
 
-/// The bits of an instruction by which a read-modify-write is known: packet type and the whole command code
+/// The bits of an instruction that show a read-modify-write: packet type and the whole command code
 /// (ECSS-E-ST-50-52C, instruction field).
 pub const RMW_MASK: u8 = 0b1111_1100;
 
-/// What an instruction is under [`RMW_MASK`] where it is a read-modify-write, and nowhere else: packet type 01 and code
-/// 0111.
+/// What an instruction under [`RMW_MASK`] is if and only if it is a read-modify-write: packet type 01 and code 0111.
 pub const RMW_BITS: u8 = 0b0101_1100;
 
 /// The increment bit of an instruction, bit 2 (ECSS-E-ST-50-52C, instruction field).
@@ -37,8 +35,8 @@ pub const INCREMENT_BIT: u8 = 0b0000_0100;
 pub struct Instruction(pub u8);
 
 impl Instruction {
-    /// The instruction of a command with this code (bits 5 to 2: write, verify, reply, increment), and with a reply
-    /// address of so many words of four bytes (ECSS-E-ST-50-52C, instruction field).
+    /// The instruction of a command with this code and a reply address of this many words of four bytes. Bits 5 to 2
+    /// are the code: write, verify, reply, increment (ECSS-E-ST-50-52C, instruction field).
     pub fn command(code: u8, reply_address_words: u8) -> Instruction
         requires code { code < 16 }
         requires words { reply_address_words < 4 }
@@ -70,22 +68,21 @@ impl Instruction {
         self.0 >> bit & 1 == 1
     }
 
-    /// Whether it is that of a command.
+    /// Whether the packet is a command.
     pub fn is_command(self) -> bool
         ensures { result ≡ (packet_type self.0 == 1) }
     {
         self.packet_type() == 1
     }
 
-    /// Whether it is that of a reply.
+    /// Whether the packet is a reply.
     pub fn is_reply(self) -> bool
         ensures { result ≡ (packet_type self.0 == 0) }
     {
         self.packet_type() == 0
     }
 
-    /// What it asks for, by packet type and command code; a reserved packet type asks for nothing that
-    /// is used.
+    /// What the instruction asks for, by packet type and command code. A reserved packet type is `Unused`.
     pub fn kind(self) -> Kind
         ensures { result ≡ kind_of self.0 }
     {
@@ -100,35 +97,35 @@ impl Instruction {
         }
     }
 
-    /// Bit 5: a reply has the form of a write reply.
+    /// Bit 5: the reply has the form of a write reply.
     pub fn writes(self) -> bool
         ensures { result ≡ has_write_bit self.0 }
     {
         self.has(5)
     }
 
-    /// Bit 4: the data is to be checked before memory changes.
+    /// Bit 4: the target checks the data before it changes memory.
     pub fn verifies(self) -> bool
         ensures { result ≡ has_verify_bit self.0 }
     {
         self.has(4)
     }
 
-    /// Bit 3: a reply is to be sent.
+    /// Bit 3: the target sends a reply.
     pub fn wants_reply(self) -> bool
         ensures { result ≡ has_reply_bit self.0 }
     {
         self.has(3)
     }
 
-    /// Bit 2: each byte has the next address; else all have the one address.
+    /// Bit 2: each byte has the next address; without it all bytes have the one address.
     pub fn increments(self) -> bool
         ensures { result ≡ has_increment_bit self.0 }
     {
         self.has(2)
     }
 
-    /// Bits 1 and 0: the bytes of the reply address, 0, 4, 8 or 12.
+    /// Bits 1 and 0: how many bytes the reply address has, 0, 4, 8 or 12.
     pub fn reply_address_len(self) -> usize
         ensures value { result ≡ reply_address_length self.0 }
         ensures few { result ≤ 12 }

@@ -10,6 +10,6 @@ pub enum Kind {
     Write,
     /// Code 0111: read-modify-write.
     Rmw,
-    /// Codes 0000, 0001, 0100, 0101 and 0110, which are unused, and any packet type but 01.
+    /// Codes 0000, 0001, 0100, 0101 and 0110, which are unused, and any packet type except 01.
     Unused,
 }

@@ -2,7 +2,7 @@
 
 ghost use Rattle.rmap.specs.Laws.{CommandsAreKept, KeptAreCommands, CommandIsUnique, CommandsAreLaidOut, LongPacketIsCut, MasksTellKinds, RepliesAreShort};
 
-/// A law and no work: bytes are discarded exactly where no command stands to them.
+/// A law and no work: bytes are discarded if and only if they are no command.
 pub fn discard_is_exact()
     ensures commands { CommandsAreKept }
     ensures others { KeptAreCommands }
@@ -18,23 +18,23 @@ pub fn replies_are_short()
     ensures { RepliesAreShort }
 {}
 
-/// A law and no work: the bytes of a command are its fields in the order of the standard
-/// (ECSS-E-ST-50-52C, write command format, read command format, read-modify-write command format),
-/// each with its most significant byte first, and then its body.
+/// A law and no work: the bytes of a command are its fields in the order of the standard, and then its body. Each
+/// field has its most significant byte first (ECSS-E-ST-50-52C, write command format, read command format,
+/// read-modify-write command format).
 pub fn commands_are_laid_out()
     ensures { CommandsAreLaidOut }
 {}
 
-/// A law and no work: an instruction byte is of a kind exactly where under the mask of the kind it is the bits of
-/// the kind (ECSS-E-ST-50-52C, instruction field), and it has no increment exactly where it is 0 under the increment
-/// bit.
+/// A law and no work: an instruction byte is of a kind if and only if, under the kind's mask, it is the kind's bits.
+/// It has no increment if and only if it is 0 under the increment bit (ECSS-E-ST-50-52C, instruction field).
 pub fn masks_tell_kinds()
     ensures { MasksTellKinds }
 {}
 
-/// A law and no work: of a packet with 4,200 bytes or more the first 4,200 are discarded for the same reason, or have the
-/// same header, at which the same check holds; and where none does, the same check of the body. So a target that keeps
-/// no more than [`MAX_PACKET`](spw::MAX_PACKET) bytes of a packet answers it as it would answer all of it.
+/// A law and no work: a packet with 4,200 bytes or more passes and fails the same checks as its first 4,200 bytes.
+/// Both are discarded for the same reason, or have the same header. The same check of the header stops both; if none
+/// does, the same check of the body stops both. So a target that keeps only [`MAX_PACKET`](spw::MAX_PACKET) bytes of
+/// a packet answers as if it kept all.
 pub fn long_packet_is_cut()
     ensures { LongPacketIsCut }
 {}

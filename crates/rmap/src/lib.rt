@@ -1,8 +1,9 @@
 //! RMAP commands, the checks that need no program, and replies (ECSS-E-ST-50-52C).
 //!
-//! A [`Command`] is a view of a packet's bytes, [`header_fault`] and [`body_fault`] are the checks
-//! before and after the application's verdict, [`header_check`] and [`body_check`] the same with what they found, and
-//! [`put_reply`] writes the reply.
+//! - A [`Command`] is a view of a packet's bytes.
+//! - [`header_fault`] has the checks before the application's verdict, and [`body_fault`] those after it.
+//! - [`header_check`] and [`body_check`] are the same with what they found.
+//! - [`put_reply`] writes the reply.
 #![tactic(auto)]
 
 mod body_faults;

@@ -9,6 +9,6 @@ pub enum Place {
     Staging,
     /// The port's load result.
     LoadResult,
-    /// A control write: it loads what is staged.
+    /// A control write: it loads the staged image.
     Control,
 }

@@ -43,7 +43,7 @@ impl ReplyBuf {
         }
     }
 
-    /// The bytes of the reply; none where no reply is due.
+    /// The bytes of the reply. There are none if the command wants no reply.
     pub fn bytes(&self) -> &[u8]
         ensures value { result.now ≡ self.now }
         ensures bound { length result.now ≤ MAX_REPLY }
@@ -72,7 +72,7 @@ impl ReplyBuf {
         self.bytes.push(byte);
     }
 
-    /// Adds the header of a reply without its CRC, for `bytes` as its data.
+    /// Adds the header of a reply with `bytes` as its data, without the header's CRC.
     fn push_header(&mut self, command: &Command, status: Status, bytes: &[u8])
         requires room { length self.old ≤ 12 }
         requires few { length bytes.now ≤ MAX_DATA }
@@ -94,7 +94,7 @@ impl ReplyBuf {
         }
     }
 
-    /// Adds the header of a reply, for `bytes` as its data, and the CRC of the header.
+    /// Adds the header of a reply with `bytes` as its data, and the CRC of the header.
     fn push_checked_header(&mut self, command: &Command, status: Status, bytes: &[u8])
         requires room { length self.old ≤ 12 }
         requires few { length bytes.now ≤ MAX_DATA }
@@ -131,8 +131,8 @@ fn without_leading_zeros(address: &[u8]) -> &[u8]
     path
 }
 
-/// The reply path that a reply address stands for: without its leading zeros, or one zero where it
-/// has nothing else (ECSS-E-ST-50-52C, reply address field).
+/// The reply path of a reply address: the address without its leading zeros. If all its bytes are zero, the path is
+/// one zero (ECSS-E-ST-50-52C, reply address field).
 fn path_from(address: &[u8]) -> &[u8]
     ensures value { result.now ≡ reply_path_of address.now }
     ensures bound { length result.now ≤ length address.now }
@@ -145,10 +145,10 @@ fn path_from(address: &[u8]) -> &[u8]
     }
 }
 
-/// Leaves in `reply` the reply to `command` with that status and those bytes of data, at most 4,096,
-/// and none where the status is not success (ECSS-E-ST-50-52C, write reply format, read reply format,
-/// read-modify-write reply format). It has write form where the instruction has bit 5, else read form.
-/// Without the reply bit the buffer is left empty. What it held before plays no part.
+/// Writes the reply to `command` with that status and those bytes of data into `reply`, in place of what it held. The
+/// bytes are at most 4,096, and none if the status is not success. The reply has write form if the instruction has
+/// bit 5, else read form. Without the reply bit the buffer is empty (ECSS-E-ST-50-52C, write reply format, read reply
+/// format, read-modify-write reply format).
 pub fn put_reply(reply: &mut ReplyBuf, command: &Command, status: Status, bytes: &[u8])
     requires few { length bytes.now ≤ MAX_DATA }
     requires none_at_error { status ≢ Success → bytes.now ≡ [] }

@@ -61,10 +61,10 @@ Put the node's own logical address first: `address` of its file, FE without a fi
 /// How a command ended (ECSS-E-ST-50-52C, error and status codes).
 #[derive(Clone, Copy, Debug, PartialEq, Eq, Error)]
 pub enum Status {
-    /// The command was executed.
+    /// The target executed the command.
     #[error("success")]
     Success,
-    /// The command could not be executed.
+    /// The target could not execute the command.
     #[error("general error")]
     GeneralError,
     /// The packet type is reserved, or the command code is unused.
@@ -82,10 +82,10 @@ pub enum Status {
     /// The packet goes on after its data.
     #[error("too much data")]
     TooMuchData,
-    /// The packet was cut off by an error end of packet.
+    /// An error end of packet cut the packet off.
     #[error("EEP")]
     ErrorEndOfPacket,
-    /// More data than the target verifies before it writes.
+    /// The command has more data than the target verifies before it writes.
     #[error("verify buffer overrun")]
     VerifyBufferOverrun,
     /// The target does not do this, or the application does not allow it.
@@ -100,7 +100,7 @@ pub enum Status {
 }
 
 impl Status {
-    /// The byte that stands for the status in a reply.
+    /// The byte of the status in a reply.
     pub fn code(self) -> u8
         ensures value { result ≡ status_code self }
         ensures back { status_of_code result ≡ Some self }
@@ -121,7 +121,7 @@ impl Status {
         }
     }
 
-    /// The status of a number, as [`Status::code`] gives it. `None` where no status has it.
+    /// The status of a number, as [`Status::code`] gives it, or `None` if no status has it.
     pub fn from_code(code: u8) -> Option<Status>
         ensures value { result ≡ status_of_code code }
         ensures number { IfSome result (λ status. status_code status ≡ code) }
@@ -143,7 +143,7 @@ impl Status {
         }
     }
 
-    /// What to say of the status beside its name: when it comes, and what to do, in lines of at most 113 columns.
+    /// What to say of the status beside its name: when it comes, and what to do. The lines have at most 113 columns.
     pub fn advice(self) -> &'static str {
         match self {
             Status::Success => SUCCESS,

@@ -9,19 +9,19 @@ use crate::status::Status;
 /// and read-modify-write action).
 #[derive(Clone, Copy, Debug, PartialEq, Eq)]
 pub enum Verdict {
-    /// The command is authorised.
+    /// The application authorises the command.
     Authorised,
     /// The key is not the one that the application wants.
     InvalidKey,
-    /// The command is not authorised.
+    /// The application does not authorise the command.
     NotAuthorised,
     /// The target logical address is not one that the application takes.
     InvalidLogicalAddress,
 }
 
 impl Verdict {
-    /// The verdict that an application's word stands for: 0 is yes, 3 an invalid key, 12 an invalid logical address,
-    /// and every other word is not authorised.
+    /// The verdict of an application's word: 0 is authorised, 3 an invalid key, 12 an invalid logical address. Every
+    /// other word is not authorised.
     pub fn of_word(word: u64) -> Verdict
         ensures { result ≡ verdict_of word }
     {
@@ -33,7 +33,7 @@ impl Verdict {
         }
     }
 
-    /// The number of the verdict, which is that of its status: 0, 3, 10 or 12. As a word it stands for the verdict.
+    /// The number of the verdict, which is that of its status: 0, 3, 10 or 12. As a word it gives the verdict again.
     pub fn number(self) -> u8
         ensures value { result ≡ verdict_number self }
         ensures back { verdict_of result ≡ self }
@@ -41,8 +41,8 @@ impl Verdict {
         self.status().code()
     }
 
-    /// The status of a command with that verdict: success where nothing else stops it (ECSS-E-ST-50-52C, error and
-    /// status codes).
+    /// The status of a command with that verdict. It is success if nothing else stops the command (ECSS-E-ST-50-52C,
+    /// error and status codes).
     pub fn status(self) -> Status
         ensures { result ≡ verdict_status self }
     {

@@ -25,8 +25,8 @@ impl Model for Windows {
 }
 
 impl Windows {
-    /// The windows of a node with that logical address and those banks, each a base and a size in
-    /// bytes, at most eight. The extended address of a bank is its place in the list, from 0 on.
+    /// The windows of a node with that logical address and those banks, each a base and a size in bytes, at most
+    /// eight. The extended address of a bank is its place in the list, from 0.
     pub fn new(node_address: u8, banks: &[(u32, u32)]) -> Windows
         requires { length banks.now ≤ MAX_BANKS }
         ensures node { result.node_address ≡ node_address }

@@ -44,7 +44,7 @@ has_last f (x ∷ xs) (z ∷ ys) y e =
     head_and : {B : Type 0} {a b : B} {xs ys : List B} → a ≡ b → xs ≡ ys → a ∷ xs ≡ b ∷ ys
     head_and p q = cc
 
--- what a longer list says, where the shorter agrees
+-- what a longer list says, if the shorter agrees
 agrees_longer : IsSetByNext → (n : Node) (h : History) (first : Publish) (front : List Publish) (last : Publish) (made : ℕ × Program) (slot : ℕ) → ArePublishesOf n h (first ∷ front) → slot_and_program last ≡ made
     → option_map program_and_generation (judging_program (first ∷ front) slot) ≡ Some (published n h slot)
     → option_map program_and_generation (judging_program ((first ∷ front) ++ last ∷ []) slot) ≡ Some (published_behind (Some made) (publishes n h) slot (published n h slot))
@@ -68,7 +68,7 @@ agrees_by law n h first rest (Some made) slot factory is before =
     let longer = agrees_longer law n h first ends.front ends.last made slot (factory, ends.fronts) ends.lasts shorter in
     subst (λ (l : List Publish). option_map program_and_generation (judging_program (first ∷ l) slot) ≡ Some (published_behind (Some made) (publishes n h) slot (published n h slot))) (sym ends.parts) longer
 
--- what judges behind the factory program is what was published before the first event
+-- what judges after the factory program is what was published before the first event
 starts_from : (rest : List Publish) (count slot : ℕ) (best : AcceptedValue × ℕ)
     → program_and_generation (judging_from best (count + 1) rest slot) ≡ published_after (map slot_and_program rest) count slot (program_and_generation best)
 starts_from [] count slot best = refl

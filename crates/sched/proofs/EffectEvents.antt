@@ -12,7 +12,7 @@ use Rattle.sched.proofs.Ending.{IsEffectDue, IsJudgedIn, effect_goes_on, effect_
 use Rattle.sched.proofs.Events.{IsRead, below, read_again, there}
 use Rattle.sched.proofs.Finishing.{can_finish, ends_at, finished_fits}
 
--- Effect, where none is due
+-- Effect, if none is due
 pub effect_none : (old w : WorldValue) (place port : ℕ) (p : PortValue) → IsRead old w place port p → None ≡ effect_due p.run → GoesOn (Effect port) Refused old old
 effect_none old w place port p is none =
     subst (λ (v : WorldValue). GoesOn (Effect port) Refused v v) is.is (effect_refused w port p (there old w place port p is) (below old w place port p is) none)

@@ -50,7 +50,7 @@ open_run n h port p r s es is here =
 
 -- ---- at a bank
 
--- there is room in a bank exactly where looking back finds it
+-- there is room in a bank exactly if looking back finds it
 same_room : (n : Node) (k port : ℕ) (es : List EntryValue) (m : Memory) (b : BankValue) → port < n.ports → IsBankOf n k es m b → banks.has_room b port ≡ has_room (slice_get n.banks k) port es
 same_room n k port es m b below is = rw (is.entries_are, is.room, is.counts port below) refl
 
@@ -106,7 +106,7 @@ bank_by n k port es m e b share judged true entry below is replayed = record {
         let other : (e.port == q) ≡ false = ap (λ (x : ℕ). x == q) entry.mine ∙ own in
         get_or-set_other b.counts judged.port q (share.number + 1) 0 (λ is_q. apart (sym entry.port_is ∙ sym is_q)) ∙ is.counts q inside ∙ sym (numbers_other q es e other)
 
--- what is known where a command of the port ends at bank k
+-- what is known if a command of the port ends at bank k
 record IsAtBank (n : Node) (h : History) (port verdict k : ℕ) (p : PortValue) (r : RunValue) (o : Open) (b : BankValue) (status : Status) : Type 0 where
   below : port < n.ports
   is_open : opened h port ≡ Some o
@@ -158,7 +158,7 @@ bank_behind n h port verdict k p r o b status reply here =
     let its = subst (λ (x : Bool). IsBankOf n k (if room then es ++ e ∷ [] else es) (replay base (if room then es ++ e ∷ [] else es)) (if x then after_record b share judged (answer_of b judged) else b)) (sym same) made in
     subst (λ (now : List EntryValue). IsBankOf n k now (replay base now) (after_command b share judged)) (sym (entries_here n h port k o status reply here.is_open here.lies)) its
 
--- the banks behind a command that ended at one of them
+-- the banks after a command that ended at one of them
 banks_behind : (n : Node) (h : History) (port verdict k : ℕ) (p : PortValue) (r : RunValue) (o : Open) (b : BankValue) (status : Status) (reply : List ℕ) (all : List BankValue) → IsAtBank n h port verdict k p r o b status
     → slice_get all k ≡ Some b → AreBanksOf n (entries n h) (memory n h) all
     → AreBanksOf n (entries n (Then h (Effect port) (Done status reply None))) (memory n (Then h (Effect port) (Done status reply None))) (slice_set all k (after_command b (share_in p k port) (judged_with port verdict r)))
@@ -182,7 +182,7 @@ banks_behind n h port verdict k p r o b status reply all here there are = record
         let before = at_other all k j _ x (λ e. eqb-false k j own (sym e)) found in
         subst (λ (es : List EntryValue). IsBankOf n j es (replay (first_memory (slice_get n.banks j)) es) x) (sym (entries_there n h port k j o status reply here.is_open here.lies own)) (are.each j x before)
 
--- of every other port as many entries are told as before
+-- of every other port there are as many entries as before
 counts_behind : (n : Node) (h : History) (port k : ℕ) (o : Open) (status : Status) (reply : List ℕ) → opened h port ≡ Some o → place_in n o.packet ≡ Some (places.Bank k) → OthersKeepCounts n h (Effect port) (Done status reply None)
 counts_behind n h port k o status reply is lies = λ q j apart.
     ap (λ (es : List EntryValue). length (numbers_of q es)) (entries_done n h (Effect port) status reply None o (Some (places.Bank k)) is lies j) ∙ at_bank q j apart (k == j)
@@ -210,7 +210,7 @@ share_behind n h port verdict k p r o b status reply here =
     let its = subst (λ (x : Bool). IsShareWith port (length (numbers_of port (if room then es ++ e ∷ [] else es))) (if x then record { port = share.port; number = share.number + 1 } else share)) (sym same) made in
     subst (λ (now : List EntryValue). IsShareWith port (length (numbers_of port now)) (next_share b share (judged_with port verdict r))) (sym (entries_here n h port k o status reply here.is_open here.lies)) its
 
--- the port behind a command that ended at a bank
+-- the port after a command that ended at a bank
 port_at_bank : (n : Node) (h : History) (port verdict k : ℕ) (p : PortValue) (r : RunValue) (o : Open) (b : BankValue) (status : Status) (reply : List ℕ) → IsAtBank n h port verdict k p r o b status → k < length p.shares
     → IsPortOf n port (staging n h port) (opened h port) (entries n h) p
     → IsPortBehind n h (Effect port) (Done status reply None) port (with_share_in (record p { run = None }) k (next_share b (share_in p k port) (judged_with port verdict r)))
@@ -237,7 +237,7 @@ port_at_bank n h port verdict k p r o b status reply here shared before = record
 
 -- ---- what is told
 
--- where a command of the port has its verdict, its end is by its place
+-- if a command of the port has its verdict, its end is by its place
 pub effect_told : (n : Node) (h : History) (port verdict : ℕ) (o : Open) (place : Option Place) → opened h port ≡ Some o → turn_of n port o ≡ Some (turns.Verdict verdict) → place_in n o.packet ≡ place
     → effect_outcome n h port (opened h port) ≡ effect_at_place n h port (command_of o.packet) verdict place
 effect_told n h port verdict o place is stands lies =
@@ -248,7 +248,7 @@ done_as status reply a same_status same_reply = rw (same_status, same_reply) ref
 
 -- ---- at the port's staging
 
--- banks of which nothing new is told
+-- banks of which the history says nothing new
 pub banks_same : (n : Node) (old new : ℕ → List EntryValue) (all : List BankValue) → ((k : ℕ) → new k ≡ old k) → AreBanksOf n old (λ k. replay (first_memory (slice_get n.banks k)) (old k)) all
     → AreBanksOf n new (λ k. replay (first_memory (slice_get n.banks k)) (new k)) all
 banks_same n old new all same are = record {
@@ -275,7 +275,7 @@ pub entries_stay : (n : Node) (h : History) (event : Event) (status : Status) (r
 entries_stay n h event status reply loaded o place is lies none k =
     entries_done n h event status reply loaded o (Some place) is lies k ∙ entries_elsewhere n k (port_of event) place o status (entries n h k) none
 
--- what a command that ends at a staging is answered and leaves there
+-- the answer to a command that ends at a staging, and what it leaves there
 record IsStagedAs (n : Node) (h : History) (port verdict : ℕ) (o : Open) (place : Place) (s t : Staged) (status : Status) (reply : List ℕ) : Type 0 where
   none : IsNoBank place
   told : effect_at_place n h port (command_of o.packet) verdict (Some place) ≡ Done status reply None
@@ -315,7 +315,7 @@ banks_kept places.Staging old new p q j status reply none end = (end.banks_are, 
 banks_kept places.LoadResult old new p q j status reply none end = (end.banks_are, end.port_is)
 banks_kept places.Control old new p q j status reply none end = absurd end
 
--- the port behind a command that ended at its staging
+-- the port after a command that ended at its staging
 port_at_staging : (n : Node) (h : History) (port : ℕ) (o : Open) (place : Place) (p q : PortValue) (status : Status) (reply : List ℕ) → opened h port ≡ Some o → place_in n o.packet ≡ Some place → IsNoBank place
     → q.staging ≡ staged_at (Some place) status (command_of o.packet) (staging n h port) → q ≡ record p { staging = q.staging; run = None } → IsPortOf n port (staging n h port) (opened h port) (entries n h) p
     → IsPortBehind n h (Effect port) (Done status reply None) port q
@@ -337,7 +337,7 @@ pub record IsJudgedIn (w : WorldValue) (port verdict : ℕ) (p : PortValue) (r :
   pub run_is : p.run ≡ Some r
   pub turn_is : r.turn ≡ turns.Verdict verdict
 
--- where the command stands, by its history
+-- where the program of the command is, by its history
 pub stands_at : (n : Node) (port verdict : ℕ) (o : Open) (r : RunValue) → r.turn ≡ turns.Verdict verdict → IsRunOf n port o r → turn_of n port o ≡ Some (turns.Verdict verdict)
 stands_at n port verdict o r is run = run.turn ∙ ap (λ (turn : Turn). Some turn) is
 
@@ -463,7 +463,7 @@ no_verdict : (n : Node) (h : History) (port : ℕ) (o : Open) (turn : Turn) → 
 no_verdict n h port o (turns.Ask question) none = refl
 no_verdict n h port o (turns.Verdict v) none = absurd cc
 
--- of a control write nothing is done by an Effect
+-- an Effect does nothing at a control write
 control_refused : (n : Node) (h : History) (port : ℕ) (o : Open) (turn : Turn) → place_in n o.packet ≡ Some places.Control → Refused ≡ effect_at_turn n h port o (Some turn)
 control_refused n h port o (turns.Ask question) lies = refl
 control_refused n h port o (turns.Verdict v) lies = sym (ap (effect_at_place n h port (command_of o.packet) v) lies)
@@ -479,7 +479,7 @@ no_effect n h port None run is none = refl
 no_effect n h port (Some o) None is none = absurd is
 no_effect n h port (Some o) (Some r) is none = undue_at n h port o r.place r.turn is.placed.lies none ∙ sym (ap (effect_at_turn n h port o) is.turn)
 
--- an effect is refused where none is due
+-- an effect is refused if none is due
 pub effect_refused : (w : WorldValue) (port : ℕ) (p : PortValue) → slice_get w.ports port ≡ Some p → port < length w.ports → None ≡ effect_due p.run → GoesOn (Effect port) Refused w w
 effect_refused w port p there below none n h world =
     let here = world.world.ports_are.each port p there in

@@ -24,7 +24,7 @@ use Rattle.sched.specs.Looking.{Node, place_in, entry_left, has_room, entered, e
 
 -- ---- entries
 
--- the entries of each bank behind a command of the event's port that was done at that place
+-- the entries of each bank after a command of the event's port that was done at that place
 pub entries_done : (n : Node) (h : History) (event : Event) (status : Status) (reply : List ℕ) (loaded : Option (List ℕ)) (o : Open) (place : Option Place) → opened h (port_of event) ≡ Some o → place_in n o.packet ≡ place
     → (k : ℕ) → entries n (Then h event (Done status reply loaded)) k ≡ entries_at n k (port_of event) place o status (entries n h k)
 entries_done n h event status reply loaded o place is lies k =
@@ -42,7 +42,7 @@ numbers_other port es e other =
     let none : numbers_of port (es ++ e ∷ []) ≡ numbers_of port es = rw (filter-append (λ (x : EntryValue). eqb x.port port) es (e ∷ []), other, append-nil) refl in
     ap length none
 
--- another port has as many entries behind one of the port
+-- another port has as many entries after an entry of the port
 pub entered_other : (n : Node) (bank : Option BankConfig) (port : ℕ) (o : Open) (status : Status) (es : List EntryValue) (q : ℕ) → (port == q) ≡ false → length (numbers_of q (entered n bank port o status es)) ≡ length (numbers_of q es)
 entered_other n bank port o status es q apart =
     by_room (has_room bank port es)

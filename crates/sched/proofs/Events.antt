@@ -61,12 +61,12 @@ low w port inside is = omega (arith, inside, is.few_ports)
 
 -- ---- Take
 
--- a packet at a port where a command is judged
+-- a packet at a port that judges a command
 pub take_busy : (old w : WorldValue) (place port : ℕ) (packet : Cargo) (p : PortValue) → IsRead old w place port p → false ≡ is_none p.run → GoesOn (Take port packet) Refused old old
 take_busy old w place port packet p is some =
     subst (λ (v : WorldValue). GoesOn (Take port packet) Refused v v) is.is (take_refused w port packet p (there old w place port p is) (below old w place port p is) (sym some))
 
--- a packet at a free port that its header stops
+-- a packet at a free port, if its header stops it
 pub take_stops : (old w : WorldValue) (place port : ℕ) (packet : Cargo) (p : PortValue) (stop : Stop) (reply : List ℕ) (outcome : Outcome) → IsRead old w place port p → true ≡ is_none p.run
     → IsStopped stop packet w.windows reply → outcome ≡ stop_outcome stop reply → GoesOn (Take port packet) outcome old old
 take_stops old w place port packet p stop reply outcome is none stops told =
@@ -131,13 +131,13 @@ asked_of old w place port map key argument helper p is number fits =
       key_there = cell.1;
     }
 
--- the port behind an answer fits still
+-- the port after an answer still fits
 told_fits : (w : WorldValue) (port told : ℕ) (p q : PortValue) → slice_get w.ports port ≡ Some p → IsTold told p q → IsSameRunIfAny p.run q.run → IsWorld w → IsPortIn w.windows w.sizes w.banks port q
 told_fits w port told p q read is same fits =
     let before = fits.ports port p read in
     port_keeps w.windows w.sizes w.banks port p q (ap (λ (v : PortValue). v.shares) is.rest) (same_under_if_any w.windows w.sizes p.run q.run same before.run) before
 
--- a port that was read, read again to be changed, was told that
+-- a port that was read, read again to be changed, got that answer
 pub record IsToldAt (old w : WorldValue) (place port told : ℕ) (p q : PortValue) : Type 0 where
   pub read : IsRead old w place port p
   pub told_as : IsTold told p q
@@ -149,7 +149,7 @@ told_world old w place port told p q is fits =
     subst (λ (k : ℕ). IsWorld (record w { ports = slice_set w.ports k q })) (sym is.read.place_is)
     (world_with_port w port p q read (told_fits w port told p q read is.told_as is.same fits) fits)
 
--- the world behind an answer with which the word of a cell was written
+-- the world after an answer with which the word of a cell was written
 pub written_world : (old w : WorldValue) (place port told map key next : ℕ) (p q : PortValue) → IsToldAt old w place port told p q → map < length w.words → IsWorld w → IsWorld (record w { words = with_word w.words map key next; ports = slice_set w.ports place q })
 written_world old w place port told map key next p q is map_there fits =
     let made = told_world old w place port told p q is fits in
@@ -161,17 +161,17 @@ written_world old w place port told map key next p q is map_there fits =
       ports = made.ports;
     }
 
--- the event of a helper, where the program does not ask it
+-- the event of a helper, if the program does not ask it
 pub helper_none : (old w : WorldValue) (place port : ℕ) (helper : Helper) (p : PortValue) → IsRead old w place port p → None ≡ cell_asked helper (turn_in p.run) → GoesOn (answering helper port) Refused old old
 helper_none old w place port helper p is none =
     subst (λ (v : WorldValue). GoesOn (answering helper port) Refused v v) is.is (helper_refused w port helper p (there old w place port p is) (below old w place port p is) none)
 
--- what the helper tells, and the word behind that
+-- what the helper answers, and the word after that
 pub record IsAnswered (helper : Helper) (word argument told next : ℕ) : Type 0 where
   pub told_is : told ≡ told_of_word helper word argument
   pub next_is : next ≡ word_behind helper word argument
 
--- the event of a helper, where the program asks it
+-- the event of a helper, if the program asks it
 pub helper_told : (old w : WorldValue) (place port map key argument told next : ℕ) (helper : Helper) (p q : PortValue) → IsAsked old w place port map key helper p → argument ≡ argument_asked (turn_in p.run)
     → IsAnswered helper (word_at w.words map key) argument told next → IsToldAt old w place port told p q → IsWorld w → told < 2 ^ 64
     → GoesOn (answering helper port) (Told told) old (record w { words = with_word w.words map key next; ports = slice_set w.ports place q })

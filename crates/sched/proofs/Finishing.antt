@@ -101,7 +101,7 @@ can_end w port verdict p r places.Control law world is at other = absurd (other 
 pub run_under : (w : WorldValue) (port : ℕ) (p : PortValue) (r : RunValue) → IsWorld w → slice_get w.ports port ≡ Some p → p.run ≡ Some r → IsRunUnder w.windows w.sizes r
 run_under w port p r world there is = subst (IsRunUnderIfAny w.windows w.sizes) is (world.ports port p there).run
 
--- the command that a port judges can end by an Effect, where it is no control write
+-- the command that a port judges can end by an Effect, if it is no control write
 pub can_finish : (w : WorldValue) (port verdict : ℕ) (p : PortValue) (r : RunValue) → PairedCommandsFit → IsWorld w → slice_get w.ports port ≡ Some p → p.run ≡ Some r → r.place ≢ places.Control
     → CanFinish w.windows w.banks port verdict p p.run
 can_finish w port verdict p r law world there is other =
@@ -111,7 +111,7 @@ can_finish w port verdict p r law world there is other =
 
 -- ---- the world fits still
 
--- a port that judges nothing fits where its shares are paired
+-- a port that judges nothing fits if its shares are paired
 free_port : (w : WindowsValue) (sizes : Maps) (banks : List BankValue) (port : ℕ) (p : PortValue) → IsPaired banks (pass_of_port w sizes port p) → p.run ≡ None → IsPortIn w sizes banks port p
 free_port w sizes banks port p paired free = record {
   paired = paired;
@@ -141,7 +141,7 @@ world_fits w new port p q world there is = record {
   ports = ports_fit w new port p q there is;
 }
 
--- behind a command that ended at a bank each port is paired
+-- after a command that ended at a bank each port is paired
 bank_fits : (w : WorldValue) (port verdict k : ℕ) (p : PortValue) (r : RunValue) (b : BankValue) → OwnStaysPaired → OthersStayPaired → IsWorld w → slice_get w.ports port ≡ Some p → r.place ≡ places.Bank k → slice_get w.banks k ≡ Some b
     → FitsAll w (slice_set w.banks k (after_command b (share_in p k port) (judged_with port verdict r))) port (with_share_in (record p { run = None }) k (next_share b (share_in p k port) (judged_with port verdict r)))
 bank_fits w port verdict k p r b own others world there at bank =
@@ -158,7 +158,7 @@ bank_fits w port verdict k p r b own others world there at bank =
           };
     }
 
--- behind a command that ended at a staging each port is paired as before
+-- after a command that ended at a staging each port is paired as before
 staging_fits : (w : WorldValue) (port : ℕ) (p q : PortValue) → IsWorld w → slice_get w.ports port ≡ Some p → q ≡ record p { run = None; staging = q.staging } → IsWorld (record w { ports = slice_set w.ports port q })
 staging_fits w port p q world there is =
     world_with_port w port p q there (port_keeps w.windows w.sizes w.banks port p q (ap (λ (v : PortValue). v.shares) is) (subst (λ (v : PortValue). IsRunUnderIfAny w.windows w.sizes v.run) (sym is) tt) (world.ports port p there)) world
@@ -173,7 +173,7 @@ ended_fits w port verdict p q r new status reply places.LoadResult own others wo
     rw end.banks_are (staging_fits w port p q world there end.port_is)
 ended_fits w port verdict p q r new status reply places.Control own others world there at end = absurd end
 
--- what ended of a port that judged that command
+-- how the judged command of that port ended
 pub ends_at : (old new : List BankValue) (port verdict : ℕ) (p q : PortValue) (r : RunValue) (status : Status) (reply : List ℕ) → p.run ≡ Some r → HasFinished old new port verdict p q p.run status reply
     → EndsAt r.place old new (record p { run = None }) q (judged_with port verdict r) status reply
 ends_at old new port verdict p q r status reply is finished =

@@ -21,7 +21,7 @@ use Rattle.sched.specs.History.{Start}
 use Rattle.sched.specs.Looking.{Node, entries, first_memory, published, published_after, published_behind, publishes, room_of}
 use Rattle.sched.specs.Worlds.{AreAcceptedFor, AreProgramsOf, ArePortsOf, IsBankOf, IsFor, IsJudging, IsPortOf, IsShownAs, IsWorld, IsWorldOf, PortValue, RunValue, WorldValue, node_with}
 
--- one more behind several
+-- one more after several
 pub published_more : (firsts : List (ℕ × Program)) (made : ℕ × Program) (count slot : ℕ) (before : Program × ℕ)
     → published_after (firsts ++ made ∷ []) count slot before
     ≡ published_behind (Some made) (count + length firsts) slot (published_after firsts count slot before)
@@ -30,7 +30,7 @@ published_more (first ∷ rest) made count slot before =
     published_more rest made (count + 1) slot (published_behind (Some first) count slot before)
     ∙ ap (λ (k : ℕ). published_behind (Some made) k slot (published_after rest (count + 1) slot (published_behind (Some first) count slot before))) (omega arith)
 
--- programs that are published before the first event are justified, and so what is published behind no event is
+-- programs that are published before the first event are justified, and so is what is published before any event
 pub justified_after : (n : Node) (firsts : List (ℕ × Program)) (count slot : ℕ) (before : Program × ℕ)
     → All (λ (made : ℕ × Program). IsJustified made.1 n.sizes) firsts → IsJustified before.0 n.sizes
     → IsJustified (published_after firsts count slot before).0 n.sizes
@@ -57,7 +57,7 @@ first_shown n old programs slot generation a accepted are = λ s x found. by s x
         rw is (record { program = refl; generation = refl; accepted = accepted })
     by s x found false own = are s x (at_other programs slot s (a, generation) x (λ e. eqb-false slot s own (sym e)) found)
 
--- no command is judged behind no event, of whichever node
+-- before any event no command is judged, of whichever node
 none_judged : (n m : Node) (port : ℕ) (run : Option RunValue) → IsJudging n port None run → IsJudging m port None run
 none_judged n m port None is = is
 none_judged n m port (Some r) is = is

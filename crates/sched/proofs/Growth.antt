@@ -23,7 +23,7 @@ at_written xs k j old new x there here found =
 
 -- ---- ports
 
--- a port of which the history tells the same
+-- a port of which the history says the same
 port_same : (n : Node) (port : ℕ) (s t : Staged) (last now : Option Open) (old new : ℕ → List EntryValue) (p : PortValue) → t ≡ s → now ≡ last
     → ((k : ℕ) → length (numbers_of port (new k)) ≡ length (numbers_of port (old k))) → IsPortOf n port s last old p → IsPortOf n port t now new p
 port_same n port s t last now old new p staged_is open_is numbers is =
@@ -34,7 +34,7 @@ port_same n port s t last now old new p staged_is open_is numbers is =
       shares = λ k share there. let with = is.shares k share there in record { holder = with.holder; next = with.next ∙ sym (numbers k) };
     })
 
--- at another port than the event's nothing is told
+-- at another port than the event's nothing changes
 elsewhere_staging : (n : Node) (h : History) (event : Event) (outcome : Outcome) (port : ℕ) → (port_of event == port) ≡ false → staging n (Then h event outcome) port ≡ staging n h port
 elsewhere_staging n h event outcome port e = rw e refl
 
@@ -47,24 +47,24 @@ here_staging n h event outcome port e = rw e refl
 here_opened : (h : History) (event : Event) (outcome : Outcome) (port : ℕ) → (port_of event == port) ≡ true → opened (Then h event outcome) port ≡ opened_by h (opened h port) event outcome
 here_opened h event outcome port e = rw e refl
 
--- a port behind an event of its own, by what it had and what the event came to
+-- a port after an event of its own, by what it had and what the event came to
 abbrev pub IsPortBehind : Node → History → Event → Outcome → (port : ℕ) → PortValue → Type 0
 IsPortBehind n h event outcome port p =
     IsPortOf n port (staged_by n (opened h port) outcome (staging n h port)) (opened_by h (opened h port) event outcome) (entries n (Then h event outcome)) p
 
--- of each other port as many entries are told as before
+-- each other port has as many entries as before
 abbrev pub OthersKeepCounts : Node → History → Event → Outcome → Type 0
 OthersKeepCounts n h event outcome = (port k : ℕ) → (port_of event == port) ≡ false
     → length (numbers_of port (entries n (Then h event outcome) k)) ≡ length (numbers_of port (entries n h k))
 
--- the port of an event, behind it
+-- the port of an event, after it
 own_port : (n : Node) (h : History) (event : Event) (outcome : Outcome) (port : ℕ) (p : PortValue) → (port_of event == port) ≡ true
     → IsPortBehind n h event outcome port p → IsPortOf n port (staging n (Then h event outcome) port) (opened (Then h event outcome) port) (entries n (Then h event outcome)) p
 own_port n h event outcome port p own is =
     port_same n port _ (staging n (Then h event outcome) port) _ (opened (Then h event outcome) port) (entries n (Then h event outcome)) (entries n (Then h event outcome)) p
     (here_staging n h event outcome port own) (here_opened h event outcome port own) (λ k. refl) is
 
--- a port behind an event of another
+-- a port after an event of another
 other_port : (n : Node) (h : History) (event : Event) (outcome : Outcome) (port : ℕ) (p : PortValue) → (port_of event == port) ≡ false → OthersKeepCounts n h event outcome
     → IsPortOf n port (staging n h port) (opened h port) (entries n h) p → IsPortOf n port (staging n (Then h event outcome) port) (opened (Then h event outcome) port) (entries n (Then h event outcome)) p
 other_port n h event outcome port p other counts is =
@@ -108,7 +108,7 @@ cond_same : {A : Type 0} (b : Bool) (x y : A) → y ≡ x → cond b y x ≡ x
 cond_same true x y e = e
 cond_same false x y e = refl
 
--- ports of which nothing new is told
+-- ports of which the history says nothing new
 ports_same : (n : Node) (h : History) (event : Event) (outcome : Outcome) (ports : List PortValue)
     → ((port : ℕ) → staged_by n (opened h port) outcome (staging n h port) ≡ staging n h port) → ((port : ℕ) → opened_by h (opened h port) event outcome ≡ opened h port)
     → ((port k : ℕ) → length (numbers_of port (entries n (Then h event outcome) k)) ≡ length (numbers_of port (entries n h k)))

@@ -41,13 +41,13 @@ cond_same false x y e = refl
 
 -- ---- memories
 
--- behind a command that ended elsewhere the memory of each bank is what it was
+-- after a command that ended elsewhere the memory of each bank is what it was
 memory_stays : (n : Node) (h : History) (event : Event) (status : Status) (reply : List ℕ) (loaded : Option (List ℕ)) (o : Open) (place : Place) → opened h (port_of event) ≡ Some o → place_in n o.packet ≡ Some place → IsNoBank place
     → (k : ℕ) → memory n (Then h event (Done status reply loaded)) k ≡ memory n h k
 memory_stays n h event status reply loaded o place is lies none k =
     ap (replay (first_memory (slice_get n.banks k))) (entries_stay n h event status reply loaded o place is lies none k)
 
--- behind one that ended at a bank the memory of each bank is what the answer leaves
+-- after one that ended at a bank the memory of each bank is what the answer leaves
 memory_answered : (n : Node) (h : History) (port j : ℕ) (verdict : ℕ) (o : Open) → opened h port ≡ Some o → place_in n o.packet ≡ Some (places.Bank j)
     → (k : ℕ) → memory n (Then h (Effect port) (done (bank_answer n h j port (command_of o.packet) verdict))) k ≡ memory_left n h port (command_of o.packet) verdict (Some (places.Bank j)) k
 memory_answered n h port j verdict o is lies k =
@@ -67,7 +67,7 @@ memory_answered n h port j verdict o is lies k =
 
 -- ---- effects
 
--- at the event's port a staging is what the outcome tells, at the others what it was
+-- at the event's port a staging is what the outcome says, at the others what it was
 staging_by : (n : Node) (h : History) (event : Event) (status : Status) (reply : List ℕ) (loaded : Option (List ℕ)) (o : Open) → opened h (port_of event) ≡ Some o → (q : ℕ)
     → staging n (Then h event (Done status reply loaded)) q ≡ (if port_of event == q then staged_behind n (Some o) status loaded (staging n h q) else staging n h q)
 staging_by n h event status reply loaded o is q = by (port_of event == q) refl

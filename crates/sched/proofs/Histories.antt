@@ -15,14 +15,14 @@ history-push h [] (o ∷ os) event outcome same = absurd (omega (arith, same))
 history-push h (e ∷ es) [] event outcome same = absurd (omega (arith, same))
 history-push h (e ∷ es) (o ∷ os) event outcome same = history-push (Then h e o) es os event outcome (omega (arith, same))
 
--- its packets have bytes, where that of the event has
+-- its packets have bytes, if that of the event has
 pub bytes_grown : (h : History) (events : List Event) (outcomes more : List Outcome) (event : Event) (outcome : Outcome)
     → length events ≡ length outcomes → more ≡ outcomes ++ outcome ∷ [] → HasBytes (history_from h events outcomes) → BringsBytes event
     → HasBytes (history_from h (events ++ event ∷ []) more)
 bytes_grown h events outcomes more event outcome same grown bytes brings =
     rw (grown, history-push h events outcomes event outcome same) (bytes, brings)
 
--- the world behind one event more is that of the history with it
+-- the world after one event more is that of the history with it
 pub history_grown : (n : Node) (h : History) (events : List Event) (outcomes more : List Outcome) (event : Event) (outcome : Outcome) (old new : WorldValue)
     → length events ≡ length outcomes → more ≡ outcomes ++ outcome ∷ [] → IsLawfulWorld n (history_from h events outcomes) old → GoesOn event outcome old new
     → IsLawfulWorld n (history_from h (events ++ event ∷ []) more) new

@@ -210,7 +210,7 @@ pub began_lawful : (n : Node) (port : ℕ) (first h : History) → LeadsTo port 
 began_lawful n port first h same lawful = lawful
 began_lawful n port first h (further leads others) lawful = began_lawful n port first _ leads lawful.0
 
--- a Taken tells the generation that is published in the slot of its packet
+-- a Taken has the generation that is published in the slot of its packet
 taken_header : (n : Node) (h : History) (p : Cargo) (generation : ℕ) (line : Option Status) → Taken generation ≡ header_outcome n h p line → generation ≡ (published n h (slot_of_packet n p)).1
 taken_header n h p generation (Some status) e = absurd cc
 taken_header n h p generation None e = cc

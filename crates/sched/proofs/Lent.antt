@@ -11,7 +11,7 @@ none_open : (n : Node) (port : ℕ) (last : Option Open) → IsLent n port last 
 none_open n port None is = refl
 none_open n port (Some o) is = absurd is
 
--- where nothing is lent of a port that is there, no command is open
+-- if nothing is lent of a port that is there, no command is open
 pub free_port : (w : WorldValue) (port : ℕ) (p : PortValue) (r : Option lent.Standing) → slice_get w.ports port ≡ Some p
     → ((n : Node) (k : ℕ) (last : Option Open) → IsJudging n k last p.run → IsLent n k last r)
     → IfNone r ((n : Node) (h : History) → IsWorldOf n h w → port < n.ports → opened h port ≡ None)

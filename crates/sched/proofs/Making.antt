@@ -34,13 +34,13 @@ use Rattle.plain_cells.specs.Words.{AreCells, AreZeros}
 
 -- ---- lists by their number
 
--- what stands at a place of a list that is made by number
+-- what is at a place of a list that is made by number
 numbered_at : {A : Type 0} (f : ℕ → A) (count k : ℕ) (x : A) → slice_get (map f (range_with_len 0 count)) k ≡ Some x → (x ≡ f k) × (k < count)
 numbered_at f count k x at =
     let below : k < count = rw (← length-map-range_with_len f 0 count) (slice_get_within (map f (range_with_len 0 count)) k x at) in
     (sym (get_or_from_slice_get (map f (range_with_len 0 count)) k x x at) ∙ get_or-map-range_with_len f 0 count k k x below (omega arith), below)
 
--- what stands in a list of equals
+-- what is in a list of equals
 replicated_at : {A : Type 0} (n k : ℕ) (a x : A) → slice_get (replicate n a) k ≡ Some x → x ≡ a
 replicated_at n k a x at =
     let below : k < n = rw (← length-replicate n a) (slice_get_within (replicate n a) k x at) in
@@ -132,7 +132,7 @@ ports_made config factory = record {
       });
 }
 
--- the word of a cell of which nothing was told, of either kind
+-- the word of a cell of which no ticket was drawn and no peak raised, of either kind
 no_word : (kind : MapKind) → 0 ≡ word_by_kind kind 0 0
 no_word kinds.Counter = refl
 no_word kinds.Peak = refl
@@ -178,7 +178,7 @@ unmade_world (Some limit) maps factory fault is = is
 pub limit_of_world : (config : NodeConfig) (refused : NodeFault) (factory : Program) (fault : WorldFault) → IsNodeFault (limit_fault config) refused → fault ≡ fault_of_node refused → IsWorldFault (limit_fault config) config.sizes factory fault
 limit_of_world config refused factory fault is told = unmade_world (limit_fault config) config.sizes factory fault (limit_unmade config refused fault is told)
 
--- what comes behind the limits is why there is no world
+-- what comes after the limits is why there is no world
 pub behind_limits : (limit : Option NodeFault) (maps : Maps) (factory : Program) (fault : WorldFault) → limit ≡ None → IsWorldFault None maps factory fault → IsWorldFault limit maps factory fault
 behind_limits limit maps factory fault none is = subst (λ (l : Option NodeFault). IsWorldFault l maps factory fault) (sym none) is
 

@@ -65,12 +65,12 @@ opened_taken (Then h event outcome) port o e =
 
 -- ---- behind a command that was done
 
--- an answer leaves what stood before the Take
+-- an answer leaves what was before the Take
 answered_behind : (first : History) (told : ℕ) (last : Option Open) (o : Open) → ((p : Open) → last ≡ Some p → Begins first p.before) → after_told told last ≡ Some o → Begins first o.before
 answered_behind first told None o before e = absurd (none-is o e)
 answered_behind first told (Some p) o before e = subst (λ (x : Open). Begins first x.before) (some-is _ o e) (before p refl)
 
--- a Take stands behind all that was
+-- a Take comes after all that was
 taken_behind : (first h : History) (generation : ℕ) (event : Event) (o : Open) → Begins first h → taken_by h generation event ≡ Some o → Begins first o.before
 taken_behind first h generation (Take at packet) o begins e = subst (λ (x : Open). Begins first x.before) (some-is _ o e) begins
 taken_behind first h generation (Count at) o begins e = absurd (none-is o e)
@@ -93,7 +93,7 @@ behind_by : (first h : History) (event : Event) (outcome : Outcome) (port : ℕ)
 behind_by first h event outcome port o true begins before e = own_behind first h (opened h port) event outcome o begins before e
 behind_by first h event outcome port o false begins before e = before o e
 
--- nothing is open where the history begins, so what is open later was taken behind it
+-- if nothing is open where the history begins, what is open later was taken after that
 behind : (first later : History) (port : ℕ) → opened first port ≡ None → Begins first later → (o : Open) → opened later port ≡ Some o → Begins first o.before
 behind first later port free whole o e = absurd (none-is o (sym free ∙ e))
 behind first later port free (longer {h = h} {event = event} {outcome = outcome} begins) o e =

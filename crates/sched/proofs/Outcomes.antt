@@ -1,4 +1,4 @@
--- What an event comes to, what cells answer too: a history that goes on so is lawful.
+-- What an event comes to, with what cells answer. A history that goes on so is lawful.
 use Rattle.std.proofs.Common.{◌≡◌, ◌<◌, ◌≤◌, ◌^◌, ℕ, Option, Some, None, subst}
 use Rattle.machine.specs.declared.helpers.Helper.{Helper}
 use Rattle.machine.specs.declared.helpers.Helper.TheVariants as helpers
@@ -11,12 +11,12 @@ use Rattle.sched.specs.History.{History, Then, port_of, opened}
 use Rattle.sched.specs.Lawful.{IsLawful, IsOutcomeAtButTold, IsPublishOutcome, IsSomeTold, IsToldBy, IsToldOf, effect_outcome, take_outcome, told_of_cell}
 use Rattle.sched.specs.Looking.{Node, argument_asked, cell_asked, turn_at}
 
--- what the event of a helper comes to, where a program asks it for that cell, if it does
+-- what the event of a helper comes to, if a program asks it for that cell
 abbrev pub told_on : Node → History → Helper → (argument : ℕ) → Option (ℕ × ℕ) → Outcome
 told_on n h helper argument None = Refused
 told_on n h helper argument (Some cell) = Told (told_of_cell n h helper cell.0 cell.1 argument)
 
--- the same at a port, where its program stands
+-- the same at a port, by where its program is
 abbrev pub helper_outcome : Node → History → Helper → Option Turn → Outcome
 helper_outcome n h helper turn = told_on n h helper (argument_asked turn) (cell_asked helper turn)
 
@@ -29,12 +29,12 @@ IsOutcomeAt n h (Peak port) outcome = outcome ≡ helper_outcome n h helpers.Pea
 IsOutcomeAt n h (Effect port) outcome = outcome ≡ effect_outcome n h port (opened h port)
 IsOutcomeAt n h (Publish port) outcome = IsPublishOutcome n h port (opened h port) outcome
 
--- what an event comes to: at a port that the node does not have it is refused
+-- What an event comes to. At a port that the node does not have, it is refused.
 pub record IsOutcome (n : Node) (h : History) (event : Event) (outcome : Outcome) : Type 0 where
   pub here : port_of event < n.ports → IsOutcomeAt n h event outcome
   pub nowhere : n.ports ≤ port_of event → outcome ≡ Refused
 
--- what an outcome tells is a word
+-- what an outcome answers is a word
 abbrev pub TellsWord : Outcome → Type 0
 TellsWord Refused = Unit {0}
 TellsWord (Discarded discard) = Unit {0}

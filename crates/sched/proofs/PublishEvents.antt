@@ -65,7 +65,7 @@ in_slot sizes (Loaded slot shown) is = is.few
 pub shows_in_slot : (run : Option RunValue) (staged : List ℕ) (verdict : ℕ) (sizes : Maps) (count : ℕ) (decision : Decision) → IsDecisionOf run staged verdict sizes count decision → ShowsInSlot decision
 shows_in_slot run staged verdict sizes count decision is = in_slot sizes decision (rightly run staged verdict sizes count decision is)
 
--- there are as many programs behind it
+-- there are as many programs after it
 shown_slots : (programs : List (AcceptedValue × ℕ)) (decision : Decision) → length (programs_shown programs decision) ≡ length programs
 shown_slots programs (Stopped status) = refl
 shown_slots programs (NotLoaded refusal) = refl
@@ -87,13 +87,13 @@ accepted_shown sizes programs (Stopped status) is are = are
 accepted_shown sizes programs (NotLoaded refusal) is are = are
 accepted_shown sizes programs (Loaded slot shown) is are = accepted_with sizes programs slot shown is.sizes_are are
 
--- each program behind it is for the maps
+-- each program after it is for the maps
 shown_accepted : (run : Option RunValue) (staged : List ℕ) (verdict : ℕ) (sizes : Maps) (count : ℕ) (decision : Decision) (programs : List (AcceptedValue × ℕ)) → IsDecisionOf run staged verdict sizes count decision → AreAcceptedFor sizes programs → AreAcceptedFor sizes (programs_shown programs decision)
 shown_accepted run staged verdict sizes count decision programs is are = accepted_shown sizes programs decision (rightly run staged verdict sizes count decision is) are
 
 -- ---- Publish
 
--- Publish, where none is due
+-- Publish, if none is due
 pub publish_none : (old w : WorldValue) (place port : ℕ) (p : PortValue) → IsRead old w place port p → None ≡ publish_due p.run → GoesOn (Publish port) Refused old old
 publish_none old w place port p is none =
     subst (λ (v : WorldValue). GoesOn (Publish port) Refused v v) is.is (publish_refused w port p (there old w place port p is) (below old w place port p is) none)

@@ -47,7 +47,7 @@ use Rattle.sched.proofs.Telling.{outcome_here}
 
 -- ---- what is told
 
--- where a control write of the port has its verdict, its end is by what stops it
+-- if a control write of the port has its verdict, its end is by what stops it
 publish_told : (n : Node) (h : History) (port verdict : ℕ) (o : Open) (outcome : Outcome) → opened h port ≡ Some o → turn_of n port o ≡ Some (turns.Verdict verdict) → place_in n o.packet ≡ Some places.Control
     → IsControlled n h port (command_of o.packet) (judged_line (command_of o.packet) verdict) outcome → IsPublishOutcome n h port (opened h port) outcome
 publish_told n h port verdict o outcome is stands lies told =
@@ -102,7 +102,7 @@ port_at_control n h port o p status reply loaded is lies before = record {
 
 -- ---- the world
 
--- what is known where a control write of the port ends
+-- what is known if a control write of the port ends
 record IsAtControl (n : Node) (h : History) (w : WorldValue) (port verdict : ℕ) (p : PortValue) (o : Open) : Type 0 where
   there : slice_get w.ports port ≡ Some p
   below : port < length w.ports
@@ -112,7 +112,7 @@ record IsAtControl (n : Node) (h : History) (w : WorldValue) (port verdict : ℕ
   stands : turn_of n port o ≡ Some (turns.Verdict verdict)
   lies : place_in n o.packet ≡ Some places.Control
 
--- what is published or not, and how many, behind a control write
+-- what is published or not, and how many, after a control write
 record IsWorldBehind (n : Node) (h : History) (w : WorldValue) (port : ℕ) (decision : Decision) (reply : List ℕ) : Type 0 where
   programs : AreProgramsOf n (published n (Then h (Publish port) (Done (status_of_decision decision) reply (load_result_of_decision decision)))) (programs_shown w.programs decision)
   count : count_shown w.count decision ≡ publishes n (Then h (Publish port) (Done (status_of_decision decision) reply (load_result_of_decision decision)))
@@ -144,7 +144,7 @@ load_here n h w port verdict p o packet load here same is =
     let at_sizes = subst (λ (sizes : Maps). IsLoad (control_of (command_of o.packet).body) (staging n h port).bytes sizes (w.count + 1) load) here.old.sizes_are at_staging in
     subst (λ (count : ℕ). IsLoad (control_of (command_of o.packet).body) (staging n h port).bytes n.sizes (count + 1) load) here.old.count_is at_sizes
 
--- what is told where a load decided
+-- what the outcome says if a load decides
 told_as : (n : Node) (h : History) (port : ℕ) (c : CommandValue) (load : Load) (outcome : Outcome) → IsLoad (control_of c.body) (staging n h port).bytes n.sizes (publishes n h + 1) load → IsLoaded n h c load outcome
     → (line : Option Status) → line ≡ None → IsControlled n h port c line outcome
 told_as n h port c load outcome decides told None none = record { load = load; decides = decides; told = told }
@@ -156,7 +156,7 @@ stopped_as n h port c status outcome told (Some s) is =
     let same : s ≡ status = cc in
     rw same told
 
--- the world behind a control write
+-- the world after a control write
 abbrev pub world_after : WorldValue → (port : ℕ) → PortValue → Decision → WorldValue
 world_after w port p decision = record w {
   programs = programs_shown w.programs decision;
@@ -197,7 +197,7 @@ write_of n h w port verdict p r write old =
       };
     }
 
--- a control write goes on where its outcome is lawful and the programs are those behind it
+-- a control write goes on if its outcome is lawful and the programs are those after it
 write_goes_on : (n : Node) (h : History) (w : WorldValue) (port verdict : ℕ) (p : PortValue) (o : Open) (packet : Cargo) (decision : Decision) → packet ≡ o.packet → IsAtControl n h w port verdict p o → IsLawful n h
     → IsControlled n h port (command_of o.packet) (judged_line (command_of o.packet) verdict) (outcome_of (command_of o.packet) decision)
     → ((reply : List ℕ) → IsWorldBehind n h w port decision reply) → IsLawfulWorld n (Then h (Publish port) (outcome_of (command_of packet) decision)) (world_after w port p decision)
@@ -298,7 +298,7 @@ publish_is_due (Some r) verdict is = let both = due_at r.place r.turn verdict is
 
 -- ---- refused
 
--- of a command that is no control write nothing is done by a Publish
+-- a Publish does nothing at a command that is no control write
 elsewhere : (n : Node) (h : History) (port : ℕ) (o : Open) (place : Place) (turn : Turn) → place_in n o.packet ≡ Some place → place ≢ places.Control → IsPublishedBy n h port o (Some turn) Refused
 elsewhere n h port o place (turns.Ask question) lies other = refl
 elsewhere n h port o place (turns.Verdict v) lies other =
@@ -326,7 +326,7 @@ no_publish n h port (Some o) None is none = absurd is
 no_publish n h port (Some o) (Some r) is none =
     subst (λ (turn : Option Turn). IsPublishedBy n h port o turn Refused) (sym is.turn) (undue_at n h port o r.place r.turn is.placed.lies none)
 
--- a publish is refused where none is due
+-- a publish is refused if none is due
 pub publish_refused : (w : WorldValue) (port : ℕ) (p : PortValue) → slice_get w.ports port ≡ Some p → port < length w.ports → None ≡ publish_due p.run → GoesOn (Publish port) Refused w w
 publish_refused w port p there below none n h world = record {
   lawful = then_lawful n h (Publish port) Refused world.lawful (outcome_here n h (Publish port) Refused w.ports below world.world.ports_are.count (no_publish n h port (opened h port) p.run (world.world.ports_are.each port p there).judging none)) tt;
@@ -335,7 +335,7 @@ publish_refused w port p there below none n h world = record {
 
 -- ---- what a refusal tells
 
--- where memory was not wanted, a load was refused for what was staged
+-- if memory was not refused, a load was refused for what was staged
 pub not_wanted : (control : ControlData) (bytes : List ℕ) (sizes : Maps) (refusal : LoadRefusal) → IsUnprepared control bytes sizes refusal ⊎ WantsToPrepare control bytes refusal → wants_memory refusal ≡ false → IsUnprepared control bytes sizes refusal
 not_wanted control bytes sizes refusal (inl why) no_want = why
 not_wanted control bytes sizes refusal (inr wants) no_want = absurd (wanted control bytes refusal wants no_want)

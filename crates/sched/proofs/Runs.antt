@@ -32,7 +32,7 @@ abbrev pub GoesOnFrom : Program → Header → (old : Frame) → (before : List 
 GoesOnFrom program header old before turn new after = (port : ℕ) (calls : List Call) → port < 32
     → IsAt program header port calls old before → Turns program header port calls turn new after
 
--- a run that asks stands at a question
+-- a run that asks is at a question
 pub at_question : (program : Program) (header : Header) (turn : Turn) (frame : Frame) (stack : List ℕ) → IsAsk turn → StandsThere program header turn frame stack → IsAtQuestion frame
 at_question program header (turns.Ask question) frame stack asks stands = record {
   program = program;
@@ -45,7 +45,7 @@ at_question program header (turns.Ask question) frame stack asks stands = record
 }
 at_question program header (turns.Verdict v) frame stack asks stands = absurd asks
 
--- a run that stands at a question can go on once that was answered
+-- a run at a question can go on after it was answered
 pub paused : (program : Program) (header : Header) (turn : Turn) (old new : Frame) (stack : List ℕ) (told : ℕ) → IsAsk turn → StandsThere program header turn old stack
     → Answers told old new → IsPaused program header new stack
 paused program header (turns.Ask question) old new stack told asks stands answered = record {
@@ -56,7 +56,7 @@ paused program header (turns.Ask question) old new stack told asks stands answer
 }
 paused program header (turns.Verdict v) old new stack told asks stands answered = absurd asks
 
--- where it goes on to, it stands again
+-- after it goes on, a run of the program is there again
 pub stands_again : (program : Program) (header : Header) (turn : Turn) (old new : Frame) (before after : List ℕ) → IsPaused program header old before
     → GoesOnFrom program header old before turn new after → StandsThere program header turn new after
 stands_again program header turn old new before after ready on = record {
@@ -68,7 +68,7 @@ stands_again program header turn old new before after ready on = record {
 
 -- ---- where an open command stands
 
--- what a run that came there says of where its program stands
+-- what a run that came there says of where its program is
 stands_by : (program : Program) (sizes : Maps) (header : Header) (port : ℕ) (calls : List Call) (turn : Turn) (frame : Frame) (stack : List ℕ)
     → TurnsArePaths → IsSafe program sizes → IsHeader header → port < 32 → Turns program header port calls turn frame stack
     → turn_after program header port (answers_of calls) ≡ Some turn
@@ -109,7 +109,7 @@ begun n port h packet place a generation turn first frame before stack law safet
     run_of n port (taken packet generation h) (record { packet = packet; place = place; program = a; generation = generation; turn = turn; frame = frame; stack = stack }) [] law safety is low
     refl refl placed program accepted refl (on port [] low starts)
 
--- what was asked at a question and stands there still
+-- what was asked at a question is asked there still
 asked_there : (program : Program) (header : Header) (port : ℕ) (calls : List Call) (turn : Turn) (old new : Frame) (stack : List ℕ) (told : ℕ) → IsAsk turn
     → Turns program header port calls turn old stack → Answers told old new
     → (more : List Call) × (answers_of more ≡ answers_of calls ++ told ∷ []) × IsAt program header port more new stack

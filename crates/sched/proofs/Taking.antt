@@ -29,7 +29,7 @@ busy n h port packet None None is some = absurd cc
 busy n h port packet None (Some r) is some = absurd is
 busy n h port packet (Some o) run is some = refl
 
--- a packet at a port where a command is judged is refused, and the world stays
+-- a packet at a port that judges a command is refused, and the world stays
 pub take_refused : (w : WorldValue) (port : ℕ) (packet : Cargo) (p : PortValue) → slice_get w.ports port ≡ Some p → port < length w.ports → is_none p.run ≡ false → GoesOn (Take port packet) Refused w w
 take_refused w port packet p there below some n h world =
     let here = world.world.ports_are.each port p there in
@@ -45,7 +45,7 @@ free n port None run is none = refl
 free n port (Some o) None is none = absurd is
 free n port (Some o) (Some r) is none = absurd cc
 
--- a packet that its header stops
+-- a packet, if its header stops it
 stopped_by : (n : Node) (h : History) (packet : Cargo) (stop : Stop) (reply : List ℕ) → IsStopped stop packet (windows_in n) reply → stop_outcome stop reply ≡ packet_outcome n h packet (discard_of packet.bytes)
 stopped_by n h packet (NoCommand discard) reply is = sym (ap (packet_outcome n h packet) is.0)
 stopped_by n h packet (Fault status) reply is =
@@ -59,7 +59,7 @@ stop_word : (stop : Stop) (reply : List ℕ) → TellsWord (stop_outcome stop re
 stop_word (NoCommand discard) reply = tt
 stop_word (Fault status) reply = tt
 
--- what a packet comes to that its header stops
+-- what a packet comes to if its header stops it
 pub take_stopped : (w : WorldValue) (port : ℕ) (packet : Cargo) (p : PortValue) (stop : Stop) (reply : List ℕ) (outcome : Outcome) → slice_get w.ports port ≡ Some p → port < length w.ports → is_none p.run ≡ true
     → IsStopped stop packet w.windows reply → outcome ≡ stop_outcome stop reply → GoesOn (Take port packet) outcome w w
 take_stopped w port packet p stop reply outcome there below none stops is n h world =
@@ -90,7 +90,7 @@ taken_port n h port packet p r run before = record {
   shares = before.shares;
 }
 
--- what a command comes to that is judged from now on
+-- what a command comes to if it is judged from now on
 pub take_taken : (w : WorldValue) (port : ℕ) (packet : Cargo) (place : Place) (p : PortValue) (r : RunValue) → slice_get w.ports port ≡ Some p → port < length w.ports → is_none p.run ≡ true
     → IsPlacedBy w.windows packet place → IsBegun w port packet r → GoesOn (Take port packet) (Taken r.generation) w (record w { ports = slice_set w.ports port (record p { run = Some r }) })
 take_taken w port packet place p r there below none placed begun n h world =

@@ -1,4 +1,4 @@
--- Count, Ticket and Peak: what a helper tells is lawful, and the world goes on.
+-- Count, Ticket and Peak: what a helper answers is lawful, and the world goes on.
 use Rattle.std.proofs.Common.{◌≡◌, ◌<◌, ◌+◌, ◌%◌, ◌^◌, ◌&&◌, ◌==◌, max, ℕ, List, [], length, get_or, Bool, true, false, Option, Some, None, refl, sym, ap, subst, ◌∙◌, arith, eqb-true}
 use Rattle.std.specs.Prelude.{IsTrue, slice_get, slice_set, if◌then◌else◌}
 use Rattle.machine.specs.Sizes.{Maps, IsInside, kind_of_map}
@@ -21,26 +21,26 @@ use Rattle.sched.proofs.Outcomes.{IsOutcome, IsOutcomeAt, helper_outcome, then_l
 use Rattle.sched.proofs.Growth.{IsPortBehind, ports_changed, left_all}
 use Rattle.plain_cells.proofs.Tickets.{word_written}
 
--- where a port stands is where its command does
+-- a port's program is where the program of its command is
 pub judging_turn : (n : Node) (port : ℕ) (last : Option Open) (run : Option RunValue) → IsJudging n port last run → turn_by n port last ≡ turn_in run
 judging_turn n port None None is = refl
 judging_turn n port None (Some r) is = absurd is
 judging_turn n port (Some o) None is = absurd is
 judging_turn n port (Some o) (Some r) is = is.turn
 
--- an event of a port that the node has is lawful where its outcome is the one at a port
+-- an event of a port that the node has is lawful if its outcome is the one at a port
 pub outcome_here : (n : Node) (h : History) (event : Event) (outcome : Outcome) (ports : List PortValue) → port_of event < length ports → length ports ≡ n.ports → IsOutcomeAt n h event outcome → IsOutcome n h event outcome
 outcome_here n h event outcome ports there count is = record {
   here = λ _. is;
   nowhere = λ past. absurd (omega (arith, there, count, past));
 }
 
--- a port whose program was told that
+-- a port whose program got that answer
 pub record IsTold (told : ℕ) (p q : PortValue) : Type 0 where
   pub rest : q ≡ record p { run = q.run }
   pub run : (n : Node) (port : ℕ) (last : Option Open) → port < 32 → IsJudging n port last p.run → IsJudging n port (after_told told last) q.run
 
--- behind an answer the port is that of its command with the answer
+-- after an answer the port is that of its command with the answer
 told_port : (n : Node) (h : History) (event : Event) (told port : ℕ) (p q : PortValue) → port < 32 → IsTold told p q
     → IsPortOf n port (staging n h port) (opened h port) (entries n h) p → IsPortBehind n h event (Told told) port q
 told_port n h event told port p q low is before = record {
@@ -50,13 +50,13 @@ told_port n h event told port p q low is before = record {
   shares = λ k share there. before.shares k share (ap (λ (v : PortValue). slice_get v.shares k) (sym is.rest) ∙ there);
 }
 
--- what stands at a port's question is what looking back finds there
+-- what a port's program asks is what looking back finds there
 asked_here : (n : Node) (h : History) (port map key : ℕ) (helper : Helper) (p : PortValue) → Some (map, key) ≡ cell_asked helper (turn_in p.run)
     → IsPortOf n port (staging n h port) (opened h port) (entries n h) p → cell_asked helper (turn_at n h port) ≡ Some (map, key)
 asked_here n h port map key helper p asked is =
     ap (cell_asked helper) (judging_turn n port (opened h port) p.run is.judging) ∙ sym asked
 
--- where a port asks no such helper, looking back finds none asked
+-- if a port asks no such helper, looking back finds none asked
 none_here : (n : Node) (h : History) (port : ℕ) (helper : Helper) (p : PortValue) → None ≡ cell_asked helper (turn_in p.run)
     → IsPortOf n port (staging n h port) (opened h port) (entries n h) p → cell_asked helper (turn_at n h port) ≡ None
 none_here n h port helper p asked is =
@@ -68,7 +68,7 @@ read_word n h map key word w inside read is =
     let inside_here = subst (λ (sizes : Maps). IsInside sizes map key) is.sizes_are inside in
     read ∙ is.words_are map key inside_here
 
--- `ticket` takes counter maps alone, and `peak` peak maps
+-- `ticket` takes only counter maps, and `peak` only peak maps
 counter_alone : (kind : MapKind) → IsTrue (takes_kind helpers.Ticket kind) → kind ≡ kinds.Counter
 counter_alone kinds.Counter is = refl
 counter_alone kinds.Peak is = absurd cc
@@ -77,7 +77,7 @@ peak_alone : (kind : MapKind) → IsTrue (takes_kind helpers.Peak kind) → kind
 peak_alone kinds.Counter is = absurd cc
 peak_alone kinds.Peak is = refl
 
--- the word of a cell of a counter map is how many tickets were told, modulo 2^64
+-- the word of a cell of a counter map is how many tickets were drawn, modulo 2^64
 counter_word : (n : Node) (h : History) (map key word : ℕ) → word ≡ cell_word n h map key → kind_of_map n.sizes map ≡ kinds.Counter → word ≡ tickets n h map key % 2 ^ 64
 counter_word n h map key word is kind = is ∙ ap (λ (k : MapKind). word_by_kind k (tickets n h map key) (peaks n h map key)) kind
 
@@ -91,14 +91,14 @@ peak_word n h map key word is kind = is ∙ ap (λ (k : MapKind). word_by_kind k
 next_word : (word count : ℕ) → word ≡ count % 2 ^ 64 → (word + 1) % 2 ^ 64 ≡ (count + 1) % 2 ^ 64
 next_word word count e = rw e (omega arith)
 
--- a word that was written at one cell says what it has to, where what it has to say is new there and the same elsewhere
+-- if the word that is written is the new value of its cell, and the old words were right, each word is right
 written_says : (same_map same_key : Bool) (word old next say now : ℕ) → old ≡ say → (same_map ≡ true → same_key ≡ true → next ≡ now)
     → word ≡ (if same_map && same_key then next else old) → word ≡ (if same_map && same_key then now else say)
 written_says false same_key word old next say now is more e = e ∙ is
 written_says true true word old next say now is more e = e ∙ more refl refl
 written_says true false word old next say now is more e = e ∙ is
 
--- what a cell's word says where one more ticket was told of it or not, and where it was raised or not
+-- what a cell's word says after one more ticket of it or none, and after it was raised or not
 say_drawn : (kind : MapKind) (here : Bool) (tickets peak : ℕ) → (if here then word_by_kind kind (tickets + 1) peak else word_by_kind kind tickets peak) ≡ word_by_kind kind (if here then tickets + 1 else tickets) peak
 say_drawn kind true tickets peak = refl
 say_drawn kind false tickets peak = refl
@@ -112,7 +112,7 @@ either : (here : Bool) (x : ℕ) → (if here then x else x) ≡ x
 either true x = refl
 either false x = refl
 
--- the words where one of them was written, and the cell's alone says something new
+-- the words after one of them was written, if only the cell's says something new
 words_written : (sizes : Maps) (words : List (List ℕ)) (say now : ℕ → ℕ → ℕ) (map key next : ℕ) → map < length words → key < length (get_or words map []) → next ≡ now map key
     → AreWordsOf sizes say words → (m k : ℕ) → IsInside sizes m k → word_at (with_word words map key next) m k ≡ (if (map == m) && (key == k) then now m k else say m k)
 words_written sizes words say now map key next there inside new are m k here =
@@ -120,7 +120,7 @@ words_written sizes words say now map key next there inside new are m k here =
     (λ at_map at_key. new ∙ ap (λ (x : ℕ). now x key) (eqb-true map m at_map) ∙ ap (now m) (eqb-true key k at_key))
     (word_written words map key next m k there inside (map == m) (key == k) refl refl)
 
--- the words behind a Count, a Ticket and a Peak that were told
+-- the words after a Count, a Ticket and a Peak that were answered
 count_words : (n : Node) (h : History) (port map key told next : ℕ) (words : List (List ℕ)) → map < length words → key < length (get_or words map [])
     → next ≡ cell_word n h map key → AreWordsOf n.sizes (cell_word n h) words → AreWordsOf n.sizes (cell_word n (Then h (Count port) (Told told))) (with_word words map key next)
 count_words n h port map key told next words there inside same are = λ m k here.
@@ -153,15 +153,15 @@ argument_here n h port argument p asked is = asked ∙ sym (ap argument_asked (j
 
 -- ---- helpers
 
--- what a helper tells of a cell by its word is what it tells by looking back, where the map is of a kind that it takes
+-- if a helper takes maps of that kind, its answer by the cell's word is its answer by looking back
 told_by_kind : (n : Node) (h : History) (helper : Helper) (map key word argument : ℕ) → word ≡ cell_word n h map key → IsTrue (takes_kind helper (kind_of_map n.sizes map))
     → told_of_word helper word argument ≡ told_of_cell n h helper map key argument
 told_by_kind n h helpers.Count map key word argument is kind = is
 told_by_kind n h helpers.Ticket map key word argument is kind = counter_word n h map key word is (counter_alone (kind_of_map n.sizes map) kind)
 told_by_kind n h helpers.Peak map key word argument is kind = ap (λ (x : ℕ). max x argument) (peak_word n h map key word is (peak_alone (kind_of_map n.sizes map) kind))
 
--- what a port asks of a world: it stands at a helper's question, with that argument, for a cell that is there, of a map that
--- the helper takes
+-- What a port asks of a world. It is at a helper's question, with that argument, for a cell that is there, of a map
+-- that the helper takes.
 pub record IsAskedOf (w : WorldValue) (port map key argument : ℕ) (helper : Helper) (p : PortValue) : Type 0 where
   pub there : slice_get w.ports port ≡ Some p
   pub below : port < length w.ports
@@ -190,13 +190,13 @@ found n h w port map key argument helper p is old =
       kind = subst (λ (sizes : Maps). IsTrue (takes_kind helper (kind_of_map sizes map))) old.sizes_are is.kind;
     }
 
--- what the helper tells is lawful
+-- what the helper answers is lawful
 told_lawful : (n : Node) (h : History) (port map key argument word : ℕ) (helper : Helper) → IsFound n h port map key argument word helper → Told (told_of_word helper word argument) ≡ helper_outcome n h helper (turn_at n h port)
 told_lawful n h port map key argument word helper is =
     ap (λ (x : ℕ). Told x) (told_by_kind n h helper map key word argument is.word_is is.kind ∙ ap (told_of_cell n h helper map key) is.argument_is)
     ∙ sym (ap (told_on n h helper (argument_asked (turn_at n h port))) is.asked)
 
--- the words behind what it told
+-- the words after what it answered
 helper_words : (n : Node) (h : History) (port map key argument : ℕ) (helper : Helper) (words : List (List ℕ)) → map < length words → key < length (get_or words map [])
     → IsFound n h port map key argument (word_at words map key) helper → AreWordsOf n.sizes (cell_word n h) words
     → AreWordsOf n.sizes (cell_word n (Then h (answering helper port) (Told (told_of_word helper (word_at words map key) argument)))) (with_word words map key (word_behind helper (word_at words map key) argument))
@@ -210,7 +210,7 @@ helper_words n h port map key argument helpers.Peak words there inside is are =
     ap (λ (x : ℕ). max x argument) (peak_word n h map key (word_at words map key) is.word_is peak) ∙ ap (max (peaks n h map key)) is.argument_is in
     raised_words n h port map key (max (word_at words map key) argument) words is.asked there inside peak raised are
 
--- a world of which one port was told something, and the words were written
+-- a world of which one port got an answer, and the words were written
 told_world_of : (n : Node) (h : History) (event : Event) (told : ℕ) (w : WorldValue) (words : List (List ℕ)) (p q : PortValue) → slice_get w.ports (port_of event) ≡ Some p → port_of event < 32 → IsTold told p q
     → AreWordsOf n.sizes (cell_word n (Then h event (Told told))) words → IsWorldOf n h w → IsWorldOf n (Then h event (Told told)) (record w { words = words; ports = slice_set w.ports (port_of event) q })
 told_world_of n h event told w words p q there low is are old = record {
@@ -248,7 +248,7 @@ helper_goes_on w port map key argument helpers.Peak p q is told small n h world 
       world = told_world_of n h (Peak port) _ w _ p q is.there is.low told (helper_words n h port map key argument helpers.Peak w.words is.map_there is.key_there at old.words_are) old;
     }
 
--- a helper that is not asked for is refused, and the world stays
+-- a helper that no program asks for is refused, and the world stays
 refused_here : (w : WorldValue) (event : Event) → port_of event < length w.ports → ((n : Node) (h : History) → IsWorldOf n h w → IsOutcomeAt n h event Refused) → GoesOn event Refused w w
 refused_here w event below is n h world = record {
   lawful = then_lawful n h event Refused world.lawful (outcome_here n h event Refused w.ports below world.world.ports_are.count (is n h world.world)) tt;

@@ -1,4 +1,4 @@
--- Where a program stands, by its paths.
+-- Where a program is, by its paths.
 use Rattle.std.proofs.Common.{◌≡◌, ◌<◌, ◌^◌, ℕ, zero, suc, ◌+◌, ◌-◌, List, [], ◌∷◌, ◌++◌, map, Option, Some, None, refl, sym, subst, arith, ◌∙◌, append_assoc}
 use Rattle.std.proofs.lemmas.List.{append-nil, map-append}
 use Rattle.std.proofs.lemmas.List.Elements.{All-nil, All-head, All-tail, All-push}
@@ -33,7 +33,7 @@ answers-more : (calls : List Call) (asked : Question) (a : ℕ) (rest : List ℕ
 answers-more calls asked a rest =
     rw (map-append (λ (c : Call). c.answer) calls (call asked a ∷ [])) (append_assoc (answers_of calls) (a ∷ []) rest)
 
--- behind a path, what is left of the steps and the answers decides
+-- after a path, what is left of the steps and the answers decides
 along : (program : Program) (header : Header) (port : ℕ) (calls : List Call) (n : ℕ) (s : State) → Path program header port calls n s → (k : ℕ) (rest : List ℕ)
     → turn_within program header (n + k) (entry_state port) (answers_of calls ++ rest) ≡ turn_within program header k s rest
 along program header port calls n s entry k rest = let sum : 0 + k ≡ k = omega arith in rw sum refl
@@ -44,7 +44,7 @@ along program header port calls (suc n) t (answered {calls = before} {s = s} {qu
     let sum : suc n + k ≡ n + suc k = omega arith in
     rw (sum, answers-more before asked answer rest) (along program header port before n s path (suc k) (answer ∷ rest) ∙ onward-ask (turn_within program header k) _ asked on answer rest e)
 
--- behind a path of fewer steps than the budget, its last state decides
+-- after a path of fewer steps than the budget, its last state decides
 stands : (program : Program) (header : Header) (port : ℕ) (calls : List Call) (n : ℕ) (s : State) (turn : Option Turn) → Path program header port calls n s → n < program.budget
     → ((go : State → List ℕ → Option Turn) → onward go [] (step program header s) ≡ turn) → turn_after program header port (answers_of calls) ≡ turn
 stands program header port calls n s turn path few here =
@@ -54,7 +54,7 @@ stands program header port calls n s turn path few here =
 
 -- ---- from turns to paths
 
--- what is known where a turn was found
+-- what is known if a turn was found
 abbrev Found : Program → Header → (port : ℕ) → (answers : List ℕ) → Turn → Type 0
 Found program header port answers (turns.Ask question) = HasAsked program header port answers question
 Found program header port answers (turns.Verdict v) = HasEnded program header port answers v

@@ -7,12 +7,12 @@ use Rattle.node_programs.specs.Published.{judging_program}
 use Rattle.sched.specs.History.{History, Start, Then}
 use Rattle.sched.specs.Looking.{Node, published, published_at}
 
--- the programs that were published, with one more at the end where an event published one
+-- the programs that were published, with one more at the end if an event published one
 abbrev pub with_published : Option (ℕ × Program) → List (ℕ × Program) → List (ℕ × Program)
 with_published None made = made
 with_published (Some next) made = made ++ next ∷ []
 
--- all that was published, in order: each program with its slot; first what was published before the first event
+-- All that was published, in order: each program with its slot. What was published before the first event comes first.
 abbrev pub all_published : Node → History → List (ℕ × Program)
 all_published n Start = n.firsts
 all_published n (Then h event outcome) = with_published (published_at n h event outcome) (all_published n h)
@@ -21,7 +21,7 @@ all_published n (Then h event outcome) = with_published (published_at n h event 
 abbrev pub slot_and_program : Publish → ℕ × Program
 slot_and_program p = (p.slot, p.program.program)
 
--- a list of publishes has the factory program first, and behind it the slots and the programs that were published
+-- a list of publishes has the factory program first, and after it the slots and the programs that were published
 abbrev pub ArePublishesOf : Node → History → List Publish → Type 0
 ArePublishesOf n h [] = ⊥
 ArePublishesOf n h (first ∷ publishes) =
@@ -31,7 +31,7 @@ ArePublishesOf n h (first ∷ publishes) =
 abbrev pub program_and_generation : AcceptedValue × ℕ → Program × ℕ
 program_and_generation shown = (shown.0.program, shown.1)
 
--- what is published in a slot is the program that judges there by every such list, with its generation
+-- by every such list, what is published in a slot is the program that judges there, with its generation
 abbrev pub PublishedAgrees : Type 0
 PublishedAgrees =
     (n : Node) (h : History) (publishes : List Publish) (slot : ℕ) → ArePublishesOf n h publishes

@@ -8,14 +8,14 @@ use Rattle.sched.specs.History.{History, taken}
 use Rattle.sched.specs.Looking.{Node, published, slot_of_packet, windows_in}
 use Rattle.sched.specs.Worlds.{PortValue, RunValue, WorldValue, IsFor, IsRunOf, IsRunUnder, IsRunWith, IsWorldOf}
 
--- the run fits the world, and behind each history of the world it is that of the packet's command, just taken at the
--- port, by the program that is published in its slot
+-- The run fits the world. After each history of the world it is that of the packet's command, which the port just took,
+-- by the program published in its slot.
 pub record IsBegun (w : WorldValue) (port : ℕ) (packet : Cargo) (r : RunValue) : Type 0 where
   pub under : IsRunUnder w.windows w.sizes r
   pub run : (n : Node) (h : History) → IsWorldOf n h w → IsRunOf n port (taken packet r.generation h) r
   pub generation : (n : Node) (h : History) → IsWorldOf n h w → r.generation ≡ (published n h (slot_of_packet n packet)).1
 
--- what a run says that began, of every node and history
+-- what a run that began says, of every node and history
 abbrev pub BeginsAs : (port : ℕ) → Cargo → Place → AcceptedValue → (generation : ℕ) → RunValue → Type 0
 BeginsAs port packet place a generation r = (n : Node) (h : History) → IsPlacedBy (windows_in n) packet place
     → a.program ≡ (published n h (slot_of_packet n packet)).0 → IsFor n a → IsRunOf n port (taken packet generation h) r

@@ -13,7 +13,7 @@ world_fault_code Memory = 1
 world_fault_code Config = 2
 world_fault_code Image = 3
 
--- what a limit of a node, or its want of memory, is to a world
+-- what a limit of a node, or its lack of memory, is to a world
 abbrev pub fault_of_node : NodeFault → WorldFault
 fault_of_node nodes.Memory = Memory
 fault_of_node nodes.Ports = Config

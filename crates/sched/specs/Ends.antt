@@ -57,7 +57,8 @@ CanEnd places.Staging banks p judged = Unit {0}
 CanEnd places.LoadResult banks p judged = Unit {0}
 CanEnd places.Control banks p judged = ⊥
 
--- it ended at bank k: status and reply are those of its answer there, the bank and the port's share count its entry
+-- It ended at bank k. Status and reply are those of its answer there, and the bank and the port's share count its
+-- entry.
 pub record EndsAtBank (k : ℕ) (old new : List BankValue) (p q : PortValue) (judged : JudgedValue) (status : Status)
     (reply : List ℕ) : Type 0 where
   pub bank : BankValue
@@ -83,13 +84,13 @@ EndsAt places.Staging old new p q judged status reply = EndsAtStaging old new p 
 EndsAt places.LoadResult old new p q judged status reply = EndsAtStaging old new p q judged status reply
 EndsAt places.Control old new p q judged status reply = ⊥
 
--- the command that a port judges can end, with that verdict: its bytes lie under those windows where its place says
+-- The command that a port judges can end, with that verdict. Its bytes lie under those windows where its place says.
 abbrev pub CanFinish : WindowsValue → List BankValue → (port verdict : ℕ) → PortValue → Option RunValue → Type 0
 CanFinish windows banks port verdict p None = ⊥
 CanFinish windows banks port verdict p (Some r) =
     IsPlacedBy windows r.packet r.place × CanEnd r.place banks (record p { run = None }) (judged_with port verdict r)
 
--- the command that a port judged ended, with that verdict, and none is judged any more
+-- the command that a port judged ended, with that verdict, and the port judges none any more
 abbrev pub HasFinished : (old new : List BankValue) → (port verdict : ℕ) → (p q : PortValue) → Option RunValue → Status
     → (reply : List ℕ) → Type 0
 HasFinished old new port verdict p q None status reply = ⊥
@@ -108,8 +109,7 @@ abbrev pub IsReplyTo : Option RunValue → Status → (reply : List ℕ) → Typ
 IsReplyTo None status reply = ⊥
 IsReplyTo (Some r) status reply = reply ≡ reply_of (command_of r.packet) status []
 
--- what becomes of a load, where so many programs were published: it is refused, or a program is shown with the next
--- generation
+-- what becomes of a load after that many publishes: it is refused, or a program is shown with the next generation
 abbrev pub IsLoadDecision : ControlData → (staged : List ℕ) → Maps → (count : ℕ) → Decision → Type 0
 IsLoadDecision control staged sizes count (Stopped status) = ⊥
 IsLoadDecision control staged sizes count (NotLoaded refusal) =
@@ -117,7 +117,7 @@ IsLoadDecision control staged sizes count (NotLoaded refusal) =
 IsLoadDecision control staged sizes count (Loaded slot shown) =
     IsLoad control staged sizes (count + 1) (loads.Published slot shown.0) × (shown.1 ≡ count + 1)
 
--- what a control write comes to, by what stops it: where nothing does, a load decides
+-- what a control write comes to, by what stops it: if nothing does, a load decides
 abbrev pub IsDecisionBy : Option Status → ControlData → (staged : List ℕ) → Maps → (count : ℕ) → Decision → Type 0
 IsDecisionBy (Some status) control staged sizes count decision = decision ≡ Stopped status
 IsDecisionBy None control staged sizes count decision = IsLoadDecision control staged sizes count decision
@@ -135,22 +135,22 @@ status_of_decision (Stopped status) = status
 status_of_decision (NotLoaded refusal) = GeneralError
 status_of_decision (Loaded slot shown) = Success
 
--- the load result, where a load was decided
+-- the load result, if a load was decided
 abbrev pub load_result_of_decision : Decision → Option (List ℕ)
 load_result_of_decision (Stopped status) = None
 load_result_of_decision (NotLoaded refusal) = Some (refused_result refusal)
 load_result_of_decision (Loaded slot shown) = Some (published_result shown.1)
 
--- a staging with that load result, where there is one
+-- a staging with that load result, if there is one
 abbrev pub load_result_kept : Option (List ℕ) → Staged → Staged
 load_result_kept None s = s
 load_result_kept (Some loaded) s = staged s.bytes loaded
 
--- a port whose control write ended: none is judged, and the staging keeps the load result, where a load was decided
+-- A port whose control write ended: it judges none, and the staging keeps the load result if a load was decided.
 abbrev pub after_write : Option (List ℕ) → PortValue → PortValue
 after_write loaded p = record p { run = None; staging = load_result_kept loaded p.staging }
 
--- the programs of the slots behind a control write
+-- the programs of the slots after a control write
 abbrev pub programs_shown : List (AcceptedValue × ℕ) → Decision → List (AcceptedValue × ℕ)
 programs_shown programs (Stopped status) = programs
 programs_shown programs (NotLoaded refusal) = programs
@@ -162,7 +162,7 @@ ShowsInSlot (Stopped status) = Unit {0}
 ShowsInSlot (NotLoaded refusal) = Unit {0}
 ShowsInSlot (Loaded slot shown) = slot < 4
 
--- how many programs were published behind it
+-- how many programs were published after it
 abbrev pub count_shown : ℕ → Decision → ℕ
 count_shown count (Stopped status) = count
 count_shown count (NotLoaded refusal) = count

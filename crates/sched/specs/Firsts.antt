@@ -16,11 +16,12 @@ slot_with_program first = (first.0, first.1.program)
 abbrev pub IsFirst : Maps → ℕ × AcceptedValue → Type 0
 IsFirst sizes first = (first.0 ≤ 3) × (first.1.sizes ≡ sizes)
 
--- the node with one program more that is published before the first event, behind the others
+-- the node with one program more that is published before the first event, after the others
 abbrev pub with_first : Node → ℕ × Program → Node
 with_first n made = record n { firsts = n.firsts ++ made ∷ [] }
 
--- the world of a node behind no event became that of the node with one program more that is published before the first event
+-- The world of a node before any event became the world of that node with one more program published before the first
+-- event.
 pub record AddsFirst (first : ℕ × AcceptedValue) (old new : WorldValue) : Type 0 where
   pub world : (n : Node) → IsWorldOf n Start old → IsWorldOf (with_first n (slot_with_program first)) Start new
   pub node : (n : Node) → n.sizes ≡ old.sizes → IsNode n → IsNode (with_first n (slot_with_program first))

@@ -30,14 +30,14 @@ use Rattle.sched.specs.Turns.{AreWords, HasEnded}
 
 -- ---- premises
 
--- a node has at most 32 ports, and its factory program and those that were published before the first event are justified for
--- its maps
+-- A node has at most 32 ports. Its factory program, and those that were published before the first event, are justified
+-- for its maps.
 pub record IsNode (n : Node) : Type 0 where
   pub few_ports : n.ports ≤ 32
   pub factory : IsJustified n.factory n.sizes
   pub firsts : All (λ (made : ℕ × Program). IsJustified made.1 n.sizes) n.firsts
 
--- the packet that an event brings, if it brings one, has bytes alone
+-- the packet that an event brings, if it brings one, has only bytes
 abbrev pub BringsBytes : Event → Type 0
 BringsBytes (Take port packet) = All (λ byte. byte < 256) packet.bytes
 BringsBytes (Count port) = Unit {0}
@@ -46,7 +46,7 @@ BringsBytes (Peak port) = Unit {0}
 BringsBytes (Effect port) = Unit {0}
 BringsBytes (Publish port) = Unit {0}
 
--- each packet of a history has bytes alone
+-- each packet of a history has only bytes
 abbrev pub HasBytes : History → Type 0
 HasBytes Start = Unit {0}
 HasBytes (Then h event outcome) = HasBytes h × BringsBytes event
@@ -62,13 +62,13 @@ is_turning (Taken generation) = true
 is_turning (Told told) = false
 is_turning (Done status reply loaded) = true
 
--- the first history begins the second, and behind it no command of the port was taken and none done
+-- the first history begins the second, and after it the port took no command and did none
 pub data LeadsTo (port : ℕ) (first : History) : History → Type 0 where
   same : LeadsTo port first first
   further : {h : History} {event : Event} {outcome : Outcome} → LeadsTo port first h
       → (port_of event ≡ port → is_turning outcome ≡ false) → LeadsTo port first (Then h event outcome)
 
--- the open command of a port was taken, and behind that none of the port was taken and none done
+-- the open command of a port was taken, and after that the port took none and did none
 abbrev pub OpenedAreTaken : Type 0
 OpenedAreTaken =
     (h : History) (port : ℕ) (o : Open) → opened h port ≡ Some o
@@ -79,7 +79,7 @@ pub data Begins (first : History) : History → Type 0 where
   whole : Begins first first
   longer : {h : History} {event : Event} {outcome : Outcome} → Begins first h → Begins first (Then h event outcome)
 
--- behind a command of a port that was done, what is open there was taken behind that
+-- after a command of a port that was done, what is open there was taken after that
 abbrev pub OpenedBehindDone : Type 0
 OpenedBehindDone =
     (h later : History) (event : Event) (status : Status) (reply : List ℕ) (loaded : Option (List ℕ)) (o : Open)
@@ -96,8 +96,8 @@ AreDoneWithin port h first =
 
 -- ---- what an effect leaves
 
--- the memory of bank k behind an effect of the port at that place: the answer's where the command is the bank's, else
--- what it was
+-- The memory of bank k after an effect of the port at that place. If the command is the bank's, it is that of the
+-- answer, else it is what it was.
 abbrev pub memory_left : Node → History → (port : ℕ) → CommandValue → (verdict : ℕ) → Option Place → (k : ℕ) → Memory
 memory_left n h port c verdict None k = memory n h k
 memory_left n h port c verdict (Some (places.Bank j)) k =
@@ -106,8 +106,8 @@ memory_left n h port c verdict (Some places.Staging) k = memory n h k
 memory_left n h port c verdict (Some places.LoadResult) k = memory n h k
 memory_left n h port c verdict (Some places.Control) k = memory n h k
 
--- the staging of port q behind an effect of the port at that place: with the answer's bytes where it is the port's own
--- and the command is its, else what it was
+-- The staging of port q after an effect of the port at that place. If the staging is the port's own and the command is
+-- its, it has the answer's bytes, else it is what it was.
 abbrev pub staging_left : Node → History → (port : ℕ) → CommandValue → (verdict : ℕ) → Option Place → (q : ℕ) → Staged
 staging_left n h port c verdict None q = staging n h q
 staging_left n h port c verdict (Some (places.Bank k)) q = staging n h q
@@ -118,8 +118,8 @@ staging_left n h port c verdict (Some places.Staging) q =
 staging_left n h port c verdict (Some places.LoadResult) q = staging n h q
 staging_left n h port c verdict (Some places.Control) q = staging n h q
 
--- a command ended by an Effect as the definition says for its verdict: outcome, each bank's memory and each staging; no
--- program changed
+-- A command ended by an Effect as the definition says for its verdict: outcome, each bank's memory and each staging. No
+-- program changed.
 pub record IsEffectOf (n : Node) (h : History) (port : ℕ) (c : CommandValue) (verdict : ℕ) (place : Option Place)
     (outcome : Outcome) (after : History) : Type 0 where
   pub told : outcome ≡ effect_at_place n h port c verdict place
@@ -134,7 +134,8 @@ abbrev pub load_result_left : Node → History → Load → List ℕ
 load_result_left n h (loads.Published slot program) = published_result (publishes n h + 1)
 load_result_left n h (loads.Refused refusal) = refused_result refusal
 
--- the program of a slot with its generation, behind a load: the staged one in its own, with the next generation
+-- The program of a slot with its generation, after a load. In the load's own slot it is the staged one, with the next
+-- generation.
 abbrev pub program_left : Node → History → Load → (slot : ℕ) → Program × ℕ
 program_left n h (loads.Published asked program) slot =
     if asked == slot then (program.program, publishes n h + 1) else published n h slot
@@ -148,7 +149,7 @@ pub record IsStoppedWrite (n : Node) (h : History) (c : CommandValue) (status : 
   pub stagings : (q : ℕ) → staging n after q ≡ staging n h q
   pub programs : (slot : ℕ) → published n after slot ≡ published n h slot
 
--- a load decided, and left its result with its port, and where it succeeded the staged program in its slot
+-- A load decided, and left its result with its port. If it succeeded, it left the staged program in its slot.
 pub record IsLoadOf (n : Node) (h : History) (port : ℕ) (c : CommandValue) (outcome : Outcome) (after : History) : Type
     0 where
   pub load : Load
@@ -179,11 +180,11 @@ EndsBy n h port o verdict (Publish at_port) outcome =
     IsWriteEnd n h port (command_of o.packet) (judged_line (command_of o.packet) verdict) outcome
     (Then h (Publish at_port) outcome)
 
--- A command that is done was taken once and is done once: behind its Take none of its port was taken and none done, and
--- all that were done there before were done before that Take. It was judged by the program that was published in its
--- slot when it was taken, whose generation was told then. That program is justified, so it is safe; what it saw is a
--- header, what it was told are words, and its run on them ended with the verdict, within its budget. Outcome, memories,
--- stagings and programs are what the definition gives for that verdict.
+-- A command that is done was taken once and is done once. After its Take the port took none and did none, and all that
+-- were done there before were done before that Take. The program that was published in its slot when it was taken
+-- judged it, and the Take reported that program's generation. That program is justified, so it is safe. What it saw is
+-- a header, and the answers that it got are words. Its run on them ended with the verdict, within its budget. Outcome,
+-- memories, stagings and programs are what the definition gives for that verdict.
 pub record IsJudgedOnce (n : Node) (h : History) (event : Event) (outcome : Outcome) : Type 0 where
   pub there : port_of event < n.ports
   pub taken : Open
@@ -207,7 +208,7 @@ EveryScheduleJudgesOnce =
     → IsNode n → HasBytes h → IsLawful n (Then h event (Done status reply loaded))
     → IsJudgedOnce n h event (Done status reply loaded)
 
--- the same where cells may have answered any words: it asks for nothing that they answered
+-- the same if cells may have answered any words: it asks for nothing that they answered
 abbrev pub EveryHistoryJudgesOnce : Type 0
 EveryHistoryJudgesOnce =
     (n : Node) (h : History) (event : Event) (status : Status) (reply : List ℕ) (loaded : Option (List ℕ))

@@ -6,12 +6,12 @@ use Rattle.sched.specs.declared.event.Event.TheVariants.{Take, Count, Ticket, Pe
 use Rattle.sched.specs.declared.event.Outcome.{Outcome}
 use Rattle.sched.specs.declared.event.Outcome.TheVariants.{Refused, Discarded, Answered, Taken, Told, Done}
 
--- the events of a node, each with what it came to; the last one is outermost
+-- The events of a node, each with what it came to. The last one is outermost.
 pub data History : Type 0 where
   Start : History
   Then : History → Event → Outcome → History
 
--- the history of these events with these outcomes, in order, behind another
+-- the history of these events with these outcomes, in order, after another
 abbrev pub history_from : History → List Event → List Outcome → History
 history_from h [] outcomes = h
 history_from h (event ∷ events) [] = h
@@ -26,15 +26,15 @@ port_of (Peak port) = port
 port_of (Effect port) = port
 port_of (Publish port) = port
 
--- a command that was taken: its packet, the generation that was told then, what had happened before, and what the
--- helpers of its program were told since
+-- A command that was taken: its packet, the generation that the Take reported, what happened before, and the answers of
+-- its program's helpers since.
 pub record Open : Type 0 where
   pub packet : Cargo
   pub generation : ℕ
   pub before : History
   pub answers : List ℕ
 
--- the command of a packet that was taken behind this history, with that generation
+-- the command of a packet that was taken after this history, with that generation
 abbrev pub taken : Cargo → ℕ → History → Open
 taken packet generation before = record { packet = packet; generation = generation; before = before; answers = [] }
 
@@ -47,17 +47,17 @@ taken_by h generation (Peak port) = None
 taken_by h generation (Effect port) = None
 taken_by h generation (Publish port) = None
 
--- an open command once a helper of its program was told that
+-- an open command after a helper of its program answered that
 abbrev pub with_answer : ℕ → Open → Open
 with_answer told o = record o { answers = o.answers ++ told ∷ [] }
 
--- the same, where one is open
+-- the same, if one is open
 abbrev pub after_told : ℕ → Option Open → Option Open
 after_told told None = None
 after_told told (Some o) = Some (with_answer told o)
 
--- the open command of a port behind an event of its own, by what that came to: Taken opens one, Told answers it, and
--- with Done none is open
+-- The open command of a port after an event of its own, by what that came to. `Taken` opens one, `Told` answers it, and
+-- after `Done` none is open.
 abbrev pub opened_by : History → (last : Option Open) → Event → Outcome → Option Open
 opened_by h last event Refused = last
 opened_by h last event (Discarded discard) = last

@@ -33,53 +33,54 @@ use Rattle.sched.specs.Looking.{memory}
 
 -- ---- Take
 
--- what a packet comes to that its header stops, with the reply that is due then
+-- what a packet comes to if its header stops it, with the reply that is due then
 abbrev pub stop_outcome : Stop → (reply : List ℕ) → Outcome
 stop_outcome (NoCommand discard) reply = Discarded discard
 stop_outcome (Fault status) reply = Answered status reply
 
--- what a command comes to: answered where a check of its header stops it, else taken, with the generation of the
--- program that is published in its slot
+-- What a command comes to. If a check of its header stops it, it is answered. Else it is taken, with the generation of
+-- the program that is published in its slot.
 abbrev pub header_outcome : Node → History → Cargo → Option Status → Outcome
 header_outcome n h p (Some status) = Answered status (reply_of (command_of p) status [])
 header_outcome n h p None = Taken (published n h (slot_of_packet n p)).1
 
--- what a packet comes to: discarded where it is no command
+-- what a packet comes to: it is discarded if it is no command
 abbrev pub packet_outcome : Node → History → Cargo → Option Discard → Outcome
 packet_outcome n h p (Some discard) = Discarded discard
 packet_outcome n h p None = header_outcome n h p (header_line (command_of p) (windows_in n))
 
--- a packet is taken where no command is open
+-- a packet is taken if no command is open
 abbrev pub take_outcome : Node → History → Cargo → Option Open → Outcome
 take_outcome n h p None = packet_outcome n h p (discard_of p.bytes)
 take_outcome n h p (Some o) = Refused
 
 -- ---- Count, Ticket and Peak
 
--- what a helper tells of a cell, asked with that argument: `count` what its word says, `ticket` how many tickets of it
--- were told, modulo 2^64, `peak` the greater of its peak and the argument
+-- What a helper answers of a cell, asked with that argument: `count` what its word says, `ticket` how many tickets of
+-- it were drawn before, modulo 2^64, `peak` the greater of its peak and the argument.
 abbrev pub told_of_cell : Node → History → Helper → (map key argument : ℕ) → ℕ
 told_of_cell n h helpers.Count map key argument = cell_word n h map key
 told_of_cell n h helpers.Ticket map key argument = tickets n h map key % 2 ^ 64
 told_of_cell n h helpers.Peak map key argument = max (peaks n h map key) argument
 
--- what the event of a helper comes to, if a program asks it for that cell: some word is the answer; else it is refused
+-- What the event of a helper comes to. If a program asks it for that cell, some word is the answer, else the event is
+-- refused.
 abbrev pub IsSomeTold : Option (ℕ × ℕ) → Outcome → Type 0
 IsSomeTold None outcome = outcome ≡ Refused
 IsSomeTold (Some cell) outcome = (answer : ℕ) × (answer < 2 ^ 64) × (outcome ≡ Told answer)
 
 -- ---- Effect
 
--- what a judged command of a port is answered at bank k: on the memory that looking back gives
+-- the answer to a judged command of a port at bank k, on the memory that looking back gives
 abbrev pub bank_answer : Node → History → (k port : ℕ) → CommandValue → (verdict : ℕ) → Answer
 bank_answer n h k port c verdict =
     answer (memory n h k) (has_room (slice_get n.banks k) port (entries n h k)) c verdict
 
--- what it is answered on the port's staging, where there is always room
+-- the answer to it on the port's staging, which always has room
 abbrev pub staging_answer : Node → History → (port : ℕ) → CommandValue → (verdict : ℕ) → Answer
 staging_answer n h port c verdict = answer (memory_at 0 (staging n h port).bytes) true c verdict
 
--- what it is answered on the port's load result
+-- the answer to it on the port's load result
 abbrev pub load_result_answer : Node → History → (port : ℕ) → CommandValue → (verdict : ℕ) → Answer
 load_result_answer n h port c verdict = answer (memory_at LOAD_REGISTER (staging n h port).load_result) true c verdict
 
@@ -87,7 +88,7 @@ load_result_answer n h port c verdict = answer (memory_at LOAD_REGISTER (staging
 abbrev pub done : Answer → Outcome
 done a = Done a.status a.reply None
 
--- how a judged command ends by an Effect: everywhere but at a control write
+-- how a judged command ends by an Effect: everywhere except at a control write
 abbrev pub effect_at_place : Node → History → (port : ℕ) → CommandValue → (verdict : ℕ) → Option Place → Outcome
 effect_at_place n h port c verdict None = Refused
 effect_at_place n h port c verdict (Some (places.Bank k)) = done (bank_answer n h k port c verdict)
@@ -95,39 +96,39 @@ effect_at_place n h port c verdict (Some places.Staging) = done (staging_answer 
 effect_at_place n h port c verdict (Some places.LoadResult) = done (load_result_answer n h port c verdict)
 effect_at_place n h port c verdict (Some places.Control) = Refused
 
--- the same where the program has its verdict
+-- the same, if the program has its verdict
 abbrev pub effect_at_turn : Node → History → (port : ℕ) → Open → Option Turn → Outcome
 effect_at_turn n h port o None = Refused
 effect_at_turn n h port o (Some (turns.Ask question)) = Refused
 effect_at_turn n h port o (Some (turns.Verdict verdict)) =
     effect_at_place n h port (command_of o.packet) verdict (place_in n o.packet)
 
--- the same where a command is open
+-- the same, if a command is open
 abbrev pub effect_outcome : Node → History → (port : ℕ) → Option Open → Outcome
 effect_outcome n h port None = Refused
 effect_outcome n h port (Some o) = effect_at_turn n h port o (turn_of n port o)
 
 -- ---- Publish
 
--- a load came to this: with its success the outcome tells the next generation, else why it was refused
+-- A load came to this. If it succeeded, the outcome has the next generation, else it says why the load was refused.
 abbrev pub IsLoaded : Node → History → CommandValue → Load → Outcome → Type 0
 IsLoaded n h c (loads.Published slot program) outcome =
     outcome ≡ Done Success (reply_of c Success []) (Some (published_result (publishes n h + 1)))
 IsLoaded n h c (loads.Refused refusal) outcome =
     outcome ≡ Done GeneralError (reply_of c GeneralError []) (Some (refused_result refusal))
 
--- a load decides of what the port staged; the factory program is the first of those that were published
+-- A load decides on what the port staged. The factory program is the first of those that were published.
 pub record IsDecided (n : Node) (h : History) (port : ℕ) (c : CommandValue) (outcome : Outcome) : Type 0 where
   pub load : Load
   pub decides : IsLoad (control_of c.body) (staging n h port).bytes n.sizes (publishes n h + 1) load
   pub told : IsLoaded n h c load outcome
 
--- how a control write ends, by what stops it: where nothing does, a load decides
+-- how a control write ends, by what stops it: if nothing does, a load decides
 abbrev pub IsControlled : Node → History → (port : ℕ) → CommandValue → Option Status → Outcome → Type 0
 IsControlled n h port c (Some status) outcome = outcome ≡ Done status (reply_of c status []) None
 IsControlled n h port c None outcome = IsDecided n h port c outcome
 
--- how a judged command ends by a Publish: at a control write alone
+-- how a judged command ends by a Publish: only at a control write
 abbrev pub IsPublishedAt : Node → History → (port : ℕ) → CommandValue → (verdict : ℕ) → Option Place → Outcome → Type 0
 IsPublishedAt n h port c verdict None outcome = outcome ≡ Refused
 IsPublishedAt n h port c verdict (Some (places.Bank k)) outcome = outcome ≡ Refused
@@ -136,14 +137,14 @@ IsPublishedAt n h port c verdict (Some places.LoadResult) outcome = outcome ≡ 
 IsPublishedAt n h port c verdict (Some places.Control) outcome =
     IsControlled n h port c (judged_line c verdict) outcome
 
--- the same where the program has its verdict
+-- the same, if the program has its verdict
 abbrev pub IsPublishedBy : Node → History → (port : ℕ) → Open → Option Turn → Outcome → Type 0
 IsPublishedBy n h port o None outcome = outcome ≡ Refused
 IsPublishedBy n h port o (Some (turns.Ask question)) outcome = outcome ≡ Refused
 IsPublishedBy n h port o (Some (turns.Verdict verdict)) outcome =
     IsPublishedAt n h port (command_of o.packet) verdict (place_in n o.packet) outcome
 
--- the same where a command is open
+-- the same, if a command is open
 abbrev pub IsPublishOutcome : Node → History → (port : ℕ) → Option Open → Outcome → Type 0
 IsPublishOutcome n h port None outcome = outcome ≡ Refused
 IsPublishOutcome n h port (Some o) outcome = IsPublishedBy n h port o (turn_of n port o) outcome
@@ -159,7 +160,7 @@ IsOutcomeAtButTold n h (Peak port) outcome = IsSomeTold (cell_asked helpers.Peak
 IsOutcomeAtButTold n h (Effect port) outcome = outcome ≡ effect_outcome n h port (opened h port)
 IsOutcomeAtButTold n h (Publish port) outcome = IsPublishOutcome n h port (opened h port) outcome
 
--- what an event comes to, apart from what a cell answers: at a port that the node does not have it is refused
+-- What an event comes to, apart from what a cell answers. At a port that the node does not have, it is refused.
 pub record IsOutcomeButTold (n : Node) (h : History) (event : Event) (outcome : Outcome) : Type 0 where
   pub here : port_of event < n.ports → IsOutcomeAtButTold n h event outcome
   pub nowhere : n.ports ≤ port_of event → outcome ≡ Refused
@@ -176,7 +177,7 @@ abbrev pub IsToldOf : Node → History → Helper → (argument : ℕ) → Optio
 IsToldOf n h helper argument None outcome = Unit {0}
 IsToldOf n h helper argument (Some cell) outcome = outcome ≡ Told (told_of_cell n h helper cell.0 cell.1 argument)
 
--- the same where the program of the port stands
+-- the same by where the program of the port is
 abbrev pub IsToldAt : Node → History → Helper → (port : ℕ) → Outcome → Type 0
 IsToldAt n h helper port outcome =
     IsToldOf n h helper (argument_asked (turn_at n h port)) (cell_asked helper (turn_at n h port)) outcome
@@ -197,7 +198,7 @@ TellsLookedBack n (Then h event outcome) = TellsLookedBack n h × (port_of event
 
 -- ---- all of it
 
--- each outcome is the one that looking back from its place gives: apart from what cells answered, and what they answered too
+-- each outcome is the one that looking back from its place gives, and so is what cells answered
 pub record IsLawful (n : Node) (h : History) : Type 0 where
   pub but_told : IsLawfulButTold n h
   pub told : TellsLookedBack n h

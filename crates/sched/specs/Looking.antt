@@ -1,5 +1,5 @@
 -- What looking back on a history of a node finds: stagings, programs, tickets, peaks, and what each bank's journal and
--- memory have. All of it comes from what the outcomes told.
+-- memory have. All of it comes from what the outcomes report.
 use Rattle.std.specs.Prelude.{ℕ, ◌+◌, ◌-◌, ◌^◌, ◌%◌, ◌==◌, ◌&&◌, Bool, true, false, max, nat_lt, if◌then◌else◌}
 use Rattle.std.specs.Prelude.{List, [], ◌∷◌, ◌++◌, length, replicate, slice_get, Option, Some, None, is_some}
 use Rattle.std.specs.Prelude.{Result, Ok, Err}
@@ -38,8 +38,8 @@ use Rattle.sched.specs.declared.event.Outcome.TheVariants.{Refused, Discarded, A
 use Rattle.sched.specs.History.{History, Start, Then, Open, port_of, opened}
 use Rattle.sched.specs.Turns.{turn_after}
 
--- the node of a history: its logical address, how many ports it has, its banks, its maps, its factory program, and what was
--- published before the first event, in order: each slot with its program
+-- The node of a history: its logical address, how many ports it has, its banks, its maps and its factory program. It
+-- also has what was published before the first event, in order: each slot with its program.
 pub record Node : Type 0 where
   pub address : ℕ
   pub ports : ℕ
@@ -58,7 +58,7 @@ windows_in n = windows_of n.address n.banks
 abbrev pub place_in : Node → Cargo → Option Place
 place_in n p = place_of (command_of p) (windows_in n)
 
--- the slot of the program that judges a command at that place; of no place it says nothing
+-- The slot of the program that judges a command at that place. Without a place it means nothing.
 abbrev pub slot_at : CommandValue → Option Place → ℕ
 slot_at c None = 0
 slot_at c (Some place) = slot_of (command_kind c) place
@@ -73,8 +73,8 @@ header_in p = header (command_of p).front (command_of p).tail
 
 -- ---- stagings and load results
 
--- a staging behind a command of its port that ended at that place with that status: the command's effect on its bytes
--- (ECSS-E-ST-50-52C, write action and read-modify-write action)
+-- A staging after a command of its port that ended at that place with that status. It has the command's effect on its
+-- bytes (ECSS-E-ST-50-52C, write action and read-modify-write action).
 abbrev pub staged_at : Option Place → Status → CommandValue → Staged → Staged
 staged_at None status c s = s
 staged_at (Some (places.Bank k)) status c s = s
@@ -83,13 +83,13 @@ staged_at (Some places.Staging) status c s =
 staged_at (Some places.LoadResult) status c s = s
 staged_at (Some places.Control) status c s = s
 
--- a staging behind an open command that was done, with the load result where a load was decided
+-- a staging after an open command that was done, with the load result if a load was decided
 abbrev pub staged_behind : Node → Option Open → Status → (loaded : Option (List ℕ)) → Staged → Staged
 staged_behind n None status loaded s = s
 staged_behind n (Some o) status None s = staged_at (place_in n o.packet) status (command_of o.packet) s
 staged_behind n (Some o) status (Some loaded) s = staged s.bytes loaded
 
--- a staging behind an event of its port, by what that came to
+-- a staging after an event of its port, by what that came to
 abbrev pub staged_by : Node → Option Open → Outcome → Staged → Staged
 staged_by n o Refused s = s
 staged_by n o (Discarded discard) s = s
@@ -132,12 +132,12 @@ published_by staged o (Told told) = None
 published_by staged o (Done status reply loaded) =
     if is_some loaded && is_success status then loaded_by staged o else None
 
--- what an event publishes behind a history
+-- what an event publishes after a history
 abbrev pub published_at : Node → History → Event → Outcome → Option (ℕ × Program)
 published_at n h event outcome =
     published_by (staging n h (port_of event)).bytes (opened h (port_of event)) outcome
 
--- one more where something was published
+-- one more, if something was published
 abbrev pub counted : Option (ℕ × Program) → ℕ → ℕ
 counted None count = count
 counted (Some made) count = count + 1
@@ -147,12 +147,12 @@ abbrev pub publishes : Node → History → ℕ
 publishes n Start = length n.firsts
 publishes n (Then h event outcome) = counted (published_at n h event outcome) (publishes n h)
 
--- the program of a slot with its generation, behind what was published as number `count + 1`
+-- the program of a slot with its generation, after what was published as number `count + 1`
 abbrev pub published_behind : Option (ℕ × Program) → (count : ℕ) → (slot : ℕ) → Program × ℕ → Program × ℕ
 published_behind None count slot before = before
 published_behind (Some made) count slot before = if made.0 == slot then (made.1, count + 1) else before
 
--- the same behind several in order, the first as number `count + 1`
+-- the same after several in order, the first as number `count + 1`
 abbrev pub published_after : List (ℕ × Program) → (count : ℕ) → (slot : ℕ) → Program × ℕ → Program × ℕ
 published_after [] count slot before = before
 published_after (made ∷ more) count slot before =
@@ -168,16 +168,16 @@ published n (Then h event outcome) slot =
 abbrev pub program_of : Node → Open → Program
 program_of n o = (published n o.before (slot_of_packet n o.packet)).0
 
--- where the program of an open command of the port stands
+-- where the program of an open command of the port is
 abbrev pub turn_of : Node → (port : ℕ) → Open → Option Turn
 turn_of n port o = turn_after (program_of n o) (header_in o.packet) port o.answers
 
--- where the port stands, if a command is open there
+-- where the port's program is, if a command is open there
 abbrev pub turn_by : Node → (port : ℕ) → Option Open → Option Turn
 turn_by n port None = None
 turn_by n port (Some o) = turn_of n port o
 
--- the same behind a history
+-- the same after a history
 abbrev pub turn_at : Node → History → (port : ℕ) → Option Turn
 turn_at n h port = turn_by n port (opened h port)
 
@@ -187,7 +187,7 @@ turn_at n h port = turn_by n port (opened h port)
 abbrev pub is_helper : (asked helper : Helper) → Bool
 is_helper asked helper = helper_number asked == helper_number helper
 
--- the cell, by map and key, for which a program that stands so asks that helper
+-- the cell, by map and key, for which a program that is there asks that helper
 abbrev pub cell_asked : Helper → Option Turn → Option (ℕ × ℕ)
 cell_asked helper None = None
 cell_asked helper (Some (turns.Ask question)) =
@@ -208,7 +208,7 @@ is_told (Taken generation) = false
 is_told (Told told) = true
 is_told (Done status reply loaded) = false
 
--- whether an event draws a ticket of the cell, where its port stands so: `ticket` does
+-- whether an event draws a ticket of the cell, if the program of its port is there: `ticket` does
 abbrev pub draws : Option Turn → Event → (map key : ℕ) → Bool
 draws turn (Take port packet) map key = false
 draws turn (Count port) map key = false
@@ -217,7 +217,7 @@ draws turn (Peak port) map key = false
 draws turn (Effect port) map key = false
 draws turn (Publish port) map key = false
 
--- how many tickets of the cell were told
+-- how many tickets of the cell were drawn
 abbrev pub tickets : Node → History → (map key : ℕ) → ℕ
 tickets n Start map key = 0
 tickets n (Then h event outcome) map key =
@@ -225,7 +225,7 @@ tickets n (Then h event outcome) map key =
     then tickets n h map key + 1
     else tickets n h map key
 
--- whether an event raises the cell, where its port stands so: `peak` does
+-- whether an event raises the cell, if the program of its port is there: `peak` does
 abbrev pub raises : Option Turn → Event → (map key : ℕ) → Bool
 raises turn (Take port packet) map key = false
 raises turn (Count port) map key = false
@@ -234,13 +234,13 @@ raises turn (Peak port) map key = is_cell_of_node (cell_asked helpers.Peak turn)
 raises turn (Effect port) map key = false
 raises turn (Publish port) map key = false
 
--- the number to which a program that stands so raises a cell; of one that asks for none it says nothing
+-- The number to which a program that is there raises a cell. If it asks for none, the number means nothing.
 abbrev pub argument_asked : Option Turn → ℕ
 argument_asked None = 0
 argument_asked (Some (turns.Ask question)) = question.argument
 argument_asked (Some (turns.Verdict verdict)) = 0
 
--- the greatest number to which the cell was raised, 0 where it never was
+-- the greatest number to which the cell was raised, or 0 if it never was
 abbrev pub peaks : Node → History → (map key : ℕ) → ℕ
 peaks n Start map key = 0
 peaks n (Then h event outcome) map key =
@@ -259,7 +259,7 @@ cell_word n h map key = word_by_kind (kind_of_map n.sizes map) (tickets n h map 
 
 -- ---- banks
 
--- the verdict of a run that stands so; of one that has none it says nothing
+-- The verdict of a run that is there. If the run has none, the number means nothing.
 abbrev pub verdict_at : Option Turn → ℕ
 verdict_at None = 0
 verdict_at (Some (turns.Ask question)) = 0
@@ -287,7 +287,7 @@ entered n bank port o status entries =
     then entries ++ entry_left n port (length (numbers_of port entries)) o status ∷ []
     else entries
 
--- the entries of bank k behind a command that was done at that place
+-- the entries of bank k after a command that was done at that place
 abbrev pub entries_at : Node → (k port : ℕ) → Option Place → Open → Status → List EntryValue → List EntryValue
 entries_at n k port None o status entries = entries
 entries_at n k port (Some (places.Bank j)) o status entries =
@@ -296,12 +296,12 @@ entries_at n k port (Some places.Staging) o status entries = entries
 entries_at n k port (Some places.LoadResult) o status entries = entries
 entries_at n k port (Some places.Control) o status entries = entries
 
--- the same behind an open command of the port
+-- the same after an open command of the port
 abbrev pub entries_behind : Node → (k port : ℕ) → Option Open → Status → List EntryValue → List EntryValue
 entries_behind n k port None status entries = entries
 entries_behind n k port (Some o) status entries = entries_at n k port (place_in n o.packet) o status entries
 
--- the entries of bank k behind an event of the port, by what that came to
+-- the entries of bank k after an event of the port, by what that came to
 abbrev pub entries_by : Node → (k port : ℕ) → Option Open → Outcome → List EntryValue → List EntryValue
 entries_by n k port o Refused entries = entries
 entries_by n k port o (Discarded discard) entries = entries

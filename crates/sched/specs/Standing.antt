@@ -5,8 +5,9 @@ use Rattle.sched.specs.History.{Open}
 use Rattle.sched.specs.Looking.{Node, header_in, place_in, program_of, slot_of_packet, turn_of}
 use Rattle.sched.specs.declared.standing.Standing.{Standing}
 
--- what is lent is the open command of the port: the program of its Take with generation and slot, accepted for the maps of
--- the node, the header that it sees, the place of the bytes, and where the program stands by the answers since
+-- What is lent is the open command of the port. It has the program of its Take with generation and slot, accepted for
+-- the maps of the node. It also has the header that the program sees, the place of the bytes, and where the program is
+-- after the answers since.
 pub record IsLentOf (n : Node) (port : ℕ) (o : Open) (j : Standing) : Type 0 where
   pub program : j.program.now.program ≡ program_of n o
   pub sizes : j.program.now.sizes ≡ n.sizes
@@ -16,7 +17,7 @@ pub record IsLentOf (n : Node) (port : ℕ) (o : Open) (j : Standing) : Type 0 w
   pub place : place_in n o.packet ≡ Some j.place
   pub turn : turn_of n port o ≡ Some j.turn
 
--- something is lent exactly where a command is open, and it is that one
+-- something is lent exactly if a command is open, and it is that one
 abbrev pub IsLent : Node → (port : ℕ) → Option Open → Option Standing → Type 0
 IsLent n port None None = Unit {0}
 IsLent n port None (Some j) = ⊥

@@ -1,4 +1,4 @@
--- Where a program stands after some answers, by the steps of the machine (RFC 9669).
+-- Where a program is after some answers, by the steps of the machine (RFC 9669).
 use Rattle.std.specs.Prelude.{◌≡◌, ◌↔◌, ◌<◌, ◌^◌, ℕ, zero, suc, List, [], ◌∷◌, map, All, Option, Some, None}
 use Rattle.bpf.specs.Program.{Program}
 use Rattle.brun.specs.declared.turns.Turn.{Turn}
@@ -12,8 +12,8 @@ use Rattle.machine.specs.State.{State, entry_state}
 use Rattle.machine.specs.declared.calls.Question.{Question}
 use Rattle.machine.specs.Step.{Outcome, Next, Ask, Verdict, Trap, step}
 
--- what follows a step with those answers to the questions to come: a question takes the first of them, or is where the
--- run stands; a verdict leaves none over
+-- What follows a step, with those answers to the questions to come. A question takes the first of them, or is where the
+-- run is. At a verdict no answer is left over.
 abbrev pub onward : (further : State → List ℕ → Option Turn) → (answers : List ℕ) → Outcome → Option Turn
 onward further answers (Next s) = further s answers
 onward further [] (Ask question on) = Some (turns.Ask question)
@@ -22,14 +22,14 @@ onward further [] (Verdict verdict) = Some (turns.Verdict verdict)
 onward further (answer ∷ answers) (Verdict verdict) = None
 onward further answers Trap = None
 
--- where at most so many steps lead from a state with those answers: to the first question without one, or to the
--- verdict behind the last
+-- Where at most that many steps lead from a state with those answers: to the first question without one, or the verdict
+-- after the last.
 abbrev pub turn_within : Program → Header → (steps : ℕ) → State → (answers : List ℕ) → Option Turn
 turn_within program header zero s answers = None
 turn_within program header (suc steps) s answers =
     onward (turn_within program header steps) answers (step program header s)
 
--- where a program stands after those answers, within its budget
+-- where a program is after those answers, within its budget
 abbrev pub turn_after : Program → Header → (port : ℕ) → (answers : List ℕ) → Option Turn
 turn_after program header port answers =
     turn_within program header program.budget (entry_state port) answers
@@ -59,15 +59,15 @@ pub record HasEnded (program : Program) (header : Header) (port : ℕ) (answers 
   pub answered : answers_of calls ≡ answers
   pub run : RunsWithin program header port calls verdict
 
--- the program stands at a question exactly where a path with those answers asks it, and at a verdict exactly where a
--- run with them ends so
+-- The program is at a question exactly if a path with those answers asks it. It is at a verdict exactly if a run with
+-- them ends so.
 pub record StandsByPaths (program : Program) (header : Header) (port : ℕ) (answers : List ℕ) : Type 0 where
   pub asks : (question : Question) → (turn_after program header port answers ≡ Some (turns.Ask question))
       ↔ HasAsked program header port answers question
   pub ends : (verdict : ℕ) → (turn_after program header port answers ≡ Some (turns.Verdict verdict))
       ↔ HasEnded program header port answers verdict
 
--- where a safe program stands is where its paths lead
+-- a safe program is where its paths lead
 abbrev pub TurnsArePaths : Type 0
 TurnsArePaths =
     (program : Program) (sizes : Maps) (header : Header) (port : ℕ) (answers : List ℕ)

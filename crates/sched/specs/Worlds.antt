@@ -56,8 +56,8 @@ node_of config factory = node_with config factory []
 
 -- ---- what a world has
 
--- a command that is judged: its packet and place, the program that judges it with its generation, and where that
--- stands, with its registers and its stack
+-- A command that is judged: its packet and place, and the program that judges it with its generation. It also has where
+-- that program is, with its registers and its stack.
 pub record RunValue : Type 0 where
   pub packet : Cargo
   pub place : Place
@@ -73,8 +73,8 @@ pub record PortValue : Type 0 where
   pub staging : Staged
   pub run : Option RunValue
 
--- a world: the windows and the maps of its node, its banks, the words of its cells by map, the program of each slot
--- with its generation, how many were published, and its ports
+-- A world: the windows and the maps of its node, its banks, the words of its cells by map, and its ports. It also has
+-- the program of each slot with its generation, and how many were published.
 pub record WorldValue : Type 0 where
   pub windows : WindowsValue
   pub sizes : Maps
@@ -84,7 +84,7 @@ pub record WorldValue : Type 0 where
   pub count : ℕ
   pub ports : List PortValue
 
--- a port of that number with a first share of each of so many banks: an empty staging, and no command
+-- a port of that number with a first share of each of that many banks, an empty staging, and no command
 abbrev pub first_port : (banks port : ℕ) → PortValue
 first_port banks port = record {
   shares = replicate banks (first_share port);
@@ -108,7 +108,7 @@ staging_in (Some p) = Some p.staging
 
 -- ---- what is known of a world without a history
 
--- a run of the program stands there, at some port and with some calls
+-- a run of the program is there, at some port and with some calls
 pub record StandsThere (program : Program) (header : Header) (turn : Turn) (frame : Frame) (stack : List ℕ) : Type 0
   where
     pub port : ℕ
@@ -116,7 +116,8 @@ pub record StandsThere (program : Program) (header : Header) (turn : Turn) (fram
     pub calls : List Call
     pub turns : Turns program header port calls turn frame stack
 
--- the packet is a command, and where its program asks a helper, it is for a cell of the maps for which it was accepted
+-- The packet is a command. If its program asks a helper, it asks for a cell of the maps for which the program was
+-- accepted.
 pub record IsHeld (r : RunValue) : Type 0 where
   pub command : discard_of r.packet.bytes ≡ None
   pub within : AsksWithin r.program.sizes r.turn
@@ -125,12 +126,12 @@ pub record IsHeld (r : RunValue) : Type 0 where
 abbrev pub at_stack : RunValue → List ℕ → RunValue
 at_stack r stack = record r { stack = stack }
 
--- the same, where a command is judged
+-- the same, if a command is judged
 abbrev pub at_stack_if_any : Option RunValue → List ℕ → Option RunValue
 at_stack_if_any None stack = None
 at_stack_if_any (Some r) stack = Some (at_stack r stack)
 
--- the program of the command that is judged stands where its turn says
+-- the program of the command that is judged is where its turn says
 abbrev pub StandsIfAny : Option RunValue → Type 0
 StandsIfAny None = Unit {0}
 StandsIfAny (Some r) = StandsThere r.program.program (header_in r.packet) r.turn r.frame r.stack
@@ -154,22 +155,22 @@ IsSameRunIfAny None (Some r) = ⊥
 IsSameRunIfAny (Some old) None = ⊥
 IsSameRunIfAny (Some old) (Some new) = IsSameRun old new
 
--- a program stands at a question
+-- a program is at a question
 abbrev pub IsAsk : Turn → Type 0
 IsAsk (turns.Ask question) = Unit {0}
 IsAsk (turns.Verdict verdict) = ⊥
 
--- where the command stands that is judged, if one is
+-- where the program of the command that is judged is, if there is one
 abbrev pub turn_in : Option RunValue → Option Turn
 turn_in None = None
 turn_in (Some r) = Some r.turn
 
--- the program of the command that is judged stands at a question
+-- the program of the command that is judged is at a question
 abbrev pub Asks : Option RunValue → Type 0
 Asks None = ⊥
 Asks (Some r) = IsAsk r.turn
 
--- the verdict of a program that stands so, if it has one
+-- the verdict of a program that is there, if it has one
 abbrev pub verdict_of_turn : Turn → Option ℕ
 verdict_of_turn (turns.Ask question) = None
 verdict_of_turn (turns.Verdict verdict) = Some verdict
@@ -181,7 +182,7 @@ effect_due_at places.Staging turn = verdict_of_turn turn
 effect_due_at places.LoadResult turn = verdict_of_turn turn
 effect_due_at places.Control turn = None
 
--- the verdict of a command that ends at that place by a Publish, if it has one: a control write alone does
+-- the verdict of a command that ends at that place by a Publish, if it has one: only a control write does
 abbrev pub publish_due_at : Place → Turn → Option ℕ
 publish_due_at (places.Bank k) turn = None
 publish_due_at places.Staging turn = None
@@ -203,12 +204,12 @@ pub record IsRunUnder (windows : WindowsValue) (sizes : Maps) (r : RunValue) : T
   pub placed : IsPlacedBy windows r.packet r.place
   pub sizes_are : r.program.sizes ≡ sizes
 
--- the same, where a command is judged
+-- the same, if a command is judged
 abbrev pub IsRunUnderIfAny : WindowsValue → Maps → Option RunValue → Type 0
 IsRunUnderIfAny windows sizes None = Unit {0}
 IsRunUnderIfAny windows sizes (Some r) = IsRunUnder windows sizes r
 
--- what a port of a world has, as the pass of a port of a node: of the node's cells and programs it knows nothing
+-- What a port of a world has, as the pass of a port of a node. It knows nothing of the node's cells and programs.
 abbrev pub pass_of_port : WindowsValue → Maps → (port : ℕ) → PortValue → PassValue
 pass_of_port windows sizes port p = record {
   port = port;
@@ -219,8 +220,8 @@ pass_of_port windows sizes port p = record {
   staging = p.staging;
 }
 
--- the port has its share of each of those banks, and the command that it judges lies under those windows, and is judged
--- by a program for maps of those sizes
+-- The port has its share of each of those banks. The command that it judges lies under those windows, and the program
+-- that judges it is for maps of those sizes.
 pub record IsPortIn (windows : WindowsValue) (sizes : Maps) (banks : List BankValue) (port : ℕ) (p : PortValue) : Type 0
   where
     pub paired : IsPaired banks (pass_of_port windows sizes port p)
@@ -236,8 +237,8 @@ abbrev pub AreAcceptedFor : Maps → List (AcceptedValue × ℕ) → Type 0
 AreAcceptedFor sizes programs =
     (slot : ℕ) (shown : AcceptedValue × ℕ) → slice_get programs slot ≡ Some shown → shown.0.sizes ≡ sizes
 
--- the parts of a world fit together, whatever happened: a word for each cell, four programs for the maps, and at most
--- 32 ports, each with its shares
+-- The parts of a world fit together, whatever happened. The world has a word for each cell, four programs for the maps,
+-- and at most 32 ports, each with its shares.
 pub record IsWorld (w : WorldValue) : Type 0 where
   pub cells : AreCells w.sizes w.words
   pub slots : length w.programs ≡ 4
@@ -252,7 +253,7 @@ pub record IsFor (n : Node) (a : AcceptedValue) : Type 0 where
   pub sizes : a.sizes ≡ n.sizes
   pub justified : IsJustified a.program n.sizes
 
--- what is judged is the open command, by the program of its Take, which stands where the answers since led
+-- What is judged is the open command, by the program of its Take. That program is where the answers since led.
 pub record IsRunOf (n : Node) (port : ℕ) (o : Open) (r : RunValue) : Type 0 where
   pub packet : r.packet ≡ o.packet
   pub generation : r.generation ≡ o.generation
@@ -264,7 +265,7 @@ pub record IsRunOf (n : Node) (port : ℕ) (o : Open) (r : RunValue) : Type 0 wh
   pub answered : answers_of calls ≡ o.answers
   pub stands : Turns r.program.program (header_in o.packet) port calls r.turn r.frame r.stack
 
--- a command is judged exactly where one is open
+-- a command is judged exactly if one is open
 abbrev pub IsJudging : Node → (port : ℕ) → Option Open → Option RunValue → Type 0
 IsJudging n port None None = Unit {0}
 IsJudging n port None (Some r) = ⊥
@@ -276,7 +277,7 @@ pub record IsShareWith (port number : ℕ) (share : ShareValue) : Type 0 where
   pub holder : share.port ≡ port
   pub next : share.number ≡ number
 
--- the port has that staging, that open command, and of each bank a share with the number behind its entries there
+-- the port has that staging, that open command, and of each bank a share with the number after its entries there
 pub record IsPortOf (n : Node) (port : ℕ) (staged : Staged) (last : Option Open) (entries_of : ℕ → List EntryValue)
     (p : PortValue) : Type 0 where
   pub staging_is : p.staging ≡ staged
@@ -291,8 +292,8 @@ pub record ArePortsOf (n : Node) (h : History) (ports : List PortValue) : Type 0
   pub each : (port : ℕ) (p : PortValue) → slice_get ports port ≡ Some p
       → IsPortOf n port (staging n h port) (opened h port) (entries n h) p
 
--- bank k has those entries and that memory, began with zeros, has the room of its configuration, and counts the entries
--- of each port
+-- Bank k has those entries and that memory. It began with zeros, has the room of its configuration, and counts the
+-- entries of each port.
 pub record IsBankOf (n : Node) (k : ℕ) (entries : List EntryValue) (memory : Memory) (b : BankValue) : Type 0 where
   pub base_is : base_of b ≡ first_memory (slice_get n.banks k)
   pub memory_is : memory_of b ≡ memory
@@ -338,28 +339,28 @@ pub record IsLawfulWorld (n : Node) (h : History) (w : WorldValue) : Type 0 wher
   pub lawful : IsLawful n h
   pub world : IsWorldOf n h w
 
--- behind every lawful history of which the old world is the world, the outcome is lawful, and the new world is that of
--- the history with the event and its outcome
+-- After every lawful history of which the old world is the world, the outcome is lawful. The new world is that of the
+-- history with the event and its outcome.
 abbrev pub GoesOn : Event → Outcome → (old new : WorldValue) → Type 0
 GoesOn event outcome old new =
     (n : Node) (h : History) → IsLawfulWorld n h old → IsLawfulWorld n (Then h event outcome) new
 
 -- ---- faults
 
--- the verifier refused the factory program for these maps, and not for want of memory: nothing justifies it
+-- The verifier refused the factory program for these maps, and not for lack of memory. Nothing justifies the program.
 pub record IsFactoryRefused (maps : Maps) (factory : Program) : Type 0 where
   pub refused : Refused
   pub why : IsRefusal factory refused
   pub no_want : refused.code ≢ refusals.Memory
   pub unjustified : IsJustified factory maps → ⊥
 
--- why there is no world: a limit that the node passes, which comes first; else the verifier refused the factory
--- program, or memory was wanted
+-- Why there is no world. A limit that the node passes comes first. Else the verifier refused the factory program, or
+-- memory was refused.
 abbrev pub IsWorldFault : (limit : Option NodeFault) → Maps → (factory : Program) → WorldFault → Type 0
 IsWorldFault (Some limit) maps factory fault = fault ≡ Config
 IsWorldFault None maps factory fault = (fault ≡ NoMemory) ⊎ ((fault ≡ Image) × IsFactoryRefused maps factory)
 
--- the same where the factory program was accepted before
+-- the same, if the factory program was accepted before
 abbrev pub IsUnmade : (limit : Option NodeFault) → WorldFault → Type 0
 IsUnmade (Some limit) fault = fault ≡ Config
 IsUnmade None fault = fault ≡ NoMemory

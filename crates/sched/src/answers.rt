@@ -1,4 +1,4 @@
-//! The events Count, Ticket and Peak: a helper of a port's program is answered.
+//! The events Count, Ticket and Peak: a helper of a port's program answers.
 
 ghost use Rattle.std.specs.Prelude.{◌≡◌, ◌<◌, length};
 ghost use Rattle.sched.specs.Answers.{answering};
@@ -12,8 +12,8 @@ use machine::Helper;
 use plain_cells::answered;
 
 impl World {
-    /// The program of a port that is there is told what a helper answers, where it asks for that, and the word of the cell
-    /// becomes what the helper makes of it.
+    /// If the program of that port asks the helper, the helper answers it. The word of the cell becomes what the helper
+    /// makes of it. The port must be one of the world.
     pub(crate) fn answer(&mut self, port: u8, helper: Helper) -> Outcome
         requires { port < length self.old.ports }
         ensures goes_on { GoesOn (answering helper port) result self.old self.new }

@@ -33,7 +33,7 @@ pub(crate) enum Decision {
     Loaded(u8, Shown),
 }
 
-/// A load that is refused: for want of memory it does not come to an end.
+/// The decision of a load that is refused. If the refusal is a lack of memory, nothing is decided.
 fn not_loaded(refusal: LoadRefusal) -> Result<Decision, AllocError>
     ensures refused { IfOk result (λ decision. decision ≡ Decision.NotLoaded refusal) }
     ensures told { IfOk result (λ _. wants_memory refusal ≡ false) }
@@ -44,8 +44,8 @@ fn not_loaded(refusal: LoadRefusal) -> Result<Decision, AllocError>
     Ok(Decision::NotLoaded(refusal))
 }
 
-/// What becomes of a load with those control data, where so many programs were published: the image is read, verified and
-/// held, and nothing changes yet.
+/// Decides a load with those control data, after that number of publishes. It reads, verifies and holds the image, and
+/// changes nothing yet.
 fn load(
     alloc: Global,
     staging: &Staging,
@@ -71,7 +71,7 @@ fn load(
 }
 
 impl Decision {
-    /// The status of the control write, and the load result, where a load was decided.
+    /// The status of the control write, and the load result if a load was decided.
     fn told(&self) -> (Status, Option<[u8; 8]>)
         ensures status { result.0 ≡ status_of_decision self.now }
         ensures loaded { result.1 ≡ load_result_of_decision self.now }
@@ -105,8 +105,8 @@ impl Decision {
 }
 
 impl Port {
-    /// What the judged control write of the port comes to, with that verdict, in a node with maps of those sizes, where so
-    /// many programs were published.
+    /// Decides what the judged control write of the port comes to, with that verdict. The node has maps of those sizes,
+    /// and that many programs were published before.
     fn decide(
         &self,
         alloc: Global,
@@ -130,7 +130,7 @@ impl Port {
 }
 
 impl World {
-    /// The judged control write of a port that is there loads what the port staged.
+    /// The judged control write of a port of the world loads what the port staged.
     pub(crate) fn publish(&mut self, alloc: Global, port: u8) -> Result<Outcome, AllocError>
         requires { port < length self.old.ports }
         ensures goes_on { IfOk result

@@ -12,7 +12,7 @@ use node_parts::{paired_commands_fit, pairs_stay};
 use std::alloc::{AllocError, Global};
 
 impl World {
-    /// The judged command of a port that is there takes its effect, where it is no control write.
+    /// The judged command of a port of the world takes its effect, if it is no control write.
     pub(crate) fn effect(&mut self, alloc: Global, port: u8) -> Result<Outcome, AllocError>
         requires { port < length self.old.ports }
         ensures goes_on { IfOk result

@@ -10,9 +10,9 @@ use spw::Packet;
 /// One atomic step of one port of a node.
 #[derive(Debug, Drop)]
 pub enum Event {
-    /// A packet is taken at the port.
+    /// The port takes a packet.
     Take(u8, Packet),
-    /// The port's program is told what the word of a cell says.
+    /// The port's program asks for the word of a cell.
     Count(u8),
     /// The port's program draws a ticket.
     Ticket(u8),
@@ -49,10 +49,10 @@ pub enum Outcome {
     Discarded(Discard),
     /// A check of the header holds: its status, and the reply that is due.
     Answered(Status, Reply),
-    /// The command is judged by the program of this generation.
+    /// The port took the command, and the program of this generation judges it.
     Taken(u32),
-    /// The helper was told this.
+    /// The helper answered this.
     Told(u64),
-    /// The command ended with this status and this reply; the load result, where a load was decided.
+    /// The command ended with this status and this reply, and with the load result if a load was decided.
     Done(Status, Reply, Option<[u8; 8]>),
 }

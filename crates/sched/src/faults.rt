@@ -12,7 +12,7 @@ use thiserror::Error;
 /// Why a world could not be made, or could not go on.
 #[derive(Clone, Copy, Debug, PartialEq, Eq, Error)]
 pub enum WorldFault {
-    /// Memory was refused; a world that was there is as it was.
+    /// Memory was refused. A world that existed before is unchanged.
     #[error("no memory")]
     Memory,
     /// The ports or the banks are outside their limits.

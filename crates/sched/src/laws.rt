@@ -12,7 +12,7 @@ use bpf::image_laws;
 use bver::justified_programs;
 use node_programs::published_programs;
 
-/// A law and no work: where a safe program stands after some answers, which are words, is where its paths lead.
+/// A law and no work: a safe program that got some answers, which are words, is where its paths lead.
 pub fn turns_are_paths()
     ensures { TurnsArePaths }
 {}
@@ -29,7 +29,7 @@ pub(crate) fn words_are_small(word: u64)
     ensures { word < 2 ^ 64 }
 {}
 
-/// A law and no work: the packet that an event brings has bytes alone.
+/// A law and no work: the packet that an event brings has only bytes.
 pub(crate) fn event_brings_bytes(event: &Event)
     ensures { BringsBytes event.now }
 {
@@ -46,16 +46,16 @@ pub fn arrays_are_headers(front: &[u8; 4], tail: &[u8; 12])
     bytes_are_small(tail);
 }
 
-/// A law and no work: the open command of a port was taken, and behind that none of the port was taken and none done; and
-/// what is open behind one that was done was taken behind that, so no command is done twice.
+/// A law and no work: the open command of a port was taken, and after that the port took none and did none. If a
+/// command was done, what is open after it was taken after it. So no command is done twice.
 pub fn opened_are_taken()
     ensures taken { OpenedAreTaken }
     ensures behind { OpenedBehindDone }
 {}
 
-/// A law and no work: over every schedule each command that is done was judged once, by the program that was published
-/// when it was taken, which is safe; and outcome, memory, stagings and programs are what the definition gives for its
-/// verdict.
+/// A law and no work: over every schedule each command that is done was judged once. The program that was published
+/// when it was taken judged it, and that program is safe. Outcome, memory, stagings and programs are what the
+/// definition gives for its verdict.
 pub fn every_schedule_judges_once()
     ensures { EveryScheduleJudgesOnce }
 {
@@ -71,8 +71,8 @@ pub fn every_history_judges_once()
     image_laws();
 }
 
-/// A law and no work: what is published in a slot is what judges there, with its generation, by each list of publishes that
-/// has the factory program first and behind it what was published, in order.
+/// A law and no work: what is published in a slot is what judges there, with its generation. It is so by each list of
+/// publishes that has the factory program first and after it what was published, in order.
 pub fn published_agrees()
     ensures { PublishedAgrees }
 {

@@ -44,7 +44,7 @@ impl Model for Port {
 }
 
 impl Port {
-    /// A port with those shares and that staging, at which no command is judged.
+    /// A port with those shares and that staging, which judges no command.
     pub fn free(shares: Vec<Share>, staging: Staging) -> Port
         ensures { result ≡ record { shares = shares.items; staging = staging; run = None } }
     {
@@ -63,14 +63,14 @@ impl Port {
         &self.staging
     }
 
-    /// Whether no command is judged.
+    /// Whether the port judges no command.
     pub fn is_free(&self) -> bool
         ensures { result ≡ is_none self.now.run }
     {
         self.run.is_none()
     }
 
-    /// The command that is judged, as it stands.
+    /// The command that is judged, as it is now.
     pub fn standing(&self) -> Option<Standing<'_>>
         ensures { (n : Node) (port : ℕ) (last : Option Open)
             → IsJudging n port last self.now.run → IsLent n port last result }
@@ -81,7 +81,7 @@ impl Port {
         }
     }
 
-    /// Judges a command from now on, at a port below 32.
+    /// Begins to judge a command, at a port below 32.
     pub fn begin(&mut self, opening: Opening, port: u8)
         requires port { port < 32 }
         requires command { discard_of opening.packet.bytes ≡ None }
@@ -91,7 +91,7 @@ impl Port {
         self.run = Some(Run::begin(opening, port, &mut self.stack));
     }
 
-    /// The cell for which the program asks that helper, if it does.
+    /// The cell for which the program asks that helper, if it asks it.
     pub fn asked(&self, helper: Helper) -> Option<(u8, u16)>
         ensures value { result ≡ cell_asked helper (turn_in self.now.run) }
         ensures inside { (windows : WindowsValue) (sizes : Maps)
@@ -108,7 +108,7 @@ impl Port {
         }
     }
 
-    /// The number to which the program raises a cell, where it asks for that; else it says nothing.
+    /// The number to which the program raises a cell, if it asks for that. Otherwise the number means nothing.
     pub fn argument(&self) -> u64
         ensures { result ≡ argument_asked (turn_in self.now.run) }
     {
@@ -118,7 +118,7 @@ impl Port {
         }
     }
 
-    /// Answers the question at which the program stands, and goes on.
+    /// Answers the question at which the program is, and goes on.
     pub fn tell(&mut self, told: u64)
         requires { Asks self.old.run }
         ensures rest { self.new ≡ record self.old { run = self.new.run } }
@@ -133,7 +133,7 @@ impl Port {
         }
     }
 
-    /// The verdict of the command, if it has one and an Effect is due: it is no control write.
+    /// The verdict of the command, if it has one and an Effect is due: the command is no control write.
     pub fn effect_due(&self) -> Option<u64>
         ensures { result ≡ effect_due self.now.run }
     {
@@ -146,7 +146,7 @@ impl Port {
         }
     }
 
-    /// The verdict of the command, if it has one and a Publish is due: it is a control write.
+    /// The verdict of the command, if it has one and a Publish is due: the command is a control write.
     pub fn publish_due(&self) -> Option<u64>
         ensures { result ≡ publish_due self.now.run }
     {
@@ -185,8 +185,8 @@ impl Port {
         answer_staged(&mut self.staging, judged, reply)
     }
 
-    /// Ends a judged command of the port where its bytes lie, and leaves the reply. The status is that of the reply. The
-    /// condition is that it can end there, which a control write cannot.
+    /// Ends a judged command of the port where its bytes lie, and leaves the reply. The status is that of the reply.
+    /// The condition is that it can end there, which a control write cannot.
     fn conclude(&mut self, banks: &mut Banks, judged: Judged, reply: &mut ReplyBuf) -> Status
         requires { CanEnd judged.place banks.old self.old judged }
         ensures { EndsAt judged.place banks.old banks.new self.old self.new judged result reply.new }
@@ -198,8 +198,8 @@ impl Port {
         }
     }
 
-    /// Ends the command that is judged, which has that verdict, where its bytes lie, and leaves the reply: no command is
-    /// judged then. The status is that of the reply. The windows are those under which it was taken.
+    /// Ends the command that is judged, with that verdict, where its bytes lie, and leaves the reply. After it the port
+    /// judges no command. The status is that of the reply. The windows are those under which the command was taken.
     pub fn finish(
         &mut self,
         windows: &Windows,
@@ -221,8 +221,9 @@ impl Port {
         }
     }
 
-    /// Ends the control write that is judged with that status, and leaves the reply: no command is judged then, and the
-    /// staging keeps the load result, where a load was decided. The windows are those under which it was taken.
+    /// Ends the control write that is judged with that status, and leaves the reply. After it the port judges no
+    /// command, and the staging keeps the load result if a load was decided. The windows are those under which the
+    /// command was taken.
     pub fn end_write(
         &mut self,
         windows: &Windows,
@@ -243,7 +244,7 @@ impl Port {
         self.keep(loaded);
     }
 
-    /// Keeps the load result, where a load was decided.
+    /// Keeps the load result, if a load was decided.
     fn keep(&mut self, loaded: Option<[u8; 8]>)
         ensures { self.new ≡ record self.old { staging = load_result_kept loaded self.old.staging } }
     {

@@ -6,7 +6,7 @@ use rmap::{MAX_REPLY, ReplyBuf};
 use std::alloc::{AllocError, Global};
 use std::marker::Model;
 
-/// The bytes of a reply; none where no reply is due.
+/// The bytes of a reply. There are none if no reply is due.
 #[derive(Debug, Drop)]
 pub struct Reply {
     bytes: Vec<u8>,
@@ -21,7 +21,7 @@ impl Model for Reply {
 }
 
 impl Reply {
-    /// The reply that the buffer holds, in room that was taken before.
+    /// The reply that the buffer holds, in room that the caller took before.
     pub(crate) fn of(mut room: Vec<u8>, reply: &ReplyBuf) -> Reply
         requires empty { room.items ≡ [] }
         requires enough { MAX_REPLY ≤ vec_capacity room }

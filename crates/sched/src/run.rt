@@ -38,8 +38,8 @@ pub(crate) struct Opening {
 }
 
 /// A command that is judged: its packet and place, the program that judges it, with its generation, and where that
-/// stands. The program is held from the Take on, whatever is published since. The stack is the port's, so that it is not
-/// moved with the rest.
+/// program is. The run holds the program from the Take on, whatever is published later. The stack is the port's, so
+/// that it is not moved with the rest.
 #[derive(Drop)]
 pub(crate) struct Run {
     packet: Packet,
@@ -122,7 +122,7 @@ impl Run {
         }
     }
 
-    /// The cell for which the program asks that helper, if it does.
+    /// The cell for which the program asks that helper, if it asks it.
     pub fn asked(&self, helper: Helper) -> Option<(u8, u16)>
         ensures value { result ≡ cell_asked helper (Some self.now.turn) }
         ensures inside { IfSome result (λ cell. IsInside self.now.program.sizes cell.0 cell.1) }
@@ -138,7 +138,7 @@ impl Run {
         }
     }
 
-    /// The number to which the program raises a cell, where it asks for that; else it says nothing.
+    /// The number to which the program raises a cell, if it asks for that. Otherwise the number means nothing.
     pub fn argument(&self) -> u64
         ensures { result ≡ argument_asked (Some self.now.turn) }
     {
@@ -148,7 +148,7 @@ impl Run {
         }
     }
 
-    /// Answers the question at which the program stands, and goes on.
+    /// Answers the question at which the program is, and goes on.
     pub fn tell(&mut self, told: u64, stack: &mut [u8; STACK_SIZE])
         requires asks { IsAsk self.old.turn }
         requires stands { StandsIfAny (Some (at_stack self.old stack.old)) }
@@ -171,7 +171,7 @@ impl Run {
         Command::again(&self.packet)
     }
 
-    /// The command as it stands.
+    /// The command, as it is now.
     pub fn standing(&self) -> Standing<'_>
         ensures { (n : Node) (port : ℕ) (o : Open) (stack : List ℕ)
             → IsRunOf n port o (at_stack self.now stack) → IsLentOf n port o result }
@@ -195,8 +195,8 @@ impl Run {
         self.place
     }
 
-    /// Ends the run of a port with that verdict: the judged command, to be ended where its bytes lie. The windows are
-    /// those under which it was taken.
+    /// Ends the run of a port with that verdict, and gives the judged command, to be ended where its bytes lie. The
+    /// windows are those under which the command was taken.
     pub fn end(self, windows: &Windows, port: u8, verdict: u64) -> Judged
         requires { IsPlacedBy windows.now self.packet self.place }
         ensures { result ≡ judged_with port verdict self }

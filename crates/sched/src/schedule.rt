@@ -17,10 +17,15 @@ use machine::Helper;
 use node_parts::NodeConfig;
 use std::alloc::Global;
 
-/// One event: what it comes to, and the world goes on. `Memory` where memory was refused; the world is as it was then, and
-/// as it was where the event is refused.
+/// Takes one step: the event comes to its outcome, and the world goes on. If the event is refused, the world is as it
+/// was.
+///
+/// # Errors
+///
+/// `Memory` if memory was refused. The world is then as it was.
 pub fn step(alloc: Global, world: &mut World, event: Event) -> Result<Outcome, WorldFault>
-    // Behind every lawful history of which it was the world, the outcome is lawful, and it is the world of the longer one.
+    // After every lawful history of which it was the world, the outcome is lawful, and it is the world of the longer
+    // one.
     ensures goes_on { IfOk result (λ outcome. GoesOn event outcome world.old world.new) }
 
     ensures fault { IfErr result (λ fault. fault ≡ WorldFault.Memory) }
@@ -40,8 +45,12 @@ pub fn step(alloc: Global, world: &mut World, event: Event) -> Result<Outcome, W
     }
 }
 
-/// Steps through the events, in order, from the world of a node behind no event: the world behind the last, and what each
-/// event came to. The faults are those of [`World::new`] and of [`step`].
+/// Steps through the events, in order, from the world of a node before any event. It gives the world after the last
+/// event, and what each event came to.
+///
+/// # Errors
+///
+/// Those of [`World::new`] and of [`step`].
 pub fn run_schedule(
     alloc: Global,
     config: &NodeConfig,

@@ -27,6 +27,10 @@ impl Model for Shown {
 
 impl Shown {
     /// The program, with generation 0.
+    ///
+    /// # Errors
+    ///
+    /// `AllocError` if memory was refused.
     pub fn first(program: &Arc<Accepted>) -> Result<Shown, AllocError>
         ensures { IfOk result (λ shown. shown ≡ (arc_value program.now, 0)) }
     {

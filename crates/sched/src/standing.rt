@@ -1,10 +1,10 @@
-//! A command that is judged at a port, as it stands between two events.
+//! A command that is judged at a port, as it is between two events.
 
 use brun::Turn;
 use bver::Accepted;
 use rmap::Place;
 
-/// A command that is judged at a port, as it stands between two events.
+/// A command that is judged at a port, as it is between two events.
 #[derive(Clone, Copy)]
 pub struct Standing<'a> {
     /// The program that judges it.
@@ -19,6 +19,6 @@ pub struct Standing<'a> {
     pub tail: &'a [u8; 12],
     /// Where the command's bytes lie.
     pub place: Place,
-    /// Where the program stands: at a question of a helper, or at its verdict.
+    /// Where the program is: at a question of a helper, or at its verdict.
     pub turn: Turn,
 }

@@ -1,4 +1,4 @@
-//! The event Take: a packet is discarded, answered by its header, or judged from now on.
+//! The event Take: the port discards a packet, answers it by its header, or begins to judge it.
 
 ghost use Rattle.std.specs.Prelude.{◌≡◌, ◌<◌, ℕ, None, [], length, IfOk, OnErr};
 ghost use Rattle.std.specs.Arc.{arc_value};
@@ -21,7 +21,7 @@ use spw::Packet;
 use std::alloc::{AllocError, Global};
 use std::sync::Arc;
 
-/// What a packet comes to that its header stops, with the reply that is due then.
+/// What a packet comes to if its header stops it, with the reply that is due then.
 fn stopped(alloc: Global, stop: Stop, reply: &ReplyBuf) -> Result<Outcome, AllocError>
     ensures { IfOk result (λ outcome. outcome ≡ stop_outcome stop reply.now) }
 {
@@ -57,7 +57,7 @@ impl World {
         })
     }
 
-    /// A packet is taken at a port that is there.
+    /// A port of the world takes a packet.
     pub(crate) fn take(
         &mut self,
         alloc: Global,

@@ -77,7 +77,7 @@ fn in_all_slots(program: Arc<Accepted>) -> Result<[Shown; 4], AllocError>
     ])
 }
 
-/// The ports, each with its shares of so many banks, an empty staging and no command.
+/// The ports, each with its shares of that many banks, an empty staging and no command.
 fn free_ports(alloc: Global, mut by_port: Vec<PortShares>) -> Result<Vec<Port>, AllocError>
     ensures { IfOk result (λ ports. (banks count : ℕ) → ArePortShares banks count by_port.items
         → ports.items ≡ map (first_port banks) (range_with_len 0 count)) }
@@ -91,13 +91,14 @@ fn free_ports(alloc: Global, mut by_port: Vec<PortShares>) -> Result<Vec<Port>, 
 }
 
 impl World {
-    /// The world of a node behind no event: banks of zero bytes, words of 0, and the factory program in each slot, with
-    /// generation 0.
+    /// The world of a node before any event: banks of zero bytes, words of 0, and the factory program in each slot,
+    /// with generation 0.
     ///
     /// # Errors
     ///
-    /// `Config` where ports or banks are outside their limits, which is tested first; `Image` where the verifier refuses the
-    /// factory program, which nothing justifies then for those maps; `Memory` where memory was refused.
+    /// - `Config` if the ports or banks are outside their limits. This is tested first.
+    /// - `Image` if the verifier refuses the factory program. Nothing justifies the program then for those maps.
+    /// - `Memory` if memory was refused.
     pub fn new(alloc: Global, config: &NodeConfig, factory: &Image) -> Result<World, WorldFault>
         ensures world { IfOk result (IsWorldOf (node_of config.now factory.now) Start) }
         ensures limits { IfOk result (λ _. limit_fault config.now ≡ None) }
@@ -110,12 +111,13 @@ impl World {
         Ok(World::of(alloc, config, banks, by_port, factory)?)
     }
 
-    /// The world of a node behind no event, as [`World::new`] makes it, with a factory program that the verifier accepted
-    /// before. The condition is a program that was accepted for the maps of the configuration.
+    /// The world of a node before any event, as [`World::new`] makes it, with a factory program that the verifier
+    /// accepted before. The condition is a program that was accepted for the maps of the configuration.
     ///
     /// # Errors
     ///
-    /// `Config` where ports or banks are outside their limits; `Memory` where memory was refused.
+    /// - `Config` if the ports or banks are outside their limits.
+    /// - `Memory` if memory was refused.
     pub fn with_factory(
         alloc: Global,
         config: &NodeConfig,
@@ -131,14 +133,15 @@ impl World {
         Ok(World::of(alloc, config, banks, by_port, factory)?)
     }
 
-    /// The world of a node before its first event, as [`World::with_factory`] makes it, for which these programs were then published,
-    /// in order: each for its slot, with the next generation, the first with 1. Stagings, load results, banks and words are those of a
-    /// world without them. Conditions: programs that were accepted for the maps of the configuration, slots of 0 to 3, and at most
-    /// 4,294,967,295 publishes.
+    /// The world of a node before any event, as [`World::with_factory`] makes it, with these programs published after
+    /// that, in order. Each is published for its slot, with the next generation, the first with 1. Stagings, load
+    /// results, banks and words are those of a world without them. The conditions are programs that were accepted for
+    /// the maps of the configuration, slots of 0 to 3, and at most 4,294,967,295 publishes.
     ///
     /// # Errors
     ///
-    /// `Config` where ports or banks are outside their limits; `Memory` where memory was refused: there is no world then.
+    /// - `Config` if the ports or banks are outside their limits.
+    /// - `Memory` if memory was refused. There is no world then.
     pub fn with_programs(
         alloc: Global,
         config: &NodeConfig,
@@ -186,7 +189,7 @@ impl World {
         Ok(())
     }
 
-    /// The world of a node behind no event, of its banks, its ports' shares of them, and its factory program.
+    /// The world of a node before any event, of its banks, its ports' shares of them, and its factory program.
     fn of(
         alloc: Global,
         config: &NodeConfig,
@@ -240,7 +243,7 @@ impl World {
         self.banks.bank(k)
     }
 
-    /// The word of a cell, or `None` where the map has no such key, or there is no such map.
+    /// The word of a cell, or `None` if there is no such map or the map has no such key.
     pub fn word(&self, map: u8, key: u16) -> Option<u64>
         ensures value { result ≡ word_in self.now.words map key }
         ensures inside { IsInside self.now.sizes map key
@@ -258,7 +261,7 @@ impl World {
         shown.generation
     }
 
-    /// The staging of a port, with the result of its last load, or `None` where there is no such port.
+    /// The staging of a port, with the result of its last load, or `None` if there is no such port.
     pub fn staging(&self, port: u8) -> Option<&Staging>
         ensures { option_map (λ staging. staging.now) result
             ≡ staging_in (slice_get self.now.ports port) }
@@ -269,7 +272,7 @@ impl World {
         }
     }
 
-    /// The command that is judged at a port, as it stands, or `None` where none is, or there is no such port.
+    /// The command that is judged at a port, as it is now, or `None` if there is none or no such port.
     pub fn standing(&self, port: u8) -> Option<Standing<'_>>
         ensures lent { IfSome result (λ standing. (n : Node) (h : History)
             → IsWorldOf n h self.now → IsLent n port (opened h port) (Some standing)) }

@@ -1,4 +1,4 @@
--- The image that is lent, how a slot is found whose program was not mended, and why no more programs are published.
+-- The image that is lent, how a slot is found if its program was not mended, and why no more programs are published.
 use Rattle.std.proofs.Common.{◌≡◌, ◌≢◌, ◌<◌, ◌≤◌, ◌^◌, ◌⊎◌, ℕ, zero, suc, Bool, List, [], length, false, true, inl, inr, arith}
 use Rattle.bpf.specs.Program.{Program, image_bytes}
 use Rattle.bpf.specs.Reading.{Fails, image_reading}
@@ -25,11 +25,11 @@ at_least zero m not_below = omega arith
 at_least (suc n) zero not_below = absurd (not_below (omega arith))
 at_least (suc n) (suc m) not_below = omega (arith, at_least n m (λ low. not_below (omega (arith, low))))
 
--- if no program is published since there are too many, there are
+-- if no program is published because there are too many, there are too many
 pub no_more : (count : ℕ) → IsUnpublished count GenerationsFull → 2 ^ 32 ≤ count
 no_more count is = at_least (2 ^ 32) count (λ low. cc (is.memory low))
 
--- of no bytes no program is read
+-- from no bytes no program is read
 pub empty_image : (sizes : Maps) (image : List ℕ) → image ≡ [] → IsUnread sizes image Image
 empty_image sizes image none = empty none
 
@@ -49,7 +49,7 @@ pub refused : (sizes : Maps) (image : List ℕ) (program : Program) (told : Refu
 refused sizes image program told spelled tells other =
     refused_by (record { program = program; spelled = spelled; unjustified = λ justified. tells other justified })
 
--- of what is not read no sum is taken
+-- if no program is read, no sum is taken
 pub unlent : (sizes : Maps) (image : List ℕ) (kept : SlotSums) (fault : MendFault) → IsUnread sizes image fault → IsUnlent sizes image kept fault
 unlent sizes image kept Memory is = is
 unlent sizes image kept Image is = inl is

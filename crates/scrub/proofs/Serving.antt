@@ -11,7 +11,7 @@ use Rattle.scrub.specs.Kept.{AreFresh, FollowAt, closed_in, is_withheld}
 use Rattle.single_node.specs.declared.served.Told.{Told}
 use Rattle.spw.specs.Cargo.{Cargo}
 
--- where no slot is withdrawn, none withholds a command
+-- if no slot is withdrawn, none withholds a command
 pub none_withheld : (sums : List SlotSums) → ((slot : ℕ) → closed_in (slice_get sums slot) ≡ false) → (asked : Option ℕ) → is_withheld sums asked ≡ false
 none_withheld sums opened None = refl
 none_withheld sums opened (Some slot) = opened slot

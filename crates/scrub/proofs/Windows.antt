@@ -6,7 +6,7 @@ use Rattle.rmap.specs.Windows.{WindowsValue}
 use Rattle.scrub.specs.Damage.{after_places, after_windows}
 use Rattle.sums.specs.Sums.{after_word}
 
--- of a node without ports nothing is added
+-- a node without ports adds nothing
 pub without_ports : (sum : ℕ) (passes : List PassValue) → length passes ≡ 0 → sum ≡ after_windows sum (slice_get passes 0)
 without_ports sum [] none = refl
 without_ports sum (h ∷ hs) none = absurd (omega (arith, none))

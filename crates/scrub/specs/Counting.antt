@@ -15,11 +15,11 @@ counting_of each left =
 abbrev pub agrees : Counting → Bool
 agrees c = (c.each_kept == complement c.each) && (c.left_kept == complement c.left)
 
--- by numbers that agree a scrub is due before the last packet of so many, if they are counted
+-- if the numbers agree, a scrub is due before the last packet of that many, if they are counted
 abbrev pub is_last : (each left : ℕ) → Bool
 is_last each left = if each == 0 then false else nat_le left 1
 
--- a scrub is due before this packet: it is the last of so many, or a number and its complement disagree
+-- A scrub is due before this packet: it is the last of that many, or a number and its complement disagree.
 abbrev pub is_due : Counting → Bool
 is_due c = if agrees c then is_last c.each c.left else true
 
@@ -31,6 +31,6 @@ is_on c = not (agrees c && (c.each == 0))
 abbrev pub counted : Counting → Counting
 counted c = counting_of c.each (if c.each == 0 then c.left else c.left - 1)
 
--- the numbers once the scrub that was due was done; those that disagree stay
+-- The numbers after the scrub that was due. Those that disagree stay.
 abbrev pub renewed : Counting → Counting
 renewed c = if agrees c then counting_of c.each c.each else c

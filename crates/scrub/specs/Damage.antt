@@ -11,7 +11,7 @@ use Rattle.sums.specs.Sums.{after_word}
 
 -- ---- journals
 
--- the first place of an entry that is not whole: of one that may be, and of those behind it
+-- the first place of an entry that is not whole, of one that may be, and of those after it
 abbrev pub place_with : (whole : Bool) → (behind : Option ℕ) → Option ℕ
 place_with false behind = Some 0
 place_with true behind = option_map (λ place. place + 1) behind
@@ -40,21 +40,21 @@ first_of (Some place) next = Some place
 abbrev pub no_broken : Broken
 no_broken = record { banks = 0; first = None }
 
--- what is told with one more bank, of that bit
+-- the result with one more bank, of that bit
 abbrev pub with_bank : Broken → Option BankValue → (bit : ℕ) → Broken
 with_bank told bank bit = record {
   banks = told.banks + broken_bit (broken_in bank) bit;
   first = first_of told.first (broken_in bank);
 }
 
--- what is told of the first four banks
+-- the result for the first four banks
 abbrev pub broken_low : List BankValue → Broken
 broken_low banks =
     with_bank (with_bank (with_bank (with_bank no_broken
     (slice_get banks 0) 1) (slice_get banks 1) 2) (slice_get banks 2) 4) (slice_get banks 3) 8
 
--- what is told of the banks, of which there are at most eight: a bit for each that has an entry that is not whole, and the
--- place of the first one of the first such bank
+-- The result for the banks, of which there are at most eight. It has a bit for each bank with an entry that is not
+-- whole. It also has the place of the first one of the first such bank.
 abbrev pub broken_of : List BankValue → Broken
 broken_of banks =
     with_bank (with_bank (with_bank (with_bank (broken_low banks)
@@ -62,12 +62,12 @@ broken_of banks =
 
 -- ---- sizes
 
--- the sum after where a bank lies, if there is that bank
+-- the sum after the range of a bank, if there is that bank
 abbrev pub after_range : (sum : ℕ) → Option BankValue → ℕ
 after_range sum None = sum
 after_range sum (Some b) = after_word (after_word sum b.first) (length b.bytes)
 
--- the sum after where the banks lie, of which there are at most eight
+-- the sum after the ranges of the banks, of which there are at most eight
 abbrev pub after_ranges : (sum : ℕ) → List BankValue → ℕ
 after_ranges sum banks =
     after_range (after_range (after_range (after_range
@@ -88,7 +88,8 @@ after_places sum places =
     (slice_get places 0)) (slice_get places 1)) (slice_get places 2)) (slice_get places 3))
     (slice_get places 4)) (slice_get places 5)) (slice_get places 6)) (slice_get places 7)
 
--- the sum after the windows under which the ports serve, if there is a port: the node's address, and the ranges of the banks
+-- The sum after the windows under which the ports serve, if there is a port. They are the node's address, and the
+-- ranges of the banks.
 abbrev pub after_windows : (sum : ℕ) → Option PassValue → ℕ
 after_windows sum None = sum
 after_windows sum (Some h) = after_places (after_word sum h.windows.node_address) h.windows.banks

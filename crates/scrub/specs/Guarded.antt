@@ -75,12 +75,13 @@ pub record IsPublishedAs (slot sum : ℕ) (before after : Watched) : Type 0 wher
   pub shown : program_at before.node.programs slot ≡ Some program
   pub after_is : after ≡ with_made before slot program sum
 
--- the same, if it could be published; else nothing changed, since no more programs can be
+-- The same, if it could be published. Else nothing changed, since no more programs can be.
 abbrev pub PublishesAs : (is_published : Bool) → (slot sum : ℕ) → (before after : Watched) → Type 0
 PublishesAs true slot sum before after = IsPublishedAs slot sum before after
 PublishesAs false slot sum before after = (after ≡ before) × (2 ^ 32 ≤ length before.node.programs)
 
--- the slot's last program, whose operations were made again of its own image, has a sum that is kept, and was published once more
+-- the slot's last program, whose operations were made again from its own image, has a sum that is kept, and was
+-- published once more
 pub record IsRenewed (slot : ℕ) (kept : SlotSums) (before after : Watched) : Type 0 where
   pub sum : ℕ
   pub has : HasSumAt before slot sum
@@ -98,20 +99,20 @@ pub record IsLentTo (slot : ℕ) (image : List ℕ) (kept : SlotSums) (before af
 abbrev pub IsRemade : (slot : ℕ) → (image : List ℕ) → SlotSums → (before after : Watched) → Type 0
 IsRemade slot image kept before after = IsRenewed slot kept before after ⊎ IsLentTo slot image kept before after
 
--- why the slot's program was not mended: memory was refused to what reads the image that is lent; no program with a sum that is
--- kept can be read of it; or no more programs can be published
+-- Why the slot's program was not mended. Memory was refused to what reads the image that is lent. Or that image gives
+-- no program with a sum that is kept. Or no more programs can be published.
 abbrev pub IsUnmended : (image : List ℕ) → SlotSums → Watched → MendFault → Type 0
 IsUnmended image kept g Memory = image ≢ []
 IsUnmended image kept g Image = IsUnlent (sizes_of g.node.programs) image kept Image
 IsUnmended image kept g Full = 2 ^ 32 ≤ length g.node.programs
 
--- how a slot is found whose program was not mended
+-- how a slot is found if its program was not mended
 abbrev pub health_by : MendFault → Health
 health_by Memory = Unmended
 health_by Image = Withdrawn
 health_by Full = Withdrawn
 
--- the program is as it was published: nothing changed, but that both sums are now its own, and that it may judge
+-- The program is as it was published. Nothing changed, except that both sums are now its own, and that it may judge.
 pub record StaysWhole (slot : ℕ) (before after : Watched) : Type 0 where
   pub kept : SlotSums
   pub at : slice_get before.guard.sums slot ≡ Some kept
@@ -138,7 +139,7 @@ pub record IsMended (slot : ℕ) (image : List ℕ) (before after : Watched) : T
   pub at : slice_get before.guard.sums slot ≡ Some kept
   pub remade : IsRemade slot image kept before after
 
--- the program was not mended; its slot is withdrawn, and nothing else changed
+-- The program was not mended. Its slot is withdrawn, and nothing else changed.
 pub record IsWithdrawn (health : Health) (slot : ℕ) (image : List ℕ) (before after : Watched) : Type 0 where
   pub kept : SlotSums
   pub at : slice_get before.guard.sums slot ≡ Some kept
@@ -154,7 +155,7 @@ Repairs Mended slot image before after = IsMended slot image before after
 Repairs Withdrawn slot image before after = IsWithdrawn Withdrawn slot image before after
 Repairs Unmended slot image before after = IsWithdrawn Unmended slot image before after
 
--- the same if it was found damaged; of a slot that was found whole nothing changed
+-- The same if it was found damaged. If the slot was found whole, nothing changed.
 abbrev pub RepairsUnless : (whole : Bool) → Health → (slot : ℕ) → (image : List ℕ) → (before after : Watched) → Type 0
 RepairsUnless true health slot image before after = (health ≡ Whole) × (after ≡ before)
 RepairsUnless false health slot image before after = Repairs health slot image before after
@@ -169,7 +170,7 @@ pub record Looks (seen : Seen) (before after : Watched) : Type 0 where
   pub rmws : LooksAt seen.rmws 2 two three
   pub window : LooksAt seen.window 3 three after
 
--- a scrub of the four slots: a look at all of them, and then each that was found damaged is repaired, one after the other
+-- A scrub of the four slots: a look at all of them. Then each that was found damaged is repaired, one after the other.
 pub record Scrubs (told : Scrubbed) (image : List ℕ) (before after : Watched) : Type 0 where
   pub seen : Seen
   pub between : Watched
@@ -182,7 +183,7 @@ pub record Scrubs (told : Scrubbed) (image : List ℕ) (before after : Watched) 
   pub rmws : RepairsUnless seen.rmws told.rmws 2 image two three
   pub window : RepairsUnless seen.window told.window 3 image three after
 
--- how the program of a slot was found; of a slot that there is not nothing is said
+-- How the program of a slot was found. For a slot that does not exist it means nothing.
 abbrev pub health_at : Scrubbed → (slot : ℕ) → Health
 health_at told slot =
     if slot == 0 then told.reads else (if slot == 1 then told.writes else (if slot == 2 then told.rmws else told.window))
@@ -195,20 +196,21 @@ pub record ScrubsAll (health : Health) (slot : ℕ) (before after : Watched) : T
   pub scrubs : Scrubs told [] between after
   pub health_is : health ≡ health_at told slot
 
--- what a scrub of a slot does, whether it was withdrawn before or not: its program is whole, or all slots are scrubbed
+-- What a scrub of a slot does, whether it was withdrawn before or not. Its program is whole, or all slots are scrubbed.
 abbrev pub ScrubsSlot : Health → (slot : ℕ) → (before after : Watched) → Type 0
 ScrubsSlot health slot before after =
     ((health ≡ Whole) × StaysWhole slot before after) ⊎ ScrubsAll health slot before after
 
 -- ---- publishes
 
--- what is kept of the node's programs, each of which may judge, and of its sizes, with a scrub before each packet of so many
+-- what is kept of the node's programs, each of which may judge, and of its sizes, with a scrub before each packet of
+-- that many
 pub record IsGuardOf (node : SingleNodeValue) (each : ℕ) (guard : Guard) : Type 0 where
   pub fresh : (slot : ℕ) → slot < 4 → AreFresh node.programs slot (slice_get guard.sums slot)
   pub sizes_are : guard.sizes ≡ sizes_sum node
   pub counting_is : guard.counting ≡ counting_of each each
 
--- what is kept at first: with a number such a guard, and without one nothing
+-- What is kept at first. With a number it is such a guard, and without one nothing.
 abbrev pub BeginsGuard : (each : Option ℕ) → SingleNodeValue → Option Guard → Type 0
 BeginsGuard None node guard = guard ≡ None
 BeginsGuard (Some each) node guard = (own : Guard) × (guard ≡ Some own) × IsGuardOf node each own
@@ -224,7 +226,7 @@ pub record IsInstalled (slot : ℕ) (program : AcceptedValue) (before after : Wa
   pub summed : IsSummed program sum
   pub after_is : after ≡ with_made before slot program sum
 
--- the same of a node of which maybe nothing is kept: it is published then, and nothing is kept
+-- The same of a node of which maybe nothing is kept. If so, the program is published, and nothing is kept.
 abbrev pub InstallsOn : (old new : Option Guard) → (slot : ℕ) → AcceptedValue → (before after : SingleNodeValue) → Type 0
 InstallsOn None new slot program before after = (new ≡ None) × (after ≡ with_program before slot program)
 InstallsOn (Some old) new slot program before after =
@@ -235,7 +237,7 @@ Installs slot program before after = InstallsOn before.guard after.guard slot pr
 
 -- ---- a scrub of all
 
--- this is kept of the node's programs; of a node of which nothing was kept it is taken now
+-- This is kept of the node's programs. If nothing was kept, it is taken now.
 abbrev pub HasGuard : Option Guard → SingleNodeValue → (own : Guard) → Type 0
 HasGuard None node own = IsGuardOf node 0 own
 HasGuard (Some guard) node own = own ≡ guard
@@ -253,7 +255,7 @@ abbrev pub has_sizes : Option Guard → SingleNodeValue → Bool
 has_sizes None node = true
 has_sizes (Some guard) node = sizes_sum node == guard.sizes
 
--- packets have scrubs before them, and the sizes are others than they were: no packet may be served
+-- Packets have scrubs before them, and the sizes are others than they were. So no packet may be served.
 abbrev pub is_damaged : Option Guard → SingleNodeValue → Bool
 is_damaged None node = false
 is_damaged (Some guard) node = is_on guard.counting && not (sizes_sum node == guard.sizes)
@@ -269,7 +271,7 @@ has_counting (Some guard) = agrees guard.counting
 abbrev pub with_counting : Guard → Counting → Guard
 with_counting guard counting = record guard { counting = counting }
 
--- what is kept, with a scrub before each packet of so many
+-- what is kept, with a scrub before each packet of that many
 abbrev pub scrubbing_each : Guard → (each : ℕ) → Guard
 scrubbing_each guard each = with_counting guard (counting_of each each)
 
@@ -277,7 +279,7 @@ scrubbing_each guard each = with_counting guard (counting_of each each)
 abbrev pub counting_on : Watched → Counting → Watched
 counting_on g counting = beside (with_counting g.guard counting) g.node
 
--- from now on there is a scrub before each packet of so many
+-- from now on there is a scrub before each packet of that many
 pub record SetsEach (each : ℕ) (before after : GuardedValue) : Type 0 where
   pub old : Guard
   pub has : HasGuard before.guard before.node old
@@ -295,8 +297,8 @@ pub record FindsNothing (found : Option Found) (before after : Watched) : Type 0
   pub found_is : found ≡ None
   pub same : after ≡ before
 
--- if no scrub is due the packet is counted. If one is due and a program judges the packet, the slot of that program is
--- scrubbed; if none judges it, the scrub stays due
+-- If no scrub is due the packet is counted. If one is due and a program judges the packet, the slot of that program is
+-- scrubbed. If none judges it, the scrub stays due.
 abbrev pub ScrubsFirst : (due : Bool) → (slot : Option ℕ) → (found : Option Found) → (before after : Watched) → Type 0
 ScrubsFirst false slot found before after = FindsNothing found (counting_on before (counted before.guard.counting)) after
 ScrubsFirst true None found before after = FindsNothing found before after
@@ -309,11 +311,11 @@ ScrubsBefore port packet found before after =
 
 -- ---- packets
 
--- what is told of a command that no program judges
+-- what the node reports of a command that no program judges
 abbrev pub unread : Told
 unread = record { served = Unread; generation = 0; verdict = 0 }
 
--- the command of the packet is for a slot that is withdrawn: it is answered by a general error, and nothing changed
+-- The command of the packet is for a slot that is withdrawn. The answer is a general error, and nothing changed.
 pub record AnswersUnread (told : Told) (size : ℕ) (packet : Cargo) (before after : Watched) (room left : List ℕ) :
     Type 0 where
   pub told_is : told ≡ unread
@@ -346,7 +348,7 @@ pub record AnswersWatched (answer : Answer) (port : ℕ) (packet : Cargo) (befor
   pub answers : AnswersBy (is_withheld between.guard.sums (slot_in (slice_get between.node.passes port) packet)) answer.told
       answer.size port packet between after room left
 
--- what becomes of it by whether the programs are kept: without a guard the node serves it, and nothing is scrubbed
+-- What becomes of it by whether the programs are kept. Without a guard the node serves it, and nothing is scrubbed.
 abbrev pub AnswersOn : (old new : Option Guard) → Answer → (port : ℕ) → Cargo → (before after : SingleNodeValue)
     → (room left : List ℕ) → Type 0
 AnswersOn None new answer port packet before after room left =

@@ -19,8 +19,8 @@ withdrawn_sums s = record { first = s.first; second = s.second; mark = 0 }
 abbrev pub distance : (a b : ℕ) → ℕ
 distance a b = count_ones (bit_xor a b)
 
--- the program may judge: the mark is nearer to `OPEN` than to 0. If it is as near to both, or nearer to 0, its slot is
--- withdrawn
+-- The program may judge: the mark is nearer to `OPEN` than to 0. If it is as near to both, or nearer to 0, its slot is
+-- withdrawn.
 abbrev pub is_open : SlotSums → Bool
 is_open s = nat_lt (distance s.mark OPEN) (count_ones s.mark)
 
@@ -46,7 +46,7 @@ pub record AreFresh (programs : List Publish) (slot : ℕ) (kept : Option SlotSu
   pub summed : IsSummed program sum
   pub kept_is : kept ≡ Some (fresh_sums sum)
 
--- what is kept of a slot stays if its program stays; of another program it is the sum of that one
+-- What is kept of a slot stays if its program stays. If the program is another, it is the sum of that one.
 pub record FollowAt (before after : List Publish) (slot : ℕ) (old new : Option SlotSums) : Type 0 where
   pub stay : generation_at after slot ≡ generation_at before slot → new ≡ old
   pub fresh : generation_at after slot ≢ generation_at before slot → AreFresh after slot new

@@ -12,7 +12,7 @@ use Rattle.scrub.specs.declared.made.MendFault.TheVariants.{Memory, Image, Full}
 use Rattle.scrub.specs.Kept.{has_sum}
 use Rattle.scrub.specs.Sums.{IsSummed}
 
--- the program that the bytes of an image spell was accepted for those maps; they are no empty list
+-- The program that the bytes of an image spell was accepted for those maps. There are some bytes.
 pub record IsReadFrom (sizes : Maps) (image : List ℕ) (a : AcceptedValue) : Type 0 where
   pub some : image ≢ []
   pub spelled : image ≡ image_bytes a.program
@@ -24,13 +24,14 @@ pub record IsUnjustifiedIn (sizes : Maps) (image : List ℕ) : Type 0 where
   pub spelled : image ≡ image_bytes program
   pub unjustified : IsJustified program sizes → ⊥
 
--- no program may be read of the bytes: there are none; or they have a fault of an image; or the verifier refuses what they spell
+-- No program may be read from the bytes. There are none, or they have a fault of an image, or the verifier refuses what
+-- they spell.
 pub data IsNoProgram (sizes : Maps) (image : List ℕ) : Type 0 where
   empty : image ≡ [] → IsNoProgram sizes image
   unspelled : (fault : ImageFault) → fault ≢ faults.Memory → Fails fault (image_reading image) → IsNoProgram sizes image
   refused : IsUnjustifiedIn sizes image → IsNoProgram sizes image
 
--- what a fault of the image that is lent comes to
+-- the reason that a fault of the image that is lent gives
 abbrev pub read_fault : ImageFault → MendFault
 read_fault faults.Memory = Memory
 read_fault faults.Magic = Image

@@ -14,7 +14,7 @@ abbrev pub packed : (code dst src accessed offset target : ℕ) → ℕ
 packed code dst src accessed offset target =
     ((((target * 65536 + offset) * 256 + accessed) * 256 + src) * 256 + dst) * 256 + code
 
--- the same of an operation; its second word is its constant
+-- The same of an operation. Its second word is its constant.
 abbrev pub head_of : Op → ℕ
 head_of o =
     packed (code_number o.code) o.dst o.src (accessed_number o.accessed) (cast_unsigned w16 o.offset) o.target
@@ -36,13 +36,13 @@ DifferInOneWord a b =
 abbrev pub AreWords : Op → Type 0
 AreWords o = (head_of o < 2 ^ 64) × (o.constant < 2 ^ 64)
 
--- two lists of operations that differ in one word of one of them, so in one bit of it, too, have different sums
+-- Two lists of operations that differ in one word of one of them have different sums. So one changed bit is seen, too.
 abbrev pub OneChangeIsSeen : Type 0
 OneChangeIsSeen = (before after : List Op) (a b : Op) → AreWords a → AreWords b → DifferInOneWord a b
     → sum_of (before ++ a ∷ after) ≢ sum_of (before ++ b ∷ after)
 
--- a list of operations that stand for those of the program has that sum. Which list it is, no value of the program says:
--- it is what its memory has
+-- A list of operations that has the meaning of those of the program has that sum. Which list it is, no value of the
+-- program says: it is what its memory has.
 pub record IsSummed (a : AcceptedValue) (sum : ℕ) : Type 0 where
   pub operations : List Op
   pub listed : map operation_of operations ≡ operations_of a.program a.regions

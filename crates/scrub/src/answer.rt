@@ -10,6 +10,6 @@ pub struct Answer {
     pub told: Told,
     /// What a scrub before it found, if one was due.
     pub found: Option<Found>,
-    /// How many bytes its reply has; 0 if none is due.
+    /// How many bytes its reply has, or 0 if none is due.
     pub size: usize,
 }

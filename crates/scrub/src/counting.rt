@@ -3,11 +3,12 @@
 ghost use Rattle.std.specs.Prelude.{◌≡◌, ◌&&◌};
 ghost use Rattle.scrub.specs.Counting.{agrees, complement, counted, counting_of, is_due, is_on, renewed};
 
-/// Before each packet of how many a program is scrubbed, and how many are left until then. Beside each number is its complement. No
-/// invariant says that they agree, since memory may change in one of them: if they do not, a scrub is due before each packet.
+/// Before each packet of how many a program is scrubbed, and how many are left until then. Beside each number is its
+/// complement. No invariant says that they agree, since memory may change in one of them. If they do not, a scrub is
+/// due before each packet.
 #[derive(Clone, Copy, Debug, PartialEq, Eq)]
 pub struct Counting {
-    /// Before each packet of so many the program that judges it is scrubbed; before none if it is 0.
+    /// Before each packet of that many the program that judges it is scrubbed. If it is 0, none is.
     pub each: u32,
     /// How many packets are left until then, with that one.
     pub left: u32,
@@ -57,7 +58,7 @@ impl Counting {
         self.left <= 1
     }
 
-    /// Whether packets are counted, or it is not known that they are not.
+    /// Whether the node counts packets, or does not know that it does not.
     pub(crate) fn is_on(&self) -> bool
         ensures { result ≡ is_on self.now }
     {
@@ -74,7 +75,7 @@ impl Counting {
         Counting::of(self.each, self.left.saturating_sub(1))
     }
 
-    /// The numbers once the scrub that was due is done. Numbers that do not agree with their complements stay.
+    /// The numbers after the scrub that was due. Numbers that do not agree with their complements stay.
     pub(crate) fn renewed(self) -> Counting
         ensures { result ≡ renewed self }
     {

@@ -72,7 +72,7 @@ fn broken_bit(place: Option<usize>, bit: u8) -> u8
     }
 }
 
-/// What is told with one more bank. The conditions are a bit, and that those of the banks before are below it.
+/// What the result is with one more bank. The conditions are a bit, and that those of the banks before are below it.
 fn with_bank(told: Broken, node: &SingleNode, bank: u8, bit: u8) -> Broken
     requires bit { bit ≤ 128 }
     requires below { told.banks < bit }
@@ -86,7 +86,7 @@ fn with_bank(told: Broken, node: &SingleNode, bank: u8, bit: u8) -> Broken
     }
 }
 
-/// What is told of the first four banks.
+/// The result for the first four banks.
 fn broken_low(node: &SingleNode) -> Broken
     ensures told { result ≡ broken_low node.now.banks }
     ensures below { result.banks < 16 }
@@ -107,7 +107,7 @@ pub(crate) fn broken_of(node: &SingleNode) -> Broken
     with_bank(seven, node, 7, 128)
 }
 
-/// The sum after where a bank lies, if there is that bank.
+/// The sum after the range of a bank, if there is that bank.
 fn after_range(sum: u64, node: &SingleNode, bank: u8) -> u64
     ensures { result ≡ after_range sum (slice_get node.now.banks bank) }
 {
@@ -118,7 +118,7 @@ fn after_range(sum: u64, node: &SingleNode, bank: u8) -> u64
     after_word(after_word(sum, u64::from(first)), u64::from(size))
 }
 
-/// The sum after where the banks lie.
+/// The sum after the ranges of the banks.
 fn after_ranges(sum: u64, node: &SingleNode) -> u64
     ensures { result ≡ after_ranges sum node.now.banks }
 {
@@ -132,7 +132,7 @@ fn after_ranges(sum: u64, node: &SingleNode) -> u64
     after_range(seven, node, 7)
 }
 
-/// The sum after where the windows of a node have a bank, if they have it.
+/// The sum after the range of a bank by the windows of a node, if they have that bank.
 fn after_place(sum: u64, windows: &Windows, bank: u8) -> u64
     ensures { result ≡ after_place sum (slice_get windows.now.banks bank) }
 {
@@ -142,7 +142,7 @@ fn after_place(sum: u64, windows: &Windows, bank: u8) -> u64
     }
 }
 
-/// The sum after where they have the banks.
+/// The sum after the ranges of all banks by the windows of a node.
 fn after_places(sum: u64, windows: &Windows) -> u64
     ensures { result ≡ after_places sum windows.now.banks }
 {

@@ -27,12 +27,13 @@ use std::alloc::Global;
 pub enum Health {
     /// Its operations have the sum that was kept.
     Whole,
-    /// They had not. They were made again of the program's own image, or of the one that is lent, and are published for the slot.
+    /// They had not. They were made again from the program's own image, or from the one that is lent, and are published
+    /// for the slot.
     Mended,
-    /// They had not, and neither image has it, or no more programs can be published: the slot is withdrawn.
+    /// They had not, and neither image has it, or no more programs can be published. The slot is withdrawn.
     Withdrawn,
-    /// They had not, nor has the program's own image, and memory to read the one that is lent was refused: the slot is withdrawn until
-    /// a later scrub.
+    /// They had not, nor has the program's own image, and memory to read the one that is lent was refused. The slot is
+    /// withdrawn until a later scrub.
     Unmended,
 }
 
@@ -71,8 +72,9 @@ pub struct Found {
     pub health: Health,
 }
 
-/// What is kept of the programs of a node of one thread. Each call is lent that node: a program that is published there by
-/// itself, and not by [`Guard::install`] or a load that [`GuardedNode::serve`] serves, is taken for a damaged one.
+/// What is kept of the programs of a node of one thread. Each call is lent that node. If a program is published there
+/// in another way than by [`Guard::install`] or a load that [`GuardedNode::serve`] serves, it is taken for a damaged
+/// one.
 ///
 /// [`GuardedNode::serve`]: crate::GuardedNode::serve
 #[derive(Clone, Copy, Debug, PartialEq, Eq)]
@@ -85,7 +87,7 @@ pub struct Guard {
     pub sizes: u64,
 }
 
-/// How the program of a slot was found. Of a slot that there is not nothing is said.
+/// How the program of a slot was found. For a slot that does not exist it means nothing.
 fn health_at(told: Scrubbed, slot: u8) -> Health
     ensures { result ≡ health_at told slot }
 {
@@ -97,7 +99,7 @@ fn health_at(told: Scrubbed, slot: u8) -> Health
     }
 }
 
-/// How a slot is found whose program was not mended.
+/// How a slot is found if its program was not mended.
 fn health_by(fault: MendFault) -> Health
     ensures { result ≡ health_by fault }
 {
@@ -135,7 +137,8 @@ fn generation_of(generations: &[u32; 4], slot: u8) -> u32
     generations[usize::from(slot)]
 }
 
-/// What is to be kept of a slot after a packet: what was, if its program has that generation. The condition is a slot below 4.
+/// What is to be kept of a slot after a packet. If its program has that generation, it is what was kept before. The
+/// condition is a slot below 4.
 fn followed_at(node: &SingleNode, slot: u8, generation: u32, kept: SlotSums) -> SlotSums
     requires { slot < 4 }
     ensures { (before : List Publish) → generation_at before slot ≡ Some generation
@@ -147,7 +150,7 @@ fn followed_at(node: &SingleNode, slot: u8, generation: u32, kept: SlotSums) -> 
     fresh_at(node, slot)
 }
 
-/// What is to be kept of the four slots after a packet, before which their programs had those generations.
+/// What is to be kept of the four slots after a packet. Before it their programs had those generations.
 fn followed(node: &SingleNode, before: &[u32; 4], sums: &[SlotSums; 4]) -> [SlotSums; 4]
     ensures { (programs : List Publish) → AreGenerations programs before.now
         → Follow programs node.now.programs sums.now result }
@@ -178,8 +181,8 @@ fn are_open(sums: &[SlotSums; 4]) -> bool
 }
 
 impl Guard {
-    /// What is kept of a node's programs, each of which may judge. Before each packet of so many the program that judges it is
-    /// scrubbed; before none if the number is 0.
+    /// What is kept of a node's programs, each of which may judge. Before each packet of that many the program that
+    /// judges it is scrubbed. If the number is 0, none is.
     pub fn new(node: &SingleNode, each: u32) -> Guard
         ensures { IsGuardOf node.now each result }
     {
@@ -195,7 +198,7 @@ impl Guard {
         }
     }
 
-    /// Keeps that of the program of a slot.
+    /// Keeps these sums of the program of a slot.
     fn keep(&mut self, slot: u8, kept: SlotSums)
         requires { slot < 4 }
         ensures { self.new ≡ with_sums self.old slot kept }
@@ -203,8 +206,8 @@ impl Guard {
         set_sums(&mut self.sums, slot, kept);
     }
 
-    /// Publishes a program for a slot, which may judge then: its generation. The conditions are a slot below 4, and a program
-    /// that was accepted for the maps of the node.
+    /// Publishes a program for a slot, which may judge then, and gives its generation. The conditions are a slot below
+    /// 4, and a program that was accepted for the maps of the node.
     ///
     /// # Errors
     ///
@@ -229,7 +232,7 @@ impl Guard {
         Ok(generation)
     }
 
-    /// Publishes the program of a slot for it once more, with that sum: whether it could be published.
+    /// Publishes the program of a slot for it once more, with that sum, and says whether it could be published.
     fn publish_renewed(&mut self, node: &mut SingleNode, slot: u8, sum: u64) -> bool
         requires { slot < 4 }
         ensures { PublishesAs result slot sum (beside self.old node.old) (beside self.new node.new) }
@@ -275,8 +278,8 @@ impl Guard {
         }
     }
 
-    /// Makes the program of a slot again of its own image, in its own memory. If it has then a sum that is kept, it is published for
-    /// the slot once more, else that of the image that is lent, if it has one.
+    /// Makes the program of a slot again from its own image, in its own memory. If it has then a sum that is kept, it
+    /// is published for the slot once more. Else the program of the image that is lent is published, if that has one.
     #[tactic(auto, using(crate::proofs::Mending::published, crate::proofs::Mending::unpublished))]
     fn mend(
         &mut self,
@@ -304,15 +307,16 @@ impl Guard {
         Err(MendFault::Full)
     }
 
-    /// From now on scrubs the program that judges a packet before each packet of so many; before none where it is 0.
+    /// From now on scrubs the program that judges a packet before each packet of that many. If the number is 0, it
+    /// scrubs before none.
     pub fn scrub_each(&mut self, each: u32)
         ensures { self.new ≡ scrubbing_each self.old each }
     {
         self.counting = Counting::of(each, each);
     }
 
-    /// Whether the program of a slot has a sum that is kept, whether it was withdrawn before or not. If it has, it may judge, and both
-    /// sums are then that one. The condition is a slot below 4.
+    /// Whether the program of a slot has a sum that is kept, whether it was withdrawn before or not. If it has, it may
+    /// judge, and both sums are then that one. The condition is a slot below 4.
     fn look(&mut self, node: &SingleNode, slot: u8) -> bool
         requires { slot < 4 }
         ensures { LooksAt result slot (beside self.old node.now) (beside self.new node.now) }
@@ -382,9 +386,10 @@ impl Guard {
         self.repair(node, alloc, slot, image)
     }
 
-    /// Scrubs the programs of the four slots, whether they were withdrawn before or not: first it looks at all of them, and then mends
-    /// each that is damaged, or withdraws its slot. A program that several slots have is so mended for each of them. It asks for memory
-    /// only to read the image that is lent, and does that only if a program's own image is damaged, too.
+    /// Scrubs the programs of the four slots, whether they were withdrawn before or not. First it looks at all of them,
+    /// and then mends each that is damaged, or withdraws its slot. So it mends a program that several slots have for
+    /// each of them. It asks for memory only to read the image that is lent, and does that only if a program's own
+    /// image is damaged, too.
     pub fn scrub(&mut self, node: &mut SingleNode, alloc: Global, image: &[u8]) -> Scrubbed
         ensures scrubs { Scrubs result image.now (beside self.old node.old) (beside self.new node.new) }
         ensures banks { node.new.banks ≡ node.old.banks }
@@ -403,8 +408,8 @@ impl Guard {
         }
     }
 
-    /// Scrubs the program of a slot. If it is damaged, the programs of all slots are scrubbed, since others may have it, too. The
-    /// condition is a slot below 4.
+    /// Scrubs the program of a slot. If it is damaged, the programs of all slots are scrubbed, since others may have
+    /// it, too. The condition is a slot below 4.
     #[tactic(auto, using(crate::proofs::Mending::scrubs_whole, crate::proofs::Mending::scrubs_all))]
     fn scrub_slot(&mut self, node: &mut SingleNode, alloc: Global, slot: u8) -> Health
         requires { slot < 4 }
@@ -426,8 +431,8 @@ impl Guard {
         self.counting.agrees()
     }
 
-    /// Whether the node's sizes have the sum that was kept of them: how many ports and banks it has, where the banks lie, and how many
-    /// cells its maps have.
+    /// Whether the node's sizes have the sum that was kept of them. They are how many ports and banks it has, where the
+    /// banks lie, and how many cells its maps have.
     pub fn has_sizes(&self, node: &SingleNode) -> bool
         ensures { result ≡ (sizes_sum node.now == self.now.sizes) }
     {
@@ -457,8 +462,8 @@ impl Guard {
         }
     }
 
-    /// Scrubs the program that judges a packet, if a scrub is due before it: what it found. If no program judges it, the scrub stays
-    /// due. The condition is a port of the node.
+    /// Scrubs the program that judges a packet, if a scrub is due before it, and gives what it found. If no program
+    /// judges it, the scrub stays due. The condition is a port of the node.
     #[tactic(auto, using(crate::proofs::Serving::first_not, crate::proofs::Serving::first_none, crate::proofs::Serving::first_some))]
     pub(crate) fn scrub_first(
         &mut self,

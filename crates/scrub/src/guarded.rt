@@ -23,14 +23,14 @@ use std::alloc::Global;
 /// A node of one thread, and what is kept of the programs of its slots. Without a guard nothing of it is scrubbed.
 #[derive(Drop)]
 pub struct GuardedNode {
-    /// The node. If there is a guard, a program that is published here by itself, and not by [`GuardedNode::install`] or a load,
-    /// is taken for a damaged one.
+    /// The node. If there is a guard, a program that is published here must come by [`GuardedNode::install`] or a load.
+    /// Any other is taken for a damaged one.
     pub node: SingleNode,
     /// What is kept of its programs.
     pub guard: Option<Guard>,
 }
 
-/// What is told of a command that no program judges.
+/// What the node reports of a command that no program judges.
 fn unread() -> Told
     ensures { result ≡ unread }
 {
@@ -41,7 +41,7 @@ fn unread() -> Told
     }
 }
 
-/// A guard of a node's programs that scrubs one before each packet of so many; `None` without a number.
+/// A guard of a node's programs that scrubs one before each packet of that many, or `None` without a number.
 fn guard_of(node: &SingleNode, each: Option<u32>) -> Option<Guard>
     ensures { BeginsGuard each node.now result }
 {
@@ -51,7 +51,7 @@ fn guard_of(node: &SingleNode, each: Option<u32>) -> Option<Guard>
     }
 }
 
-/// What is kept of a node's programs: what was kept, or, if nothing was, what is taken now.
+/// What is kept of a node's programs: what was kept before, or, if nothing was, what is taken now.
 fn guard_or_new(guard: Option<Guard>, node: &SingleNode) -> Guard
     ensures { HasGuard guard node.now result }
 {
@@ -61,9 +61,9 @@ fn guard_or_new(guard: Option<Guard>, node: &SingleNode) -> Guard
     }
 }
 
-/// Serves one packet as [`SingleNode::serve_into`] does, and keeps the sum of a program that it loads. But a command for a slot that
-/// is withdrawn comes to no program: it is answered by a general error, and nothing changes. Conditions: a port of the node, and
-/// room for any reply.
+/// Serves one packet as [`SingleNode::serve_into`] does, and keeps the sum of a program that it loads. If the command
+/// is for a slot that is withdrawn, it comes to no program: the answer is a general error, and nothing changes. The
+/// conditions are a port of the node, and room for any reply.
 #[tactic(auto, using(crate::proofs::Serving::by_withheld, crate::proofs::Serving::by_read))]
 fn answer_by(
     guard: &mut Guard,
@@ -91,8 +91,8 @@ fn answer_by(
     served
 }
 
-/// Serves one packet at a node whose programs are kept: if a scrub is due before it, the program that judges it is scrubbed first.
-/// Conditions: a port of the node, and room for any reply.
+/// Serves one packet at a node whose programs are kept. If a scrub is due before it, the program that judges it is
+/// scrubbed first. The conditions are a port of the node, and room for any reply.
 fn answer_watched(
     guard: &mut Guard,
     node: &mut SingleNode,
@@ -112,7 +112,8 @@ fn answer_watched(
     Answer { told, found, size }
 }
 
-/// Serves one packet at a node of whose programs nothing is kept. Conditions: a port of the node, and room for any reply.
+/// Serves one packet at a node of whose programs nothing is kept. The conditions are a port of the node, and room for
+/// any reply.
 fn answer_plain(
     node: &mut SingleNode,
     alloc: Global,
@@ -135,8 +136,8 @@ fn answer_plain(
 }
 
 impl GuardedNode {
-    /// A node, with what is kept of its programs, each of which may judge: before each packet of so many the program that judges
-    /// it is scrubbed, before none if the number is 0. Without a number nothing is kept.
+    /// A node, with what is kept of its programs, each of which may judge. Before each packet of that many the program
+    /// that judges it is scrubbed. If the number is 0, none is. Without a number nothing is kept.
     pub fn new(node: SingleNode, each: Option<u32>) -> GuardedNode
         ensures { IsGuarded each node result }
     {
@@ -151,8 +152,8 @@ impl GuardedNode {
         broken_of(&self.node)
     }
 
-    /// Whether the node's sizes have the sum that was kept of them, if one was: how many ports and banks it has, where the banks
-    /// lie, and how many cells its maps have.
+    /// Whether the node's sizes have the sum that was kept of them, if one was. They are how many ports and banks it
+    /// has, where the banks lie, and how many cells its maps have.
     pub fn has_sizes(&self) -> bool
         ensures { result ≡ has_sizes self.now.guard self.now.node }
     {
@@ -172,7 +173,8 @@ impl GuardedNode {
         }
     }
 
-    /// Whether packets have scrubs before them, and the node's sizes are others than they were: then no packet may be served.
+    /// Whether packets have scrubs before them, and the node's sizes are others than they were. If so, no packet may be
+    /// served.
     pub fn is_damaged(&self) -> bool
         ensures { result ≡ is_damaged self.now.guard self.now.node }
     {
@@ -182,8 +184,9 @@ impl GuardedNode {
         }
     }
 
-    /// Scrubs the programs of the four slots ([`Guard::scrub`]). A program whose own image is damaged, too, is that of the image that
-    /// is lent, if it has its sum; no bytes are no image. Of a node without a guard the sums are taken now, so each program is whole.
+    /// Scrubs the programs of the four slots ([`Guard::scrub`]). If a program's own image is damaged, too, the image
+    /// that is lent gives the program, if it has its sum. No bytes are no image. If the node has no guard, the sums are
+    /// taken now, so each program is whole.
     pub fn scrub(&mut self, alloc: Global, image: &[u8]) -> Scrubbed
         ensures { ScrubsGuarded result image.now self.old self.new }
     {
@@ -193,8 +196,8 @@ impl GuardedNode {
         told
     }
 
-    /// From now on scrubs the program that judges a packet before each packet of so many; before none if the number is 0. Of a
-    /// node without a guard the sums are taken now.
+    /// From now on scrubs the program that judges a packet before each packet of that many. If the number is 0, it
+    /// scrubs before none. If the node has no guard, the sums are taken now.
     pub fn scrub_each(&mut self, each: u32)
         ensures { SetsEach each self.old self.new }
     {
@@ -203,8 +206,8 @@ impl GuardedNode {
         self.guard = Some(guard);
     }
 
-    /// Publishes a program for a slot, which may judge then, and keeps its sum, if there is a guard: its generation. The conditions
-    /// are a slot below 4, and a program that was accepted for the maps of the node.
+    /// Publishes a program for a slot, which may judge then, and gives its generation. If there is a guard, it keeps
+    /// the program's sum. The conditions are a slot below 4, and a program that was accepted for the maps of the node.
     ///
     /// # Errors
     ///
@@ -224,10 +227,12 @@ impl GuardedNode {
         }
     }
 
-    /// Serves one packet that came in at a port, as [`SingleNode::serve_into`] does: its reply is then at the front of the room. If a
-    /// scrub is due before it ([`GuardedNode::scrub_each`]), the program that judges it is scrubbed first; if no program judges it,
-    /// the scrub stays due. A command for a slot that is withdrawn comes to no program: it is answered by a general error, and
-    /// nothing changes. Conditions: a port of the node, and room for any reply ([`MAX_REPLY`]).
+    /// Serves one packet that came in at a port, as [`SingleNode::serve_into`] does: its reply is then at the front of
+    /// the room. If a scrub is due before it ([`GuardedNode::scrub_each`]), the program that judges it is scrubbed
+    /// first. If no program judges it, the scrub stays due.
+    ///
+    /// If the command is for a slot that is withdrawn, it comes to no program: the answer is a general error, and
+    /// nothing changes. The conditions are a port of the node, and room for any reply ([`MAX_REPLY`]).
     ///
     /// [`MAX_REPLY`]: rmap::MAX_REPLY
     pub fn serve(&mut self, alloc: Global, port: u8, packet: Packet, room: &mut [u8]) -> Answer

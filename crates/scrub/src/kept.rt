@@ -3,8 +3,9 @@
 ghost use Rattle.std.specs.Prelude.{◌≡◌, ◌<◌, Some, slice_get, slice_set};
 ghost use Rattle.scrub.specs.Kept.{closed_in, fresh_sums, has_sum, is_open, withdrawn_sums};
 
-/// What is in `mark` of a slot whose program may judge; 0 is in that of a slot that is withdrawn. The two differ in 16 bits, and a
-/// mark means the nearer of them: so up to seven bits that flip change nothing, and eight withdraw the slot.
+/// What is in `mark` of a slot whose program may judge. A slot that is withdrawn has 0 there. The two differ in 16
+/// bits, and a mark means the nearer of them. So up to seven bits that flip change nothing, and eight withdraw the
+/// slot.
 pub const OPEN: u32 = 0x5A3C_96E1;
 
 /// What is kept of the program of a slot: the sum of its operations, twice, and whether the slot is withdrawn.
@@ -12,7 +13,7 @@ pub const OPEN: u32 = 0x5A3C_96E1;
 pub struct SlotSums {
     /// The sum.
     pub first: u64,
-    /// The sum again: a program is whole that has one of the two, so that a sum that changes withdraws no program.
+    /// The sum again. A program is whole if it has one of the two, so a sum that changes withdraws no program.
     pub second: u64,
     /// [`OPEN`], or 0 if the slot is withdrawn.
     pub mark: u32,
@@ -64,7 +65,7 @@ pub(crate) fn sums_at(sums: &[SlotSums; 4], slot: u8) -> SlotSums
     sums[usize::from(slot)]
 }
 
-/// Keeps that of the program of a slot. The condition is a slot below 4.
+/// Keeps these sums of the program of a slot. The condition is a slot below 4.
 pub(crate) fn set_sums(sums: &mut [SlotSums; 4], slot: u8, new: SlotSums)
     requires { slot < 4 }
     ensures { sums.new ≡ slice_set sums.old slot new }

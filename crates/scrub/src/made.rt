@@ -20,7 +20,7 @@ pub enum MendFault {
     Full,
 }
 
-/// What a fault of the image that is lent comes to.
+/// The reason that a fault of the image that is lent gives.
 fn read_fault(fault: ImageFault) -> MendFault
     ensures { result ≡ read_fault fault }
 {
@@ -36,8 +36,11 @@ fn read_fault(fault: ImageFault) -> MendFault
     }
 }
 
-/// The program of an image that is lent, which the verifier accepts for those maps, or why there is none. Of no bytes no memory is
-/// asked for.
+/// The program of an image that is lent, which the verifier accepts for those maps. For no bytes it asks for no memory.
+///
+/// # Errors
+///
+/// Why there is no such program.
 #[tactic(auto, using(crate::proofs::Mending::empty_image, crate::proofs::Mending::unread, crate::proofs::Mending::refused))]
 fn program_of(alloc: Global, image: &[u8], sizes: &MapSizes) -> Result<Accepted, MendFault>
     ensures read { IfOk result (IsReadFrom sizes.now image.now) }

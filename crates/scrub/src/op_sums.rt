@@ -7,7 +7,8 @@ ghost use Rattle.scrub.specs.Sums.{IsSummed, OneChangeIsSeen, after_op, head_of,
 use bver::{Accepted, Accessed, Code, Op};
 use sums::{after_word, one_word_is_seen};
 
-/// The number of a code, as it is in memory: no match, so that a byte that is none of the codes is a number, too.
+/// The number of a code, as it is in memory. It is no `match`, so that a byte that is none of the codes is a number,
+/// too.
 #[inline(always)]
 fn code_number(code: Code) -> u8
     ensures { result ≡ code_number code }
@@ -33,7 +34,7 @@ fn packed(code: u8, dst: u8, src: u8, accessed: u8, offset: u16, target: u16) ->
     (registers * 256 + u64::from(dst)) * 256 + u64::from(code)
 }
 
-/// The first word of an operation: all of it but its constant.
+/// The first word of an operation: all of it except its constant.
 #[inline(always)]
 fn head_of(op: &Op) -> u64
     ensures { result ≡ head_of op.now }
@@ -74,8 +75,8 @@ pub(crate) fn program_sum(program: &Accepted) -> u64
     sum_of(program.operations())
 }
 
-/// A law and no work: two lists of operations that differ in one word of one operation, so in one bit of it, too, have different
-/// sums.
+/// A law and no work: two lists of operations that differ in one word of one operation have different sums. So one
+/// changed bit is seen, too.
 pub fn one_change_is_seen()
     ensures { OneChangeIsSeen }
 {

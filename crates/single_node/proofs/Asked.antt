@@ -14,7 +14,7 @@ use Rattle.spw.specs.Cargo.{Cargo}
 pub asked_discarded : (w : WindowsValue) (p : Cargo) (d : Discard) → discard_of p.bytes ≡ Some d → None ≡ slot_asked w p
 asked_discarded w p d is = sym (ap (λ (o : Option Discard). slot_unless o w (command_of p)) is)
 
--- of a packet that is a command
+-- the slot for a packet that is a command
 asked_command : (w : WindowsValue) (p : Cargo) (c : CommandValue) → discard_of p.bytes ≡ None → c ≡ command_of p → slot_asked w p ≡ slot_past (header_line c w) (place_of c w) c
 asked_command w p c command found =
     ap (λ (o : Option Discard). slot_unless o w (command_of p)) command ∙ ap (λ (k : CommandValue). slot_past (header_line k w) (place_of k w) k) (sym found)

@@ -18,6 +18,6 @@ bank_there banks h p place k paired placed at =
     let there : k < length banks = subst (λ (n : ℕ). k < n) same below in
     (there, subst (λ (n : ℕ). k < n) (sym paired.count) there)
 
--- so it is found where it is asked for
+-- so it is found by the test for it
 pub found_there : (k banks shares : ℕ) → (k < banks) × (k < shares) → (nat_lt k banks && nat_lt k shares) ≡ true
 found_there k banks shares there = rw (lt-ltb k banks there.0, lt-ltb k shares there.1) refl

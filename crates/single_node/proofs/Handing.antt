@@ -19,7 +19,7 @@ share_stays : (old new : BankValue) (port : ℕ) (share : ShareValue) → new.co
 share_stays old new port share same is =
     (is.0, subst (λ (counts : List ℕ). (ltb share.port (length counts) && eqb share.number (slice_index counts share.port)) ≡ true) (sym same) is.1)
 
--- a bank in the place of another that lies where it lies, with the same counts
+-- a bank in the place of another with the same range and the same counts
 pair_stays : (banks : List BankValue) (k : ℕ) (b new : BankValue) (h : PassValue) → slice_get banks k ≡ Some b → extent_of new ≡ extent_of b → new.counts ≡ b.counts
     → IsPaired banks h → IsPaired (set banks k new) h
 pair_stays banks k b new h at extent counts paired = record {
@@ -46,7 +46,7 @@ node_with_bank s k b new at extent counts is = record {
   few_banks = rw (length-set s.banks k new) is.few_banks;
 }
 
--- bytes that are set leave a bank where it is
+-- bytes that are set leave a bank its range
 pub setting_stays : (b : BankValue) (address : ℕ) (bytes : List ℕ) (fresh : JournalValue) → covers b address (length bytes) ≡ true
     → extent_of (after_setting b address bytes fresh) ≡ extent_of b
 setting_stays b address bytes fresh covered =
@@ -55,7 +55,7 @@ setting_stays b address bytes fresh covered =
     let end : address + length bytes ≤ b.first + length b.bytes = grind (arith, nat_tests) in
     ap (λ (n : ℕ). (b.first, n)) (omega (arith, from, end, length-append (take (address - b.first) b.bytes ++ bytes) (drop (address - b.first + length bytes) b.bytes), length-append (take (address - b.first) b.bytes) bytes, length-take (address - b.first) b.bytes, length-drop (address - b.first + length bytes) b.bytes))
 
--- where so many bytes lie in a bank of that number, there is one, in which they lie
+-- if that many bytes lie in a bank of that number, there is one, in which they lie
 pub covered_bank : (found : Option BankValue) (address count : ℕ) → covers_in found address count ≡ true → (b : BankValue) × (found ≡ Some b) × (covers b address count ≡ true)
 covered_bank None address count h = absurd cc
 covered_bank (Some b) address count h = (b, refl, h)

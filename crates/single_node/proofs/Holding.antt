@@ -43,7 +43,7 @@ shown_after xs place x y s at same =
       | inr other ↦ ap shows (set_other xs place s.place y other)
     ]
 
--- no slot but one has that place
+-- only that slot has the place
 pub no_other : (slots : List Placed) (slot place : ℕ) → (0 ≢ slot → (placed_at slots 0).place ≢ place) → (1 ≢ slot → (placed_at slots 1).place ≢ place)
     → (2 ≢ slot → (placed_at slots 2).place ≢ place) → (3 ≢ slot → (placed_at slots 3).place ≢ place) → HasNoOther slots slot place
 no_other slots slot place a b c d = by
@@ -55,7 +55,7 @@ no_other slots slot place a b c d = by
     by (suc (suc (suc zero))) low = d
     by (suc (suc (suc (suc n)))) low = absurd (omega (arith, low))
 
--- nor the place behind all programs
+-- nor has one the place after all programs
 pub none_behind : (slots : List Placed) (slot count : ℕ) → ((k : ℕ) → k < 4 → (placed_at slots k).place < count) → HasNoOther slots slot count
 none_behind slots slot count low = λ k few other here.
     let below = low k few in

@@ -1,4 +1,4 @@
--- A node of one thread before and behind a packet.
+-- A node of one thread before and after a packet.
 use Rattle.std.proofs.Common.{◌≡◌, ◌<◌, ◌≤◌, ℕ, List, length, Some, set, refl, sym, ap, ◌∙◌, subst, arith, inl, inr}
 use Rattle.std.specs.Prelude.{map, slice_get}
 use Rattle.std.specs.List.{range_with_len}
@@ -80,7 +80,7 @@ serves_of t p before banks behind programs port place h after reply same at s =
       tells = told t.served g v p words behind old new h after reply s;
     }
 
--- what stands at a place of a list that is made by number
+-- what is at a place of a list that is made by number
 numbered_at : {A : Type 0} (f : ℕ → A) (count k : ℕ) (x : A) → slice_get (map f (range_with_len 0 count)) k ≡ Some x → x ≡ f k
 numbered_at f count k x at =
     let below : k < count = rw (← length-map-range_with_len f 0 count) (slice_get_within (map f (range_with_len 0 count)) k x at) in

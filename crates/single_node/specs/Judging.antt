@@ -16,8 +16,8 @@ use Rattle.node_parts.specs.declared.served.Served.TheVariants.{Stopped, Unread,
 use Rattle.node_parts.specs.declared.stop.Stop.{Stop}
 use Rattle.single_node.specs.Serving.{IsJudgedByLast}
 
--- the command of the packet was judged in one run, by the last program that was published for its slot; the words
--- answered its calls and are then those, and the port then knows of all that was published
+-- The last program that was published for its slot judged the command of the packet, in one run. The words answered its
+-- calls and are then those, and the port then knows of all that was published.
 pub record IsLastJudgement (programs : List Publish) (words behind : List (List ℕ)) (old new : PassValue) (p : Cargo)
     (j : JudgedValue) : Type 0 where
   pub judgement : IsJudgement old new p j
@@ -31,7 +31,7 @@ abbrev pub JudgesByLast : (programs : List Publish) → (words behind : List (Li
 JudgesByLast programs words behind old new admitted j =
     (p : Cargo) → IsAdmission admitted p old.windows → IsLastJudgement programs words behind old new p j
 
--- a judged command was applied to the bank of its place, with the port's share of it; nothing else changed
+-- A judged command was applied to the bank of its place, with the port's share of it. Nothing else changed.
 pub record IsAppliedAt (old new : PartsValue) (holder after : PassValue) (judged : JudgedValue) (result : Applied)
     (bytes : List ℕ) : Type 0 where
   pub number : ℕ
@@ -42,7 +42,7 @@ pub record IsAppliedAt (old new : PartsValue) (holder after : PassValue) (judged
   pub node : new ≡ parts (slice_set old.banks number behind) old.programs
   pub applied : IsApplied before behind (share_of holder judged.place) holder after judged result bytes
 
--- how a judged command ends: at the bank of its place, or in the boot window, where no bank changes
+-- how a judged command ends: at the bank of its place, or in the boot window, and then no bank changes
 abbrev pub Ends : Served → (old new : PartsValue) → (holder after : PassValue) → JudgedValue → List ℕ → Type 0
 Ends (Stopped stop) old new holder after judged bytes = ⊥
 Ends Unread old new holder after judged bytes = ⊥
@@ -51,8 +51,8 @@ Ends (Window status) old new holder after judged bytes =
     (new.banks ≡ old.banks)
     × EndsAtWindow judged.place holder after old.programs new.programs judged status bytes
 
--- the command of the packet was judged by the last program for its slot, of that generation and with that verdict,
--- which left the port so, and then ended
+-- The last program for its slot, of that generation, judged the command of the packet with that verdict. It left the
+-- port so, and then the command ended.
 pub record JudgesAndEnds (served : Served) (generation verdict : ℕ) (p : Cargo) (words behind : List (List ℕ))
     (old new : PartsValue) (h after : PassValue) (reply : List ℕ) : Type 0 where
   pub judged : JudgedValue

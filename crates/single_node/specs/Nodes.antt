@@ -24,8 +24,8 @@ use Rattle.rmap.specs.declared.places.Place.{Place}
 use Rattle.rmap.specs.declared.status.Status.{Status}
 use Rattle.spw.specs.Cargo.{Cargo}
 
--- a node of one thread: its banks, the word of each cell, by map and key, the list of what was published, which begins
--- with the factory program, and what each port has
+-- A node of one thread: its banks, the word of each cell, by map and key, and what each port has. It also has the list
+-- of what was published, which begins with the factory program.
 pub record SingleNodeValue : Type 0 where
   pub banks : List BankValue
   pub words : List (List ℕ)
@@ -37,8 +37,8 @@ abbrev pub single_node : List BankValue → List (List ℕ) → List Publish →
 single_node banks words programs passes =
     record { banks = banks; words = words; programs = programs; passes = passes }
 
--- a fresh node of that configuration: banks of zero bytes, cells of 0, of what was published the factory program alone,
--- which judges in each slot, and ports that have sent nothing
+-- A fresh node of that configuration: banks of zero bytes, cells of 0, and ports that have sent nothing. Only the
+-- factory program was published, and it judges in each slot.
 abbrev pub IsFresh : NodeConfig → AcceptedValue → SingleNodeValue → Type 0
 IsFresh config factory node =
     node
@@ -50,8 +50,8 @@ pub record IsInformed (programs : List Publish) (h : PassValue) : Type 0 where
   pub begins : IsPrefix h.programs programs
   pub sizes : h.seat.sizes ≡ sizes_of programs
 
--- banks and ports were made together, or are as packets left them, and each port is informed; there are at most 32
--- ports and 8 banks
+-- Banks and ports were made together, or are as packets left them, and each port is informed. There are at most 32
+-- ports and 8 banks.
 pub record IsSingleNode (s : SingleNodeValue) : Type 0 where
   pub paired : ArePaired s.banks s.passes
   pub informed : (k : ℕ) (h : PassValue) → slice_get s.passes k ≡ Some h → IsInformed s.programs h
@@ -82,7 +82,7 @@ abbrev pub slot_in : Option PassValue → Cargo → Option ℕ
 slot_in None p = None
 slot_in (Some h) p = slot_asked h.windows p
 
--- so many bytes from an address on lie in the bank, if there is one
+-- that many bytes from an address on lie in the bank, if there is one
 abbrev pub covers_in : Option BankValue → (address count : ℕ) → Bool
 covers_in None address count = false
 covers_in (Some b) address count = covers b address count
@@ -109,8 +109,8 @@ IsPublishedAgain slot before after =
 abbrev pub AreUnder : WindowsValue → List PassValue → Type 0
 AreUnder windows passes = (k : ℕ) (h : PassValue) → slice_get passes k ≡ Some h → h.windows ≡ windows
 
--- the bank of that number has the new journal, which begins with the memory of now; the old one came out, whose replay
--- on the base before is that memory; nothing else changed
+-- The bank of that number has the new journal, which begins with the memory of now. The old one came out, whose replay
+-- on the base before is that memory. Nothing else changed.
 pub record Rotates (number : ℕ) (fresh : JournalValue) (before after : SingleNodeValue) (old : JournalValue) : Type 0
   where
     pub bank : BankValue
@@ -119,8 +119,8 @@ pub record Rotates (number : ℕ) (fresh : JournalValue) (before after : SingleN
     pub journal : old ≡ bank.journal
     pub replayed : memory_of bank ≡ replay (base_of bank) old.entries
 
--- the bank of that number has those bytes at that address, and the new journal, which begins with that memory; the old
--- one came out, whose replay on the base before is the memory before; nothing else changed
+-- The bank of that number has those bytes at that address, and the new journal, which begins with that memory. The old
+-- one came out, whose replay on the base before is the memory before. Nothing else changed.
 pub record SetsMemory (number address : ℕ) (bytes : List ℕ) (fresh : JournalValue) (before after : SingleNodeValue)
     (old : JournalValue) : Type 0 where
   pub bank : BankValue
@@ -129,13 +129,13 @@ pub record SetsMemory (number address : ℕ) (bytes : List ℕ) (fresh : Journal
   pub journal : old ≡ bank.journal
   pub replayed : memory_of bank ≡ replay (base_of bank) old.entries
 
--- the bank of that number has an empty journal of that room, which begins with the memory of now; nothing else changed
+-- The bank of that number has an empty journal of that room, which begins with the memory of now. Nothing else changed.
 pub record RotatesTo (number room : ℕ) (before after : SingleNodeValue) : Type 0 where
   pub old : JournalValue
   pub rotates : Rotates number (empty_journal room) before after old
 
--- the bank of that number has those bytes at that address, and an empty journal of that room, which begins with that
--- memory; nothing else changed
+-- The bank of that number has those bytes at that address, and an empty journal of that room, which begins with that
+-- memory. Nothing else changed.
 pub record SetsBytes (number address : ℕ) (bytes : List ℕ) (room : ℕ) (before after : SingleNodeValue) : Type 0 where
   pub old : JournalValue
   pub sets : SetsMemory number address bytes (empty_journal room) before after old

@@ -21,15 +21,15 @@ use Rattle.plain_cells.specs.Words.{AreCallsOn}
 use Rattle.single_node.specs.Nodes.{SingleNodeValue}
 use Rattle.single_node.specs.declared.served.Told.{Told}
 
--- the port saw all that was published, and the program that judged is the last of it for the slot of the command, with
--- its place in the list for a generation
+-- The port saw all that was published. The program that judged is the last of it for the slot of the command, and its
+-- place in the list is its generation.
 pub record IsJudgedByLast (programs : List Publish) (h after : PassValue) (p : Cargo) (j : JudgedValue)
     (judgement : IsJudgement h after p j) : Type 0 where
   pub saw : judgement.seen ≡ programs
   pub last : IsLast programs (slot_of (command_kind (command_of p)) j.place) judgement.program j.generation
 
--- the packet was stopped by its header, or judged by the last program that was published for its slot: none comes
--- to no program
+-- The packet was stopped by its header, or judged by the last program that was published for its slot. There always is
+-- such a program.
 abbrev pub IsByLast : (served : Served) (p : Cargo) (old new : PartsValue) (h after : PassValue) (reply : List ℕ)
     → IsAnswered served p old new h after reply → Type 0
 IsByLast (Stopped stop) p old new h after reply answered = Unit {0}
@@ -39,8 +39,8 @@ IsByLast (Done result) p old new h after reply answered =
 IsByLast (Window status) p old new h after reply answered =
     IsJudgedByLast old.programs h answered.between p answered.judged answered.judgement
 
--- the words answered the calls of the run that judged, in order, and are then what those left; of a packet that its
--- header stops no program ran, and they stay
+-- The words answered the calls of the run that judged, in order, and are then what those left. If its header stops a
+-- packet, no program ran, and they stay.
 abbrev pub AsksCells : (sizes : Maps) (served : Served) (p : Cargo) (old new : PartsValue) (h after : PassValue) (reply : List ℕ)
     → IsAnswered served p old new h after reply → (words behind : List (List ℕ)) → Type 0
 AsksCells sizes (Stopped stop) p old new h after reply answered words behind = behind ≡ words
@@ -50,14 +50,14 @@ AsksCells sizes (Done result) p old new h after reply answered words behind =
 AsksCells sizes (Window status) p old new h after reply answered words behind =
     AreCallsOn sizes words answered.judgement.calls behind
 
--- the list of what was published stays, or has one publish more; it stays but where a command to the boot window
--- succeeded
+-- The list of what was published stays, or has one publish more. Only a command to the boot window that succeeded can
+-- add one.
 pub record AreKeptOrLonger (served : Served) (old new : List Publish) : Type 0 where
   pub kept : served ≢ Window Success → new ≡ old
   pub longer : (new ≡ old) ⊎ ((slot : ℕ) × (program : AcceptedValue) × (new ≡ longer_history old slot program))
 
--- this became of the packet that came in at the port, by the last program that was published for its slot, whose run the
--- cells answered; that reply is due, and no other port changed
+-- This became of the packet that came in at the port. If a program judged it, that is the last one published for its
+-- slot, and the cells answered its run. That reply is due, and no other port changed.
 pub record Serves (served : Served) (port : ℕ) (packet : Cargo) (before after : SingleNodeValue) (reply : List ℕ) : Type
     0 where
   pub holder : PassValue
@@ -72,7 +72,7 @@ pub record Serves (served : Served) (port : ℕ) (packet : Cargo) (before after 
       (parts after.banks after.programs) holder left reply answered before.words after.words
   pub programs : AreKeptOrLonger served before.programs after.programs
 
--- generation and verdict are those of the command that was judged; of a packet that its header stops both are 0
+-- Generation and verdict are those of the command that was judged. If its header stops a packet, both are 0.
 abbrev pub IsTold : (generation verdict : ℕ) (served : Served) (p : Cargo) (old new : PartsValue) (h after : PassValue)
     (reply : List ℕ) → IsAnswered served p old new h after reply → Type 0
 IsTold generation verdict (Stopped stop) p old new h after reply answered = (generation ≡ 0) × (verdict ≡ 0)
@@ -89,7 +89,7 @@ pub record ServesTold (told : Told) (port : ℕ) (packet : Cargo) (before after 
   pub tells : IsTold told.generation told.verdict told.served packet (parts before.banks before.programs)
       (parts after.banks after.programs) serves.holder serves.left reply serves.answered
 
--- the same as `ServesTold`, with the reply, of so many bytes, at the front of the room, and the rest of it as before
+-- the same as `ServesTold`, with the reply, of that many bytes, at the front of the room, and the rest of it as before
 pub record ServesInto (told : Told) (size port : ℕ) (packet : Cargo) (before after : SingleNodeValue) (room left : List ℕ)
     : Type 0 where
   pub reply : List ℕ

@@ -16,7 +16,7 @@ first_placed = record { place = 0; generation = 0 }
 abbrev pub first_slots : List Placed
 first_slots = first_placed ∷ first_placed ∷ first_placed ∷ first_placed ∷ []
 
--- what a slot has that is given a number there
+-- what the slot of that number has
 abbrev pub placed_at : List Placed → (slot : ℕ) → Placed
 placed_at slots slot = slice_index_or slots slot first_placed
 
@@ -32,8 +32,8 @@ shown_at programs s = option_map (λ p. (p.program, s.generation)) (slice_get pr
 abbrev pub shown_by : List Publishing → List Placed → List (Option (AcceptedValue × ℕ))
 shown_by programs slots = map (shown_at programs) slots
 
--- each slot shows the program that judges at it by the list of what was published, so many were published behind the
--- factory program, and all were accepted for those maps
+-- Each slot shows the program that judges at it by the list of what was published. That many were published after the
+-- factory program, and all were accepted for those maps.
 pub record AreSlots (programs : List Publish) (shown : List (AcceptedValue × ℕ)) (count : ℕ) (sizes : Maps) : Type 0
   where
     pub slots : map (λ s. Some s) shown ≡ judging_program programs 0 ∷ judging_program programs 1

@@ -15,8 +15,8 @@ use rmap::{Command, Windows};
 use spw::PORTS;
 use std::marker::Model;
 
-/// What a run needs of a port: its number, the maps of its node, and the stack of the programs that run for it. The windows of its
-/// node, and what programs asked of the node's cells, stand in proofs alone.
+/// What a run needs of a port: its number, the maps of its node, and the stack of the programs that run for it. The
+/// windows of its node, and what programs asked of the node's cells, exist only in proofs.
 #[derive(Drop)]
 pub(crate) struct PortContext {
     port: u8,

@@ -7,7 +7,7 @@ ghost use Rattle.node_parts.specs.Nodes.{first_programs};
 use crate::publishing::{Published, Publishing};
 use std::marker::Model;
 
-/// The list of what was published. It exists in proofs alone.
+/// The list of what was published. It exists only in proofs.
 #[derive(Drop)]
 pub(crate) struct ProgramList {
     published: Published,
@@ -23,7 +23,7 @@ impl Model for ProgramList {
 }
 
 impl ProgramList {
-    /// The list that has the factory program alone, which is published for slot 0.
+    /// The list that has only the factory program, which is published for slot 0.
     pub fn first(factory: &Publishing) -> ProgramList
         requires { factory.now.slot ≡ 0 }
         ensures { result ≡ first_programs factory.now.program }

@@ -38,13 +38,13 @@ use std::marker::Model;
 /// for a reply. Contracts see the banks, the word of each cell, the list of what was published, and the pass of each port.
 #[derive(Drop)]
 pub struct SingleNode {
-    /// Its address, and the ranges of its banks: the ports are lent them.
+    /// Its address, and the ranges of its banks. The node lends them to the ports.
     windows: Windows,
     banks: Banks,
     cells: PlainCells,
     programs: SlotPrograms,
     ports: Vec<SinglePort>,
-    /// The last reply of [`SingleNode::serve_into`]: room that is made once.
+    /// The last reply of [`SingleNode::serve_into`]. The room is made once.
     reply: ReplyBuf,
 }
 
@@ -87,13 +87,13 @@ fn first_ports(
 }
 
 impl SingleNode {
-    /// A node of zero bytes, with cells of 0: the factory program, of generation 0, judges in each slot. The condition is a
-    /// program that was accepted for the maps of the configuration.
+    /// A node of zero bytes, with cells of 0. The factory program, of generation 0, judges in each slot. The condition
+    /// is a program that was accepted for the maps of the configuration.
     ///
     /// # Errors
     ///
-    /// `Ports` and then `Banks` where a number is outside its limits, which is tested first; `Memory` where memory was
-    /// refused.
+    /// - `Ports`, and then `Banks`, if one of their numbers is outside its limits. This is tested first.
+    /// - `Memory` if memory was refused.
     pub fn new(
         alloc: Global,
         config: &NodeConfig,
@@ -121,10 +121,11 @@ impl SingleNode {
         })
     }
 
-    /// Serves one packet that came in at a port: all of it, to its reply, which `reply` holds then, if one is due. The last
-    /// program that was published for the command's slot judges it; then the verdict is applied to the bank that it names
-    /// or to the port's staging, or what is staged there is loaded. It takes memory only where it loads, and never answers
-    /// [`Served::Unread`]. The condition is a port of the node ([`SingleNode::ports`]).
+    /// Serves one packet that came in at a port, from its bytes to its reply. If a reply is due, `reply` holds it then.
+    ///
+    /// The last program that was published for the command's slot judges it. Then the verdict is applied to the bank
+    /// that it names or to the port's staging, or what is staged there is loaded. The call takes memory only if it
+    /// loads, and never answers [`Served::Unread`]. The condition is a port of the node ([`SingleNode::ports`]).
     pub fn serve(&mut self, alloc: Global, port: u8, packet: Packet, reply: &mut ReplyBuf) -> Served
         requires { port < length self.old.passes }
         ensures serves { Serves result port packet self.old self.new reply.new }
@@ -134,8 +135,8 @@ impl SingleNode {
         told.served
     }
 
-    /// Serves one packet as [`SingleNode::serve`] does, and tells the program that judged it, by its generation, and its
-    /// verdict.
+    /// Serves one packet as [`SingleNode::serve`] does, and reports the generation of the program that judged it, and
+    /// its verdict.
     pub fn serve_told(
         &mut self,
         alloc: Global,
@@ -157,9 +158,9 @@ impl SingleNode {
         serve_at(alloc, windows, banks, cells, programs, port, packet, reply)
     }
 
-    /// Serves one packet as [`SingleNode::serve_told`] does, and puts its reply at the front of the room, where the rest stays.
-    /// The second of the two is how many bytes the reply has. Conditions: a port of the node, and room for any reply
-    /// ([`MAX_REPLY`]).
+    /// Serves one packet as [`SingleNode::serve_told`] does, and puts its reply at the front of the room. The rest of
+    /// the room stays. The second result is how many bytes the reply has. The conditions are a port of the node, and
+    /// room for any reply ([`MAX_REPLY`]).
     ///
     /// [`MAX_REPLY`]: rmap::MAX_REPLY
     pub fn serve_into(
@@ -222,8 +223,8 @@ impl SingleNode {
         self.banks.bank(k)
     }
 
-    /// Begins a new journal at the bank of that number, and hands the old one out: what it tells is the memory of now.
-    /// Memory and counts stay. Conditions: a number below [`SingleNode::banks`], and `fresh` is empty.
+    /// Begins a new journal at the bank of that number, and hands the old one out, whose replay is the memory of now.
+    /// Memory and counts stay. The conditions are a number below [`SingleNode::banks`], and an empty `fresh`.
     pub fn rotate(&mut self, k: u8, fresh: Journal) -> Journal
         requires number { k < length self.old.banks }
         requires empty { fresh.entries ≡ [] }
@@ -232,7 +233,7 @@ impl SingleNode {
         self.banks.bank_mut(k).rotate(fresh)
     }
 
-    /// How many entries the journal of the bank of that number has room for in all; 0 where there is no such bank.
+    /// How many entries the journal of the bank of that number has room for in all, or 0 if there is no such bank.
     pub fn room(&self, k: u8) -> u32
         ensures { result ≡ room_in (slice_get self.now.banks k) }
     {
@@ -242,9 +243,9 @@ impl SingleNode {
         self.banks.bank(k).room()
     }
 
-    /// Begins a new journal of that room at the bank of that number, in the memory of the old one, whose entries are gone:
-    /// all is as after [`SingleNode::rotate`] with a fresh journal of that room. So it takes no memory. Conditions: a
-    /// number below [`SingleNode::banks`], and a room of 1 to [`SingleNode::room`].
+    /// Begins a new journal of that room at the bank of that number, in the memory of the old one, whose entries are
+    /// gone. All is as after [`SingleNode::rotate`] with a fresh journal of that room, but the call takes no memory.
+    /// The conditions are a number below [`SingleNode::banks`], and a room of 1 to [`SingleNode::room`].
     pub fn turn(&mut self, k: u8, room: u32)
         requires number { k < length self.old.banks }
         requires some { 1 ≤ room }
@@ -254,17 +255,18 @@ impl SingleNode {
         self.banks.bank_mut(k).turn(room);
     }
 
-    /// Whether so many bytes from the address on lie in the bank of that number; not where there is no such bank.
+    /// Whether that many bytes from the address on lie in the bank of that number. If there is no such bank, they do
+    /// not.
     pub fn covers(&self, k: u8, address: u32, count: usize) -> bool
         ensures { result ≡ covers_in (slice_get self.now.banks k) address count }
     {
         usize::from(k) < self.banks.len() && self.banks.bank(k).covers(address, count)
     }
 
-    /// Puts bytes at an address of the bank of that number without a command: the write of an instrument, of which no
-    /// entry tells. So a new journal begins with the memory that is then there, and the old one is handed out. Counts
-    /// stay. It costs a copy of the bank's memory ([`Bank::set`]). Conditions: the bytes lie in that bank
-    /// ([`SingleNode::covers`]), and `fresh` is empty.
+    /// Puts bytes at an address of the bank of that number without a command: an instrument's write, of which no entry
+    /// is made. So a new journal begins with the memory that is then there, and the call hands the old one out. Counts
+    /// stay. It costs a copy of the bank's memory ([`Bank::set`]). The conditions are bytes that lie in that bank
+    /// ([`SingleNode::covers`]), and an empty `fresh`.
     pub fn set_memory(&mut self, k: u8, address: u32, bytes: &[u8], fresh: Journal) -> Journal
         requires inside { covers_in (slice_get self.old.banks k) address (length bytes.now) ≡ true }
         requires empty { fresh.entries ≡ [] }
@@ -273,9 +275,9 @@ impl SingleNode {
         self.banks.bank_mut(k).set(address, bytes, fresh)
     }
 
-    /// Puts bytes at an address of the bank of that number without a command, as [`SingleNode::set_memory`] does, and
-    /// begins a new journal of that room in the memory of the old one, as [`SingleNode::turn`] does. Conditions: the bytes
-    /// lie in that bank ([`SingleNode::covers`]), and a room of 1 to [`SingleNode::room`].
+    /// Puts bytes at an address of the bank of that number without a command, as [`SingleNode::set_memory`] does. It
+    /// begins a new journal of that room in the memory of the old one, as [`SingleNode::turn`] does. The conditions are
+    /// bytes that lie in that bank ([`SingleNode::covers`]), and a room of 1 to [`SingleNode::room`].
     pub fn turn_and_set(&mut self, k: u8, address: u32, bytes: &[u8], room: u32)
         requires inside { covers_in (slice_get self.old.banks k) address (length bytes.now) ≡ true }
         requires some { 1 ≤ room }
@@ -311,12 +313,15 @@ impl SingleNode {
         self.programs.shown(slot).0
     }
 
-    /// Publishes a program for a slot, without a command that asks for it: its generation. The conditions are a slot below 4,
-    /// and a program that was accepted for the maps of the node.
+    /// Publishes a program for a slot, without a command that asks for it, and gives its generation. The conditions are
+    /// a slot below 4, and a program that was accepted for the maps of the node.
     ///
     /// # Errors
     ///
-    /// `GenerationsFull` after 4,294,967,295 publishes, else `Memory` where memory was refused. The node stays.
+    /// - `GenerationsFull` after 4,294,967,295 publishes.
+    /// - Else `Memory` if memory was refused.
+    ///
+    /// The node stays.
     pub fn publish(&mut self, slot: u8, program: Accepted) -> Result<u32, PublishFault>
         requires slot { slot ≤ 3 }
         requires sizes { program.sizes ≡ sizes_of self.old.programs }
@@ -329,8 +334,8 @@ impl SingleNode {
         self.programs.install(slot, program)
     }
 
-    /// Makes the operations of the program of a slot again, in their own memory, of its image: it asks for no memory. While memory
-    /// keeps what was written, nothing changes. The condition is a slot below 4.
+    /// Makes the operations of the program of a slot again, in their own memory, from its image. It asks for no memory.
+    /// While memory keeps what was written, nothing changes. The condition is a slot below 4.
     pub fn renew(&mut self, slot: u8)
         requires { slot < 4 }
         ensures { self.new ≡ self.old }
@@ -338,8 +343,8 @@ impl SingleNode {
         self.programs.renew(slot);
     }
 
-    /// Publishes the program of a slot for it once more, so that it has the next generation: which. It asks for no memory. The
-    /// condition is a slot below 4.
+    /// Publishes the program of a slot for it once more, so that it has the next generation, and gives that. It asks
+    /// for no memory. The condition is a slot below 4.
     ///
     /// # Errors
     ///
@@ -355,8 +360,8 @@ impl SingleNode {
         self.programs.publish_again(slot)
     }
 
-    /// The slot whose program judges the command of a packet that came in at a port. `None` if it is no command, or a check of
-    /// its header stops it. The condition is a port of the node.
+    /// The slot whose program judges the command of a packet that came in at a port. It is `None` if the packet is no
+    /// command, or a check of its header stops it. The condition is a port of the node.
     pub fn slot_for(&self, port: u8, packet: &Packet) -> Option<u8>
         requires { port < length self.now.passes }
         ensures slot { result ≡ slot_in (slice_get self.now.passes port) packet.now }
@@ -366,8 +371,9 @@ impl SingleNode {
         self.ports[usize::from(port)].slot_for(&self.windows, packet)
     }
 
-    /// Answers the command of a packet that no program judges: its reply, a general error, at the front of the room, where the
-    /// rest stays. The number is how many bytes the reply has. Conditions: it is a command, and there is room for any reply.
+    /// Answers the command of a packet that no program judges. It puts the reply, a general error, at the front of the
+    /// room, and the rest stays. The number is how many bytes the reply has. The conditions are a packet that is a
+    /// command, and room for any reply.
     pub fn unread_into(&mut self, packet: &Packet, room: &mut [u8]) -> usize
         requires command { discard_of packet.now.bytes ≡ None }
         requires room { MAX_REPLY ≤ length room.old }
@@ -398,8 +404,8 @@ impl SingleNode {
         self.programs.sizes()
     }
 
-    /// The word of a cell: how many tickets were drawn from it, modulo 2^64, or the greatest number that was shown to it.
-    /// `None` where there is no such cell. It is no call of a program.
+    /// The word of a cell: how many tickets were drawn from it, modulo 2^64, or the greatest number that was shown to
+    /// it. If there is no such cell, it is `None`. It is no call of a program.
     pub fn word(&self, map: u8, key: u16) -> Option<u64>
         ensures value { result ≡ word_in self.now.words map key }
         ensures inside { IsSome result ↔ IsInside (sizes_of self.now.programs) map key }

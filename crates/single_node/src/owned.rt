@@ -7,7 +7,7 @@ ghost use Rattle.single_node.specs.declared.places.Placed.{Placed};
 use crate::publishing::Publishing;
 use std::alloc::AllocError;
 
-/// The program at a place. The condition is a place of one.
+/// The program at a place. The condition is a place that has a program.
 pub(crate) fn own_program(programs: &Vec<Publishing>, place: usize) -> &Publishing
     requires { place < length programs.now.items }
     ensures { slice_get programs.now.items place ≡ Some result.now }
@@ -15,7 +15,7 @@ pub(crate) fn own_program(programs: &Vec<Publishing>, place: usize) -> &Publishi
     &programs[place]
 }
 
-/// Puts a program at a place, and lets the one before it go; at the place behind the last one it is one more.
+/// Puts a program at a place, and drops the one before it. At the place after the last one it is one more.
 #[tactic(auto, using(crate::proofs::Holding::set_there, crate::proofs::Holding::set_other, crate::proofs::Holding::more_there, crate::proofs::Holding::more_other))]
 pub(crate) fn hold(
     programs: &mut Vec<Publishing>,
@@ -36,7 +36,8 @@ pub(crate) fn hold(
     Ok(())
 }
 
-/// Names the slot for which the program at a place is published next. The programs stay. The condition is a place of one.
+/// Names the slot for which the program at a place is published next. The programs stay. The condition is a place that
+/// has a program.
 pub(crate) fn name_slot(programs: &mut Vec<Publishing>, place: usize, slot: u8)
     requires { place < length programs.old.items }
     ensures shown { (s : Placed) → shown_at programs.new.items s ≡ shown_at programs.old.items s }
@@ -46,7 +47,8 @@ pub(crate) fn name_slot(programs: &mut Vec<Publishing>, place: usize, slot: u8)
     programs[place].slot = slot;
 }
 
-/// Makes the operations of the program at a place again, in their own memory, of its image. The condition is a place of one.
+/// Makes the operations of the program at a place again, in their own memory, from its image. The condition is a place
+/// that has a program.
 pub(crate) fn renew_own(programs: &mut Vec<Publishing>, place: usize)
     requires { place < length programs.old.items }
     ensures { (s : Placed) → shown_at programs.new.items s ≡ shown_at programs.old.items s }

@@ -30,8 +30,8 @@ pub(crate) fn placed_at(slots: &[Placed; 4], slot: u8) -> Placed
     slots[usize::from(slot)]
 }
 
-/// The place of the program of a slot. A place that is none of those of the programs may only be damaged: the first one stands for it,
-/// whose sum is another. The conditions are a slot below 4, and a program.
+/// The place of the program of a slot. A place that has no program can only come from damage. Then the first place is
+/// taken, whose program has another sum. The conditions are a slot below 4, and a program.
 pub(crate) fn own_place(programs: &Vec<Publishing>, slots: &[Placed; 4], slot: u8) -> usize
     requires slot { slot < 4 }
     requires some { 0 < length programs.now.items }
@@ -68,7 +68,7 @@ fn has_other(slots: &[Placed; 4], slot: u8, place: usize) -> bool
     is_another(slots, 3, slot, place)
 }
 
-/// The first place whose program no other slot has, or the one behind the last.
+/// The first place whose program no other slot has, or the one after the last.
 #[tactic(auto, using(crate::proofs::Holding::none_behind))]
 pub(crate) fn free_place(programs: &Vec<Publishing>, slots: &[Placed; 4], slot: u8) -> usize
     requires { (k : ℕ) → k < 4 → (placed_at slots.now k).place < length programs.now.items }

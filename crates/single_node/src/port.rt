@@ -25,8 +25,8 @@ use spw::Packet;
 use std::alloc::Global;
 use std::marker::Model;
 
-/// What a port has of its node: its context, what it knows of the list of what was published, a share of each bank, and
-/// its staging.
+/// What a port has of its node: its context, a share of each bank, its staging, and what it knows of what was
+/// published.
 #[derive(Drop)]
 pub(crate) struct SinglePort {
     context: PortContext,
@@ -44,7 +44,7 @@ impl Model for SinglePort {
 }
 
 impl SinglePort {
-    /// A port as it is made.
+    /// A port as the node makes it.
     pub fn new(
         context: PortContext,
         known: ProgramList,
@@ -68,8 +68,8 @@ impl SinglePort {
         &self.staging
     }
 
-    /// The slot whose program judges the command of a packet, under the windows of the node, which are lent. `None` if it is no
-    /// command, or a check of its header stops it.
+    /// The slot whose program judges the command of a packet, under the windows of the node, which are lent. It is
+    /// `None` if the packet is no command, or a check of its header stops it.
     #[tactic(auto, using(crate::proofs::Asked::asked_discarded, crate::proofs::Asked::asked_stopped, crate::proofs::Asked::asked_passed))]
     pub fn slot_for(&self, windows: &Windows, packet: &Packet) -> Option<u8>
         requires { windows.now ≡ self.now.windows }
@@ -107,7 +107,7 @@ impl SinglePort {
         self.context.judge(cells, program, generation, admitted)
     }
 
-    /// Whether there are a bank of that number, among so many, and the port's share of it.
+    /// Whether there are a bank of that number, among that many, and the port's share of it.
     pub fn has_bank(&self, banks: &Banks, k: u8) -> bool
         ensures { result ≡ (nat_lt k (length banks.now) && nat_lt k (length self.now.shares)) }
     {
@@ -134,7 +134,7 @@ impl SinglePort {
         answer_staged(&mut self.staging, judged, reply)
     }
 
-    /// Loads what the port staged, where the verdict on the control write is yes and its body is right, and leaves the
+    /// Loads what the port staged, if the verdict on the control write is yes and its body is right, and leaves the
     /// reply.
     pub fn load(
         &mut self,

@@ -19,8 +19,8 @@ use std::marker::Model;
 /// The most programs that a node owns: one for each slot.
 const MOST: usize = 4;
 
-/// The programs of a node, which of them each slot has, and how many were loaded. A program that several slots have is there once.
-/// Contracts see the list of what was published.
+/// The programs of a node, which of them each slot has, and how many were loaded. A program that several slots have is
+/// there once. Contracts see the list of what was published.
 #[derive(Drop)]
 pub(crate) struct SlotPrograms {
     programs: Vec<Publishing>,
@@ -43,8 +43,12 @@ impl Model for SlotPrograms {
 }
 
 impl SlotPrograms {
-    /// The programs of a fresh node: the factory program in each slot. There is room for one of each slot, so that publishing asks
-    /// for no memory.
+    /// The programs of a fresh node: the factory program in each slot. There is room for one of each slot, so that
+    /// publishing asks for no memory.
+    ///
+    /// # Errors
+    ///
+    /// `AllocError` if memory was refused.
     pub fn first(alloc: Global, factory: Accepted) -> Result<SlotPrograms, AllocError>
         ensures { IfOk result (λ programs. programs ≡ first_programs factory) }
     {
@@ -101,7 +105,8 @@ impl SlotPrograms {
         (&own.program, generation)
     }
 
-    /// Makes the operations of the program of a slot again, in their own memory, of its image. The condition is a slot below 4.
+    /// Makes the operations of the program of a slot again, in their own memory, from its image. The condition is a
+    /// slot below 4.
     pub fn renew(&mut self, slot: u8)
         requires { slot < 4 }
         ensures { self.new ≡ self.old }
@@ -110,12 +115,15 @@ impl SlotPrograms {
         renew_own(&mut self.programs, place);
     }
 
-    /// Publishes a program for a slot: its generation. It takes the place of one that no slot has then. The conditions are a slot
-    /// below 4, and a program that was accepted for the maps of the node.
+    /// Publishes a program for a slot, and gives its generation. It takes the place of one that no slot has then. The
+    /// conditions are a slot below 4, and a program that was accepted for the maps of the node.
     ///
     /// # Errors
     ///
-    /// `GenerationsFull` after 4,294,967,295 publishes, else `Memory` where memory was refused. What is published stays.
+    /// - `GenerationsFull` after 4,294,967,295 publishes.
+    /// - Else `Memory` if memory was refused.
+    ///
+    /// What is published stays.
     pub fn install(&mut self, slot: u8, program: Accepted) -> Result<u32, PublishFault>
         requires slot { slot ≤ 3 }
         requires sizes { program.sizes ≡ sizes_of self.old }
@@ -140,7 +148,7 @@ impl SlotPrograms {
         Ok(generation)
     }
 
-    /// Publishes the program of a slot for it once more: its generation. The condition is a slot below 4.
+    /// Publishes the program of a slot for it once more, and gives its generation. The condition is a slot below 4.
     ///
     /// # Errors
     ///

@@ -1,4 +1,4 @@
-//! The list of what was published. It exists in proofs alone: it has no bytes, and its calls do nothing.
+//! The list of what was published. It exists only in proofs: it has no bytes, and its calls do nothing.
 
 ghost use Rattle.std.specs.Prelude.{◌≡◌, List, []};
 ghost use base.Fml.{ftrue};

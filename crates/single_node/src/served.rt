@@ -20,19 +20,19 @@ use rmap::{Place, ReplyBuf, Windows};
 use spw::Packet;
 use std::alloc::Global;
 
-/// What became of a packet, with the program that judged its command and what it said.
+/// What became of a packet, with the program that judged its command and that program's verdict.
 #[derive(Clone, Copy, Debug, PartialEq, Eq)]
 pub struct Told {
     /// What became of it.
     pub served: Served,
-    /// The generation of the program that judged its command: its place in the list of what was published. 0 where its
-    /// header stopped the packet.
+    /// The generation of the program that judged its command: its place in the list of what was published. If the
+    /// packet's header stopped it, this is 0.
     pub generation: u32,
-    /// The verdict of that program: 0 is yes. 0 where its header stopped the packet.
+    /// The verdict of that program: 0 is yes. If the packet's header stopped it, this is 0 too.
     pub verdict: u64,
 }
 
-/// What is told of a packet that its header stops.
+/// What the node reports of a packet that its header stops.
 fn stopped(stop: Stop) -> Told
     ensures { result ≡ record { served = Stopped stop; generation = 0; verdict = 0 } }
 {
@@ -43,8 +43,9 @@ fn stopped(stop: Stop) -> Told
     }
 }
 
-/// Ends a judged command at the bank of its place, and leaves the reply. What the node knows of its banks may be damaged, so it is
-/// asked here whether there is that bank: a command of another ends with a general error, and leaves no entry.
+/// Ends a judged command at the bank of its place, and leaves the reply. What the node knows of its banks may be
+/// damaged, so the call tests whether there is that bank. If there is none, the command ends with a general error, and
+/// leaves no entry.
 fn end_at(
     banks: &mut Banks,
     port: &mut SinglePort,
@@ -93,8 +94,9 @@ fn end(
     }
 }
 
-/// Serves one packet that came in at a port under the windows of the node, which are lent: the last program that was published for
-/// its slot judges its command, and the verdict is applied to the bank that it names, or to the port's staging, or what is staged there is loaded.
+/// Serves one packet that came in at a port under the windows of the node, which are lent. The last program that was
+/// published for its slot judges its command. Then the verdict is applied to the bank that it names, or to the port's
+/// staging, or what is staged there is loaded.
 pub(crate) fn serve_at(
     alloc: Global,
     windows: &Windows,

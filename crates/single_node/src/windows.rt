@@ -1,4 +1,4 @@
-//! The windows of a node, as its ports know them. They exist in proofs alone: the node has them once, and lends them.
+//! The windows of a node, as its ports know them. They exist only in proofs: the node has them once, and lends them.
 
 ghost use Rattle.std.specs.Prelude.{◌≡◌};
 ghost use base.Fml.{ftrue};

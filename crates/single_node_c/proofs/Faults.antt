@@ -1,4 +1,4 @@
--- Why an image may not judge, and why no node is opened, by what the steps before told.
+-- Why an image may not judge, and why no node is opened, by what the steps before reported.
 use Rattle.std.proofs.Common.{◌≡◌, ℕ, List, refl, subst, sym, Result, Ok, Err, IfErr}
 use Rattle.std.specs.Prelude.{MatchResult}
 use Rattle.bpf.specs.declared.fault.ImageFault.{ImageFault}
@@ -13,7 +13,7 @@ use Rattle.single_node_c.specs.declared.numbers.BankNumbers.{BankNumbers}
 use Rattle.single_node_c.specs.declared.numbers.MapNumbers.{MapNumbers}
 use Rattle.single_node_c.specs.declared.unfit.Unfit.{Unfit}
 
--- by the fault that reading the image told
+-- by the fault that reading the image reported
 pub image_unfit : (maps : Maps) (bytes : List ℕ) (fault : ImageFault) → Fails fault (image_reading bytes)
     → IsImageUnfit maps bytes (unfit_of fault)
 image_unfit maps bytes faults.Memory h = of_memory refl

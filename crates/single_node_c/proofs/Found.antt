@@ -1,4 +1,4 @@
--- What is told of an entry at a place of a journal.
+-- What a call reports of an entry at a place of a journal.
 use Rattle.std.proofs.Common.{◌≡◌, ◌<◌, ℕ, Bool, true, false, List, length, get_or, Option, Some, nat_le, sym, ap, ◌∙◌}
 use Rattle.std.specs.Prelude.{Result, Ok, Err, if◌then◌else◌, slice_get}
 use Rattle.std.proofs.lemmas.Option.{slice_get-get_or}
@@ -13,7 +13,7 @@ by_bank rest none = if none then Err NO_BANK else rest
 abbrev by_entry : EntryValue → Bool → Result EntryValue ℕ
 by_entry entry whole = if whole then Ok entry else Err DAMAGED
 
--- an entry that stands at a place
+-- an entry that is at a place
 pub item_at : (entries : List EntryValue) (place : ℕ) (entry : EntryValue) → place < length entries → entry ≡ get_or entries place entry → slice_get entries place ≡ Some entry
 item_at entries place entry low is = slice_get-get_or entries place entry low ∙ ap (λ (e : EntryValue). Some e) (sym is)
 

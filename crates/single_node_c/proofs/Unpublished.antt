@@ -1,4 +1,4 @@
--- Why a program was not published, by what the node told.
+-- Why a program was not published, by what the node reported.
 use Rattle.std.proofs.Common.{◌≡◌, ◌<◌, ◌≤◌, ◌^◌, ◌⊎◌, ℕ, List, length, refl, sym, ◌∙◌, inl, inr}
 use Rattle.std.proofs.lemmas.Bool.{cases_lt}
 use Rattle.node_programs.specs.Codes.{IsUnpublished as IsFault}

@@ -25,7 +25,7 @@ abbrev pub word : Ptr → ℕ → Val
 word p n = vstruct (vcons (ptr_val p) (vcons (vint w32 n) vnil))
 
 module _ {M : Type 1} {𝓤 : Ura M} {𝓛 : Logic 𝓤} {K : Type 0} {Γ : List (Item 𝓤)} {G : Goal 𝓤 𝓛.H} where
-  -- what the fields say is in the value; what lies behind the pointer is left
+  -- What the fields say is in the value. What the pointer leads to is left.
   pub handle_out : K → (d : Handle) (vs : List Val) → (vs ≡ word d.inside d.live ∷ [] → Seq K 𝓛 (‵ (held mark C d.inside d.live d.kept) ∷ Γ) G) → Seq K 𝓛 (‵ (H.own_val d vs) ∷ Γ) G
   handle_out t d vs k = peeks t H (Is H) (shows 𝓛 H) d vs (λ is. fsplit t $ drop t $ k (lowers.val_is d vs is))
 

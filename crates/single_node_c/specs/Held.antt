@@ -4,25 +4,26 @@ use Rattle.scrub.specs.Guarded.{GuardedValue}
 use Rattle.single_node.specs.Nodes.{SingleNodeValue}
 use Rattle.single_node_c.specs.declared.codes.TheConstants.{OK, NO_MEMORY, NO_NODE}
 
--- what is in `live` of a handle that holds a node. It is not 1, so that memory that was never set to zeros hardly
--- passes for one
+-- What is in `live` of a handle that holds a node. It is not 1, so that memory that was never set to zeros hardly
+-- passes for one.
 abbrev pub mark : ℕ
 mark = 937
 
 -- ---- what a call does
 
--- the code of a call that takes memory: that of the first test that fails; where all hold it is done, or memory was
--- refused
+-- The code of a call that takes memory. It is that of the first test that fails. If all hold, the call is done, or
+-- memory was refused.
 abbrev pub IsCode : (test : Option ℕ) → (code : ℕ) → Type 0
 IsCode (Some fault) code = code ≡ fault
 IsCode None code = (code ≡ OK) ⊎ (code ≡ NO_MEMORY)
 
--- the first test that fails of a call on the node of a handle and what is kept of it: that there is one, then those of it
+-- The first test that fails of a call on the node of a handle and what is kept of it. The first is that there is one,
+-- then come its own.
 abbrev pub guarded_test : Option GuardedValue → (GuardedValue → Option ℕ) → Option ℕ
 guarded_test None test = Some NO_NODE
 guarded_test (Some guarded) test = test guarded
 
--- the same, if the tests are those of the node alone
+-- the same, if the tests are only those of the node
 abbrev pub test_on : Option GuardedValue → (SingleNodeValue → Option ℕ) → Option ℕ
 test_on None test = Some NO_NODE
 test_on (Some guarded) test = test guarded.node
@@ -32,21 +33,21 @@ abbrev pub code_on : Option GuardedValue → (SingleNodeValue → ℕ) → ℕ
 code_on None code = NO_NODE
 code_on (Some guarded) code = code guarded.node
 
--- what is told of the node of a handle, if it holds one
+-- what a call reports of the node of a handle, if it holds one
 abbrev pub IfNode : Option GuardedValue → (SingleNodeValue → Type 0) → Type 0
 IfNode None Tells = Unit {0}
 IfNode (Some guarded) Tells = Tells guarded.node
 
--- the handle held a node and holds one, which stand so to each other, with what is kept of its programs
+-- the handle held a node and holds one, which are in that relation, with what is kept of its programs
 abbrev pub BecomesGuarded : (GuardedValue → GuardedValue → Type 0) → (old new : Option GuardedValue) → Type 0
 BecomesGuarded Relates None new = ⊥
 BecomesGuarded Relates (Some before) None = ⊥
 BecomesGuarded Relates (Some before) (Some after) = Relates before after
 
--- the nodes stand so to each other, and what is kept of their programs is the same
+-- the nodes are in that relation, and what is kept of their programs is the same
 abbrev pub IsBeside : (SingleNodeValue → SingleNodeValue → Type 0) → (before after : GuardedValue) → Type 0
 IsBeside Relates before after = Relates before.node after.node × (after ≡ record before { node = after.node })
 
--- the handle held a node and holds one, which stand so to each other; what is kept of its programs stays
+-- The handle held a node and holds one, which are in that relation. What is kept of its programs stays.
 abbrev pub Becomes : (SingleNodeValue → SingleNodeValue → Type 0) → (old new : Option GuardedValue) → Type 0
 Becomes Relates old new = BecomesGuarded (IsBeside Relates) old new

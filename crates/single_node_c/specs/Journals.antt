@@ -1,4 +1,4 @@
--- What calls on journals tell and do.
+-- What calls on journals report and do.
 use Rattle.std.specs.Prelude.{◌≡◌, ◌+◌, ℕ, List, [], length, nat_le, nat_lt, not, Option, Some, None, Result, Ok, Err, if◌then◌else◌, slice_get}
 use Rattle.bank.specs.Limits.{is_room}
 use Rattle.bank.specs.Records.{BankValue, EntryValue, is_whole}
@@ -14,7 +14,7 @@ use Rattle.single_node_c.specs.declared.numbers.JournalNumbers.{JournalNumbers}
 abbrev pub bank_code : (number : ℕ) → SingleNodeValue → ℕ
 bank_code number node = if nat_le (length node.banks) number then NO_BANK else OK
 
--- how many entries the journal of the bank of that number has, and how many programs were loaded behind the factory
+-- how many entries the journal of the bank of that number has, and how many programs were loaded after the factory
 -- program
 pub record TellsJournal (number : ℕ) (numbers : JournalNumbers) (node : SingleNodeValue) : Type 0 where
   pub bank : BankValue
@@ -48,8 +48,8 @@ room_code (Ok entry) room = if nat_lt room (length entry.packet.bytes) then NO_R
 abbrev pub entry_code : (number place room : ℕ) → SingleNodeValue → ℕ
 entry_code number place room node = room_code (entry_at number place node) room
 
--- the entry at that place of the journal of the bank of that number: its numbers, and its packet at the front of the
--- room, with the rest of the room as before
+-- The entry at that place of the journal of the bank of that number: its numbers, and its packet at the front of the
+-- room. The rest of the room is as before.
 pub record TellsEntry (number place : ℕ) (room left : List ℕ) (numbers : EntryNumbers) (node : SingleNodeValue) : Type 0
   where
     pub entry : EntryValue
@@ -62,8 +62,8 @@ abbrev pub rotate_test : (number room : ℕ) → SingleNodeValue → Option ℕ
 rotate_test number room node =
     if nat_le (length node.banks) number then Some NO_BANK else if not (is_room room) then Some BAD_CONFIG else None
 
--- how many entries the journal of the bank of that number has room for in all, of the node of a handle; 0 where there is
--- no node or no such bank
+-- How many entries the journal of the bank of that number has room for in all, of the node of a handle. If there is no
+-- node or no such bank, it is 0.
 abbrev pub room_at : Option GuardedValue → (number : ℕ) → ℕ
 room_at None number = 0
 room_at (Some guarded) number = room_in (slice_get guarded.node.banks number)

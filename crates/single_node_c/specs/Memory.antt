@@ -1,11 +1,11 @@
--- What calls on the memory of a bank tell and do.
+-- What calls on the memory of a bank report and do.
 use Rattle.std.specs.Prelude.{◌≡◌, ◌<◌, ◌+◌, ℕ, List, length, nat_le, not, Option, Some, None, if◌then◌else◌, slice_get}
 use Rattle.bank.specs.Limits.{is_room}
 use Rattle.bank.specs.Records.{BankValue, byte_in}
 use Rattle.single_node.specs.Nodes.{SingleNodeValue, covers_in}
 use Rattle.single_node_c.specs.declared.codes.TheConstants.{OK, BAD_CONFIG, NO_BANK, NO_ROOM}
 
--- the code of a question for so many bytes from an address on of the bank of that number
+-- the code of a question for that many bytes from an address on of the bank of that number
 abbrev pub peek_code : (number address count : ℕ) → SingleNodeValue → ℕ
 peek_code number address count node =
     if nat_le (length node.banks) number then NO_BANK

@@ -1,4 +1,4 @@
--- The numbers that stand for what a call tells.
+-- The numbers of what a call reports.
 use Rattle.std.specs.Prelude.{ℕ, ◌==◌, if◌then◌else◌, length, List, map, Option, Some, None}
 use Rattle.bank.specs.Records.{EntryValue}
 use Rattle.machine.specs.Sizes.{Maps, listed_maps}
@@ -27,7 +27,7 @@ abbrev pub kind_of_stop : Stop → ℕ
 kind_of_stop (Discarded discard) = DISCARDED
 kind_of_stop (Answered status) = ANSWERED
 
--- the kind of what became of a packet. One that is left unread is answered: its slot is withdrawn
+-- The kind of what became of a packet. One that is left unread is answered: its slot is withdrawn.
 abbrev pub kind_of : Served → ℕ
 kind_of (Stopped stop) = kind_of_stop stop
 kind_of Unread = ANSWERED
@@ -39,22 +39,22 @@ abbrev pub status_of_stop : Stop → ℕ
 status_of_stop (Discarded discard) = discard_code discard
 status_of_stop (Answered status) = status_code status
 
--- the number of a discard, or the status of a reply. That of a packet that is left unread is a general error
+-- The number of a discard, or the status of a reply. That of a packet that is left unread is a general error.
 abbrev pub status_of : Served → ℕ
 status_of (Stopped stop) = status_of_stop stop
 status_of Unread = 1
 status_of (Done applied) = status_code applied.status
 status_of (Window status) = status_code status
 
--- where a packet's command ended: at its bank, in the boot window, or nowhere, where no program judged it
+-- where a packet's command ended: at its bank, in the boot window, or nowhere if no program judged it
 abbrev pub place_of : Served → ℕ
 place_of (Stopped stop) = NOWHERE
 place_of Unread = NOWHERE
 place_of (Done applied) = AT_BANK
 place_of (Window status) = AT_WINDOW
 
--- the numbers of what became of a packet that asks for these parts, with so much room left in its bank's journal and a
--- reply of so many bytes
+-- The numbers of what became of a packet that asks for these parts. Its bank's journal then has that much room left,
+-- and its reply has that many bytes.
 abbrev pub served_numbers : Answer → ServedParts → (room reply_length : ℕ) → ServedNumbers
 served_numbers answer parts room reply_length = record {
   verdict = answer.told.verdict;

@@ -28,12 +28,12 @@ use Rattle.node_parts.specs.declared.config.NodeConfig.{NodeConfig}
 
 -- ---- programs
 
--- the numbers are maps that a node may have: each is of one of the two kinds, and their sizes are in the limits
+-- The numbers are maps that a node may have. Each is of one of the two kinds, and their sizes are in the limits.
 pub record AreMaps (numbers : List MapNumbers) : Type 0 where
   pub kinds : All (λ m. m.peak ≤ 1) numbers
   pub sizes : AreSizes (maps_of numbers)
 
--- the program that the bytes of the image spell was accepted for those maps: it may judge, and is safe
+-- The program that the bytes of the image spell was accepted for those maps. It may judge, and is safe.
 pub record IsAccepted (maps : Maps) (image : List ℕ) (a : AcceptedValue) : Type 0 where
   pub spelled : image ≡ image_bytes a.program
   pub sizes : a.sizes ≡ maps
@@ -47,7 +47,7 @@ pub record IsRefused (maps : Maps) (image : List ℕ) (refused : Refused) : Type
   pub refusal : IsRefusal program refused
   pub unjustified : TellsUnjustified program maps refused
 
--- why an image may not judge whose bytes have that fault
+-- why an image may not judge if its bytes have that fault
 abbrev pub unfit_of : ImageFault → Unfit
 unfit_of faults.Memory = Memory
 unfit_of faults.Magic = Image faults.Magic
@@ -58,8 +58,8 @@ unfit_of faults.Budget = Image faults.Budget
 unfit_of faults.Loop = Image faults.Loop
 unfit_of (faults.Insn slot fault) = Image (faults.Insn slot fault)
 
--- why an image may not judge in a node with those maps: the bytes are no image, and this is their first fault; or they
--- spell a program that the verifier refuses, for another reason than want of memory; or memory was refused
+-- Why an image may not judge in a node with those maps. The bytes are no image, and this is their first fault. Or they
+-- spell a program that the verifier refuses, for another reason than lack of memory. Or memory was refused.
 pub data IsImageUnfit (maps : Maps) (image : List ℕ) (fault : Unfit) : Type 0 where
   of_memory : fault ≡ Memory → IsImageUnfit maps image fault
   of_image : (first : ImageFault) → image_reading image ≡ Err first → fault ≡ Image first
@@ -67,13 +67,13 @@ pub data IsImageUnfit (maps : Maps) (image : List ℕ) (fault : Unfit) : Type 0 
   of_program : (refused : Refused) → IsRefused maps image refused → refused.code ≢ RefusedMemory
       → fault ≡ ProgramUnfit refused → IsImageUnfit maps image fault
 
--- the same in a node with maps of those numbers: they are none that a node may have, which is tested first, or the image
--- may not judge
+-- The same in a node with maps of those numbers. A node may not have these maps, which is tested first, or the image
+-- may not judge.
 pub data IsUnfit (numbers : List MapNumbers) (image : List ℕ) (fault : Unfit) : Type 0 where
   no_maps : (AreMaps numbers → ⊥) → fault ≡ MapsUnfit → IsUnfit numbers image fault
   bad_image : AreMaps numbers → IsImageUnfit (maps_of numbers) image fault → IsUnfit numbers image fault
 
--- the code that stands for it
+-- the code for it
 abbrev pub code_of : Unfit → ℕ
 code_of Memory = NO_MEMORY
 code_of Config = BAD_CONFIG
@@ -93,7 +93,7 @@ why_of MapsUnfit = no_why
 why_of (Image fault) = record { code = image_fault_code fault; slot = image_fault_slot fault }
 why_of (ProgramUnfit refused) = record { code = refusal_code refused.code; slot = refused.slot }
 
--- what is told of an image: its program may judge in a node with those maps, or why it may not
+-- what a call reports of an image: its program may judge in a node with those maps, or why it may not
 pub data TellsFit (numbers : List MapNumbers) (image : List ℕ) (code : ℕ) (why : Why) : Type 0 where
   fit : (a : AcceptedValue) → AreMaps numbers → IsAccepted (maps_of numbers) image a → code ≡ OK → why ≡ no_why
       → TellsFit numbers image code why
@@ -116,20 +116,20 @@ pub record IsOpened (address ports : ℕ) (banks : List BankNumbers) (factory : 
   pub fresh : IsFresh config factory node
   pub within : limit_fault config ≡ None
 
--- why a node is not made of those ports and banks: they are outside their limits, else memory was refused
+-- Why a node is not made of those ports and banks. They are outside their limits, or else memory was refused.
 abbrev pub IsConfigFault : (within : Bool) → Unfit → Type 0
 IsConfigFault true fault = fault ≡ Memory
 IsConfigFault false fault = fault ≡ Config
 
--- why no node is opened: the image may not judge, which is tested first, or no node is made of those ports and banks
+-- Why no node is opened. The image may not judge, which is tested first, or no node is made of those ports and banks.
 pub data IsUnopened (ports : ℕ) (banks : List BankNumbers) (numbers : List MapNumbers) (image : List ℕ)
     (fault : Unfit) : Type 0 where
   no_program : IsUnfit numbers image fault → IsUnopened ports banks numbers image fault
   bad_config : (factory : AcceptedValue) → AreMaps numbers → IsAccepted (maps_of numbers) image factory
       → IsConfigFault (is_config ports banks) fault → IsUnopened ports banks numbers image fault
 
--- the node is a fresh one with that address, those ports and banks, and the program that the image spells, which was
--- accepted for those maps and judges in each slot
+-- The node is a fresh one with that address, those ports and banks, and the program that the image spells. That program
+-- was accepted for those maps and judges in each slot.
 pub record IsMade (address ports : ℕ) (banks : List BankNumbers) (numbers : List MapNumbers) (image : List ℕ)
     (node : SingleNodeValue) : Type 0 where
   pub factory : AcceptedValue
@@ -137,7 +137,8 @@ pub record IsMade (address ports : ℕ) (banks : List BankNumbers) (numbers : Li
   pub accepted : IsAccepted (maps_of numbers) image factory
   pub opened : IsOpened address ports banks factory node
 
--- what is told of an opening: the handle holds the node that was made, with the sums of its programs; or why it holds none
+-- What an opening reports. The handle holds the node that was made, with the sums of its programs, or the call says why
+-- it holds none.
 pub data TellsOpening (address ports : ℕ) (banks : List BankNumbers) (numbers : List MapNumbers) (image : List ℕ)
     (kept : Option GuardedValue) (code : ℕ) (why : Why) : Type 0 where
   opened : (guarded : GuardedValue) → IsMade address ports banks numbers image guarded.node

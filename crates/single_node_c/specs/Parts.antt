@@ -12,7 +12,7 @@ use Rattle.single_node_c.specs.declared.parts.ServedParts.{ServedParts}
 use Rattle.single_node_c.specs.declared.parts.TheConstants.{NO_COMMAND, READ, WRITE, RMW}
 use Rattle.spw.specs.Cargo.{Cargo}
 
--- the number of a kind of command. An unused command code is none
+-- The number of a kind of command. An unused command code is none.
 abbrev pub command_number : Kind → ℕ
 command_number Unused = NO_COMMAND
 command_number Read = READ
@@ -28,7 +28,7 @@ parts_of c = record {
   length = length_of c;
 }
 
--- what is told where there is no command
+-- the parts if there is no command
 abbrev pub no_parts : ServedParts
 no_parts = record { command = NO_COMMAND; extended = 0; address = 0; length = 0 }
 
@@ -49,6 +49,6 @@ abbrev pub parts_unless : Option Discard → CommandValue → ServedParts
 parts_unless None c = parts_of c
 parts_unless (Some discard) c = no_parts
 
--- what a packet asks for: the parts of its command, or zeros where it is none
+-- what a packet asks for: the parts of its command, or zeros if it is none
 abbrev pub served_parts : Cargo → ServedParts
 served_parts p = parts_unless (discard_of p.bytes) (command_of p)

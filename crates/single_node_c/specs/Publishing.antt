@@ -1,4 +1,4 @@
--- What a publish without a packet tells and does.
+-- What a publish without a packet reports and does.
 use Rattle.std.specs.Prelude.{◌≡◌, ◌<◌, ◌≤◌, ◌^◌, ℕ, List, length, Option, None, Some}
 use Rattle.bver.specs.Justified.{AcceptedValue}
 use Rattle.node_programs.specs.Published.{sizes_of}
@@ -12,8 +12,8 @@ use Rattle.single_node_c.specs.declared.publishing.Unpublished.{Unpublished}
 use Rattle.single_node_c.specs.declared.publishing.Unpublished.TheVariants.{Slot, Unfit, Full}
 use Rattle.single_node_c.specs.declared.unfit.Unfit.TheVariants.{Memory}
 
--- the program that the image spells was accepted for the maps of the node, and published for the slot; what is kept of the slot's
--- program, if programs are scrubbed, is that of this one
+-- The program that the image spells was accepted for the maps of the node, and published for the slot. If programs are
+-- scrubbed, what is kept of the slot's program is that of this one.
 pub record IsPublished (slot : ℕ) (image : List ℕ) (before after : GuardedValue) : Type 0 where
   pub program : AcceptedValue
   pub accepted : IsAccepted (sizes_of before.node.programs) image program
@@ -25,7 +25,7 @@ IsUnpublished slot image before Slot = 3 < slot
 IsUnpublished slot image before (Unfit fault) = (slot ≤ 3) × IsImageUnfit (sizes_of before.node.programs) image fault
 IsUnpublished slot image before Full = (slot ≤ 3) × (2 ^ 32 ≤ length before.node.programs)
 
--- the program of the image was published for the slot; or it was not, and nothing was done
+-- The program of the image was published for the slot, or it was not, and nothing was done.
 abbrev pub Publishes : (slot : ℕ) → (image : List ℕ) → Option Unpublished → (before after : GuardedValue) → Type 0
 Publishes slot image None before after = IsPublished slot image before after
 Publishes slot image (Some fault) before after = IsUnpublished slot image before fault × (after ≡ before)
@@ -43,14 +43,14 @@ publish_code (Some Slot) = BAD_SLOT
 publish_code (Some (Unfit fault)) = code_of fault
 publish_code (Some Full) = NO_GENERATION
 
--- what is told of the image
+-- what the call reports of the image
 abbrev pub publish_why : Option Unpublished → Why
 publish_why None = no_why
 publish_why (Some Slot) = no_why
 publish_why (Some (Unfit fault)) = why_of fault
 publish_why (Some Full) = no_why
 
--- that became of the node, with that code, and that was told of the image
+-- that became of the node, with that code, and the call reports that of the image
 pub record AnswersPublish (slot : ℕ) (image : List ℕ) (code : ℕ) (why : Why) (before after : GuardedValue) : Type 0 where
   pub fault : Option Unpublished
   pub done : Publishes slot image fault before after

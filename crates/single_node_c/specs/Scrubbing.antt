@@ -1,4 +1,4 @@
--- What a scrub of a node tells and does.
+-- What a scrub of a node reports and does.
 use Rattle.std.specs.Prelude.{◌≡◌, ◌+◌, ◌==◌, ◌||◌, ℕ, nat_lt, Bool, true, false, if◌then◌else◌, List, Option, None, Some}
 use Rattle.bver.specs.Justified.{AcceptedValue}
 use Rattle.node_programs.specs.Published.{sizes_of}
@@ -52,7 +52,7 @@ Restores image Done before after = IsRestored image before after
 Restores image Nothing before after = after ≡ before
 Restores image Short before after = after ≡ before
 
--- it may be if the scrub left the slot withdrawn, and is not otherwise
+-- It may be published if the scrub left the slot withdrawn, and is not otherwise.
 abbrev pub RestoresIf : Health → List ℕ → Restored → (before after : GuardedValue) → Type 0
 RestoresIf Whole image restored before after = (restored ≡ Nothing) × (after ≡ before)
 RestoresIf Mended image restored before after = (restored ≡ Nothing) × (after ≡ before)
@@ -65,7 +65,7 @@ restored_number Done = 1
 restored_number Nothing = 0
 restored_number Short = 0
 
--- the slot is withdrawn since memory to mend its program was refused
+-- the slot is withdrawn because memory to mend its program was refused
 abbrev pub is_unmended : Health → Bool
 is_unmended Whole = false
 is_unmended Mended = false
@@ -78,12 +78,13 @@ is_window_short window Done = false
 is_window_short window Nothing = is_unmended window
 is_window_short window Short = true
 
--- a slot is withdrawn since memory was refused
+-- a slot is withdrawn because memory was refused
 abbrev pub is_short : Scrubbed → Restored → Bool
 is_short told restored =
     is_unmended told.reads || is_unmended told.writes || is_unmended told.rmws || is_window_short told.window restored
 
--- the slots were scrubbed, and what was found is told; then the slot of the boot window was restored, if it could be
+-- The slots were scrubbed, and the numbers say what was found. Then the slot of the boot window was restored, if it
+-- could be.
 pub record ScrubsAll (image : List ℕ) (numbers : Programs) (before after : GuardedValue) : Type 0 where
   pub told : Scrubbed
   pub between : GuardedValue
@@ -105,11 +106,11 @@ asks what part = (what == part) || (what == ALL)
 abbrev pub scrub_test : Option GuardedValue → (what : ℕ) → ℕ
 scrub_test kept what = code_on kept (λ _. if nat_lt ALL what then NO_PART else OK)
 
--- the code of a scrub that was done, by whether a slot is withdrawn since memory was refused
+-- the code of a scrub that was done, by whether a slot is withdrawn because memory was refused
 abbrev pub short_code : (is_short : Bool) → ℕ
 short_code is_short = if is_short then NO_MEMORY else OK
 
--- of programs that nobody asks for nothing is told
+-- the numbers of programs that nobody asks for
 abbrev pub no_programs : Programs
 no_programs = record { mended = 0; withdrawn = 0; restored = 0; is_short = false }
 
@@ -118,7 +119,8 @@ abbrev pub ScrubsIf : (asked : Bool) → List ℕ → Programs → (before after
 ScrubsIf true image told before after = ScrubsAll image told before after
 ScrubsIf false image told before after = (told ≡ no_programs) × (after ≡ before)
 
--- by whether the sizes have the sum that was kept of them, and the numbers of scrubs before packets agree with their complements
+-- The number of the sizes: whether they have the sum that was kept of them, and the numbers of scrubs before packets
+-- agree with their complements.
 abbrev pub sizes_number : (has_sizes has_counting : Bool) → ℕ
 sizes_number false has_counting = SIZES_DIFFER
 sizes_number true false = COUNT_DIFFERS
@@ -137,7 +139,7 @@ abbrev pub place_number : Option ℕ → ℕ
 place_number None = 0
 place_number (Some place) = place
 
--- the numbers of what was told
+-- the numbers of what a scrub found
 abbrev pub scrubbed_numbers : Programs → (sizes : ℕ) → Broken → ScrubbedNumbers
 scrubbed_numbers programs sizes broken = record {
   first = place_number broken.first;
@@ -150,8 +152,8 @@ scrubbed_numbers programs sizes broken = record {
   unused_half = 0;
 }
 
--- the part of the node was scrubbed: its programs, of which some may be mended or withdrawn; of its sizes and journals it is
--- told what is not as it was. The code is want of memory exactly if a slot is withdrawn for that
+-- The part of the node was scrubbed. Its programs may be mended or withdrawn. Of its sizes and journals the numbers say
+-- what is not as it was. The code is lack of memory exactly if a slot is withdrawn for that.
 pub record ScrubsPart (what : ℕ) (image : List ℕ) (numbers : ScrubbedNumbers) (code : ℕ) (before after : GuardedValue) :
     Type 0 where
   pub programs : Programs

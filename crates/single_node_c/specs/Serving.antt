@@ -14,8 +14,8 @@ use Rattle.spw.specs.declared.packets.TheConstants.{MAX_PACKET}
 use Rattle.node_parts.specs.declared.served.Served.{Served}
 use Rattle.node_parts.specs.declared.served.Served.TheVariants.{Stopped, Unread, Done, Window}
 
--- the first test that fails of a packet of so many bytes with that end, and of the room for its reply: first that of the
--- node's sizes, if packets have scrubs before them
+-- The first test that fails of a packet of that many bytes with that end, and of the room for its reply. If packets
+-- have scrubs before them, the test of the node's sizes is first.
 abbrev pub serve_test : (port size end room : ℕ) → GuardedValue → Option ℕ
 serve_test port size end room g =
     if is_damaged g.guard g.node then Some DAMAGED
@@ -30,16 +30,16 @@ abbrev pub room_of : Option BankValue → ℕ
 room_of None = 0
 room_of (Some bank) = room_left bank.journal
 
--- how many more entries the journal of the bank of that number has room for, behind a command that ended there
+-- how many more entries the journal of the bank of that number has room for, after a command that ended there
 abbrev pub room_behind : Served → (number : ℕ) → SingleNodeValue → ℕ
 room_behind (Stopped stop) number node = 0
 room_behind Unread number node = 0
 room_behind (Done applied) number node = room_of (slice_get node.banks number)
 room_behind (Window status) number node = 0
 
--- the packet was served at that port as a node whose programs may be scrubbed serves it (`ServesGuarded`), which also says
--- what is in the room. The numbers are those of what became of the packet, of what its command asked for, of what a scrub
--- before it found, and of the room that the journal of its bank then has
+-- The packet was served at that port as a node whose programs may be scrubbed serves it (`ServesGuarded`, also for the
+-- room). The numbers say what became of the packet, what its command asked for, and what a scrub before it found. They
+-- also say which room the journal of its bank then has.
 pub record ServesPacket (port : ℕ) (packet : Cargo) (before after : GuardedValue) (room left : List ℕ)
     (numbers : ServedNumbers) : Type 0 where
   pub answer : Answer

@@ -1,4 +1,4 @@
--- What the call on the word of a cell tells.
+-- What the call on the word of a cell reports.
 use Rattle.std.specs.Prelude.{◌≡◌, ℕ, Option, None, Some}
 use Rattle.plain_cells.specs.Words.{word_in}
 use Rattle.single_node.specs.Nodes.{SingleNodeValue}

@@ -11,13 +11,13 @@ pub const UNSCRUBBED: u8 = 0;
 /// The program that judges the packet is as it was published.
 pub const WHOLE: u8 = 1;
 
-/// It was damaged, and was made again of its image.
+/// It was damaged, and was made again from its image.
 pub const MENDED: u8 = 2;
 
 /// It was damaged and not mended: its slot is withdrawn.
 pub const WITHDRAWN: u8 = 3;
 
-/// The slot where there is none.
+/// The number for no slot.
 pub const NO_SLOT: u8 = 255;
 
 /// The number of how a program was found.

@@ -20,8 +20,9 @@ pub extern "C" fn sandbar_frames_open(alloc: Global, handle: &mut FramesHandle) 
     handle.open(alloc)
 }
 
-/// Takes bytes up to the first that ends a frame, or all of them if none does, and tells how many, and what came. The bytes of a
-/// packet go to the front of the room. It asks for no memory. At any code but `OK` all that was lent is as before.
+/// Takes bytes up to the first that ends a frame, or all of them if none does, and reports how many, and what came. The
+/// bytes of a packet go to the front of the room. It asks for no memory. At any code except `OK` all that was lent is
+/// as before.
 #[unsafe(no_mangle)]
 pub extern "C" fn sandbar_frames_take(
     alloc: Global,
@@ -45,7 +46,7 @@ pub extern "C" fn sandbar_frames_close(alloc: Global, handle: &mut FramesHandle)
     handle.close(alloc)
 }
 
-/// Writes the bytes before a reply of so many bytes in the frame that carries it.
+/// Writes the bytes that come before a reply of that many bytes in the frame that carries it.
 #[unsafe(no_mangle)]
 pub extern "C" fn sandbar_frames_head(reply_length: u32, head: &mut [u8; 12])
     ensures bytes { head.new ≡ head_bytes (record { flag = Last Eop; length = reply_length }) }

@@ -10,10 +10,10 @@ use std::alloc::Global;
 use std::marker::Model;
 use std::ptr::null_mut;
 
-/// What is in `live` where there is a node.
+/// What `live` holds if there is a node.
 const LIVE: u32 = 0x3A9;
 
-/// What C holds of a node. It is all zeros where there is none.
+/// What C holds of a node. It is all zeros if there is none.
 ///
 /// It is not `Drop`: one that is forgotten does not compile.
 #[repr(C)]

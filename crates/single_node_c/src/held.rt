@@ -19,7 +19,7 @@ pub fn take(alloc: Global, handle: &mut Handle) -> Option<Box<GuardedNode>>
     replace(handle, Handle::none()).into_box(alloc)
 }
 
-/// Gives a handle a node; one that it held is ended.
+/// Gives a handle a node. If it held one before, that one is ended.
 pub fn put(alloc: Global, handle: &mut Handle, node: Box<GuardedNode>)
     ensures { handle.new.kept ≡ Some node.value }
 {

@@ -17,7 +17,7 @@ use single_node::SingleNode;
 use spw::put_front;
 use std::alloc::Global;
 
-/// How the journal of a bank stands.
+/// The numbers of the journal of a bank.
 fn journal_of(node: &SingleNode, bank: u8) -> JournalNumbers
     requires { bank < length node.now.banks }
     ensures { TellsJournal bank result node.now }
@@ -29,7 +29,7 @@ fn journal_of(node: &SingleNode, bank: u8) -> JournalNumbers
     }
 }
 
-/// Tells how the journal of a bank stands, where there is that bank: a code.
+/// Reports the numbers of the journal of a bank, if there is that bank, and gives a code.
 fn tell_journal(node: &SingleNode, bank: u8, numbers: &mut JournalNumbers) -> u32
     ensures code { result ≡ bank_code bank node.now }
     ensures told { result ≡ OK → TellsJournal bank numbers.new node.now }
@@ -42,7 +42,7 @@ fn tell_journal(node: &SingleNode, bank: u8, numbers: &mut JournalNumbers) -> u3
     OK
 }
 
-/// Tells how the journal of a bank stands. The node stays as it is.
+/// Reports the numbers of the journal of a bank. The node stays as it is.
 #[unsafe(no_mangle)]
 pub extern "C" fn sandbar_journal_of(
     alloc: Global,
@@ -63,7 +63,11 @@ pub extern "C" fn sandbar_journal_of(
     code
 }
 
-/// The entry at a place of the journal of a bank, or the code that there is none, or that it is not as it was made.
+/// The entry at a place of the journal of a bank.
+///
+/// # Errors
+///
+/// The code that there is no such bank or entry, or that the entry is not as it was made.
 fn entry_at(node: &SingleNode, bank: u8, place: u32) -> Result<&Entry, u32>
     ensures found { MatchResult result (λ entry. entry_at bank place node.now ≡ Ok entry.now)
         (λ code. entry_at bank place node.now ≡ Err code) }
@@ -81,7 +85,7 @@ fn entry_at(node: &SingleNode, bank: u8, place: u32) -> Result<&Entry, u32>
     Ok(entry)
 }
 
-/// Copies an entry, where there is room for its packet: a code.
+/// Copies an entry, if there is room for its packet, and gives a code.
 fn copy_entry(entry: &Entry, room: &mut [u8], numbers: &mut EntryNumbers) -> u32
     ensures code { result ≡ room_code (Ok entry.now) (length room.old) }
     ensures packet { result ≡ OK → room.new ≡ put_front room.old entry.now.packet.bytes }
@@ -98,7 +102,7 @@ fn copy_entry(entry: &Entry, room: &mut [u8], numbers: &mut EntryNumbers) -> u32
     OK
 }
 
-/// Copies the entry at a place of the journal of a bank, where there is one and room for its packet: a code.
+/// Copies the entry at a place of the journal of a bank, if there is one and room for its packet, and gives a code.
 fn tell_entry(
     node: &SingleNode,
     bank: u8,
@@ -118,8 +122,8 @@ fn tell_entry(
 }
 
 /// Reads the entry at a place of the journal of a bank, 0 for the oldest, and copies its packet. The node stays as it
-/// is; at any code but `OK` nothing is written. An entry whose numbers do not agree with their check, or its packet with
-/// its CRCs, is `DAMAGED`.
+/// is. At any code except `OK` nothing is written. If an entry's numbers do not agree with their check, or its packet
+/// with its CRCs, the code is `DAMAGED`.
 #[unsafe(no_mangle)]
 pub extern "C" fn sandbar_entry_at(
     alloc: Global,
@@ -144,8 +148,8 @@ pub extern "C" fn sandbar_entry_at(
     code
 }
 
-/// Begins a new journal of that room at a bank, where it may: a code. It asks for memory only where the room is more than
-/// that of the old journal.
+/// Begins a new journal of that room at a bank, if the room and the bank allow it, and gives a code. It asks for memory
+/// only if the room is more than that of the old journal.
 fn rotate(alloc: Global, node: &mut SingleNode, bank: u8, room: u32) -> u32
     ensures code { IsCode (rotate_test bank room node.old) result }
     ensures turned { room ≤ room_in (slice_get node.old.banks bank) → result ≢ NO_MEMORY }
@@ -169,8 +173,8 @@ fn rotate(alloc: Global, node: &mut SingleNode, bank: u8, room: u32) -> u32
     }
 }
 
-/// Begins a new journal with room for so many entries at a bank: the entries of the old one are gone. Numbers go on. Where
-/// the room is at most that of the old journal it takes no memory.
+/// Begins a new journal with room for that many entries at a bank. The entries of the old one are gone, and numbers go
+/// on. If the room is at most that of the old journal it takes no memory.
 #[unsafe(no_mangle)]
 pub extern "C" fn sandbar_rotate(alloc: Global, handle: &mut Handle, bank: u8, room: u32) -> u32
     ensures code { IsCode (test_on handle.old.kept (rotate_test bank room)) result }

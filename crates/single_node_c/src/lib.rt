@@ -1,7 +1,7 @@
 //! A node of one thread as C programs call it: `include/sandbarstove.h` declares what is exported here.
 //!
-//! C keeps a [`Handle`](handle::Handle), behind which the node is; structs of numbers cross beside it. Each call answers a
-//! code: 0, or why it did nothing.
+//! C keeps a [`Handle`](handle::Handle), which points to the node, and structs of numbers cross beside it. Each call
+//! answers a code: 0, or why it did nothing.
 #![tactic(auto)]
 
 mod codes;

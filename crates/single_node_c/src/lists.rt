@@ -10,7 +10,7 @@ use node_parts::BankConfig;
 /// The most maps that a node has.
 pub const MAX_MAPS: usize = 8;
 
-/// The banks of these numbers, with others behind them up to eight.
+/// The banks of these numbers, with others after them up to eight.
 pub fn banks_of(numbers: &[BankNumbers]) -> [BankConfig; 8]
     requires { length numbers.now ≤ 8 }
     ensures { take (length numbers.now) result ≡ map bank_of numbers.now }
@@ -38,7 +38,7 @@ fn kind_of_map(peak: u16) -> MapKind
     }
 }
 
-/// The maps of these numbers, with others behind them up to eight.
+/// The maps of these numbers, with others after them up to eight.
 pub fn maps_of(numbers: &[MapNumbers]) -> [(u16, MapKind); MAX_MAPS]
     requires { length numbers.now ≤ 8 }
     ensures { take (length numbers.now) result ≡ map map_of numbers.now }

@@ -1,4 +1,4 @@
-//! The memory of the banks, as the instrument reads and writes it beside all commands; and the CRC.
+//! The memory of the banks, as the instrument reads and writes it beside all commands, and the CRC.
 
 ghost use Rattle.std.specs.Prelude.{◌≡◌, ◌≢◌, ◌<◌, ◌≤◌, ◌+◌, ◌^◌, ℕ, Some, length, slice_get, true};
 ghost use Rattle.bank.specs.Records.{byte_in, covers};
@@ -30,7 +30,7 @@ fn covered_bytes_lie_inside(bank: &Bank, address: u32, count: usize)
     let _range = bank.range();
 }
 
-/// The byte of a bank at an address. The condition: the bank has it.
+/// The byte of a bank at an address. The condition is an address that the bank has.
 fn byte_at(bank: &Bank, address: u32) -> u8
     requires first { bank.now.first ≤ address }
     requires end { address < bank.now.first + length bank.now.bytes }
@@ -42,7 +42,7 @@ fn byte_at(bank: &Bank, address: u32) -> u8
     }
 }
 
-/// Copies the bytes of a bank from an address on. The condition: they lie in it.
+/// Copies the bytes of a bank from an address on. The condition is bytes that lie in the bank.
 fn copy_bytes(bank: &Bank, address: u32, bytes: &mut [u8])
     requires { covers bank.now address (length bytes.old) ≡ true }
     ensures length { length bytes.new ≡ length bytes.old }
@@ -55,7 +55,7 @@ fn copy_bytes(bank: &Bank, address: u32, bytes: &mut [u8])
     }
 }
 
-/// Copies the bytes of a bank from an address on, where they lie in it: a code.
+/// Copies the bytes of a bank from an address on, if they lie in it, and gives a code.
 fn peek(node: &SingleNode, bank: u8, address: u32, bytes: &mut [u8]) -> u32
     ensures code { result ≡ peek_code bank address (length bytes.old) node.now }
     ensures told { result ≡ OK → TellsBytes bank address bytes.new node.now }
@@ -95,8 +95,8 @@ pub extern "C" fn sandbar_peek(
     code
 }
 
-/// Puts bytes at an address of a bank, where they lie in it, with a new journal of that room: a code. It asks for memory
-/// only where the room is more than that of the old journal.
+/// Puts bytes at an address of a bank, if they lie in it, with a new journal of that room, and gives a code. It asks
+/// for memory only if the room is more than that of the old journal.
 fn poke(
     alloc: Global,
     node: &mut SingleNode,
@@ -130,8 +130,8 @@ fn poke(
     }
 }
 
-/// Puts bytes at an address of a bank without a command, as the instrument does, and begins a new journal of that room
-/// with the memory that is then there: the entries of the old one are gone. Where the room is at most that of the old
+/// Puts bytes at an address of a bank without a command, as the instrument does. It begins a new journal of that room
+/// with the memory that is then there, and the entries of the old one are gone. If the room is at most that of the old
 /// journal it takes no memory.
 #[unsafe(no_mangle)]
 pub extern "C" fn sandbar_poke(

@@ -57,7 +57,7 @@ pub struct ServedNumbers {
     pub unused_word: u32,
 }
 
-/// An entry of a journal, but for its packet.
+/// An entry of a journal, except its packet.
 #[repr(C)]
 #[derive(Clone, Copy)]
 pub struct EntryNumbers {
@@ -72,7 +72,7 @@ pub struct EntryNumbers {
     pub unused_word: u32,
 }
 
-/// How a journal stands.
+/// The numbers of a journal.
 #[repr(C)]
 #[derive(Clone, Copy)]
 pub struct JournalNumbers {
@@ -81,8 +81,9 @@ pub struct JournalNumbers {
     pub unused: u32,
 }
 
-/// What a scrub found: of programs a bit a slot, and whether the slot of the boot window was given the program that was lent; whether
-/// the sizes are others; of journals a bit a bank, and the place of the first entry that is not whole.
+/// What a scrub found. Of programs it has a bit a slot, and whether the slot of the boot window was given the program
+/// that was lent. It has whether the sizes are others. Of journals it has a bit a bank, and the place of the first
+/// entry that is not whole.
 #[repr(C)]
 #[derive(Clone, Copy)]
 pub struct ScrubbedNumbers {
@@ -150,8 +151,8 @@ fn place_of(served: Served) -> u8
 }
 
 impl ServedNumbers {
-    /// The numbers of what became of a packet that asks for these parts, with so much room left in its bank's journal and
-    /// a reply of so many bytes.
+    /// The numbers of what became of a packet that asks for these parts. Its bank's journal then has that much room
+    /// left, and its reply has that many bytes.
     pub fn of(answer: Answer, parts: ServedParts, room: u32, reply_length: u32) -> ServedNumbers
         ensures { result ≡ served_numbers answer parts room reply_length }
     {

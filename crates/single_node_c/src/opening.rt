@@ -36,7 +36,7 @@ fn sizes_of(numbers: &[MapNumbers]) -> Option<MapSizes>
     MapSizes::with_kinds(&maps[..numbers.len()]).ok()
 }
 
-/// Why an image may not judge whose bytes have that fault.
+/// Why an image may not judge if its bytes have that fault.
 fn unfit_of(fault: ImageFault) -> Unfit
     ensures { result ≡ unfit_of fault }
 {
@@ -64,6 +64,10 @@ fn image_of(alloc: Global, bytes: &[u8]) -> Result<Image, Unfit>
 }
 
 /// The program of an image, accepted for those maps.
+///
+/// # Errors
+///
+/// Why the image may not judge: memory was refused, the bytes are no image, or the verifier refuses the program.
 pub fn program_of(alloc: Global, image: &[u8], sizes: &MapSizes) -> Result<Accepted, Unfit>
     ensures { MatchResult result (IsAccepted sizes.now image.now) (IsImageUnfit sizes.now image.now) }
 {
@@ -87,7 +91,7 @@ fn accepted(alloc: Global, maps: &[MapNumbers], image: &[u8]) -> Result<Accepted
     program_of(alloc, image, &sizes)
 }
 
-/// Tells whether the program of an image may judge in a node with those maps. `why` is written at each code.
+/// Reports whether the program of an image may judge in a node with those maps. `why` is written at each code.
 #[unsafe(no_mangle)]
 pub extern "C" fn sandbar_verify(
     alloc: Global,
@@ -170,8 +174,8 @@ fn made(
     fresh(alloc, address, ports, banks, factory)
 }
 
-/// Opens a node: banks of zeros, and the program of the image in each slot. A handle that holds a node keeps it. `why` is
-/// written at each code but `IS_OPEN`.
+/// Opens a node: banks of zeros, and the program of the image in each slot. A handle that holds a node keeps it. `why`
+/// is written at each code except `IS_OPEN`.
 #[unsafe(no_mangle)]
 pub extern "C" fn sandbar_open(
     alloc: Global,

@@ -54,7 +54,7 @@ fn parts_of(command: &Command) -> ServedParts
 }
 
 impl ServedParts {
-    /// What the packet of these bytes asked for, of which that became: zeros where it was discarded.
+    /// What the packet of these bytes asked for, of which that became. If it was discarded, this is all zeros.
     pub fn of(served: Served, bytes: &[u8], end: End) -> ServedParts
         requires { discard_of bytes.now ≡ discard_in served }
         ensures { result ≡ served_parts (record { bytes = bytes.now; end = end }) }

@@ -64,7 +64,7 @@ fn try_publish(
     Ok(())
 }
 
-/// Publishes the program of an image for a slot of a node: why not, if it was not published.
+/// Publishes the program of an image for a slot of a node, and says why not, if it was not published.
 fn publish(alloc: Global, guarded: &mut GuardedNode, slot: u8, image: &[u8]) -> Option<Unpublished>
     ensures { Publishes slot image.now result guarded.old guarded.new }
 {
@@ -86,7 +86,7 @@ fn publish_code(fault: Option<Unpublished>) -> u32
     }
 }
 
-/// What is told of the image of a publish.
+/// What the call reports of the image of a publish.
 fn publish_why(fault: Option<Unpublished>) -> Why
     ensures { result ≡ publish_why fault }
 {
@@ -96,10 +96,11 @@ fn publish_why(fault: Option<Unpublished>) -> Why
     }
 }
 
-/// Publishes the program of an image for a slot of a node, without a packet: it has the next generation, and judges there from the
-/// next command on. What is kept of it for scrubs is that of the new program. The tests are, in this order, that the node is open,
-/// that there is the slot, and that the image may judge on the node's maps. At another code than `OK` the node stays as it is.
-/// `why` is written at each code but `NO_NODE`.
+/// Publishes the program of an image for a slot of a node, without a packet. The program has the next generation, and
+/// judges there from the next command on. What is kept of the slot for scrubs is then that of the new program.
+///
+/// The tests are, in this order: the node is open, there is the slot, and the image may judge on the node's maps. At
+/// another code than `OK` the node stays as it is. `why` is written at each code except `NO_NODE`.
 #[unsafe(no_mangle)]
 pub extern "C" fn sandbar_publish(
     alloc: Global,

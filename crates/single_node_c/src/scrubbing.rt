@@ -53,7 +53,7 @@ fn withdrawn_bit(health: Health, bit: u8) -> u8
     }
 }
 
-/// Whether a slot is withdrawn since memory to mend its program was refused.
+/// Whether a slot is withdrawn because memory to mend its program was refused.
 fn is_unmended(health: Health) -> bool
     ensures { result ≡ is_unmended health }
 {
@@ -86,9 +86,9 @@ fn withdrawn_bits(told: Scrubbed) -> u8
 pub enum Restored {
     /// Its program is published for that slot.
     Done,
-    /// The slot was not withdrawn, or its program may not judge, or no more programs can be published: nothing changed.
+    /// The slot was not withdrawn, or its program may not judge, or no more programs can be published. Nothing changed.
     Nothing,
-    /// Memory was refused: nothing changed.
+    /// Memory was refused. Nothing changed.
     Short,
 }
 
@@ -129,7 +129,7 @@ fn restored_number(restored: Restored) -> u8
     }
 }
 
-/// Whether the slot of the boot window is withdrawn since memory was refused.
+/// Whether the slot of the boot window is withdrawn because memory was refused.
 fn is_window_short(window: Health, restored: Restored) -> bool
     ensures { result ≡ is_window_short window restored }
 {
@@ -140,7 +140,7 @@ fn is_window_short(window: Health, restored: Restored) -> bool
     }
 }
 
-/// Whether a slot is withdrawn since memory was refused.
+/// Whether a slot is withdrawn because memory was refused.
 fn is_short(told: Scrubbed, restored: Restored) -> bool
     ensures { result ≡ is_short told restored }
 {
@@ -150,8 +150,8 @@ fn is_short(told: Scrubbed, restored: Restored) -> bool
         || is_window_short(told.window, restored)
 }
 
-/// Of the programs of a node what a scrub found, a bit a slot, whether the slot of the boot window was given the program that was
-/// lent, and whether a slot is withdrawn since memory was refused.
+/// What a scrub found of the programs of a node. It has a bit a slot, and whether the slot of the boot window was given
+/// the program that was lent. It also has whether a slot is withdrawn because memory was refused.
 #[derive(Clone, Copy)]
 pub struct Programs {
     mended: u8,
@@ -189,13 +189,14 @@ fn scrub_if(alloc: Global, guarded: &mut GuardedNode, asked: bool, image: &[u8])
     }
 }
 
-/// Where the sizes of a node are others than they were.
+/// The sizes of a node are others than they were.
 pub const SIZES_DIFFER: u8 = 1;
 
-/// Where they are as they were, and a number of scrubs before packets is not.
+/// The sizes are as they were, and a number of scrubs before packets is not.
 pub const COUNT_DIFFERS: u8 = 2;
 
-/// 1 if sizes are asked for and are others than they were, 2 if the numbers of scrubs before packets are, else 0.
+/// If sizes are asked for: 1 if they are others than they were, 2 if only the numbers of scrubs before packets are.
+/// Else 0.
 fn sizes_if(guarded: &GuardedNode, asked: bool) -> u8
     ensures { result ≡ sizes_if asked guarded.now }
 {
@@ -224,7 +225,7 @@ fn broken_if(guarded: &GuardedNode, asked: bool) -> Broken
     }
 }
 
-/// The number of a place, or 0 where there is none.
+/// The number of a place, or 0 if there is none.
 fn place_number(place: Option<usize>) -> u64
     ensures { result ≡ place_number place }
 {
@@ -241,14 +242,14 @@ fn asks(what: u8, part: u8) -> bool
     what == part || what == ALL
 }
 
-/// The code of a scrub, by whether a slot is withdrawn since memory was refused.
+/// The code of a scrub, by whether a slot is withdrawn because memory was refused.
 fn short_code(is_short: bool) -> u32
     ensures { result ≡ short_code is_short }
 {
     if is_short { NO_MEMORY } else { OK }
 }
 
-/// Scrubs a part of a node, and tells what was found: a code.
+/// Scrubs a part of a node, reports what it found, and gives a code.
 fn scrub(
     alloc: Global,
     guarded: &mut GuardedNode,
@@ -274,12 +275,15 @@ fn scrub(
     short_code(programs.is_short)
 }
 
-/// Compares a part of a node with what was kept of it, or all of these.
+/// Compares a part of a node with what was kept of it, or all of these parts.
 ///
-/// Of programs, the operations of that of each slot with the sums that were kept of them. A program that differs is made again of its
-/// image, or its slot is withdrawn. If the slot of the boot window is withdrawn, the program of the image that is lent is published
-/// for it, if it may judge. It asks for memory only for a program that it makes. If a slot is withdrawn since memory was refused, the
-/// code is that, and the rest was done. Of sizes and of journals it tells what differs.
+/// - Of programs, it compares the operations of that of each slot with the sums that were kept of them. If a program
+///   differs, it is made again from its image, or its slot is withdrawn. If the slot of the boot window is withdrawn,
+///   the program of the image that is lent is published for it, if it may judge.
+/// - Of sizes and of journals, it reports what differs.
+///
+/// It asks for memory only for a program that it makes. If a slot is withdrawn because memory was refused, the code
+/// says so, and the rest was done.
 #[unsafe(no_mangle)]
 pub extern "C" fn sandbar_scrub(
     alloc: Global,
@@ -306,8 +310,8 @@ pub extern "C" fn sandbar_scrub(
     code
 }
 
-/// From now on scrubs the program that judges a packet before each packet of so many; before none where it is 0, as in a node
-/// that was opened.
+/// From now on scrubs the program that judges a packet before each packet of that many. If the number is 0, as in a
+/// node that was opened, it scrubs before none.
 #[unsafe(no_mangle)]
 pub extern "C" fn sandbar_scrub_each(alloc: Global, handle: &mut Handle, each: u32) -> u32
     ensures code { result ≡ code_on handle.old.kept (λ _. OK) }

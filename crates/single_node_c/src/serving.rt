@@ -20,7 +20,11 @@ use single_node::SingleNode;
 use spw::{End, MAX_PACKET, Packet};
 use std::alloc::{AllocError, Global};
 
-/// A packet of a copy of the bytes. `AllocError` where memory was refused.
+/// A packet of a copy of the bytes.
+///
+/// # Errors
+///
+/// `AllocError` if memory was refused.
 fn packet_of(alloc: Global, bytes: &[u8], end: End) -> Result<Packet, AllocError>
     requires { length bytes.now ≤ MAX_PACKET }
     ensures { IfOk result (λ packet. packet ≡ record { bytes = bytes.now; end = end }) }
@@ -44,7 +48,7 @@ fn room_of(node: &SingleNode, number: u8) -> u32
     node.bank(number).room_left()
 }
 
-/// How many more entries the journal of the bank of that number has room for, behind a command that ended there.
+/// How many more entries the journal of the bank of that number has room for, after a command that ended there.
 fn room_behind(node: &SingleNode, served: Served, number: u8) -> u32
     ensures { result ≡ room_behind served number node.now }
 {
@@ -76,7 +80,7 @@ fn serve_packet(
     ServedNumbers::of(answer, parts, left, answer.size as u32)
 }
 
-/// Serves the bytes of a packet, where the node may: a code.
+/// Serves the bytes of a packet, if the node may, and gives a code.
 fn serve(
     alloc: Global,
     guarded: &mut GuardedNode,
@@ -116,7 +120,7 @@ fn serve(
     OK
 }
 
-/// Serves a packet, whole, as it came in at a port. At any code but `OK` all that was lent is as before.
+/// Serves a packet, whole, as it came in at a port. At any code except `OK` all that was lent is as before.
 #[unsafe(no_mangle)]
 pub extern "C" fn sandbar_serve(
     alloc: Global,

@@ -15,7 +15,7 @@ pub enum Unfit {
     Memory,
     /// Ports or banks are outside their limits.
     Config,
-    /// The maps are none that a node may have.
+    /// A node may not have these maps.
     Maps,
     /// The bytes are no image.
     Image(ImageFault),
@@ -23,7 +23,7 @@ pub enum Unfit {
     Program(Refused),
 }
 
-/// What is told where there is nothing to tell.
+/// What a call reports if there is no reason.
 pub fn no_why() -> Why
     ensures { result ≡ no_why }
 {
@@ -31,7 +31,7 @@ pub fn no_why() -> Why
 }
 
 impl Unfit {
-    /// The code that stands for it.
+    /// The code for it.
     pub fn code(self) -> u32
         ensures { result ≡ code_of self }
     {

@@ -12,7 +12,7 @@ use crate::held::{put, take};
 use single_node::SingleNode;
 use std::alloc::Global;
 
-/// Tells the word of a cell, where there is that cell: a code.
+/// Reports the word of a cell, if there is that cell, and gives a code.
 fn tell_word(node: &SingleNode, map: u8, cell: u16, word: &mut u64) -> u32
     ensures code { result ≡ word_code map cell node.now }
     ensures told { result ≡ OK → TellsWord map cell word.new node.now }
@@ -27,8 +27,8 @@ fn tell_word(node: &SingleNode, map: u8, cell: u16, word: &mut u64) -> u32
     }
 }
 
-/// Tells the word of a cell: how many tickets were drawn from it, modulo 2^64, or the greatest number that was shown to it.
-/// The node stays as it is.
+/// Reports the word of a cell: how many tickets were drawn from it, modulo 2^64, or the greatest number that was shown
+/// to it. The node stays as it is.
 #[unsafe(no_mangle)]
 pub extern "C" fn sandbar_word(
     alloc: Global,

@@ -104,7 +104,7 @@ highs v = map digit_of (at_even v)
 abbrev lows : List ℕ → List ℕ
 lows v = map digit_of (at_odd v)
 
--- which lanes have the bit that stands for none
+-- which lanes have the bit of a character that is no digit
 abbrev marks : List ℕ → ℕ
 marks xs = mask_l (map (leb 16) xs)
 
@@ -128,7 +128,7 @@ no_marks (a ∷ b ∷ v) even all =
     let none = no_marks v (omega (arith, even)) all.1.1 in
     ap₂ (λ (mark : Bool) (rest : ℕ). cond mark 1 0 + 2 * rest) (lt-leb 16 (bit_or (digit_of a) (digit_of b)) small) none
 
--- what is tested of the lanes is whether one has a mark
+-- the test of the lanes is whether one has a mark
 marked_lanes : (n : ℕ) (xs : List ℕ) → length xs ≡ n → zip2 leb (replicate n 16) xs ≡ map (leb 16) xs
 marked_lanes zero [] long = refl
 marked_lanes zero (x ∷ xs) long = absurd (omega (arith, long))

@@ -1,4 +1,4 @@
--- The first line of a text, and the lines behind it.
+-- The first line of a text, and the lines after it.
 use Rattle.std.proofs.Common.{◌≡◌, ◌≢◌, ◌<◌, ◌≤◌, ℕ, zero, suc, ◌+◌, ◌-◌, Bool, true, false, cond, List, [], ◌∷◌, length, get_or, take, drop, refl, sym, ap, ap₂, ◌∙◌, subst, arith, eqb-true}
 use Rattle.std.specs.Prelude.{◌==◌, slice_range}
 use Rattle.std.specs.Str.{IsUtf8, IsCharBoundary}
@@ -31,14 +31,14 @@ module _ (text bytes : List ℕ) (end : ℕ) (same : bytes ≡ text) (found : Fe
   feeds : Feeds text end
   feeds = subst (λ (t : List ℕ). Feeds t end) same found
 
-  -- a text is its first line, and the lines behind its line feed
+  -- a text is its first line, and the lines after its line feed
   pub line_cut : (line rest : List ℕ) → line ≡ slice_range text 0 end → rest ≡ drop (end + 1) text → lines_of text ≡ line ∷ lines_of rest
   line_cut line rest front behind =
       let whole : end - 0 ≡ end = omega arith in
       feed_cut end text feeds.0.high (λ i less. false_from_ne_true (get_or text i 0 == 10) (feeds.0.before i (omega arith) less)) feeds.1
       ∙ ap₂ (λ (l r : List ℕ). l ∷ lines_of r) (sym (front ∙ ap (λ n. take n text) whole)) (sym behind)
 
-  -- the text can be cut behind it
+  -- the text can be cut after it
   pub behind_feed : IsUtf8 text → IsCharBoundary text (end + 1)
   behind_feed utf8 =
       let is = eqb-true (get_or text end 0) 10 feeds.1 in

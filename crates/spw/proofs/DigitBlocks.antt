@@ -1,4 +1,4 @@
--- Blocks of digits, and what is behind them.
+-- Blocks of digits, and what is after them.
 use Rattle.std.proofs.Common.{◌≡◌, ℕ, zero, suc, ◌+◌, ◌*◌, ◌/◌, ◌%◌, ◌<◌, ◌≤◌, List, [], ◌∷◌, ◌++◌, length, take, drop, get_or, refl, sym, ap, ◌∙◌, subst, arith, append_assoc, append-nil, Ok, Err}
 use Rattle.std.specs.Prelude.{Result, IfOk}
 use Rattle.std.specs.Char.{digit_value}
@@ -31,7 +31,7 @@ written_both (x ∷ y ∷ a) b even = ap (λ (rest : List ℕ). (digit_value x *
 
 -- ---- block by block
 
--- the front of a word was read: an even number of digits, whose bytes are behind those that were there
+-- the front of a word was read: an even number of digits, whose bytes are after those that were there
 pub record IsRead (front before after : List ℕ) : Type 0 where
   pub even : length front % 2 ≡ 0
   pub digits : AllDigits 16 front
@@ -60,7 +60,7 @@ one_more i blocks before after written new below long is digits same put =
           ∙ ap (λ (w : List ℕ). before ++ w) (sym (written_both front block is.even));
     })
 
--- a block of blocks of digits has digits alone
+-- a block of blocks of digits has only digits
 pub block_digits : (i : ℕ) (blocks : List (List ℕ)) → i < length blocks → AllDigits 16 (concat blocks) → AllDigits 16 (get_or blocks i [])
 block_digits i [] below all = absurd (omega (arith, below))
 block_digits zero (block ∷ blocks) below all = digits_front block (concat blocks) all
@@ -104,7 +104,7 @@ module _ (word rest : List ℕ) (blocks pairs : List (List ℕ)) (cut : blocks �
       second ∙ ap (λ (m : List ℕ). m ++ bytes_written (concat pairs)) first ∙ append_assoc before (bytes_written (concat blocks)) (bytes_written (concat pairs))
       ∙ ap (λ (w : List ℕ). before ++ w) (sym (written_both (concat blocks) (concat pairs) even_front) ∙ ap bytes_written parts)
 
--- what follows of each value follows of what is answered
+-- what follows for each value follows for what is answered
 pub for_ok : {X E : Type 0} {P Q : X → Type 0} (answer : Result X E) → ((x : X) → P x → Q x) → IfOk answer P → IfOk answer Q
 for_ok (Ok x) more is = more x is
 for_ok (Err fault) more is = tt

@@ -27,7 +27,7 @@ with_pair digits pair = bit_or digits (bit_or (digit_of (get_or pair 0 0)) (digi
 
 -- ---- all digits at once
 
--- no digit has the bit that stands for none, so the or of some has it not either
+-- no digit has the bit of a character that is none, so the or of some does not have it either
 pub or_is_digit : (a b : ℕ) → a < 16 → b < 16 → bit_or a b < 16
 or_is_digit a b first second = or_lt 4 a b first second
 
@@ -50,7 +50,7 @@ pub pairs_at : (pairs : List (List ℕ)) → ((i : ℕ) → i < length pairs →
 pairs_at [] each = tt
 pairs_at (pair ∷ pairs) each = (each 0 (omega arith), pairs_at pairs (λ i below. each (suc i) (omega (arith, below))))
 
--- the digits of pairs, joined by or, are below 16 exactly where each of them is a digit
+-- the digits of pairs, joined by or, are below 16 exactly if each of them is a digit
 pub joined_small : (digits : ℕ) (pairs : List (List ℕ)) → ArePairs pairs → digits < 16 → AllDigits 16 (concat pairs) → fold with_pair digits pairs < 16
 joined_small digits [] two small all = small
 joined_small digits ([] ∷ pairs) two small all = absurd (omega (arith, two.0))
@@ -71,7 +71,7 @@ of_joined digits ((a ∷ b ∷ []) ∷ pairs) two below =
     let own = of_or (digit_of a) (digit_of b) first.1 in
     (first.0, (of_digit_of a own.0, (of_digit_of b own.1, later.1)))
 
--- of digits, the bytes of the pairs are those that they write
+-- if all are digits, the bytes of the pairs are those that they write
 pub bytes_are_written : (pairs : List (List ℕ)) → ArePairs pairs → AllDigits 16 (concat pairs) → map byte_of pairs ≡ bytes_written (concat pairs)
 bytes_are_written [] two all = refl
 bytes_are_written ([] ∷ pairs) two all = absurd (omega (arith, two.0))

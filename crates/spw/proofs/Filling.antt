@@ -1,4 +1,4 @@
--- As many bytes as there is room for, behind what is held.
+-- As many bytes as there is room for, after what is held.
 use Rattle.std.proofs.Common.{◌≡◌, ℕ, ◌+◌, ◌-◌, ◌≤◌, ◌<◌, ◌++◌, List, Bool, true, false, ltb, length, take, refl, sym, ap, ◌∙◌, arith}
 use Rattle.std.specs.Prelude.{min}
 use Rattle.std.proofs.lemmas.List.{take_all}

@@ -1,4 +1,4 @@
--- A word decodes exactly where it is an even number of hexadecimal digits, and to what they write.
+-- A word decodes exactly if it is an even number of hexadecimal digits, and to what they write.
 use Rattle.std.proofs.Common.{◌≡◌, ℕ, ◌+◌, ◌*◌, ◌%◌, ◌<◌, ◌≤◌, true, false, ltb, inl, inr, List, [], ◌∷◌, length, Some, Ok, refl, sym, ap, ◌∙◌, arith}
 use Rattle.std.specs.Char.{digit_value}
 use Rattle.std.specs.List.{AllPass}

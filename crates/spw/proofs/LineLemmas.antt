@@ -184,7 +184,7 @@ bad_mark word apart seen line port between last fault parts none =
           none.1 has.mark (snoc_parts between has.between last (word has.mark) heads.1).1,
     ))
 
--- the words of a line are of the form, and so many words between write these bytes
+-- the words of a line are of the form, and that many words between write these bytes
 marked_line : {M : Type 0} (word : M → List ℕ) (line : List ℕ) (port : ℕ) (between : List (List ℕ))
     (last bytes : List ℕ) (mark : M) → AreParts (words_of line) port between last → last ≡ word mark → WriteBytes between bytes
     → IsMarkedLine word line port bytes mark

@@ -25,7 +25,7 @@ module _ (text bytes : List ℕ) (place : ℕ) (same : bytes ≡ text) (found : 
   code : get_or text place 0 ≡ 32
   code = eqb-true (get_or text place 0) 32 placed.1
 
-  -- the text can be cut behind the space
+  -- the text can be cut after the space
   pub behind_space : IsUtf8 text → IsCharBoundary text (place + 1)
   behind_space utf8 = IsCharBoundary-after_ascii text place utf8 placed.0 (omega (arith, code))
 
@@ -37,7 +37,7 @@ module _ (text bytes : List ℕ) (place : ℕ) (same : bytes ≡ text) (found : 
       ∙ ap₂ (λ (xs ys : List ℕ). xs ++ ys) (sym (front ∙ ap (λ n. take n text) whole))
       (drop_more text place 0 placed.0 ∙ ap₂ (λ (c : ℕ) (xs : List ℕ). c ∷ xs) code (sym back))
 
--- the first space is found there: none stands before it
+-- the first space is found there: none is before it
 pub no_space_before : (text bytes : List ℕ) (place : ℕ) → bytes ≡ text → NoneBefore (Passes (is_byte 32) bytes) 0 (length bytes) place
     → (before : List ℕ) → before ≡ slice_range text 0 place → HasNoSpace before
 no_space_before text bytes place same found before front =
@@ -47,7 +47,7 @@ no_space_before text bytes place same found before front =
     let less : i < place = omega (arith, below, length-take-le place text (omega (arith, none.high))) in
     none.before i (omega arith) less (rw (sym (get_or-take place text i 0 less) ∙ is) refl))
 
--- the last space is found there: none stands behind it
+-- the last space is found there: none is after it
 pub no_space_behind : (text bytes : List ℕ) (place : ℕ) → bytes ≡ text → NoneAfter (Passes (is_byte 32) bytes) 0 (length bytes) place
     → (behind : List ℕ) → behind ≡ drop (place + 1) text → HasNoSpace behind
 no_space_behind text bytes place same found behind back =

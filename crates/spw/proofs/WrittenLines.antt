@@ -52,7 +52,7 @@ bytes_at (b ∷ bytes) h (suc i) = bytes_at bytes (All-tail (λ byte. byte < 256
 digits_write : (bytes : List ℕ) → All (λ byte. byte < 256) bytes → IsHex (encode_upper bytes) × (bytes ≡ bytes_written (encode_upper bytes))
 digits_write bytes h = hex_from_decode (encode_upper bytes) bytes (decode_of-encode_upper bytes (bytes_at bytes h))
 
--- the words between the port and the marker: the digits, where there are bytes
+-- the words between the port and the marker: the digits, if there are bytes
 abbrev words_between : List ℕ → List (List ℕ)
 words_between [] = []
 words_between (b ∷ bytes) = encode_upper (b ∷ bytes) ∷ []
@@ -75,7 +75,7 @@ marker_is_kept : (end : End) → filter (λ word. not (eqb (length word) 0)) (ma
 marker_is_kept Eop = refl
 marker_is_kept Eep = refl
 
--- no piece but that of no bytes is empty
+-- only the piece of no bytes is empty
 kept : (d : List ℕ) (bytes : List ℕ) (end : End) → 0 < length d → filter (λ word. not (eqb (length word) 0)) (d ∷ encode_upper bytes ∷ marker_word end ∷ []) ≡ d ∷ (words_between bytes ++ marker_word end ∷ [])
 unfolding encode_with
 kept d [] end some = word_is_kept d ([] ∷ marker_word end ∷ []) some ∙ ap (λ l. d ∷ l) (marker_is_kept end)

@@ -3,8 +3,8 @@ use Rattle.std.specs.Prelude.{◌≡◌, ℕ, ◌+◌, ◌<◌, ◌≤◌, ◌�
 use Rattle.std.specs.List.{concat}
 use Rattle.spw.specs.declared.packets.TheConstants.{MAX_PACKET}
 
--- from what is held the pieces were taken in turn, each where it and what was held are at most 4,200 bytes,
--- and then this is held
+-- From what is held the pieces were taken in turn, and then this is held. Each piece and what was held before had
+-- together at most 4,200 bytes.
 abbrev pub FedFrom : (held : List ℕ) → List (List ℕ) → List ℕ → Type 0
 FedFrom held [] after = after ≡ held
 FedFrom held (piece ∷ pieces) after = (length held + length piece ≤ MAX_PACKET) × FedFrom (held ++ piece) pieces after
@@ -17,11 +17,11 @@ Fed pieces held = FedFrom [] pieces held
 pub record PacketIsJoin : Type 0 where
   -- what is held is the join of the pieces that were taken
   pub join : (pieces : List (List ℕ)) (held : List ℕ) → Fed pieces held → held ≡ concat pieces
-  -- the pieces are all taken exactly where their join is at most 4,200 bytes
+  -- the pieces are all taken exactly if their join is at most 4,200 bytes
   pub taken : (pieces : List (List ℕ)) → Fed pieces (concat pieces) ↔ (length (concat pieces) ≤ MAX_PACKET)
   -- other pieces with the same join are taken too, and give the same
   pub same : (pieces others : List (List ℕ)) (held : List ℕ) → concat pieces ≡ concat others → Fed pieces held
       → Fed others held
-  -- a piece is refused exactly where the join of the pieces up to it is over 4,200 bytes
+  -- a piece is refused exactly if the join of the pieces up to it is over 4,200 bytes
   pub refused : (pieces : List (List ℕ)) (held piece : List ℕ) → Fed pieces held → (MAX_PACKET < length held + length piece)
       ↔ (MAX_PACKET < length (concat (pieces ++ piece ∷ [])))

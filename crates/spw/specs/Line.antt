@@ -12,12 +12,12 @@ use Rattle.spw.specs.declared.faults.LineFault.TheVariants.{NoPort, BadHex, BadM
 use Rattle.spw.specs.declared.packets.End.{End}
 use Rattle.spw.specs.declared.packets.End.TheVariants.{Eop, Eep}
 
--- the lines of a text: a line feed ends a line, and the last may lack its own
+-- The lines of a text. A line feed ends a line, and the last may lack its own.
 abbrev pub lines_of : List ℕ → List (List ℕ)
 lines_of [] = []
 lines_of (byte ∷ bytes) = cond (byte == 10) ([] ∷ lines_of bytes) (onto_first byte (lines_of bytes))
 
--- the words of a line: what stands between its spaces (32), without the empty pieces
+-- the words of a line: what is between its spaces (32), without the empty pieces
 abbrev pub words_of : List ℕ → List (List ℕ)
 words_of line = filter (λ word. not (length word == 0)) (slice_split (λ code. code == 32) line)
 
@@ -61,7 +61,7 @@ bytes_written (high ∷ low ∷ digits) = (digit_value high * 16 + digit_value l
 abbrev pub WriteBytes : List (List ℕ) → List ℕ → Type 0
 WriteBytes words bytes = All IsHex words × (bytes ≡ flat_map bytes_written words)
 
--- the fault of what is not hexadecimal; or memory was refused
+-- the fault of what is not hexadecimal, or memory was refused
 abbrev pub IsHexFault : (hexadecimal : Type 0) → LineFault → Type 0
 IsHexFault hexadecimal fault = (fault ≡ Memory) ⊎ ((fault ≡ BadHex) × ¬ hexadecimal)
 
@@ -82,14 +82,14 @@ pub record AreParts (words : List (List ℕ)) (port : ℕ) (between : List (List
   pub words_are : words ≡ first ∷ (between ++ last ∷ [])
   pub port_written : WritesPort first port
 
--- there is no first word that is a port, or else nothing behind it
+-- there is no first word that is a port, or nothing is after it
 abbrev pub AreNoParts : List (List ℕ) → LineFault → Type 0
 AreNoParts words fault =
     ((fault ≡ NoPort) × ((first : List ℕ) (rest : List (List ℕ)) → words ≡ first ∷ rest → ¬ IsPort first))
     ⊎ ((fault ≡ BadMarker) × ((first : List ℕ) × (words ≡ first ∷ []) × IsPort first))
 
--- the words of a line are a port, hexadecimal words and the word of a mark, and they write this port,
--- these bytes and this mark
+-- The words of a line are a port, hexadecimal words and the word of a mark. They write this port, these bytes and this
+-- mark.
 pub record IsMarkedLine {M : Type 0} (word : M → List ℕ) (line : List ℕ) (port : ℕ) (bytes : List ℕ) (mark : M) : Type 0
   where
     pub first : List ℕ
@@ -104,7 +104,7 @@ pub record IsMarkedLine {M : Type 0} (word : M → List ℕ) (line : List ℕ) (
 abbrev pub IsPacketLine : List ℕ → ℕ → Cargo → Type 0
 IsPacketLine line port cargo = IsMarkedLine marker_word line port cargo.bytes cargo.end
 
--- the line writes a piece of a packet: this port, these bytes, and an end marker where the packet ends with it
+-- the line writes a piece of a packet: this port, these bytes, and an end marker if the packet ends with it
 abbrev pub IsPieceLine : List ℕ → ℕ → List ℕ → Option End → Type 0
 IsPieceLine line port bytes mark = IsMarkedLine mark_word line port bytes mark
 
@@ -146,8 +146,8 @@ HasFault word line BadHex = HasPort line × HasMark word line × ¬ HasHex line
 HasFault word line TooLong = IsTooLong word line
 HasFault word line Memory = ⊥
 
--- what reading a line answers, with its value seen as port, bytes and mark: where memory is not refused,
--- these exactly where the line is of the form with at most 4,200 bytes, and else exactly its fault
+-- What reading a line answers, with its value seen as port, bytes and mark. If memory is not refused, it is these
+-- exactly if the line is of the form with at most 4,200 bytes. Else it is exactly the line's fault.
 pub record IsReading {M X : Type 0} (word : M → List ℕ) (line : List ℕ) (seen : X → ℕ × List ℕ × M)
     (answer : Result X LineFault) : Type 0 where
   pub ok : IfOk answer (λ x. IsMarkedLine word line (seen x).0 (seen x).1 (seen x).2 × (length (seen x).1 ≤ MAX_PACKET))

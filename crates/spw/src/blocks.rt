@@ -8,13 +8,13 @@ ghost use Rattle.spw.specs.Line.{bytes_written};
 
 use std::simd::prelude::*;
 
-/// How many characters are read at a time.
+/// How many characters one step reads.
 pub(crate) const BLOCK: usize = 32;
 
 /// How many bytes they write.
 pub(crate) const WRITTEN: usize = 16;
 
-/// What stands for a character that is no hexadecimal digit: a bit that no digit has.
+/// The value for a character that is no hexadecimal digit: a bit that no digit has.
 const NONE: u8 = 16;
 
 /// What each character is as a hexadecimal digit, in either case, or [`NONE`].
@@ -22,12 +22,12 @@ const NONE: u8 = 16;
 fn digits_of(characters: u8x16) -> u8x16
     ensures { result ≡ map (λ c. min (digit_value c) 16) characters }
 {
-    // Of '0' to '9' 246 to 255, which wrap to 0 to 9, and of no other character below 16.
+    // '0' to '9' become 246 to 255, which wrap to 0 to 9. No other character comes below 16.
     let raised = characters + u8x16::splat(255 - b'9');
     let six = u8x16::splat(6);
     let ten = u8x16::splat(10);
     let number = raised.simd_lt(six).select(six, raised) + ten;
-    // Of 'A' to 'F' in either case 10 to 15, and of no other character below 16.
+    // 'A' to 'F' in either case become 10 to 15. No other character comes below 16.
     let letter = (characters & u8x16::splat(0xDF)) - u8x16::splat(b'A');
     let most = u8x16::splat(245);
     let of_letter = letter.simd_lt(most).select(letter, most) + ten;
@@ -58,8 +58,8 @@ fn lows(first: u8x16, second: u8x16) -> u8x16
     )
 }
 
-/// The bytes that a block of digits writes, or `None` if a character is none: one test serves them all, since no
-/// digit has the bit that stands for none.
+/// The bytes that a block of digits writes, or `None` if a character is no digit. One test serves them all, since no
+/// digit has the bit of [`NONE`].
 #[inline(always)]
 pub(crate) fn block_bytes(block: &[u8; BLOCK]) -> Option<[u8; WRITTEN]>
     ensures { MatchOption result (¬ AllDigits 16 block.now)

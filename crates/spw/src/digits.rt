@@ -12,7 +12,7 @@ ghost use Rattle.spw.specs.declared.blocks.TheConstants.{BLOCK, WRITTEN};
 use crate::blocks::{BLOCK, WRITTEN, block_bytes};
 use std::alloc::AllocError;
 
-/// What stands for a character that is no hexadecimal digit: a bit that no digit has.
+/// The value for a character that is no hexadecimal digit: a bit that no digit has.
 const NONE: u8 = 16;
 
 /// What each character is as a hexadecimal digit, in either case.
@@ -37,7 +37,7 @@ fn digit(character: u8) -> u8
     DIGITS[character as usize]
 }
 
-/// Puts the bytes of a block behind others. The condition is that there is room for them.
+/// Puts the bytes of a block after others. The condition is that there is room for them.
 #[inline(always)]
 fn push_block(bytes: &mut Vec<u8>, block: &[u8; WRITTEN])
     requires { vec_len bytes.old + WRITTEN ≤ vec_capacity bytes.old }
@@ -48,7 +48,7 @@ fn push_block(bytes: &mut Vec<u8>, block: &[u8; WRITTEN])
     bytes.extend_from_slice(block).unwrap();
 }
 
-/// Puts the bytes that blocks of digits write behind others, as far as all characters of a block are digits, and tells
+/// Puts the bytes that blocks of digits write after others, as far as all characters of a block are digits, and says
 /// whether all are. The condition is that there is room for them.
 fn append_blocks(bytes: &mut Vec<u8>, blocks: &[[u8; BLOCK]]) -> bool
     requires { vec_len bytes.old + length blocks.now * WRITTEN ≤ vec_capacity bytes.old }
@@ -67,8 +67,8 @@ fn append_blocks(bytes: &mut Vec<u8>, blocks: &[[u8; BLOCK]]) -> bool
     true
 }
 
-/// Puts the bytes that pairs of digits write behind others, and tells whether all are digits: one test serves
-/// them all, since no digit has the bit that stands for none. The condition is that there is room for them.
+/// Puts the bytes that pairs of digits write after others, and says whether all are digits. One test serves them all,
+/// since no digit has the bit of [`NONE`]. The condition is that there is room for them.
 fn append_pairs(bytes: &mut Vec<u8>, pairs: &[[u8; 2]]) -> bool
     requires { vec_len bytes.old + length pairs.now ≤ vec_capacity bytes.old }
     ensures digits { Decides result (AllDigits 16 (concat pairs.now)) }
@@ -85,8 +85,8 @@ fn append_pairs(bytes: &mut Vec<u8>, pairs: &[[u8; 2]]) -> bool
     digits < NONE
 }
 
-/// Puts the bytes that a word of hexadecimal digits writes behind others, and tells whether it is one: an even number
-/// of digits. If it is none, some of its bytes may be behind them.
+/// Puts the bytes that a word of hexadecimal digits writes after others, and says whether it is one: an even number of
+/// digits. If it is none, some of its bytes may be there.
 pub(crate) fn append_hex(bytes: &mut Vec<u8>, word: &[u8]) -> Result<bool, AllocError>
     ensures hex { IfOk result (λ all. Decides all (IsHex word.now)) }
     ensures bytes { IfOk result (λ all. all ≡ true

@@ -31,8 +31,7 @@ const MEMORY: &str = "\
 The process was refused memory while the line was read.
 Give the process more memory.";
 
-/// Why a packet line was refused. They are tested in the order `NoPort`, `BadMarker`, `BadHex`,
-/// `TooLong`.
+/// Why a packet line was refused. The tests are in the order `NoPort`, `BadMarker`, `BadHex`, `TooLong`.
 #[derive(Clone, Copy, Debug, PartialEq, Eq, Error)]
 pub enum LineFault {
     /// The first word is no port: a decimal number from 0 to 31 without a sign.
@@ -67,7 +66,7 @@ impl LineFault {
         }
     }
 
-    /// The fault of a number, as [`LineFault::code`] gives it. `None` where no fault has it.
+    /// The fault of a number, as [`LineFault::code`] gives it, or `None` if no fault has it.
     pub fn from_code(code: u8) -> Option<LineFault>
         ensures value { result ≡ line_fault_of_code code }
         ensures number { IfSome result (λ fault. line_fault_code fault ≡ code) }

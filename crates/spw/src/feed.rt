@@ -10,8 +10,8 @@ use bytes::BytesMut;
 use std::alloc::{AllocError, Global};
 use std::marker::Model;
 
-/// The bytes of a packet that has not ended yet, in the order of arrival. Room for the longest packet is
-/// taken when it is made, so that a piece needs no memory.
+/// The bytes of a packet that has not ended yet, in the order of arrival. Making it takes room for the longest packet,
+/// so that a piece needs no memory.
 #[derive(Drop)]
 pub struct Feed {
     held: BytesMut,
@@ -34,7 +34,7 @@ impl Feed {
     ///
     /// # Errors
     ///
-    /// Where memory was refused.
+    /// `AllocError` if memory was refused.
     pub fn new(alloc: Global) -> Result<Feed, AllocError>
         ensures { IfOk result (λ f. f ≡ []) }
     {
@@ -49,8 +49,11 @@ impl Feed {
         self.held.is_empty()
     }
 
-    /// Takes a piece: it follows what is held. `TooLong` where they are together more than
-    /// [`MAX_PACKET`] bytes; then what is held stays.
+    /// Takes a piece: it follows what is held.
+    ///
+    /// # Errors
+    ///
+    /// `TooLong` if the two together have more than [`MAX_PACKET`] bytes. What is held stays.
     pub fn piece(&mut self, bytes: &[u8]) -> Result<(), LineFault>
         ensures ok { OnOk result (self.new ≡ self.old ++ bytes.now) }
         ensures too_long { IsErrOf result LineFault.TooLong ↔ (MAX_PACKET < length self.old + length bytes.now) }
@@ -66,7 +69,7 @@ impl Feed {
         Ok(())
     }
 
-    /// Takes as many of the bytes as a packet has room for behind what is held, and drops the others.
+    /// Takes as many of the bytes as a packet has room for after what is held, and drops the others.
     pub fn fill(&mut self, bytes: &[u8])
         ensures filled { self.new ≡ take MAX_PACKET (self.old ++ bytes.now) }
         ensures short { length self.old ≤ MAX_PACKET }
@@ -78,11 +81,11 @@ impl Feed {
         }
     }
 
-    /// Ends the packet: the packet of what is held, with that marker. Nothing is held then.
+    /// Ends the packet: gives the packet of what is held, with that marker. Nothing is held then.
     ///
     /// # Errors
     ///
-    /// Where memory was refused; then what is held stays.
+    /// `AllocError` if memory was refused. What is held stays.
     pub fn close(&mut self, end: End) -> Result<Packet, AllocError>
         ensures ok { IfOk result (λ p. p ≡ record { bytes = self.old; end = end }) }
         ensures empty { OnOk result (self.new ≡ []) }

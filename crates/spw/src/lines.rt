@@ -12,9 +12,13 @@ use std::alloc::{AllocError, Global};
 /// How many ports there are: their numbers are 0 to 31.
 pub const PORTS: u8 = 32;
 
-/// The words of a line: what stands between its spaces.
+/// The words of a line: what is between its spaces.
 ///
-/// More spaces before, between and after the words are allowed; a tab or a carriage return is part of a word.
+/// More spaces before, between and after the words are allowed. A tab or a carriage return is part of a word.
+///
+/// # Errors
+///
+/// `AllocError` if memory was refused.
 pub fn words_of(alloc: Global, line: &str) -> Result<Vec<&str>, AllocError>
     ensures { IfOk result (λ words. map (λ word. word.now) words.items ≡ words_in line.now) }
 {
@@ -23,7 +27,7 @@ pub fn words_of(alloc: Global, line: &str) -> Result<Vec<&str>, AllocError>
         .collect(alloc)
 }
 
-/// The port that a word of one digit writes; `None` of other words.
+/// The port that a word of one digit writes, or `None` for other words.
 #[inline(always)]
 fn port_of_digit(word: &[u8]) -> Option<u8>
     ensures { IfSome result (WritesPort word.now) }
@@ -35,7 +39,11 @@ fn port_of_digit(word: &[u8]) -> Option<u8>
     if port < 10 { Some(port) } else { None }
 }
 
-/// The port that a word writes: a decimal number from 0 to 31 without a sign, or `NoPort`.
+/// The port that a word writes: a decimal number from 0 to 31 without a sign.
+///
+/// # Errors
+///
+/// `NoPort` if the word writes no port.
 pub fn read_port(word: &str) -> Result<u8, LineFault>
     ensures { MatchResult result (WritesPort word.now) (IsNoPort word.now) }
 {
@@ -53,8 +61,12 @@ pub fn read_port(word: &str) -> Result<u8, LineFault>
     }
 }
 
-/// A line taken apart: the port that its first word writes, the text between that word and the last, and the
-/// last word. `NoPort` where the first word writes none, or there is none; `BadMarker` where there is no other.
+/// A line taken apart: the port that its first word writes, the text between that word and the last, and the last word.
+///
+/// # Errors
+///
+/// - `NoPort` if there is no first word, or it writes no port.
+/// - `BadMarker` if there is no other word.
 #[inline(always)]
 fn parts_of(line: &str) -> Result<(u8, &str, &str), LineFault>
     ensures { MatchResult result
@@ -79,7 +91,7 @@ fn end_of(word: &str) -> Result<End, LineFault>
     }
 }
 
-/// What a piece ends in by its last word: a marker, or `None` for `PART`; or `BadMarker`.
+/// What a piece ends in by its last word: a marker, or `None` for `PART`. The error is `BadMarker`.
 #[inline(always)]
 fn mark_of(word: &str) -> Result<Option<End>, LineFault>
     ensures { MatchResult result (λ mark. word.now ≡ mark_word mark) (IsNoMark mark_word word.now) }
@@ -90,7 +102,7 @@ fn mark_of(word: &str) -> Result<Option<End>, LineFault>
     }
 }
 
-/// Puts the bytes that a word of hexadecimal digits writes behind others.
+/// Puts the bytes that a word of hexadecimal digits writes after others.
 fn append_word(bytes: &mut Vec<u8>, word: &str) -> Result<(), LineFault>
     ensures ok { OnOk result
         (IsHex word.now × (bytes.new.items ≡ bytes.old.items ++ bytes_written word.now)) }
@@ -139,13 +151,18 @@ fn packet_bytes(alloc: Global, hex: &str) -> Result<Vec<u8>, LineFault>
 
 /// The port and the packet that a line writes.
 ///
-/// A packet line has words separated by spaces: the port (decimal, 0 to 31), words with an even
-/// number of hexadecimal digits in either case, whose bytes are joined, and `EOP` or `EEP`. More
-/// spaces before, between and after the words are allowed; a tab or a carriage return is part of
-/// a word. Without hexadecimal words the packet is empty.
+/// A packet line has words separated by spaces:
 ///
-/// The faults are tested in this order: `NoPort`, `BadMarker`, `BadHex`, `TooLong`. `Memory` comes
-/// where memory was refused.
+/// - the port (decimal, 0 to 31)
+/// - words with an even number of hexadecimal digits in either case, whose bytes are joined
+/// - `EOP` or `EEP`
+///
+/// More spaces before, between and after the words are allowed. A tab or a carriage return is part of a word. Without
+/// hexadecimal words the packet is empty.
+///
+/// # Errors
+///
+/// They are tested in this order: `NoPort`, `BadMarker`, `BadHex`, `TooLong`. `Memory` comes if memory was refused.
 pub fn read_line(alloc: Global, line: &str) -> Result<(u8, Packet), LineFault>
     ensures { IsReading marker_word line.now (λ r. (r.0, r.1.bytes, r.1.end)) result }
 {
@@ -155,10 +172,12 @@ pub fn read_line(alloc: Global, line: &str) -> Result<(u8, Packet), LineFault>
     Ok((port, Packet::new(bytes, end)?))
 }
 
-/// The port, the bytes and the marker of the piece of a packet that a line writes: a packet line, whose last
-/// word may also be `PART`. Then there is no marker: the packet goes on with the next piece.
+/// The port, the bytes and the marker of the piece of a packet that a line writes. It is a packet line whose last word
+/// may also be `PART`. Then there is no marker, and the packet goes on with the next piece.
 ///
-/// The faults are those of [`read_line`], in its order.
+/// # Errors
+///
+/// Those of [`read_line`], in its order.
 pub fn read_part(alloc: Global, line: &str) -> Result<(u8, Vec<u8>, Option<End>), LineFault>
     ensures { IsReading mark_word line.now (λ r. (r.0, r.1.items, r.2)) result }
 {

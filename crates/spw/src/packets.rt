@@ -38,8 +38,11 @@ impl Model for Packet {
 }
 
 impl Packet {
-    /// The packet of these bytes with this marker; the only fault is `TooLong`, for more than
-    /// [`MAX_PACKET`] bytes.
+    /// The packet of these bytes with this marker.
+    ///
+    /// # Errors
+    ///
+    /// `TooLong` for more than [`MAX_PACKET`] bytes.
     pub fn new(bytes: Vec<u8>, end: End) -> Result<Packet, LineFault>
         ensures ok { IfOk result (λ p. p ≡ record { bytes = bytes.items; end = end }) }
         ensures too_long { IsErrOf result LineFault.TooLong ↔ (MAX_PACKET < length bytes.items) }

@@ -6,7 +6,7 @@ ghost use Rattle.spw.specs.Paths.{behind_path};
 /// The first byte that is no path address (ECSS-E-ST-50-12C, addresses).
 pub const FIRST_LOGICAL: u8 = 32;
 
-/// The bytes behind the path address bytes that come first.
+/// The bytes after the path address bytes that come first.
 pub fn behind_path(bytes: &[u8]) -> &[u8]
     ensures value { result.now ≡ behind_path bytes.now }
     ensures few { length result.now ≤ length bytes.now }

@@ -3,7 +3,7 @@
 ghost use Rattle.std.specs.Prelude.{◌≡◌, ◌≤◌, length};
 ghost use Rattle.spw.specs.Rooms.{put_front};
 
-/// Puts bytes at the front of a room, and leaves what is behind them. The condition is that there is room for them.
+/// Puts bytes at the front of a room, and leaves what is after them. The condition is that there is room for them.
 pub fn put_front(room: &mut [u8], bytes: &[u8])
     requires { length bytes.now ≤ length room.old }
     ensures { room.new ≡ put_front room.old bytes.now }

@@ -6,7 +6,7 @@ ghost use Rattle.spw.specs.Line.{lines_of};
 use memchr::memchr;
 use std::marker::Model;
 
-/// The lines of a text that are still to come, in order. A line feed ends a line, and the last may lack its own; no
+/// The lines of a text that are still to come, in order. A line feed ends a line, and the last may lack its own. No
 /// line has its line feed.
 #[derive(Debug, Drop)]
 pub struct TextLines<'a> {
@@ -41,7 +41,7 @@ impl<'a> Iterator for TextLines<'a> {
     }
 }
 
-/// The first line of a text that is not empty, and what is behind its line feed.
+/// The first line of a text that is not empty, and what is after its line feed.
 fn cut(text: &str) -> (&str, &str)
     ensures { text.now ≢ [] → lines_of text.now ≡ result.0.now ∷ lines_of result.1.now }
 {

@@ -1,4 +1,4 @@
-//! The words of a text: what stands between its spaces.
+//! The words of a text: what is between its spaces.
 
 ghost use Rattle.std.specs.Prelude.{◌≡◌, [], ◌∷◌, ◌++◌, MatchOption};
 ghost use Rattle.spw.specs.Line.{words_of};
@@ -6,7 +6,7 @@ ghost use Rattle.spw.specs.Spaces.{HasNoSpace, IsCut};
 
 use memchr::{memchr, memrchr};
 
-/// A text at its first space: what stands before it and behind it. `None` if it has no space.
+/// A text at its first space: what is before it and after it. It is `None` if the text has no space.
 #[inline(always)]
 fn at_first_space(text: &str) -> Option<(&str, &str)>
     ensures { MatchOption result (HasNoSpace text.now)
@@ -30,7 +30,7 @@ fn at_last_space(text: &str) -> Option<(&str, &str)>
     }
 }
 
-/// The first word of a text and what stands behind it, or `None` where there is no word.
+/// The first word of a text and what is after it, or `None` if there is no word.
 pub fn first_word(text: &str) -> Option<(&str, &str)>
     ensures { MatchOption result (words_of text.now ≡ [])
         (λ r. words_of text.now ≡ r.0.now ∷ words_of r.1.now) }
@@ -49,7 +49,7 @@ pub fn first_word(text: &str) -> Option<(&str, &str)>
     }
 }
 
-/// What stands before the last word of a text, and that word, or `None` where there is no word.
+/// What is before the last word of a text, and that word, or `None` if there is no word.
 #[inline(always)]
 pub(crate) fn last_word(text: &str) -> Option<(&str, &str)>
     ensures { MatchOption result (words_of text.now ≡ [])

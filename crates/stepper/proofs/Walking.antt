@@ -15,7 +15,7 @@ use Rattle.machine.specs.Runs as runs
 use Rattle.stepper.specs.Machine.{MachineValue, state_of, step_of, IsOutcome, IsAsk, IsSameRun}
 use Rattle.stepper.specs.Endings.{answers_of, IsClear, Walk, WalkEnds, WalkTraps, WalkAsks}
 
--- ---- what a outcome tells of the outcome
+-- ---- what an outcome of the machine says of the definition's
 
 outcome_moves : (o : Outcome) (s t : State) → IsOutcome o told.Next s t → o ≡ Next t
 outcome_moves (Next u) s t h = ap Next (sym h.1)
@@ -72,7 +72,7 @@ pub record IsAt (program : Program) (header : Header) (sizes : Maps) (port : ℕ
 pub same_step : (sizes sizes' : Maps) (program program' : Program) (header header' : Header) (s s' : State) → sizes ≡ sizes' → program ≡ program' → header ≡ header' → s ≡ s' → step_with sizes program header s ≡ step_with sizes' program' header' s'
 same_step sizes sizes' program program' header header' s s' e f g h = rw (e, f, g, h) refl
 
--- the question stands after the outcome, which leaves the state
+-- after the outcome, which does not change the state, the machine still asks the question
 pub still_asks : (m after : MachineValue) (asked : Question) → IsOutcome (step_of m) (told.Ask asked) (state_of m) (state_of after) → IsSameRun m after → IsAsk (step_of after)
 still_asks m after asked outcome same =
     let told = outcome_asks _ asked _ _ outcome in
@@ -80,7 +80,7 @@ still_asks m after asked outcome same =
     subst (λ (o : Outcome). IsAsk o) (sym again) tt
 
 module _ (program : Program) (header : Header) (sizes : Maps) (port : ℕ) (answers : List ℕ) where
-  -- the next step, of the program that is run
+  -- the next step of the running program
   here : (n : ℕ) (m : MachineValue) (left : List ℕ) (o : Outcome) → IsAt program header sizes port answers n m left → step_of m ≡ o → step_with sizes program header (state_of m) ≡ o
   here n m left o at e = rw (at.same_program, at.same_header, at.same_sizes) at e
 

@@ -9,15 +9,15 @@ use Rattle.machine.specs.Step.{bytes_at}
 abbrev pub header_in : Memory → Header
 header_in memory = header_of memory.front.now memory.tail.now
 
--- a list of bytes, asked by place
+-- a list of bytes, by place
 abbrev pub bytes_in : List (Option ℕ) → ℕ → Option ℕ
 bytes_in bytes place = slice_index_or bytes place None
 
--- the number of so many bytes at an offset of some lent memory, where they are inside and all set
+-- the number of `bytes` bytes at an offset of some lent memory, if they are inside and all set
 abbrev pub number_seen : Memory → Region → (bytes : ℕ) → (offset : ℤ) → Option ℕ
 number_seen memory region bytes offset =
     bytes_at (header_in memory) (bytes_in memory.stack.now) region bytes (place_of region bytes offset)
 
--- the byte at a place of a region of some lent memory, where there is one
+-- the byte at a place of a region of some lent memory, if there is one
 abbrev pub byte_seen : Memory → Region → ℕ → Option ℕ
 byte_seen memory region place = byte_of (header_in memory) (bytes_in memory.stack.now) region place

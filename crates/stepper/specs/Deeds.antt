@@ -19,7 +19,7 @@ use Rattle.machine.specs.State.{State, state, register_after}
 use Rattle.machine.specs.Step.{Outcome, Next, Ask, Verdict, Trap, question, after_answer, argument_of, asks, calls}
 use Rattle.machine.specs.Step.{has_kind, is_cell, finds_cell, perform, finds_maps, writes}
 
--- a list of values, asked by register
+-- a list of values, by register
 abbrev pub registers_in : List Value → ℕ → Value
 registers_in registers k = slice_index_or registers k Unset
 
@@ -42,7 +42,7 @@ outcome_of s deeds.Trap = Trap
 abbrev pub outcome_in : Frame → Deed → Outcome
 outcome_in frame deed = outcome_of (state_in frame) deed
 
--- the deed writes the register, so many slots further
+-- the deed writes the register, and the next instruction is `slots` slots further
 abbrev pub Writes : Frame → (register : ℕ) → Option Value → (slots : ℕ) → Deed → Type 0
 Writes frame register value slots deed =
     outcome_in frame deed ≡ writes (state_in frame) (frame.slot + slots) register value
@@ -52,7 +52,7 @@ abbrev pub Does : Frame → Insn → Deed → Type 0
 Does frame insn deed =
     outcome_in frame deed ≡ perform (header_in frame.memory) (state_in frame) insn
 
--- what it writes is there: the next slot is near, and the bytes lie in the stack
+-- a deed's place is there: the next slot is near, and the bytes that it writes lie in the stack
 abbrev pub IsPlaced : Deed → Type 0
 IsPlaced (deeds.Write register value slots) = slots ≤ 2
 IsPlaced (deeds.Put place bytes number) = place + bytes ≤ STACK_SIZE
@@ -61,7 +61,7 @@ IsPlaced (deeds.Ask asked) = Unit {0}
 IsPlaced (deeds.Verdict verdict) = Unit {0}
 IsPlaced deeds.Trap = Unit {0}
 
--- the place in the stack of the first of so many bytes at that distance from a pointer, where all of them lie there
+-- the place in the stack of the first of `bytes` bytes at that distance from a pointer, if all of them lie there
 abbrev pub stored_at : (base : Value) → (bytes : ℕ) → (distance : ℤ) → Option ℕ
 stored_at Unset bytes distance = None
 stored_at (Num n) bytes distance = None
@@ -70,7 +70,7 @@ stored_at (Ptr Tail offset) bytes distance = None
 stored_at (Ptr Stack offset) bytes distance = place_of Stack bytes (offset +ℤ distance)
 stored_at (Map index) bytes distance = None
 
--- the question of a helper for a key of a map, where that is of a kind of which it may be asked
+-- the question of a helper for a key of a map, if the map is of a kind of which the helper may be asked
 abbrev pub asks_of : (sizes : Maps) → State → Helper → (map key : ℕ) → Outcome
 asks_of sizes s helper map key =
     if takes_kind helper (kind_of_map sizes map)

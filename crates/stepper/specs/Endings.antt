@@ -11,7 +11,7 @@ use Rattle.machine.specs.Step.{Trap, step_with}
 use Rattle.stepper.specs.Machine.{MachineValue, IsAsk, state_of}
 use Rattle.machine.specs.Runs.{Path, entry, moves, answered, Runs}
 
--- the answers that were given, in order
+-- the answers of the calls, in order
 abbrev pub answers_of : List Call → List ℕ
 answers_of calls = map (λ c. c.answer) calls
 
@@ -24,7 +24,7 @@ IsClear sizes program header port _ _ _ (moves {s = s} path next) =
 IsClear sizes program header port _ _ _ (answered {s = s} answer path asks small) =
     IsClear sizes program header port _ _ s path × (step_with sizes program header s ≢ Trap)
 
--- a path of so many steps, whose helpers had the first of the given answers
+-- a path of `n` steps, whose helpers had the first of the given answers
 pub record Walk (program : Program) (header : Header) (sizes : Maps) (port : ℕ) (answers : List ℕ) (n : ℕ) : Type 0
   where
     pub calls : List Call
@@ -65,8 +65,8 @@ pub record WalkAsks (program : Program) (header : Header) (sizes : Maps) (port :
   pub question : IsAsk (step_with sizes program header last)
   pub within : n < limit
 
--- how a walk of at most so many steps ends: by a verdict, a trap, a question without an answer, or the end of
--- its steps
+-- how a walk of at most `limit` steps ends: by a verdict, a trap, a question without an answer, or the end of its
+-- steps
 abbrev pub IsEnding : (program : Program) (header : Header) (sizes : Maps) (port : ℕ) (answers : List ℕ) (limit : ℕ)
     → Ending → Type 0
 IsEnding program header sizes port answers limit (endings.Verdict verdict) =
@@ -75,7 +75,7 @@ IsEnding program header sizes port answers limit endings.Trap = WalkTraps progra
 IsEnding program header sizes port answers limit endings.Unanswered = WalkAsks program header sizes port answers limit
 IsEnding program header sizes port answers limit endings.OutOfSteps = Walk program header sizes port answers limit
 
--- how a walk ends that begins where the machine stands: at the entry, whatever the port
+-- how a walk from the machine's state ends; the machine is at the entry, and the port may be any
 abbrev pub EndsFrom : MachineValue → (answers : List ℕ) → (limit : ℕ) → Ending → Type 0
 EndsFrom m answers limit ending =
     (port : ℕ) → state_of m ≡ entry_state port → IsEnding m.program m.header m.sizes port answers limit ending

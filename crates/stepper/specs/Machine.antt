@@ -1,4 +1,4 @@
--- What a slow machine holds, and what its steps come to.
+-- What a slow machine holds, and what its steps do.
 use Rattle.std.specs.Prelude.{◌≡◌, ℕ, List, Option}
 use Rattle.bpf.specs.Program.{Program}
 use Rattle.machine.specs.declared.values.Value.{Value}
@@ -26,7 +26,7 @@ pub record MachineValue : Type 0 where
 abbrev pub state_with : ℕ → List Value → List (Option ℕ) → State
 state_with slot registers stack = state slot (registers_in registers) (bytes_in stack)
 
--- the state in which the machine stands
+-- the state of the machine
 abbrev pub state_of : MachineValue → State
 state_of m = state_with m.slot m.registers m.stack
 
@@ -34,14 +34,15 @@ state_of m = state_with m.slot m.registers m.stack
 abbrev pub step_of : MachineValue → Outcome
 step_of m = step_with m.sizes m.program m.header (state_of m)
 
--- what a machine tells of an outcome of the definition, and the state after it: as it was, where it is not the next one
+-- What a machine reports of an outcome of the definition, and the state after it. If the outcome is not the next
+-- state, the state is as before.
 abbrev pub IsOutcome : Outcome → outcomes.Outcome → (before after : State) → Type 0
 IsOutcome (Next t) outcome before after = (outcome ≡ told.Next) × (after ≡ t)
 IsOutcome (Ask asked on) outcome before after = (outcome ≡ told.Ask asked) × (after ≡ before)
 IsOutcome (Verdict verdict) outcome before after = (outcome ≡ told.Verdict verdict) × (after ≡ before)
 IsOutcome Trap outcome before after = (outcome ≡ told.Trap) × (after ≡ before)
 
--- what a machine tells of a deed that was done
+-- what a machine reports of a deed that was done
 abbrev pub IsOutcomeOf : Deed → outcomes.Outcome → (before after : State) → Type 0
 IsOutcomeOf deed outcome before after = IsOutcome (outcome_of before deed) outcome before after
 

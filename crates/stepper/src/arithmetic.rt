@@ -8,7 +8,7 @@ ghost use Rattle.machine.specs.Step.{number, number_result, copied_value, moved_
 use bpf_insn::{AluOp, Extension, Swap, SwapBits, Width};
 use machine::{Region, Value, alu_words, low_part, negation, sign_extension, swapped_bytes};
 
-/// The number that a value is. `None` for another kind of value.
+/// The number that a value is, or `None` for another kind of value.
 pub fn number(value: Value) -> Option<u64>
     ensures { result ≡ number value }
 {
@@ -32,7 +32,7 @@ fn copied_value(width: Width, value: Value) -> Option<Value>
     }
 }
 
-/// What an operation does whose destination it may not read: only MOV does anything.
+/// What an operation does whose destination may not be a number: only MOV gives anything.
 fn moved_value(op: AluOp, width: Width, value: Value) -> Option<Value>
     ensures { result ≡ moved_value op width value }
 {

@@ -23,13 +23,13 @@ use machine::{
 /// What an instruction does.
 #[derive(Clone, Copy)]
 pub enum Deed {
-    /// The register is written, and the next instruction is so many slots further.
+    /// Writes the register; the next instruction is `slots` slots further.
     Write {
         register: Register,
         value: Value,
         slots: u32,
     },
-    /// So many low bytes of the number go to the stack from the place on.
+    /// Writes the low bytes of the number to the stack from the place.
     Put {
         place: usize,
         bytes: usize,
@@ -79,7 +79,7 @@ fn operand(frame: Frame<'_>, src: &Operand) -> Value
     }
 }
 
-/// The register is written, unless there is no value, or the register is r10.
+/// The write of a register. It is a trap if there is no value, or if the register is r10.
 fn write(frame: Frame<'_>, register: Register, value: Option<Value>, slots: u32) -> Deed
     requires { slots ≤ 2 }
     ensures outcome { Writes frame.entry register value slots result }
@@ -119,7 +119,7 @@ fn reorder(frame: Frame<'_>, swap: Swap, bits: SwapBits, dst: Register) -> Deed
     write(frame, dst, byte_swap(swap, bits, value_of(frame, dst)), 1)
 }
 
-/// The next instruction is at the target, unless that is before the code.
+/// The next instruction is at the target. It is a trap if that is before the code.
 fn land(frame: Frame<'_>, target: i64) -> Deed
     requires { target <ℤ pos (2 ^ 32) }
     ensures outcome { outcome_in frame.entry result ≡ lands (state_in frame.entry) target }
@@ -132,7 +132,7 @@ fn land(frame: Frame<'_>, target: i64) -> Deed
     }
 }
 
-/// A jump by so many slots from the next one.
+/// A jump by this distance in slots from the next one.
 fn jump(frame: Frame<'_>, offset: i32) -> Deed
     requires { frame.slot < MAX_SLOTS }
     ensures outcome { outcome_in frame.entry result ≡ jumps (state_in frame.entry) offset }
@@ -141,7 +141,7 @@ fn jump(frame: Frame<'_>, offset: i32) -> Deed
     land(frame, i64::from(frame.slot) + 1 + i64::from(offset))
 }
 
-/// A jump where the condition holds of a register and a source, which must be numbers.
+/// A jump if the condition holds of a register and a source, which must be numbers.
 fn compare(frame: Frame<'_>, comparison: &Comparison, offset: i16) -> Deed
     requires { frame.slot < MAX_SLOTS }
     ensures outcome { Does frame.entry (Insn.Jump comparison.now offset) result }
@@ -195,8 +195,8 @@ fn load_into(frame: Frame<'_>, size: LoadSize, dst: Register, place: &MemoryOper
     write(frame, dst, value, 1)
 }
 
-/// The place in the stack of the first of so many bytes at that distance from a pointer. `None` where that is no pointer
-/// into the stack, or the bytes are not wholly inside.
+/// The place in the stack of the first of `bytes` bytes at that distance from a pointer. It is `None` if the base is
+/// no pointer into the stack, or if the bytes are not wholly inside.
 pub fn stored_at(base: Value, bytes: usize, distance: i16) -> Option<usize>
     requires few { bytes ≤ 8 }
     requires near { IsNear (2 ^ 126) base }
@@ -232,7 +232,7 @@ fn store(frame: Frame<'_>, size: Size, place: &MemoryOperand, src: &Operand) -> 
     }
 }
 
-/// A map by its index, where there is one.
+/// A map by its index, if there is one.
 fn map_at(sizes: &MapSizes, index: i32) -> Option<Value>
     ensures { result ≡ (if is_map sizes.now index then map_at index else None) }
 {
@@ -243,7 +243,7 @@ fn map_at(sizes: &MapSizes, index: i32) -> Option<Value>
     }
 }
 
-/// The key, where the map has it.
+/// The key, if the map has it.
 fn key_in(sizes: &MapSizes, map: u8, key: u64) -> Option<u16>
     ensures { result ≡ (if nat_lt key (slice_index sizes.now.cells map) then Some key else None) }
 {
@@ -259,7 +259,7 @@ fn key_in(sizes: &MapSizes, map: u8, key: u64) -> Option<u16>
     }
 }
 
-/// Of which kind the map is.
+/// The kind of the map.
 fn kind_of(sizes: &MapSizes, map: u8) -> MapKind
     ensures { result ≡ kind_of_map sizes.now map }
 {
@@ -276,7 +276,7 @@ fn takes_map(sizes: &MapSizes, helper: Helper, map: u8) -> bool
     kind_of(sizes, map).takes(helper)
 }
 
-/// The argument of a helper: a number in r3, where it takes one. The others have 0.
+/// The argument of a helper: a number in r3, if it takes one. The others have 0.
 fn argument(frame: Frame<'_>, helper: Helper) -> Option<u64>
     ensures { result
         ≡ argument_of helper (slice_index_or frame.entry.registers.now 3 Value.Unset) }

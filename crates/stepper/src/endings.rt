@@ -18,7 +18,7 @@ pub enum Ending {
     Trap,
     /// A helper asked, and no answer was left.
     Unanswered,
-    /// The limit of steps was reached.
+    /// The run reached the limit of steps.
     OutOfSteps,
 }
 
@@ -46,8 +46,8 @@ fn walk(mut machine: Machine<'_>, answers: &[u64], limit: u32) -> Ending
     Ending::OutOfSteps
 }
 
-/// Runs a program on a command's header and a port, with maps of these sizes, for at most `limit`
-/// steps, of which EXIT is one. The helpers' questions get the answers in order.
+/// Runs a program on a command's header and a port, with maps of these sizes. It makes at most `limit` steps, of
+/// which EXIT is one. The helpers' questions get the answers in order.
 pub fn run(
     image: &Image,
     sizes: &MapSizes,

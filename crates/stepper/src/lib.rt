@@ -1,8 +1,8 @@
 //! A plain interpreter that computes the definition of the machine step by step, and shows what each step changed.
 //!
-//! Every value is tagged with its kind, and every trap is told. It is written to be read beside RFC 9669
-//! and to be compared with, not to be fast: what judges a command is `brun`. `MachineValue` in `specs/` says what its
-//! steps come to, and `Endings` what its runs do.
+//! Every value is tagged with its kind, and every trap is reported. The interpreter is for reading beside RFC 9669
+//! and for comparison, and is not fast: `brun` judges commands. `MachineValue` in `specs/` says what its steps do,
+//! and `Endings` what its runs do.
 #![tactic(auto)]
 
 mod arithmetic;

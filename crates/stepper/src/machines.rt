@@ -23,8 +23,8 @@ use bpf_insn::{
 use machine::{Helper, MapSizes, Region, STACK_SIZE, Value, steps_perform, word};
 use std::marker::Model;
 
-/// A program that is run one instruction at a time, with every value tagged by its kind and every trap
-/// told. It is written to be read beside RFC 9669, not to be fast.
+/// A run of a program, one instruction at a time. Every value is tagged with its kind, and every trap is reported. It
+/// is for reading beside RFC 9669, and is not fast.
 #[derive(Drop)]
 pub struct Machine<'a> {
     image: &'a Image,
@@ -72,7 +72,7 @@ fn is_helper_in(version: Version, number: i32) -> bool
     }
 }
 
-/// Whether a version of the format knows the instruction: a helper that is called is one that it has.
+/// Whether a version of the format knows the instruction. If it calls a helper, the version must have that helper.
 fn is_known(version: Version, insn: &Insn) -> bool
     ensures { result ≡ knows_flow version (flow_of insn.now) }
 {
@@ -82,8 +82,8 @@ fn is_known(version: Version, insn: &Insn) -> bool
     }
 }
 
-/// The registers at entry: r1 and r2 point to the parts of the header, r3 is the port, r10 points to
-/// the end of the stack.
+/// The registers at entry: r1 and r2 point to the parts of the header, and r10 to the end of the stack. The port is
+/// in r3.
 fn entry_registers(port: u8) -> [Value; REGISTERS]
     ensures value { registers_in result ≡ entry_register port }
     ensures near { AreNear 0 result }
@@ -137,7 +137,7 @@ impl<'a> Machine<'a> {
         }
     }
 
-    /// How many steps were made.
+    /// How many steps the machine made.
     pub fn steps(&self) -> u32
         ensures { result ≡ self.now.steps }
     {
@@ -158,14 +158,14 @@ impl<'a> Machine<'a> {
         self.slot
     }
 
-    /// The next instruction. `None` where none begins at the machine's slot.
+    /// The next instruction, or `None` if none begins at the machine's slot.
     pub fn insn(&self) -> Option<Insn>
         ensures { result ≡ insn_at self.now.program self.now.slot }
     {
         fetch(self.image, self.slot)
     }
 
-    /// What an operand is: a register's value, or the immediate.
+    /// The value of an operand: a register's value, or the immediate.
     pub fn operand(&self, src: &Operand) -> Value
         ensures { result ≡ operand (state_of self.now) src.now }
     {
@@ -175,8 +175,8 @@ impl<'a> Machine<'a> {
         }
     }
 
-    /// The place of the first byte that a store of this size writes there, counted from the stack's first byte. `None`
-    /// where its base is no pointer into the stack, or the bytes are not wholly inside.
+    /// The place of the first byte that a store of this size writes there, counted from the stack's first byte. It is
+    /// `None` if its base is no pointer into the stack, or if the bytes are not wholly inside.
     pub fn stored(&self, size: Size, place: &MemoryOperand) -> Option<usize>
         ensures value { result
             ≡ stored_at ((state_of self.now).registers place.now.base)
@@ -187,8 +187,8 @@ impl<'a> Machine<'a> {
         stored_at(base, size.bytes(), place.offset)
     }
 
-    /// Makes a step: what the instruction at the machine's slot does. Where it is not `Outcome::Next`, the
-    /// registers and the stack stay as they were.
+    /// Makes a step: what the instruction at the machine's slot does. If the outcome is not `Outcome::Next`, the
+    /// registers and the stack stay as before.
     pub fn step(&mut self) -> Outcome
         requires { self.old.steps + 1 < 2 ^ 32 }
         ensures outcome { IsOutcome (step_of self.old) result (state_of self.old) (state_of self.new) }
@@ -219,7 +219,7 @@ impl<'a> Machine<'a> {
         apply(&mut self.slot, &mut self.registers, &mut self.stack, deed)
     }
 
-    /// Answers the question at which the machine stands: the answer is in r0, and r1 to r5 are unset.
+    /// Answers the question that the machine asks: the answer is in r0, and r1 to r5 are unset.
     pub fn answer(&mut self, answer: u64)
         requires { IsAsk (step_of self.old) }
         ensures state { state_of self.new ≡ after_answer (state_of self.old) answer }

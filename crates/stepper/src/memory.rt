@@ -15,8 +15,8 @@ pub struct Memory<'a> {
     pub stack: &'a [Option<u8>; STACK_SIZE],
 }
 
-/// The place of the first byte of an access, counted from the region's first byte. `None` where the
-/// access is not wholly inside.
+/// The place of the first byte of an access, counted from the region's first byte. It is `None` if the access is not
+/// wholly inside.
 pub fn place_of(region: Region, bytes: usize, offset: i128) -> Option<usize>
     requires few { bytes ≤ 8 }
     requires near { unsigned_abs offset ≤ 2 ^ 126 + 2 ^ 15 }
@@ -34,7 +34,7 @@ pub fn place_of(region: Region, bytes: usize, offset: i128) -> Option<usize>
     }
 }
 
-/// The byte at a place of a region, where it is set.
+/// The byte at a place of a region, if it is set.
 fn byte_of(memory: Memory<'_>, region: Region, place: usize) -> Option<u8>
     ensures value { result ≡ byte_seen memory.entry region place }
     ensures bound { IfSome result (λ b. b < 256) }
@@ -52,7 +52,7 @@ fn byte_of(memory: Memory<'_>, region: Region, place: usize) -> Option<u8>
     }
 }
 
-/// So many bytes from a place on as a number, the lowest byte first. `None` where one is unset.
+/// `bytes` bytes from a place as a number, the lowest byte first. It is `None` if one is unset.
 fn little_endian(memory: Memory<'_>, region: Region, bytes: usize, place: usize) -> Option<u64>
     requires few { bytes ≤ 8 }
     requires within { place + bytes ≤ STACK_SIZE }
@@ -71,8 +71,7 @@ fn little_endian(memory: Memory<'_>, region: Region, bytes: usize, place: usize)
     Some(u64::from(byte) + 256 * rest)
 }
 
-/// The bytes at an offset of a region as a number. `None` where they are not wholly inside, or one is
-/// unset.
+/// The bytes at an offset of a region as a number. It is `None` if they are not wholly inside, or if one is unset.
 pub fn read(memory: Memory<'_>, region: Region, bytes: usize, offset: i128) -> Option<u64>
     requires few { bytes ≤ 8 }
     requires near { unsigned_abs offset ≤ 2 ^ 126 + 2 ^ 15 }

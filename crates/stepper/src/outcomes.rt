@@ -1,4 +1,4 @@
-//! What one step of a machine came to, and how it is done.
+//! The outcome of one step of a machine, and how the step is done.
 
 ghost use Rattle.std.specs.Prelude.{◌≡◌, ◌+◌, ◌<◌, ◌≤◌};
 ghost use Rattle.bpf.specs.declared.header.TheConstants.{MAX_SLOTS};
@@ -12,7 +12,7 @@ use crate::deeds::Deed;
 use bpf_insn::REGISTERS;
 use machine::{Question, STACK_SIZE, Value};
 
-/// What one step of a machine came to.
+/// The outcome of one step of a machine.
 #[derive(Clone, Copy, Debug, PartialEq, Eq)]
 pub enum Outcome {
     /// The machine is at its next instruction.
@@ -25,7 +25,7 @@ pub enum Outcome {
     Trap,
 }
 
-/// Writes so many low bytes of a number to the stack from a place on, the lowest first.
+/// Writes the low `bytes` bytes of a number to the stack from a place, the lowest first.
 fn put(stack: &mut [Option<u8>; STACK_SIZE], place: usize, bytes: usize, number: u64)
     requires { place + bytes ≤ STACK_SIZE }
     ensures { bytes_in stack.new ≡ byte_after (bytes_in stack.old) bytes place number }

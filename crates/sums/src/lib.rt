@@ -1,5 +1,5 @@
-//! Sums of words, for finding out whether memory keeps what was written to it: if one word of a list changes, in one bit or in
-//! many, the sum of the list is another.
+//! Sums of words, for finding out whether memory keeps what was written to it. If one word of a list changes, in one
+//! bit or in many, the sum of the list is another.
 #![tactic(auto)]
 
 ghost use Rattle.std.specs.Prelude.{◌≡◌};

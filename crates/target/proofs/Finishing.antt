@@ -51,7 +51,7 @@ finished_at old new known reached h k from first share j result reply at same be
       none = none;
     }
 
--- what the port's line asked for, told by the port's own share
+-- what the port's line asked for, by the port's own share
 pub asked_at : (bank : ℕ) (h : PassValue) (k from : ℕ) (first : ShareValue) (j : JudgedValue) (result : Applied) (line after : LineValue) → j.place ≡ Bank k → from ≡ k → IsBankBelow j.place (length h.shares) → first ≡ get_or h.shares from first
     → IfSome result.number (λ n. after ≡ line_with line bank (Leaves (entry_of first j result.status))) → IfNone result.number (after ≡ line)
     → AsksForEntry bank h j result line.asked after.asked
@@ -70,7 +70,8 @@ asked_at bank h k from first j result line after at same below read asked unaske
     none None is = ap (λ (l : LineValue). l.asked) is
     none (Some n) is = tt
 
--- a command that was done behind what the port was told was done behind what it knew, and behind the publishes that it was told
+-- A command that was done after what the port had learnt was done after what it knew. It was done after the publishes
+-- that it had learnt, too.
 pub done_behind : (number : Option ℕ) (programs : List Publish) (bank : ℕ) (known told reached front : List Link) (share : ShareValue) (j : JudgedValue) (result : Applied) (reply : List ℕ)
     → PublishesGrow → IsPrefix known told → IsPrefix programs (publishes_of told)
     → IfSome number (λ n. front ≡ reached) → IfSome number (λ n. IsDone bank told reached share j result reply)
@@ -88,7 +89,7 @@ done_behind (Some n) programs bank known told reached front share j result reply
       published = prefix_trans programs (publishes_of told) (publishes_of before) telling (grow told before done.last.seen);
     }
 
--- where the bank takes it, it ends as at a plain bank
+-- if the bank takes it, it ends as at a plain bank
 pub ends_plainly : (old new : KeptValue) (known reached : List Link) (h after : PassValue) (j : JudgedValue) (result : Applied) (reply : List ℕ) → IsFinishedAt old new known reached h after j result reply → takes old (share_of h j.place) j ≡ true → IsFinished old.bank new.bank h after j result reply
 ends_plainly old new known reached h after j result reply end took =
     let a = end.applied took in

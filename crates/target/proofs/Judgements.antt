@@ -18,7 +18,7 @@ use Rattle.annals.specs.Shown.{IsTakenAt}
 use Rattle.annals.specs.declared.deed.Link.{Link}
 use Rattle.lemmas.proofs.Options.{some_same}
 
--- program and generation of a slot, told apart
+-- program and generation of a slot, each by itself
 both_shown : (o : Option (AcceptedValue × ℕ)) (a : AcceptedValue) (n : ℕ) → option_map (λ p. p.0) o ≡ Some a → option_map (λ p. p.1) o ≡ Some n → o ≡ Some (a, n)
 both_shown None a n first second = absurd cc
 both_shown (Some x) a n first second =
@@ -68,7 +68,7 @@ judgement_of b left known seen shares staging admitted p j admission by =
       };
     }
 
--- a moment after what somebody saw is one after what he had seen before
+-- a moment after what somebody saw is one after what this one had seen before
 pub taken_since : (known first reached : List Link) (programs : List Publish) → IsPrefix known first → IsTakenAt first reached programs → IsTakenAt known reached programs
 taken_since known first reached programs begins at = record {
   at = at.at;

@@ -1,4 +1,4 @@
--- The maps of a node behind a load, and the line of the port that loaded.
+-- The maps of a node after a load, and the line of the port that loaded.
 use Rattle.std.proofs.Common.{◌≡◌, ◌<◌, ℕ, List, [], ◌∷◌, ◌++◌, length, map, Option, None, Some, ap, subst, sym, ◌∙◌, arith, inl, inr}
 use mathlib.Core.List.{IsPrefix}
 use Rattle.rmap.specs.declared.status.Status.{Status}
@@ -18,7 +18,7 @@ sizes_grow : (xs ys : List Publish) → 0 < length xs → IsPrefix xs ys → siz
 sizes_grow [] ys some pre = absurd (omega arith)
 sizes_grow (x ∷ xs) ys some pre = ap sizes_of (sym pre.1)
 
--- the programs that a port knows behind a load are for the maps of those that it knew
+-- the programs that a port knows after a load are for the maps of those that it knew
 pub sizes_kept : (line : Option Status) (h after : PassValue) (old new : List Publish) (j : JudgedValue) (status : Status) → 0 < length h.programs → EndsAs line h after old new j status → sizes_of after.programs ≡ sizes_of h.programs
 sizes_kept (Some s) h after old new j status some end = ap (λ (x : PassValue). sizes_of x.programs) end.1
 sizes_kept None h after old new j status some end = elim end [

@@ -15,7 +15,7 @@ overlaid_long : (old bytes : List ℕ) (offset : ℕ) → offset + length bytes 
 overlaid_long old bytes offset inside =
     omega (arith, length-append (take offset old ++ bytes) (drop (offset + length bytes) old), length-append (take offset old) bytes, length-take offset old, length-drop (offset + length bytes) old)
 
--- a bank stays where it is
+-- a bank keeps its range
 extent_stays : (bank : BankValue) (address : ℕ) (bytes : List ℕ) (fresh : JournalValue) → covers bank address (length bytes) ≡ true
     → extent_of (after_setting bank address bytes fresh) ≡ extent_of bank
 extent_stays bank address bytes fresh inside =
@@ -48,7 +48,7 @@ set_there (k ∷ kept) zero address bytes fresh one new low at is =
 set_there (k ∷ kept) (suc number) address bytes fresh one new low at is =
     ap (λ (l : List BankValue). k.bank ∷ l) (set_there kept number address bytes fresh one new (omega (arith, low)) at is)
 
--- where banks lie stays
+-- the ranges of the banks stay
 pub extents_with : (banks : List BankValue) (number address : ℕ) (bytes : List ℕ) (fresh : JournalValue) → covers_at banks number address (length bytes) ≡ true
     → map extent_of (with_setting banks number address bytes fresh) ≡ map extent_of banks
 extents_with [] number address bytes fresh is = refl

@@ -12,15 +12,15 @@ use Rattle.annals.specs.Chains.{Due}
 use Rattle.annals.specs.Banks.{KeptValue, IsAppliedTo, IsDone, IsRefusedAt, takes}
 use Rattle.annals.specs.Publishes.{publishes_of}
 
--- the command was done at the bank, and those publishes stand in the history before it
+-- the command was done at the bank, and those publishes are in the history before it
 pub record IsDoneBehind (programs : List Publish) (bank : ℕ) (known reached : List Link) (share : ShareValue)
     (judged : JudgedValue) (result : Applied) (bytes : List ℕ) : Type 0 where
   pub done : IsDone bank known reached share judged result bytes
   pub published : IsPrefix programs (publishes_of done.last.before)
 
--- how a judged command ends at a bank with its chain, by the port's own share of it: it is applied where the bank takes it,
--- else refused; nothing of the port changes but that share. Where it leaves an entry, that is the last of the history that
--- the port then knows, behind all publishes that the port knew
+-- How a judged command ends at a bank with its chain, by the port's own share of it. It is applied if the bank takes
+-- it, else refused. Of the port only that share changes. If it leaves an entry, that is the last of the history that
+-- the port then knows, after all publishes that the port knew.
 pub record IsFinishedAt (old new : KeptValue) (known reached : List Link) (holder after : PassValue)
     (judged : JudgedValue) (result : Applied) (bytes : List ℕ) : Type 0 where
   pub share : ShareValue
@@ -33,7 +33,8 @@ pub record IsFinishedAt (old new : KeptValue) (known reached : List Link) (holde
       (λ n. IsDoneBehind holder.programs old.chain.number known reached (share_of holder judged.place) judged result bytes)
   pub none : IfNone result.number (reached ≡ known)
 
--- where a command left an entry at the bank, its port asked for that, behind what it asked for before, and else for nothing
+-- If a command left an entry at the bank, its port asked for that, after what it asked for before. Else it asked for
+-- nothing.
 pub record AsksForEntry (bank : ℕ) (holder : PassValue) (judged : JudgedValue) (result : Applied) (asked after : List Due) :
     Type 0
   where

@@ -10,18 +10,18 @@ use Rattle.annals.specs.declared.deed.Link.{Link}
 use Rattle.annals.specs.Chains.{LineValue}
 use Rattle.annals.specs.Banks.{IsCountOf, entries_of}
 
--- the line is the port's, as its shares are, and at each bank it asked for the entries that its share counts
+-- The line is the port's, as its shares are. At each bank it asked for the entries that its share counts.
 pub record IsLineOf (port : ℕ) (shares : List ShareValue) (line : LineValue) : Type 0 where
   pub line_is : line.port ≡ port
   pub ports : (k : ℕ) → k < length shares → (slice_index_or shares k (first_share port)).port ≡ port
   pub counts : (k : ℕ) → k < length shares → IsCountOf (slice_index_or shares k (first_share port)) k line
 
--- the lines of so many ports, in which nothing was asked for
+-- the lines of that many ports, in which nothing was asked for
 abbrev pub fresh_lines : ℕ → List LineValue
 fresh_lines ports = map (λ port. record { port = port; asked = [] }) (range_with_len 0 ports)
 
--- at each bank the port's entries in that history have the numbers from 0 on, each once and in order, and none that is not
--- below its share's
+-- At each bank the port's entries in that history have the numbers from 0 on, each once and in order. All are below the
+-- number of its share.
 abbrev pub CountsAllOf : PassValue → List Link → Type 0
 CountsAllOf h log =
     (k : ℕ) → k < length h.shares

@@ -5,8 +5,8 @@ use Rattle.annals.specs.Chains.{Due}
 use Rattle.annals.specs.Publishes.{publishes_chain}
 use Rattle.node_programs.specs.declared.publishes.Publish.{Publish}
 
--- what was published, and what the port asked for: where a program was published that is the last of the list, and the port asked
--- for it behind what it asked for before; else nothing was published, and nothing asked for
+-- What was published, and what the port asked for. If a program was published, that is the last of the list, and the
+-- port asked for it after what it asked for before. Else nothing was published, and nothing asked for.
 abbrev pub AsksForLoad : (port : ℕ) → Option Publish → (old new : List Publish) → (asked after : List Due) → Type 0
 AsksForLoad port None old new asked after = (new ≡ old) × (after ≡ asked)
 AsksForLoad port (Some publish) old new asked after =

@@ -10,8 +10,8 @@ use Rattle.node_parts.specs.Passes.{PassValue}
 use Rattle.node_parts.specs.declared.config.NodeConfig.{NodeConfig}
 use Rattle.std.specs.List.{range_with_len}
 
--- so many seats at the cells of that name, for the program's maps, and readers that know of the program and of those that were
--- published behind it
+-- That many seats at the cells of that name, for the program's maps, and readers. These know of the program and of
+-- those that were published after it.
 pub record AreFirst (factory : AcceptedValue) (firsts : List (ℕ × AcceptedValue)) (home : Gv) (ports : ℕ) (seats : List CellSeatValue)
     (readers : List Known) : Type 0 where
   pub seats_are : seats ≡ replicate ports (seat factory.sizes home [])
@@ -21,8 +21,8 @@ pub record AreFirst (factory : AcceptedValue) (firsts : List (ℕ × AcceptedVal
 abbrev pub AreNumbered : List ℕ → Type 0
 AreNumbered numbers = (k : ℕ) → k < length numbers → slice_index numbers k ≡ k
 
--- what a port of a node has of it at first, where those programs were published behind the factory program, of all of which it
--- knows; all else is as without them
+-- What a port of a node has of it at first, if those programs were published after the factory program. The port knows
+-- of all of them. All else is as without them.
 abbrev pub informed_pass : NodeConfig → AcceptedValue → List (ℕ × AcceptedValue) → Gv → ℕ → PassValue
 informed_pass config factory firsts home port =
     record (first_pass config.address config.banks.now factory home port) { programs = programs_with factory firsts }

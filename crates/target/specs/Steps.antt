@@ -27,8 +27,8 @@ IsAtMoment (Answered status back) known reached after = Unit {0}
 IsAtMoment (Unread back) known reached after = Unit {0}
 IsAtMoment (Judged j) known reached after = IsTakenAt known reached after.programs
 
--- how far a packet comes by itself, what becomes of the port, and the reply that is due then: no
--- program runs but for a command that is judged, and for that one it runs once
+-- How far a packet comes by itself, what becomes of the port, and the reply that is due then. A program runs only for a
+-- command that is judged, and for that one it runs once.
 abbrev pub IsStep : Step → Cargo → (before after : PassValue) → List ℕ → Type 0
 IsStep (Discarded d back) p h after reply = (back ≡ p) × (after ≡ h) × IsStopped (NoCommand d) p h.windows reply
 IsStep (Answered status back) p h after reply = (back ≡ p) × (after ≡ h) × IsStopped (Fault status) p h.windows reply

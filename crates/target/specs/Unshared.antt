@@ -11,7 +11,7 @@ banks_of kept = map (λ (k : KeptValue). k.bank) kept
 abbrev pub chain_numbers : List KeptValue → List ℕ
 chain_numbers kept = map (λ (k : KeptValue). k.chain.number) kept
 
--- so many bytes from an address on lie in the bank of that number, if there is one
+-- that many bytes from an address on lie in the bank of that number, if there is one
 abbrev pub covers_at : List BankValue → (number address count : ℕ) → Bool
 covers_at [] number address count = false
 covers_at (bank ∷ banks) zero address count = covers bank address count

@@ -1,4 +1,4 @@
-//! The second half of a packet's way: its effect at a bank with its chain, as it lies behind a lock.
+//! The second half of a packet's way: its effect at a bank with its chain, as a lock guards it.
 
 ghost use Rattle.std.specs.Prelude.{◌≡◌, IfNone, IfSome, length, true};
 ghost use Rattle.bank.specs.Records.{is_next};
@@ -13,7 +13,7 @@ use bank::{Applied, Judged};
 use node_parts::shares_agree;
 use rmap::{Place, ReplyBuf};
 
-/// The port knows what was reached, where an entry was left.
+/// If the bank left an entry, the port knows what was reached.
 fn advance<J: Family>(front: &mut Front<J>, reached: Front<J>, number: Option<u64>)
     ensures some { IfSome number (λ n. front.new ≡ reached) }
     ensures none { IfNone number (front.new ≡ front.old) }
@@ -24,11 +24,15 @@ fn advance<J: Family>(front: &mut Front<J>, reached: Front<J>, number: Option<u6
 }
 
 /// Ends a judged command at a bank with its chain, with the port's share of the bank of its place, and leaves the reply:
-/// [`Kept::finish`]. Where it leaves an entry, that is the last of a history which goes on from what the port knew, and the
-/// port knows it then, and its line asked for it before; status and reply are the definition's on the replay of what stood
-/// before it, and all publishes that the port knew stand before it too: so that of the program by which it was judged. Where
-/// the bank is another, or [`Bank::fits`](bank::Bank::fits) says no, it is a general error, and nothing changes. The condition is the
-/// place of a bank of which the port has a share ([`Pass::banks`]).
+/// [`Kept::finish`].
+///
+/// If it leaves an entry, the port's line asked for that before. The entry is the last of a history which goes on from
+/// what the port knew, and the port knows that history then. Status and reply are the definition's on the replay of
+/// what was before it. All publishes that the port knew come before it too, so that of the program by which it was
+/// judged does.
+///
+/// If the bank is another, or [`Bank::fits`](bank::Bank::fits) says no, the answer is a general error, and nothing
+/// changes. The condition is the place of a bank of which the port has a share ([`Pass::banks`]).
 pub fn finish<J: Family>(
     pass: &mut Pass<J>,
     kept: &mut Kept<J>,
@@ -44,7 +48,7 @@ pub fn finish<J: Family>(
     ensures kept { length pass.new.pass.shares ≡ length pass.old.pass.shares }
     ensures number { kept.new.chain.number ≡ kept.old.chain.number }
 
-    // Where it is applied, share and count agree before, and so they do afterwards.
+    // If it is applied, share and count agree before, and so they do afterwards.
     ensures agrees { takes kept.old (share_of pass.old.pass judged.place) judged ≡ true
         → is_next kept.new.bank (share_of pass.new.pass judged.place) ≡ true }
 {

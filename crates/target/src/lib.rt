@@ -1,13 +1,15 @@
 //! A node: what becomes of a packet, from its bytes to its reply (ECSS-E-ST-50-52C).
 //!
-//! A packet goes two steps. [`judge`] admits it ([`admit`](node_parts::admit)), takes the program that the port's reader is
-//! shown in the slot of its place ([`slot`](node_parts::slot)) and runs it ([`judge_by`](node_parts::judge_by)). Then
-//! [`finish`] applies the verdict to the bank that it names, [`stage`] to the port's own staging, or [`load`] publishes the
-//! program that is staged.
+//! A packet goes two steps:
 //!
-//! [`Node`] has locks round its banks and its publisher, so that each port may have its thread: the lock of a bank is held
-//! round [`finish`] alone. What one port has of it is its [`Pass`]. Before it is shared it is an [`UnsharedNode`], into whose banks
-//! bytes may be put.
+//! - [`judge`] admits it ([`admit`](node_parts::admit)). It takes the program that the port's reader is shown in the
+//!   slot of its place ([`slot`](node_parts::slot)) and runs it ([`judge_by`](node_parts::judge_by)).
+//! - [`finish`] applies the verdict to the bank that it names, or [`stage`] to the port's own staging, or [`load`]
+//!   publishes the program that is staged.
+//!
+//! [`Node`] has locks round its banks and its publisher, so that each port may have its thread. The lock of a bank is
+//! held only round [`finish`]. What one port has of the node is its [`Pass`]. Before it is shared it is an
+//! [`UnsharedNode`], into whose banks bytes may be put.
 #![tactic(auto)]
 
 mod finished;

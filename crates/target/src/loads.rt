@@ -1,4 +1,4 @@
-//! Loads: a program that was staged is verified and published.
+//! Loads: the node verifies a program that was staged, and publishes it.
 
 ghost use Rattle.std.specs.Prelude.{◌≡◌};
 ghost use mathlib.Core.List.{IsPrefix};
@@ -13,11 +13,12 @@ use rmap::{Place, ReplyBuf, Status};
 use std::alloc::Global;
 use std::sync::Wait;
 
-/// Loads what the port staged, where the verdict on the control write is yes and its body is right, and leaves
-/// the reply: the program is verified for the publisher's maps and published for the slot that the control data
-/// name, the port's reader learns of it, and the load result tells its generation, or why the load was refused.
-/// Nothing else changes. The port's line asks for what is published, and for nothing else. What the port knew is a beginning of what was published. It may wait for readers. The condition
-/// is a control write.
+/// Loads what the port staged, if the verdict on the control write is yes and its body is right, and leaves the reply.
+/// The program is verified for the publisher's maps and published for the slot that the control data name, and the
+/// port's reader learns of it. The load result has its generation, or why the load was refused. Nothing else changes.
+///
+/// The port's line asks for what is published, and for nothing else. What the port knew is a beginning of what was
+/// published. The call may wait for readers. The condition is a control write.
 pub fn load<J: Family, R: Wait + Drop>(
     alloc: Global,
     pass: &mut Pass<J>,

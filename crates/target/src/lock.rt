@@ -1,4 +1,4 @@
-//! Banks behind locks.
+//! Banks that locks guard.
 
 ghost use Rattle.std.specs.Prelude.{◌≡◌};
 
@@ -8,9 +8,9 @@ use std::marker::Model;
 use std::ops::Deref;
 use std::sync::Mutex;
 
-/// The lock of a bank, with the bank's number beside it: all that can be told of a lock that another
-/// thread may hold. What is known of the bank behind it is what is known of every bank with its chain. The lock and the bank
-/// share no cache line with another bank's, so ports at two banks do not hold each other up.
+/// The lock of a bank, with the bank's number beside it. No more can be said of a lock that another thread may hold.
+/// What is known of its bank is what is known of every bank with its chain. The lock and the bank share no cache line
+/// with another bank's, so ports at two banks do not hold each other up.
 #[derive(Drop)]
 pub struct BankLock<J: Family> {
     number: u8,
@@ -26,7 +26,7 @@ impl<J: Family> Model for BankLock<J> {
 }
 
 impl<J: Family> BankLock<J> {
-    /// The bank of that number, behind a lock that is free.
+    /// The bank of that number, in a lock that is free.
     pub(crate) fn new(number: u8, bank: Kept<J>) -> BankLock<J>
         ensures { result ≡ number }
     {

@@ -23,7 +23,7 @@ use std::alloc::Global;
 use std::marker::Model;
 use std::sync::{Mutex, Wait};
 
-/// A node, as threads share it: its banks, each with its chain of one history, and what publishes its programs, each behind
+/// A node, as threads share it: its banks, each with its chain of one history, and what publishes its programs, each in
 /// its lock. What belongs to one port is in the port's [`Pass`], and what it knows of the history is its [`Front`]. The
 /// value of a node is how many banks it has. Its end waits for readers.
 #[derive(Drop)]
@@ -46,14 +46,15 @@ impl<J: Family, R: Wait + Drop> Model for Node<J, R> {
 }
 
 impl<J: Family, R: Wait + Drop> Node<J, R> {
-    /// A node with locks round banks of zero bytes and round what publishes its programs, and a pass for each port, in order,
-    /// with a seat at the cells and a reader of the programs. In each slot the factory program judges, of generation 0. The
-    /// publisher keeps `rt`. The condition is a program that was accepted for the maps of the configuration.
+    /// A node with locks round banks of zero bytes and round what publishes its programs. Beside it is a pass for each
+    /// port, in order, with a seat at the cells and a reader of the programs. In each slot the factory program judges,
+    /// of generation 0. The publisher keeps `rt`. The condition is a program that was accepted for the maps of the
+    /// configuration.
     ///
     /// # Errors
     ///
-    /// `Ports` and then `Banks` where a number is outside its limits; `Memory` where memory was refused: a publisher that was
-    /// made already ends then, which may wait.
+    /// - `Ports`, and then `Banks`, if one of their numbers is outside its limits.
+    /// - `Memory` if memory was refused. If a publisher was made already, it ends then, which may wait.
     pub fn new(
         alloc: Global,
         rt: R,
@@ -73,10 +74,14 @@ impl<J: Family, R: Wait + Drop> Node<J, R> {
         Ok((node, passes))
     }
 
-    /// A node as [`Node::new`] makes it, and beside it the cells of its maps, and the instrument's line. They are no part of the
-    /// node, which is shared: whoever keeps the cells may take each pass's seat back ([`Pass::into_seat`]) and then knows which
-    /// tickets were drawn; and without the line nobody sets memory or takes a journal ([`Kept`](annals::Kept)), or publishes but
-    /// a port's load.
+    /// A node as [`Node::new`] makes it, and beside it the cells of its maps, and the instrument's line. They are no
+    /// part of the node, which is shared. Whoever keeps the cells may take each pass's seat back ([`Pass::into_seat`])
+    /// and then knows which tickets were drawn. Without the line nobody sets memory or takes a journal
+    /// ([`Kept`](annals::Kept)), and only a port's load publishes.
+    ///
+    /// # Errors
+    ///
+    /// Those of [`Node::new`].
     pub fn with_cells(
         alloc: Global,
         rt: R,
@@ -98,10 +103,11 @@ impl<J: Family, R: Wait + Drop> Node<J, R> {
         Node::with_programs(alloc, rt, opened, config, factory, &[])
     }
 
-    /// A node as [`Node::with_cells`] makes it, for which these programs were then published, in order: each for its slot, with the
-    /// next generation, the first with 1. The instrument's line asks for them, and each port knows of all. Stagings, load results,
-    /// cells and journals are those of a node without them. Conditions: programs that were accepted for the maps of the
-    /// configuration, slots of 0 to 3, and at most 4,294,967,295 publishes.
+    /// A node as [`Node::with_cells`] makes it, with these programs published after that, in order. Each is published
+    /// for its slot, with the next generation, the first with 1. The instrument's line asks for them, and each port
+    /// knows of all. Stagings, load results, cells and journals are those of a node without them. The conditions are
+    /// programs that were accepted for the maps of the configuration, slots of 0 to 3, and at most 4,294,967,295
+    /// publishes.
     ///
     /// # Errors
     ///
@@ -136,8 +142,8 @@ impl<J: Family, R: Wait + Drop> Node<J, R> {
         Ok((node, cells, passes, line))
     }
 
-    /// The node of these: banks behind their locks, each with its place for its number, what publishes its programs, and what a
-    /// port knows at first.
+    /// The node of these: banks in their locks, each with its place for its number, its publisher, and what a port
+    /// knows at first.
     pub(crate) fn of_parts(
         banks: Vec<BankLock<J>>,
         publisher: Publisher<J, R>,
@@ -161,7 +167,7 @@ impl<J: Family, R: Wait + Drop> Node<J, R> {
         self.banks.len()
     }
 
-    /// The bank of that number, behind its lock. The condition is a number below [`Node::banks`].
+    /// The bank of that number, in its lock. The condition is a number below [`Node::banks`].
     pub fn bank(&self, k: u8) -> &BankLock<J>
         requires { k < self.now }
         ensures { result.now ≡ k }
@@ -176,7 +182,7 @@ impl<J: Family, R: Wait + Drop> Node<J, R> {
         self.front.again()
     }
 
-    /// What publishes the programs of the node, behind its lock.
+    /// What publishes the programs of the node, in its lock.
     pub fn publisher(&self) -> &Mutex<Publisher<J, R>> {
         &self.publisher
     }

@@ -24,8 +24,12 @@ use spw::PORTS;
 use std::alloc::{AllocError, Global};
 use std::sync::Wait;
 
-/// The line of each port, in order, as the next chains of a history, and the word that counts what readers see: the chains of
-/// other ports are left out. It ends with `AllocError` also where a chain has begun before (no test met that).
+/// The line of each port, in order, as the next chains of a history, and the word that counts what readers see. The
+/// chains of other ports are left out.
+///
+/// # Errors
+///
+/// `AllocError` if memory was refused, and also if a chain has begun before (no test met that).
 fn lines<J: Family>(
     alloc: Global,
     ports: u8,
@@ -84,10 +88,10 @@ fn passes<J: Family>(
     Ok(passes)
 }
 
-/// The cells of a node's maps, each 0, what publishes its programs in that chain of its history, and a pass for each port, in
-/// order, with its shares of the banks and its line of the history. Behind the factory program these were published. The line that
-/// is lent asks for all of them. The conditions are a chain of publishes that has none, the chains of lines, programs that may be
-/// published, and numbers within their limits.
+/// The cells of a node's maps, each 0, and what publishes its programs in that chain of its history. It also makes a
+/// pass for each port, in order, with its shares of the banks and its line of the history. After the factory program
+/// these were published. The line that is lent asks for all of them. The conditions are a chain of publishes that has
+/// none, the chains of lines, programs that may be published, and numbers within their limits.
 pub(crate) fn cells_and_passes<J: Family, R: Wait + Drop>(
     alloc: Global,
     rt: R,

@@ -16,9 +16,9 @@ use publish::Loader;
 use spw::PORTS;
 use std::marker::Model;
 
-/// What one port has of its node: its context, with its seat at the cells, its reader of the programs that judge, a share
-/// of each bank, its staging, and its line of the node's history. Contracts see what it has, and what it asked for in its line.
-/// Only [`Node`](crate::Node) and [`UnsharedNode`](crate::UnsharedNode) make passes.
+/// What one port has of its node: its context, with its seat at the cells, and its reader of the programs that judge.
+/// It also has a share of each bank, its staging, and its line of the node's history. Contracts see what it has, and
+/// what it asked for in its line. Only [`Node`](crate::Node) and [`UnsharedNode`](crate::UnsharedNode) make passes.
 #[derive(Drop)]
 pub struct Pass<J: Family> {
     pub(crate) context: RunContext<CellSeat>,
@@ -67,7 +67,7 @@ impl<J: Family> Pass<J> {
         &self.staging
     }
 
-    /// Takes the pass apart: its seat, to be given back to the cells
+    /// Takes the pass apart and gives its seat, to be given back to the cells
     /// ([`Cells::take_back`](cells::Cells::take_back)). The other parts end.
     pub fn into_seat(self) -> CellSeat
         ensures { seat_of result ≡ self.pass.seat }
@@ -81,9 +81,9 @@ impl<J: Family> Pass<J> {
         context.into_seat()
     }
 
-    /// What anybody has seen of the history of the node's banks has no entries of the port but those that its shares count:
-    /// at each bank they have the numbers from 0 on, each once and in order, below its share's. And what the port did, as anybody
-    /// has seen it, begins what it asked for.
+    /// What anybody has seen of the history of the node's banks has only those entries of the port that its shares
+    /// count. At each bank they have the numbers from 0 on, each once and in order, below its share's. What the port
+    /// did, as anybody has seen it, begins what it asked for.
     pub fn knows_entries(&mut self, known: &Front<J>)
         ensures entries { CountsAllOf self.old.pass known.now }
         ensures begins { IsPrefix (done_for self.old.pass.port known.now) self.old.asked }
@@ -92,7 +92,7 @@ impl<J: Family> Pass<J> {
         self.loader.line.knows_all(known);
     }
 
-    /// Somebody learns so much of the history that all which the port asked for stands there, done.
+    /// Somebody learns enough of the history that all which the port asked for is in it, done.
     pub fn tell(&self, known: &mut Front<J>)
         ensures known { IsPrefix known.old known.new }
         ensures told { IsPrefix self.now.asked (done_for self.now.pass.port known.new) }

@@ -15,22 +15,22 @@ use publish::{Family, Reader};
 use rmap::{Discard, ReplyBuf, Status, put_reply};
 use spw::Packet;
 
-/// How far a packet came by itself. Each step but `Judged` hands the packet back as it came.
+/// How far a packet came by itself. Each step except `Judged` hands the packet back as it came.
 #[derive(Debug)]
 pub enum Step {
     /// The packet is no command: no reply.
     Discarded(Discard, Packet),
     /// A check of the header holds: its status is the reply's, and no program was run.
     Answered(Status, Packet),
-    /// No program was given for the command: the reply is a general error, and no program was run. No clause rules
-    /// it out while the publisher lives, and no test of a node met it.
+    /// No program was given for the command: the reply is a general error, and no program was run. No clause excludes
+    /// this while the publisher lives, and no test of a node met it.
     Unread(Packet),
-    /// The program gave its verdict; the reply is still to come.
+    /// The program gave its verdict. The reply is still to come.
     Judged(Judged),
 }
 
-/// Judges an admitted command by the program that the reader takes in the slot of its place: one run on its
-/// header. The command comes back where no program is given.
+/// Judges an admitted command by the program that the reader takes in the slot of its place: one run on its header. If
+/// no program is given, the command comes back.
 fn judge_taken<J: Family>(
     context: &mut RunContext<CellSeat>,
     reader: &mut Reader<J>,
@@ -57,11 +57,12 @@ fn judge_taken<J: Family>(
     }
 }
 
-/// Judges a packet: discards it, answers it by its header, or runs the program that the port's reader takes in the slot of
-/// its place on the header of its command. That is the program that some list of publishes has there which begins with
-/// all that the port knew, and which was what readers saw at one moment of the node's history: not before what the port knew of
-/// that, and what it did, nor after what it then knows. That one is taken at all is tested. `reply` holds the reply that is due
-/// then, if any.
+/// Judges a packet: discards it, answers it by its header, or runs a program on the header of its command. That program
+/// is the one that the port's reader takes in the slot of its place.
+///
+/// Some list of publishes has that program there, which begins with all that the port knew. The list was what readers
+/// saw at one moment of the node's history. That moment was not before what the port knew and did, nor after what it
+/// then knows. It is tested that a program is taken at all. If a reply is due then, `reply` holds it.
 pub fn judge<J: Family>(
     pass: &mut Pass<J>,
     front: &mut Front<J>,

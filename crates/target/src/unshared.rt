@@ -32,9 +32,10 @@ use std::alloc::{AllocError, Global};
 use std::marker::Model;
 use std::sync::Wait;
 
-/// A node that is not shared yet: its banks, each with its chain of one history, and what publishes its programs. No lock hides
-/// them, so its owner knows the bank of each number, and can put bytes into it before the first packet. The value of such a node
-/// is its banks, in order. [`UnsharedNode::share`] puts a lock round each. Its end waits for readers.
+/// A node that is not shared yet: its banks, each with its chain of one history, and what publishes its programs. No
+/// lock hides them, so its owner knows the bank of each number, and can put bytes into it before the first packet. The
+/// value of such a node is its banks, in order. [`UnsharedNode::share`] puts a lock round each. Its end waits for
+/// readers.
 #[derive(Drop)]
 pub struct UnsharedNode<J: Family, R: Wait + Drop> {
     banks: Vec<Kept<J>>,
@@ -55,8 +56,12 @@ impl<J: Family, R: Wait + Drop> Model for UnsharedNode<J, R> {
     ghost invariant = { λ n. AreNumbered (chain_numbers n.banks.items) × (n.front ≡ []) };
 }
 
-/// The banks in order, each with its number and the chain of that number in the history. Chains of banks that are not there are
-/// left out. It ends with `AllocError` also where a chain has begun before (no test met that).
+/// The banks in order, each with its number and the chain of that number in the history. Chains of banks that do not
+/// exist are left out.
+///
+/// # Errors
+///
+/// `AllocError` if memory was refused, and also if a chain has begun before (no test met that).
 fn kept_banks<J: Family>(
     alloc: Global,
     banks: Banks,
@@ -84,8 +89,8 @@ fn kept_banks<J: Family>(
     Ok(all)
 }
 
-/// The banks, as [`kept_banks`] makes them, the chain of what is published, which is empty, and the instrument's line, in which
-/// nothing was asked for. Behind it stand the lines of ports.
+/// The banks, as [`kept_banks`] makes them, the chain of what is published, which is empty, and the instrument's line,
+/// in which nothing was asked for. The lines of ports come after it.
 fn banks_and_chain<J: Family>(
     alloc: Global,
     banks: Banks,
@@ -113,7 +118,7 @@ fn banks_and_chain<J: Family>(
     Ok((banks, chain, line))
 }
 
-/// Each bank behind its lock, in order.
+/// Each bank in its lock, in order.
 fn locks<J: Family>(alloc: Global, banks: Vec<Kept<J>>) -> Result<Vec<BankLock<J>>, AllocError>
     ensures { IfOk result (λ locks. locks.items ≡ chain_numbers banks.items) }
 {
@@ -127,9 +132,9 @@ fn locks<J: Family>(alloc: Global, banks: Vec<Kept<J>>) -> Result<Vec<BankLock<J
 }
 
 impl<J: Family, R: Wait + Drop> UnsharedNode<J, R> {
-    /// Banks of zero bytes and what publishes programs, as [`Node::with_programs`] has them, with no lock round them; beside them
-    /// what that call makes: the cells, a pass for each port, and the instrument's line. Conditions and order of refusals are those
-    /// of that call.
+    /// Banks of zero bytes and what publishes programs, as [`Node::with_programs`] has them, with no lock round them.
+    /// Beside them is what that call makes: the cells, a pass for each port, and the instrument's line. Conditions and
+    /// order of refusals are those of that call.
     ///
     /// # Errors
     ///
@@ -187,9 +192,9 @@ impl<J: Family, R: Wait + Drop> UnsharedNode<J, R> {
         self.front.again()
     }
 
-    /// Puts bytes at an address of the bank of that number without a command, as [`Kept::set`] does, and adds that to the history,
-    /// as the instrument's line asks. The journal before is dropped. Conditions: the line is the instrument's, `fresh` is empty, and
-    /// the bytes lie in that bank, as its configuration says.
+    /// Puts bytes at an address of the bank of that number without a command, as [`Kept::set`] does. It adds that to
+    /// the history, as the instrument's line asks. The journal before is dropped. The conditions are the instrument's
+    /// line, an empty `fresh`, and bytes that lie in that bank, as its configuration says.
     pub fn set(
         &mut self,
         number: u8,
@@ -211,8 +216,11 @@ impl<J: Family, R: Wait + Drop> UnsharedNode<J, R> {
         let _journal = kept.set(front, line, address, bytes, fresh);
     }
 
-    /// The node, as threads share it: each bank is behind its lock. Memory alone may be refused to it; then the publisher ends,
-    /// which may wait.
+    /// The node, as threads share it: each bank is in its lock.
+    ///
+    /// # Errors
+    ///
+    /// `AllocError` if memory was refused. Then the publisher ends, which may wait.
     pub fn share(self, alloc: Global) -> Result<Node<J, R>, AllocError>
         ensures { IfOk result (λ node. node ≡ length self) }
     {

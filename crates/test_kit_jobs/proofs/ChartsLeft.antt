@@ -24,7 +24,8 @@ no_text before name after fault is = same before name is.no_text.given after is.
 pub maps_file : (words : MapWords) (before after : FolderValue) (old new : Option (List ℕ)) (status : Status)
     → MapsFile FolderReads words before after old new status → after ≡ before
 maps_file words before after old new Done is = is.given.read.0
-maps_file words before after old new Failed is = is.held.read.0
+maps_file words before after old new Failed (inl is) = is.given.read.0
+maps_file words before after old new Failed (inr is) = is.held.read.0
 maps_file words before after old new Misused is = absurd is
 
 pub unmapped : (words : MapWords) (before after : FolderValue) (fault : Fault) → IsNotMapped FolderReads words before after fault → after ≡ before

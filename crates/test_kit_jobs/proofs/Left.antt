@@ -204,7 +204,7 @@ compiled before table image sizes after old new done =
       set = subst (λ (folder : FolderValue). Sets folder image (image_bytes done.program) after) holds.table.read.0 done.compiled.written;
     }
 
--- what is left where a job was done, by the number of its status
+-- what is left if a job was done, by the number of its status
 at_done : (job : Job) (before after : FolderValue) (status : Status) → status ≡ Done → Leaves job before after zero → Leaves job before after (status_code status)
 at_done job before after status is left = subst (λ (s : Status). Leaves job before after (status_code s)) (sym is) left
 

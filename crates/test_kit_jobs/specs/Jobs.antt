@@ -30,8 +30,8 @@ pub record CompilesIn (before : FolderValue) (table image : List ℕ) (sizes : M
   pub compiled : IsPortCompiled sizes policy program
   pub set : Sets before image (image_bytes program) after
 
--- what a job that ended with this status leaves: `asm` and `policy` set OUT alone where they were done, and nothing
--- else changes a file
+-- what a job that ended with this status leaves: `asm` and `policy` set only OUT if they were done, and nothing else
+-- changes a file
 abbrev pub Leaves : Job → (before after : FolderValue) → (status : ℕ) → Type 0
 Leaves (Assemble words) before after zero =
     AssemblesIn before (string_bytes words.text) (string_bytes words.image) after

@@ -9,15 +9,23 @@ use std::alloc::Global;
 use std::sync::Wait;
 use std::thread::Threads;
 
-/// The job over files that the words name; `BadOption` also where they name one for the node of a file, or a talk.
+/// The job over files that the words name.
+///
+/// # Errors
+///
+/// Those of [`words`]; `BadOption` also if the words name a job for the node of a file, or a talk.
 pub fn job_named(alloc: Global, named: &[&str]) -> Result<Job, UsageFault> {
     match words(alloc, named)? {
         Work::Once(job) => Ok(job),
-        Work::OnNode(_) | Work::Live(_) => Err(UsageFault::BadOption),
+        Work::OnNode(_) | Work::Live(_) | Work::Told(_) => Err(UsageFault::BadOption),
     }
 }
 
 /// Does a job over the files of a folder, and gives what it printed and the exit status.
+///
+/// # Errors
+///
+/// The error of [`perform`].
 #[tactic(auto, using(crate::proofs::Left::performed_leaves))]
 pub fn perform_in<R: Threads + Wait + Sync>(
     rt: &R,

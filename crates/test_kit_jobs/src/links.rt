@@ -9,8 +9,8 @@ use std::io::Read;
 /// What is noted of a move that receives bytes.
 pub const RECEIVED: &str = "received\n";
 
-/// A link over bytes in memory, of which it hands out at most so many at a time. It notes its moves: `received`, `sent` and
-/// the bytes in digits, or the text that was told.
+/// A link over bytes in memory, of which it hands out at most `most` at a time. It notes its moves: `received`, `sent`
+/// and the bytes in digits, or the text that was reported.
 #[derive(Drop)]
 pub struct Wire<'a> {
     alloc: Global,
@@ -37,7 +37,11 @@ impl<'a> Wire<'a> {
         self.moves.as_slice()
     }
 
-    /// What was sent and told, in turn.
+    /// What was sent and reported, in turn.
+    ///
+    /// # Errors
+    ///
+    /// An error if memory is refused.
     pub fn due(&self) -> Result<String, AllocError> {
         let mut due = String::new(self.alloc);
         for made in &self.moves {
@@ -48,7 +52,7 @@ impl<'a> Wire<'a> {
         Ok(due)
     }
 
-    /// Notes a move, but fails at its own.
+    /// Notes a move, except the one at which it fails.
     fn note(&mut self, text: &str) -> Result<(), Cannot> {
         if self.moves.len() == self.failing {
             self.failing = usize::MAX;

@@ -12,6 +12,10 @@ use std::thread::Threads;
 pub const LOCKED: &str = "locked";
 
 /// A folder of these files.
+///
+/// # Errors
+///
+/// `Cannot` if memory is refused, or if one of the names is [`LOCKED`].
 pub fn folder_of(alloc: Global, files: &[(&str, &[u8])]) -> Result<Folder<'static>, Cannot> {
     let mut folder = Folder::new(alloc, LOCKED);
     for (name, bytes) in files {
@@ -21,6 +25,10 @@ pub fn folder_of(alloc: Global, files: &[(&str, &[u8])]) -> Result<Folder<'stati
 }
 
 /// What `judge` prints of these lines by the factory program, and the exit status.
+///
+/// # Errors
+///
+/// A failure if memory is refused, or if the output is not UTF-8.
 pub fn judged<R: Threads + Wait + Sync>(
     rt: &R,
     alloc: Global,
@@ -33,7 +41,12 @@ pub fn judged<R: Threads + Wait + Sync>(
     Ok((String::from_utf8(out)?, status))
 }
 
-/// What the job of these words prints over these files, where it does not end with a fault.
+/// What the job of these words prints over these files.
+///
+/// # Errors
+///
+/// A failure if the words name no job over files, the exit status is not 0, the output is not UTF-8, or memory is
+/// refused.
 pub fn printed<R: Threads + Wait + Sync>(
     rt: &R,
     alloc: Global,

@@ -1,4 +1,4 @@
--- The bytes that are given fit the worked example. All but the take from a staging of 16,384 bytes is computed.
+-- The bytes that are given fit the worked example. All is computed except the take from a staging of 16,384 bytes.
 use Rattle.std.proofs.Common.{◌≡◌, ◌+◌, ℕ, zero, suc, length, map, take, replicate, Some, None, refl, ◌∙◌, arith}
 use Rattle.std.specs.List.{range_with_len}
 use Rattle.std.proofs.lemmas.List.{length-replicate}
@@ -49,7 +49,7 @@ read_judged = refl
 
 -- ---- what was staged
 
--- a byte of the staging behind the write
+-- a byte of the staging after the write
 abbrev staged_byte : ℕ → ℕ
 staged_byte k = byte_after_data (memory_at 0 (replicate STAGING_BYTES 0)) (command_of (packet stage_bytes)) (data_of (command_of (packet stage_bytes))) (0 + k)
 

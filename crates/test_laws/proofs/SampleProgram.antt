@@ -36,7 +36,7 @@ use Rattle.test_laws.specs.Sample.{yes_program}
 no_marks : List Bool
 no_marks = replicate 512 false
 
--- nothing is known of any register but r0
+-- nothing is known of any register except r0
 answer_kinds : AbsKind → List AbsKind
 answer_kinds answer = answer ∷ Unset ∷ Unset ∷ Unset ∷ Unset ∷ Unset ∷ Unset ∷ Unset ∷ Unset ∷ Unset ∷ Unset ∷ []
 

@@ -6,8 +6,9 @@ use Rattle.spw.specs.Cargo.{Cargo}
 use Rattle.ports.specs.Due.{Deed, Standing, Worked, judgings}
 use Rattle.ports.specs.Laws.{AreAllEntries, AreAllPublishes, EntriesFollow, IsByPublished}
 
--- the port did what was due, and the history goes on from what it knows then: each program that judged was published, the
--- entries of its commands stand there in order, and of its port the history has no other entries and publishes than theirs
+-- the port did what was due, and the history goes on from what it knows then. Each program that judged was published,
+-- and the entries of its commands are there in order. The history has no other entries and publishes of its port than
+-- these
 pub record IsAccounted (h after : Standing) (log : List Link) : Type 0 where
   pub packets : List Cargo
   pub deeds : List Deed

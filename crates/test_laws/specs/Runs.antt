@@ -61,7 +61,7 @@ pub record KeepsQuotasAlone (config : NodeConfig) (factory : AcceptedValue) (nod
   pub quotas : (map key limit count : ℕ) → tickets_on came.way map key < 2 ^ 64 → AreMatches map key limit came.way count
       → count ≤ limit
 
--- the packet was served, and if it was a load that was refused, and not for want of memory, the refusal says why
+-- the packet was served; if it was a load that was refused, and memory was not, the refusal says why
 pub record TellsRefusal (served : Served) (port : ℕ) (packet : Cargo) (before after : SingleNodeValue) (reply : List ℕ) :
     Type 0 where
   pub serves : Serves served port packet before after reply
@@ -71,8 +71,8 @@ pub record TellsRefusal (served : Served) (port : ℕ) (packet : Cargo) (before 
       (Refused refused.refusal)
       → TellsWhy (control_in j) holder.staging.bytes (sizes_of before.programs) (length before.programs) refused.refusal
 
--- behind another packet at the port this one was served, and if the first one was a load that published, and this one is
--- judged in that slot, then it is judged by that program or by a later one
+-- after another packet at the port this one was served. If the first one was a load that published, and this one is
+-- judged in that slot, then that program judges it, or a later one
 pub record TakesLoad (served : Served) (port : ℕ) (packet : Cargo) (before after : SingleNodeValue) (reply : List ℕ) :
     Type 0 where
   pub between : SingleNodeValue

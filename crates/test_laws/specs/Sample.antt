@@ -32,8 +32,8 @@ yes_program = program One 8 [] (Some (Alu Mov Bits64 0 (Immediate (pos 0))) ∷ 
 abbrev pub yes_accepted : AcceptedValue
 yes_accepted = record { program = yes_program; sizes = no_maps; regions = None ∷ None ∷ [] }
 
--- a write of the program's image to the beginning of staging, with reply and increment: its header, then the 16 bytes of the
--- image's header, then its two instructions and the data CRC
+-- a write of the program's image to the beginning of staging, with reply and increment. First comes its header, then
+-- the 16 bytes of the image's header, then its two instructions and the data CRC
 abbrev pub stage_bytes : List ℕ
 stage_bytes =
     254 ∷ 1 ∷ 108 ∷ 0 ∷ 103 ∷ 0 ∷ 0 ∷ 255 ∷ 0 ∷ 0 ∷ 0 ∷ 0 ∷ 0 ∷ 0 ∷ 32 ∷ 53

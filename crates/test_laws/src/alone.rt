@@ -18,9 +18,12 @@ fn packet(alloc: Global, line: &str) -> Result<Packet, Fail> {
     Ok(packet)
 }
 
-/// Serves a packet of that line at the ports 0 and 1 in turn, so often, at a fresh node of one thread: the node, and how many
-/// commands were done at a bank with status 0, modulo 256. Quotas were kept. It fails if no node can be made, if it has one port,
-/// and if the line is none.
+/// Serves a packet of that line at the ports 0 and 1 in turn, `times` times, at a fresh node of one thread. Returns the
+/// node, and how many commands were done at a bank with status 0, modulo 256. Quotas were kept.
+///
+/// # Errors
+///
+/// It fails if no node can be made, if the node has one port, if the line is none, or if memory is refused.
 pub fn served_alone(
     alloc: Global,
     config: &NodeConfig,
@@ -55,7 +58,11 @@ fn is_success(served: Served) -> bool {
     }
 }
 
-/// Serves a packet at port 0. A load that is refused says why. It fails at a node without a port.
+/// Serves a packet at port 0. A load that is refused says why.
+///
+/// # Errors
+///
+/// It fails at a node without a port.
 pub fn told(
     alloc: Global,
     node: &mut SingleNode,
@@ -72,8 +79,11 @@ pub fn told(
     Ok(served)
 }
 
-/// Serves two packets at port 0. What the first one loaded, or what was loaded later, judges the second one. It fails at a node
-/// without a port.
+/// Serves two packets at port 0. What the first one loaded, or what was loaded later, judges the second one.
+///
+/// # Errors
+///
+/// It fails at a node without a port.
 pub fn taken(
     alloc: Global,
     node: &mut SingleNode,

@@ -11,8 +11,8 @@ use machine::{MapKind, MapSizes};
 use single_node::SingleNode;
 use std::alloc::{AllocError, Global};
 
-/// Does the commands of entries again on memory that begins at an address, if the memory ends at 2^32 or below: whether it
-/// does.
+/// Does the commands of entries again on memory that begins at an address, if the memory ends at 2^32 or below. Returns
+/// whether it does.
 pub fn remade(entries: &[Entry], base: u32, memory: &mut [u8]) -> bool {
     if u64::from(base) + memory.len() as u64 > 1 << 32 {
         return false;
@@ -46,6 +46,10 @@ fn found(cells: &mut Cells, sizes: &MapSizes, map: u8, key: u16) -> Option<u64>
 }
 
 /// What a cell of fresh cells has, if there is that cell.
+///
+/// # Errors
+///
+/// An error if memory is refused.
 pub fn fresh_cell(
     alloc: Global,
     sizes: &MapSizes,

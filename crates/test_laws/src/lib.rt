@@ -1,6 +1,6 @@
-//! Runs on which laws hold, and calls that the product does not make: what a law promises of a run is a clause of the function
-//! that makes the run, and a condition that no call of the product meets is met here. Tests make these runs; `rmapctl` does
-//! not stand on this crate. A worked example of a law has a program and packets here that fit it.
+//! Runs on which laws hold, and calls that the product does not make. What a law promises of a run is a clause of the
+//! function that makes the run. A condition that no call of the product meets is met here. Tests make these runs;
+//! `rmapctl` does not use this crate. A worked example of a law has a program and packets here that fit it.
 #![tactic(auto)]
 
 mod alone;

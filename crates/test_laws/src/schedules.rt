@@ -12,8 +12,12 @@ use quotas::quotas_hold;
 use sched::{Event, Outcome, World, WorldFault, published_agrees, run_schedule};
 use std::alloc::Global;
 
-/// Runs a schedule from a fresh node. In its history quotas are kept: while fewer than 2^64 tickets of a cell were drawn, rules
-/// on the cell with limits of at most N match at most N commands. The faults are those of [`run_schedule`].
+/// Runs a schedule from a fresh node. In its history quotas are kept: while fewer than 2^64 tickets of a cell were
+/// drawn, rules on the cell with limits of at most N match at most N commands.
+///
+/// # Errors
+///
+/// Those of [`run_schedule`].
 pub fn ran(
     alloc: Global,
     config: &NodeConfig,
@@ -28,8 +32,8 @@ pub fn ran(
     Ok(ran)
 }
 
-/// The generation of a slot's program: of the program that judges there by any list of what was published. The condition is a
-/// slot below 4.
+/// The generation of the program that judges in a slot, by any list of what was published. The condition is a slot
+/// below 4.
 pub fn generation(world: &World, slot: u8) -> u32
     requires { slot < 4 }
     ensures { (n : Node) (h : History) → IsWorldOf n h world.now → IsGenerationIn n h slot result }

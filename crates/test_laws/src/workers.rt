@@ -13,8 +13,8 @@ use std::alloc::Global;
 use std::sync::Wait;
 use target::{Family, Front, Node};
 
-/// Works until the end mark, and then learns of the history all that the port asked for: the report, and what is known then.
-/// The conditions are those of [`work`].
+/// Works until the end mark, and then learns all of the history that the port asked for. Returns the report, and what
+/// is known then. The conditions are those of [`work`].
 pub fn accounted<J: Family, R: Wait, Q: Wait + Drop>(
     rt: &R,
     alloc: Global,

@@ -32,15 +32,15 @@ none = None
 value_1 : 2 + 3 * 4 ≡ 14
 value_1 = refl
 
--- `-` on ℕ: the difference, and 0 where the second number is the greater
+-- `-` on ℕ: the difference, and 0 if the second number is the greater
 value_2 : 3 - 5 ≡ 0
 value_2 = refl
 
--- `/`: the quotient without its rest, and 0 where the divisor is 0
+-- `/`: the quotient without its rest, and 0 if the divisor is 0
 value_3 : 7 / 0 ≡ 0
 value_3 = refl
 
--- `%`: the rest of a division, and the number itself where the divisor is 0
+-- `%`: the rest of a division, and the number itself if the divisor is 0
 value_4 : 7 % 0 ≡ 7
 value_4 = refl
 
@@ -48,7 +48,7 @@ value_4 = refl
 value_5 : 2 ^ 10 ≡ 1024
 value_5 = refl
 
--- `suc n`: the number behind n; `zero` is 0
+-- `suc n`: the number after n; `zero` is 0
 value_6 : suc 4 ≡ 5
 value_6 = refl
 
@@ -131,7 +131,7 @@ value_21 = refl
 value_22 : int_lt (negsuc 0) (pos 0) ≡ true
 value_22 = refl
 
--- `if b then x else y`, or `cond b x y`: x where b is true, else y
+-- `if b then x else y`, or `cond b x y`: x if b is true, else y
 value_23 : cond false xs ys ≡ ys
 value_23 = refl
 
@@ -163,11 +163,11 @@ value_28 = refl
 value_29 : slice_get xs 2 ≡ None
 value_29 = refl
 
--- `slice_set xs i x`: the list with x at place i, and the same list where there is no such place
+-- `slice_set xs i x`: the list with x at place i, and the same list if there is no such place
 value_30 : slice_set xs 1 9 ≡ 7 ∷ 9 ∷ []
 value_30 = refl
 
--- `take n xs`: the first n items, or all where there are fewer
+-- `take n xs`: the first n items, or all if there are fewer
 value_31 : take 3 xs ≡ 7 ∷ 8 ∷ []
 value_31 = refl
 
@@ -219,7 +219,7 @@ value_41 = refl
 value_42 : onto_first 6 (xs ∷ []) ≡ (6 ∷ xs) ∷ []
 value_42 = refl
 
--- `before_first p xs`, `after_first p xs`: what stands before and behind the first item at which p is true
+-- `before_first p xs`, `after_first p xs`: what is before and after the first item at which p is true
 value_43 : after_first (nat_eq 0) ys ≡ 8 ∷ []
 value_43 = refl
 
@@ -253,15 +253,15 @@ value_48 = refl
 value_49 : ok_or {E = ℕ} none 4 ≡ Err 4
 value_49 = refl
 
--- `IfSome o P`, `IfOk r P`, `IfErr r P`: P of what there is, and nothing asked where there is nothing
+-- `IfSome o P`, `IfOk r P`, `IfErr r P`: P of what there is, and nothing asked if there is nothing
 
--- `IfNone o P`: P where there is nothing
+-- `IfNone o P`: P if there is nothing
 
--- `OnOk r P`, `OnErr r P`: P where the result is an `Ok`, an `Err`, whatever it holds
+-- `OnOk r P`, `OnErr r P`: P if the result is an `Ok`, an `Err`, whatever it holds
 
--- `MatchOption o P Q`: P where there is nothing, Q of what there is; `MatchResult r P Q`: P of an `Ok`, Q of an `Err`
+-- `MatchOption o P Q`: P if there is nothing, Q of what there is; `MatchResult r P Q`: P of an `Ok`, Q of an `Err`
 
--- `MatchBool b P Q`: P where b is true, Q where not
+-- `MatchBool b P Q`: P if b is true, Q if not
 
 -- `⊤` holds always
 
@@ -300,7 +300,7 @@ value_53 = refl
 
 -- `digit_value b`: the number that a digit or a letter writes, 0 to 35, and 36 of any other code
 
--- `RFindsChar`: where a character stands last in a text; `SplitsAroundMatch`: what is before it and behind it
+-- `RFindsChar`: where a character is last in a text; `SplitsAroundMatch`: what is before it and after it
 
 -- `to_be_bytes w n`: the bytes of a number of that width, the most significant first
 
@@ -310,13 +310,14 @@ value_53 = refl
 
 -- `Data`: a value; `as_str`, `as_integer`, `as_bool`, `as_array`, `as_table`: the text, number, truth, list or table that it is, if it is one
 
--- `Items`: the values of a list; `no_items`: none; `item x xs`: one, and others behind it
+-- `Items`: the values of a list; `no_items`: none; `item x xs`: one, and others after it
 
--- `Members`: the keys of a table with their values; `no_members`: none; `member k x ms`: one, and others behind it; `get_member k ms`: the value of a key, if there is one
+-- `Members`: the keys of a table with their values; `no_members`: none; `member k x ms`: one, and others after it;
+-- `get_member k ms`: the value of a key, if there is one
 
 -- ---- what threads share
 
--- `Gv`: a value of any type, as a seat tells of which table it is; `gnil`: the one that tells nothing
+-- `Gv`: a value of any type, by which a seat says of which table it is; `gnil`: the one that says nothing
 
 -- `IsPassOf queue pass`: the pass was made for that queue; `IsSamePass`: two moments of one pass; `view pass`: what its holder did at the queue so far
 
@@ -326,4 +327,4 @@ value_53 = refl
 
 -- `Bor T`: what is lent to be read, a T
 
--- `Appends old new bs`: what a writer holds, where that is known, grew by bs
+-- `Appends old new bs`: what a writer holds, if that is known, grew by bs

@@ -1,4 +1,4 @@
--- The weight of a justified program by costs is never so large that it is cut; and what the classes weigh together.
+-- The weight of a justified program by costs is never so large that it is cut, and what the classes weigh together.
 use Rattle.std.proofs.Common.{◌≡◌, ℕ, zero, suc, ◌+◌, ◌*◌, ◌≤◌, List, [], ◌∷◌, Option, None, Some, refl, arith}
 use Rattle.bpf.specs.declared.loops.Loop.{Loop}
 use Rattle.bpf.specs.Program.{Program, IsProgram}
@@ -58,7 +58,7 @@ times_less (suc a) c m h = omega (arith, times_less a c m h)
 -- ---- the weight
 
 module _ (cost : Insn → ℕ) (m : ℕ) (each : (insn : Insn) → cost insn ≤ m) (ls : List Loop) where
-  -- where no instruction costs more than a number, they all cost at most the weight times that
+  -- if no instruction costs more than a number, they all cost at most the weight times that
   at_most : (i : ℕ) (xs : List (Option Insn)) → weight_by_from cost ls i xs ≤ weight_from ls i xs * m
   unfolding weight_by_from weight_from
   at_most i [] = omega arith

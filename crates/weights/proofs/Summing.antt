@@ -9,7 +9,7 @@ use Rattle.bpf.proofs.Weighed.{saturated-add_both, drop_end}
 
 -- ---- the sum over the slots
 
--- a list from a place on begins with what stands there
+-- a list from a place on begins with what is there
 cut_at : (xs : List (Option Insn)) (i : ℕ) → i < length xs → drop i xs ≡ slice_index_or xs i None ∷ drop (suc i) xs
 cut_at [] i h = absurd (omega arith)
 cut_at (x ∷ xs) zero h = refl

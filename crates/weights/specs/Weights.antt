@@ -8,8 +8,8 @@ use Rattle.weights.specs.declared.weighing.Weights.{Weights}
 
 -- ---- the statement
 
--- the weight of each class is that where an instruction of the class costs one and any other nothing, and together they
--- are the program's weight
+-- The weight of each class is that by a cost of one for its instructions and of nothing for others. Together the
+-- weights are the program's weight.
 pub record AreWeights (p : Program) (weights : Weights) : Type 0 where
   pub division : weights.division ≡ weight_by (cost_by (costs 1 0 0 0)) p
   pub call : weights.call ≡ weight_by (cost_by (costs 0 1 0 0)) p

@@ -25,7 +25,8 @@ pub struct Weights {
     pub rest: u64,
 }
 
-/// What the instruction at the slot costs, as often as it is run at most, or 2^64 - 1 where that is above.
+/// What the instruction at the slot costs, as often as it is run at most. If that is above 2^64 - 1, the result is 2^64
+/// - 1.
 fn part(loops: &[Loop], slot: u16, insn: Option<Insn>, costs: &Costs) -> u64
     ensures { result ≡ saturated_weight (times_at loops.now slot
         * cost_here (cost_by costs.now) insn) }
@@ -36,7 +37,7 @@ fn part(loops: &[Loop], slot: u16, insn: Option<Insn>, costs: &Costs) -> u64
     }
 }
 
-/// The weight of an image by these costs, or 2^64 - 1 where it is above.
+/// The weight of an image by these costs, or 2^64 - 1 if it is above.
 fn weight_in(image: &Image, costs: &Costs) -> u64
     ensures { result ≡ saturated_weight (weight_by (cost_by costs.now) image.now) }
 {
@@ -48,8 +49,8 @@ fn weight_in(image: &Image, costs: &Costs) -> u64
     weight
 }
 
-/// The weight of an accepted program by these costs: the sum over its instructions of what each costs as often as its
-/// loops let it run. No run costs more.
+/// The weight of an accepted program by these costs: what each of its instructions costs as often as its loops let it
+/// run, added up. No run costs more.
 pub fn weigh(program: &Accepted, costs: &Costs) -> u64
     ensures value { result ≡ weight_by (cost_by costs.now) program.now.program }
     ensures bound { IsSafeFor program.now.program (cost_by costs.now) }
@@ -59,7 +60,7 @@ pub fn weigh(program: &Accepted, costs: &Costs) -> u64
     weight_in(program.image(), costs)
 }
 
-/// The weight of an accepted program where an instruction of each class costs so much.
+/// The weight of an accepted program by these costs of an instruction of each class.
 fn share(program: &Accepted, division: u32, call: u32, jump: u32, rest: u32) -> u64
     ensures { result ≡ weight_by (cost_by (costs division call jump rest)) program.now.program }
 {

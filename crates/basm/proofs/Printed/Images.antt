@@ -1,4 +1,4 @@
--- A printed image stands in the text relation.
+-- A printed image is in the text relation.
 use Rattle.std.proofs.Common.{◌≡◌, ℕ, ◌+◌, Bool, true, false, List, [], ◌∷◌, ◌++◌, length, Option, Some, None, is_some, refl, sym, ap, ◌∙◌, subst, append-nil, append_assoc}
 use Rattle.std.specs.Prelude.{◌↔◌, codes, decimal}
 use Rattle.std.specs.List.{flat_map}
@@ -31,7 +31,7 @@ abbrev version_items : Version → List Item → List Item
 version_items One rest = rest
 version_items Two rest = OneVersion Two ∷ rest
 
--- the items behind the version
+-- the items after the version
 abbrev items_behind : Program → List Item
 items_behind p = Budget p.budget ∷ loop_items p.loops (slot_items p.slots)
 

@@ -24,7 +24,7 @@ use Rattle.basm_lex.specs.Operands.{WritesMemoryOperand}
 use Rattle.basm_lex.specs.Printed.{AreWords, IsWord}
 use Rattle.basm.specs.Relation.{WritesOperand, WritesOperands}
 
--- the laws of `basm_lex` that are used
+-- the laws of `basm_lex` that the proofs use
 pub record PrintedWords : Type 0 where
   pub number : (n : ℕ) → n < 2 ^ 31 → WritesNumber (decimal n) (pos n)
   pub signed : (z : ℤ) → FitsSigned w32 z → WritesNumber (signed_decimal z) z
@@ -44,7 +44,7 @@ address_small : (address : Address) → address_subtype address < 7
 address_small (MapByFile first) = lit< tt
 address_small _ = lit< tt
 
--- what fits 16 bits fits 32
+-- a number that fits 16 bits fits 32
 wider : (z : ℤ) → FitsSigned w16 z → FitsSigned w32 z
 wider z fits = omega (arith, ints)
 

@@ -35,7 +35,7 @@ item_operands (Code insn) = insn_operands insn
 abbrev pub item_line : Item → List ℕ
 item_line item = name_with_operands (item_name item) (item_operands item)
 
--- an item of an image of so many slots
+-- an item of an image of `slots` slots
 abbrev pub IsPrinted : (slots : ℕ) → Item → Type 0
 IsPrinted slots Nothing = ⊥
 IsPrinted slots (Label name) = ⊥

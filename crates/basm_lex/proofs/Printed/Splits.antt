@@ -1,4 +1,4 @@
--- Texts that are cut where a test passes.
+-- Texts that are cut at the place at which a test passes.
 use Rattle.std.proofs.Common.{◌≡◌, suc, ◌+◌, Bool, true, false, List, [], ◌∷◌, ◌++◌, take, drop, refl, ap, ◌∙◌, arith}
 use Rattle.std.specs.List.{after_first, before_first, onto_first, position_or_len, slice_split}
 

@@ -1,4 +1,4 @@
--- What is printed of registers, numbers, memory operands and names are words.
+-- Printed registers, numbers, memory operands and names are words.
 use Rattle.std.proofs.Common.{ℕ, suc, ◌^◌, ◌<◌, ◌≤◌, ℤ, pos, negsuc, ◌++◌, arith, refl, lit≤}
 use Rattle.std.specs.Prelude.{codes, decimal, FitsSigned}
 use Rattle.std.specs.Int.{w16, w32}

@@ -62,7 +62,7 @@ written_fails p mark comma space name (x ∷ xs) is words =
 skip_plain : (c : ℕ) (cs : List ℕ) → is_plain c ≡ true → without_leading_spaces (c ∷ cs) ≡ c ∷ cs
 skip_plain c cs plain = rw ((apart c plain).space)
 
--- what ends with no space
+-- a text that does not end with a space
 pub record IsEnd (xs : List ℕ) : Type 0 where
   pub some : 0 < length xs
   pub kept : without_trailing_spaces xs ≡ xs
@@ -143,7 +143,7 @@ rest_some name x xs is words =
     ap (after_first is_space) (code_written name (x ∷ xs) is words ∙ written_some name x xs)
     ∙ after_at is_space name 32 (x ++ more_operands xs) (fails_space name is) refl
 
--- operands with the space that stands before them
+-- operands with the space before them
 abbrev spaced : List (List ℕ) → List (List ℕ)
 spaced [] = []
 spaced (x ∷ xs) = (32 ∷ x) ∷ spaced xs

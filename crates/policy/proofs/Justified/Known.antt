@@ -1,5 +1,5 @@
--- What is known at the slots of a compiled table. Wherever a rule stands four states serve: between its tests nothing
--- is known of r0 to r5, at a comparison r0 is a number, and two more come before a ticket is drawn.
+-- What is known at the slots of a compiled table. Four states are enough for every rule. Between its tests nothing is
+-- known of r0 to r5. At a comparison r0 is a number. Two more come before the draw of a ticket.
 use Rattle.std.specs.Prelude.{pos, negsuc, ◌==◌, ◌&&◌, ◌-◌, if◌then◌else◌, slice_set, Ok, Err}
 use Rattle.std.proofs.Common.{◌≡◌, ◌<◌, ◌^◌, ℕ, zero, suc, Bool, true, false, List, [], ◌∷◌, length, replicate, refl, ap, ◌∙◌, arith, eq-eqb}
 use Rattle.std.proofs.lemmas.List.{get_or-set_same, length-replicate, length-set}
@@ -32,7 +32,7 @@ no_marks = replicate 512 false
 pub port_marks : List Bool
 port_marks = slice_set no_marks 511 true
 
--- the bytes of the stack that are set: the last, where the port is kept there
+-- the bytes of the stack that are set: the last, if the port is kept there
 abbrev pub marks_held : (held : Bool) → List Bool
 marks_held false = no_marks
 marks_held true = port_marks
@@ -45,7 +45,7 @@ frame = Ptr Stack (pos 0, pos 0)
 abbrev pub listed : (k0 k1 k2 k3 k6 k7 k8 k9 : AbsKind) → List AbsKind
 listed k0 k1 k2 k3 k6 k7 k8 k9 = k0 ∷ k1 ∷ k2 ∷ k3 ∷ Unset ∷ Unset ∷ k6 ∷ k7 ∷ k8 ∷ k9 ∷ frame ∷ []
 
--- what is known where these are the kinds
+-- the state with these kinds
 abbrev pub known : (held : Bool) (k0 k1 k2 k6 k7 k8 k9 : AbsKind) → StateValue
 known held k0 k1 k2 k6 k7 k8 k9 = record { kinds = listed k0 k1 k2 Unset k6 k7 k8 k9; marks = marks_held held; ranges = all_whole }
 
@@ -69,11 +69,11 @@ between held = in_rules held Unset Unset Unset
 abbrev pub comparing : (held : Bool) → StateValue
 comparing held = in_rules held number Unset Unset
 
--- where a map was loaded
+-- after the load of a map
 abbrev pub mapped : (held : Bool) (map : ℕ) → StateValue
 mapped held map = in_rules held Unset (Map map) Unset
 
--- where its cell was set
+-- after its cell is set
 abbrev pub drawing : (held : Bool) (map cell : ℕ) → StateValue
 drawing held map cell = in_rules held Unset (Map map) (Num (single_range cell))
 
@@ -145,7 +145,7 @@ pub is_entry : IsEntry entry
 unfolding entry no_marks
 is_entry = record { kinds = refl; marks = unmarked 512; ranges = whole_word }
 
--- the first instructions need the two pointers alone, and the port where it is kept
+-- the first instructions need only the two pointers, and the port if it is kept
 abbrev pub entered : (held : Bool) → StateValue
 entered false = known false Unset front tail Unset Unset Unset Unset
 entered true = record { kinds = listed Unset front tail number Unset Unset Unset Unset; marks = no_marks; ranges = all_whole }
@@ -176,7 +176,7 @@ whole_entered = record {
 
 -- ---- the port on the stack
 
--- a word of which nothing is known stays one
+-- a word of which nothing is known stays such a word
 still_whole : (t : Bool) → (if t then whole_range Bits64 else whole_range Bits64) ≡ whole_range Bits64
 still_whole true = refl
 still_whole false = refl
@@ -187,7 +187,7 @@ widened_whole zero word first last k = refl
 widened_whole (suc count) word first last zero = still_whole (is_touched word first last)
 widened_whole (suc count) word first last (suc k) = widened_whole count (suc word) first last k
 
--- the port is put there
+-- the port goes there
 pub kept_below : IsBelow (with_stored Forgets (entered true) 1 (511, 511) (whole_range Bits64)) (known true Unset front tail Unset Unset Unset Unset)
 unfolding marks_after port_marks all_whole
 kept_below = record {
@@ -227,7 +227,7 @@ moved_number width n small =
     let within : IsWithin (single_range (low_part width n)) (whole_range Bits64) = record { above = omega arith; below = omega (arith, fits) } in
     rw (moved width n) within
 
--- and that number, where all its bits are moved
+-- the register holds that number, if all its bits are moved
 pub moved_same : (n m : ℕ) → n ≡ m → IsKindBelow (Num (alu_range Mov Bits64 (single_range n) (single_range n))) (Num (single_range m))
 moved_same n m same =
     let within : IsWithin (single_range n) (single_range m) = record { above = omega (arith, same); below = omega (arith, same) } in

@@ -1,4 +1,4 @@
--- Slots that are justified from one on, each by what is known there.
+-- Slots that are justified from one to the end, each by what is known there.
 use Rattle.std.specs.Prelude.{ℤ, pos, negsuc, IfSome, IsSome, slice_index_or}
 use Rattle.std.proofs.Common.{◌≡◌, ℕ, zero, suc, ◌+◌, List, ◌∷◌, length, Option, Some, None, sym, ap, subst, arith}
 use Rattle.bpf.specs.declared.version.Version.TheVariants.{One}
@@ -18,12 +18,12 @@ use Rattle.bver.specs.Justified.{AreEdgesCovered, IsCovered, IsPermitted, IsResu
 abbrev pub Knowledge : Type 0
 Knowledge = ℕ → Option StateValue
 
--- a jump from the slot leads to a later one where an instruction begins
+-- a jump from the slot leads to a later one at which an instruction begins
 abbrev pub LandsIn : List (Option Insn) → (slot : ℕ) → ℤ → Type 0
 LandsIn slots slot (pos skipped) = IsSome (slice_index_or slots (slot + 1 + skipped) None)
 LandsIn slots slot (negsuc n) = ⊥
 
--- an instruction may stand at the slot, and what is known there permits it
+-- an instruction may be at the slot, and what is known there permits it
 pub record IsServed (sizes : Maps) (table : Knowledge) (slots : List (Option Insn)) (slot : ℕ) (a : StateValue) (insn : Insn) : Type 0 where
   pub whole : IsWhole a
   pub permitted : IsPermitted Forgets sizes table slot a insn
@@ -50,7 +50,7 @@ pub record IsEndedBy (slots : List (Option Insn)) (insn : Insn) : Type 0 where
 
 -- ---- one slot before others
 
--- what is known, one slot further on
+-- the knowledge, moved one slot on
 abbrev pub before : Option StateValue → Knowledge → Knowledge
 before first table zero = first
 before first table (suc slot) = table slot
@@ -114,7 +114,7 @@ module _ (sizes : Maps) (table : Knowledge) (slots : List (Option Insn)) (slot :
     lands = lands_if_further (jump_distance i) h.lands;
   }
 
--- one slot more is served, where its own is
+-- one slot more is served, if its own is
 pub serve_before : (sizes : Maps) (table : Knowledge) (slots : List (Option Insn)) (first : Option StateValue) (insn : Option Insn)
     → IsServedAt sizes (before first table) (insn ∷ slots) 0 first insn → AreServed sizes table slots → AreServed sizes (before first table) (insn ∷ slots)
 serve_before sizes table slots first insn here rest zero = here

@@ -1,4 +1,4 @@
--- Stretches of the code of a compiled table, from a slot to its end: what has to hold of one more instruction before.
+-- Stretches of the code of a compiled table, from a slot to its end: what one more instruction before them needs.
 use Rattle.std.specs.Prelude.{◌==◌, ℤ, pos, negsuc, Bool, IfOk, IfSome, IsOk, IsSome, IsTrue, Result, Ok, Err, slice_index, slice_index_or}
 use Rattle.std.proofs.Common.{◌≡◌, ◌<◌, ◌+◌, ℕ, suc, false, List, [], ◌∷◌, Option, Some, None, refl, sym, ap, ◌∙◌, subst, arith}
 use Rattle.std.proofs.lemmas.Bool.{eqb-false}
@@ -33,7 +33,8 @@ use Rattle.policy.specs.Code.{loaded, port_kept, port_loaded, skips_if, swapped}
 use Rattle.policy.proofs.Justified.Known.{below_in_rules, between, comparing, drawing, mapped}
 use Rattle.policy.proofs.Justified.Served.{AreServed, IsEndedBy, IsServedAt, Knowledge, LandsIn, before, ended_before, serve_before}
 
--- slots are justified from one to their end, with what is known at the first of them, and so many slots further on
+-- slots are justified from one to their end, with what is known at the first of them and at the slot `behind` slots
+-- further on
 pub record IsJustifiedFrom (sizes : Maps) (first : StateValue) (behind : ℕ) (there : Option StateValue) (slots : List (Option Insn)) : Type 0 where
   pub table : Knowledge
   pub served : AreServed sizes table slots
@@ -103,7 +104,7 @@ module _ (sizes : Maps) (a next : StateValue) (behind : ℕ) (there : Option Sta
       (λ table is. subst (λ (o : Option StateValue). IsResultCovered (after_insn Forgets a port_kept) o) (sym is) covered)
       tt tt refl rest
 
-  -- it comes from there
+  -- the load of the port from there
   pub port_before : IsResultCovered (with_result a 0 (load_kind Forgets a LoadByte (kind_at a 10) (negsuc 0))) (Some next)
       → IsJustifiedFrom sizes next behind there slots → IsJustifiedFrom sizes a (suc behind) there (Some port_loaded ∷ slots)
   port_before covered rest =
@@ -119,9 +120,9 @@ none_served : (sizes : Maps) → AreServed sizes none_known []
 unfolding none_known
 none_served sizes slot = tt
 
--- where the port is kept on the stack, or not
+-- with the port on the stack, or without
 module _ (held : Bool) where
-  -- up to the next rule, which begins so many slots further on
+  -- up to the next rule, which begins `behind` slots further on
   abbrev pub IsJustifiedTo : (sizes : Maps) (first : StateValue) (behind : ℕ) (slots : List (Option Insn)) → Type 0
   IsJustifiedTo sizes first behind slots = IsJustifiedFrom sizes first behind (Some (between held)) slots
 
@@ -147,7 +148,7 @@ module _ (held : Bool) where
       (edge_covered transitive (between held) (below_in_rules held tt tt tt) edges.taken h.taken, edge_covered transitive next less edges.not_taken h.not_taken)
   edges_covered transitive next less (Err cause) ok h = cc
 
-  -- where a rule begins, an instruction does
+  -- at the slot at which a rule begins, an instruction begins
   begins : (sizes : Maps) (table : Knowledge) (slots : List (Option Insn)) (slot : ℕ) (a : Option StateValue) (insn : Option Insn)
       → a ≡ Some (between held) → IsServedAt sizes table slots slot a insn → IsSome insn
   begins sizes table slots slot None insn is h = cc

@@ -1,4 +1,4 @@
--- Compiled tables are justified: test by test from the end of a rule, the rules from the last, and what comes before
+-- Compiled tables are justified: test by test from the end of a rule, the rules from the last, and the code before
 -- them.
 use Rattle.std.specs.Prelude.{◌++◌, nat_lt, is_some, pos, negsuc, ℤ, IsOk, IfSome, Result, Ok, if◌then◌else◌, slice_index_or, All}
 use Rattle.std.specs.Int.{w32, cast_signed}
@@ -56,7 +56,7 @@ use Rattle.absdom.proofs.KindLists.{number, proper_number}
 use Rattle.policy.proofs.Justified.Served.{IsEndedBy, IsServedAt, Knowledge, LandsIn}
 use Rattle.policy.proofs.Justified.Stretches.{IsJustifiedFrom, IsJustifiedTo, alu_before, begun, call_before, counted, exit_before, last_exit, load_before, map_before, port_before, store_before, swap_before, test_before}
 
--- the laws of states that are needed
+-- the laws of states that the proof needs
 pub record Laws : Type 0 where
   pub reflexive : BelowIsReflexive
   pub transitive : BelowIsTransitive
@@ -68,14 +68,14 @@ slots_for insns = flat_map placed_slots insns
 
 -- ---- tests
 
--- a byte or a word of the header comes into r0
+-- r0 gets a byte or a word of the header
 byte_number : IsKindBelow (Num (0, 2 ^ 8 - 1)) number
 byte_number = record { above = omega arith; below = omega arith }
 
 word_number : IsKindBelow (Num (0, 2 ^ 32 - 1)) number
 word_number = record { above = omega arith; below = omega arith }
 
--- what a mask leaves of it
+-- the number that a mask leaves of it
 masked_number : (mask : ℕ) → IsKindBelow (Num (alu_range And Bits64 (whole_range Bits64) (single_range (word (pos mask))))) number
 masked_number mask = record { above = omega arith; below = omega arith }
 
@@ -93,7 +93,7 @@ map_small : (map : ℕ) (t : Bool) → t ≡ true → (if t then Map map else Un
 map_small map true is = refl
 map_small map false is = cc
 
--- ---- a rule and what stands behind it
+-- ---- a rule and what comes after it
 
 behind_all : (a b c d e f g rest : List Insn) → (a ++ (b ++ (c ++ (d ++ (e ++ (f ++ g)))))) ++ rest ≡ a ++ (b ++ (c ++ (d ++ (e ++ (f ++ (g ++ rest))))))
 behind_all a b c d e f g rest = simp append_assoc
@@ -105,7 +105,7 @@ in_front rule rest =
     ap (λ (code : List Insn). code ++ rest) (in_turn rule)
     ∙ behind_all (kind_test rule.kind (behind_kind rule)) (field_test rule.key 6 3 (behind_key rule)) (field_test rule.initiator 7 0 (behind_initiator rule)) (field_test rule.extended 7 3 (behind_extended rule)) (range_test rule.low rule.high (behind_range rule)) (quota_test rule.quota 2) (verdict_code (verdict_number rule.verdict)) rest
 
--- where the port is kept on the stack, or not
+-- with the port on the stack, or without
 module _ (held : Bool) where
   -- a stretch of instructions to the next rule, and to the end of the code
   abbrev IsStretch : (sizes : Maps) (first : StateValue) (behind : ℕ) (insns : List Insn) → Type 0
@@ -125,7 +125,7 @@ module _ (held : Bool) where
   whole_mapped : (map : ℕ) → IsWhole (mapped held map)
   whole_mapped map = whole_in_rules held tt tt tt
 
-  -- before the rules: what is given at entry, the first pointer kept, both, and the first address
+  -- before the rules: what is known at entry, then the first pointer kept, both, and the first address
   abbrev given : StateValue
   given = known held Unset front tail Unset Unset Unset Unset
 
@@ -174,7 +174,7 @@ module _ (held : Bool) where
     kind_stretch Write behind insns rest = masked 224 96 behind insns rest
     kind_stretch Rmw behind insns rest = masked 252 92 behind insns rest
 
-    -- through a register from which a byte at the offset can be read
+    -- through a register from which the byte at the offset can be read
     field_stretch : (field : Option ℕ) (base offset behind : ℕ) (insns : List Insn) → load_kind Forgets (between held) LoadByte (kind_at (between held) base) (pos offset) ≡ Ok (Num (0, 2 ^ 8 - 1))
         → IsStretch sizes (between held) behind insns → IsStretch sizes (between held) (behind + field_slots field) (field_test field base offset behind ++ insns)
     field_stretch None base offset behind insns readable rest = again sizes (between held) behind (behind + 0) insns (omega arith) rest
@@ -207,7 +207,7 @@ module _ (held : Bool) where
         let both = limit_stretch low (behind + 2) (behind + 2) (set_to_bits 0 high ∷ skips_if Greater 9 (FromRegister 0) behind ∷ insns) Less 8 small_low refl refl above in
         again sizes (between held) (behind + 2 + 2) (behind + 4) (range_test low high behind ++ insns) (omega arith) both
 
-    -- a ticket of a cell that there is
+    -- a ticket of a cell that the maps have
     quota_stretch : (quota : Option Quota) (insns : List Insn) → IsLimited quota → quota_fault sizes quota ≡ None
         → IsStretch sizes (between held) 2 insns → IsStretch sizes (between held) (2 + quota_slots quota) (quota_test quota 2 ++ insns)
     quota_stretch None insns limited none rest = rest
@@ -242,7 +242,7 @@ module _ (held : Bool) where
         again sizes (between held) (behind_kind rule + kind_slots rule.kind) (rule_slots rule) (rule_code rule ++ insns) (omega arith)
         (subst (λ (code : List Insn). IsStretch sizes (between held) (behind_kind rule + kind_slots rule.kind) code) (sym (in_front rule insns)) kind)
 
-    -- the port of a rule, which is kept where there is one
+    -- the test of a rule's port, which is kept if there is one
     port_stretch : (field : Option ℕ) (behind : ℕ) (insns : List Insn) → (is_some field ≡ true → held ≡ true)
         → IsStretch sizes (between held) behind insns → IsStretch sizes (between held) (behind + field_slots field) (port_test field behind ++ insns)
     port_stretch None behind insns asked rest = again sizes (between held) behind (behind + 0) insns (omega arith) rest
@@ -320,7 +320,7 @@ ended_at slots insn h =
     let same : length slots - 1 ≡ h.last = omega (arith, h.long) in
     ap (λ (k : ℕ). slice_index_or slots k None) same ∙ h.at
 
--- the port is put on the stack first, where a rule asks it
+-- the port goes on the stack first, if a rule asks it
 keep_stretch : (held : Bool) (laws : Laws) (sizes : Maps) (insns : List Insn) → IsStretch held sizes (given held) 14 insns
     → (behind : ℕ) × IsJustifiedTo held sizes (entered held) behind (slots_for (keep_code held ++ insns))
 keep_stretch false laws sizes insns rest = (14, rest)
@@ -330,7 +330,7 @@ keep_stretch true laws sizes insns rest =
 behind_keep : (a b c d : List Insn) → a ++ b ++ c ++ d ≡ a ++ (b ++ c ++ d)
 behind_keep a b c d = simp append_assoc
 
--- the program of a table whose cells are there, in the limits of the format and of its budget
+-- the program of a table whose cells the maps have, in the limits of the format and of its budget
 pub table_justified : Laws → (sizes : Maps) (rules : List PortRule) (budget : ℕ) → All FitsPort rules → HaveCells sizes rules
     → IsProgram (table_program budget rules) → weight_of (table_program budget rules) ≤ budget → IsJustified (table_program budget rules) sizes
 table_justified laws sizes rules budget fits cells limits light =

@@ -1,4 +1,4 @@
-use Rattle.std.proofs.Common.{◌≡◌, ◌++◌, List, false, true, subst, sym}
+use Rattle.std.proofs.Common.{◌≡◌, List, false, true, subst, sym}
 use Rattle.std.specs.Prelude.{map}
 use Rattle.std.proofs.lemmas.Result.{IfOk-weaker}
 use Rattle.regions.specs.Cells.{AreCellsOf}

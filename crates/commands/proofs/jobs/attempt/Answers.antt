@@ -1,14 +1,20 @@
-use Rattle.std.proofs.Common.{◌≡◌, ℕ, List, IfErr, sym, subst}
+use Rattle.std.proofs.Common.{◌≡◌, ℕ, List, IfErr, IfOk, refl, sym, subst}
 use Rattle.std.specs.Prelude.{string_bytes}
 use Rattle.job_parts.specs.Reading.{IsNoProgram}
 use Rattle.job_parts.specs.Stops.{StopsBy}
-use Rattle.commands.specs.Performed.{IsEnded}
+use Rattle.commands.specs.Performed.{CanDo, IsDone, IsEnded}
 use Rattle.commands.proofs.Stopping.{stops_by_both}
 use Rattle.commands.proofs.jobs.attempt.Goals as goal
 
+pub returns-in-Serve-clause-done : goal.returns-in-Serve-clause-done
+returns-in-Serve-clause-done g c =
+    subst (λ job. IfOk c.serve.result (IsDone g.F.Files.reads g.F.Files.writes job c.args.files.now c.serve.new.files (g.W.Write.contents c.args.out.now) (g.W.Write.contents c.serve.new.out))) (sym c.in-Serve.is)
+    (c.serve.ensures.done (subst (CanDo g.S.Serves.serves) c.in-Serve.is c.requires.can refl))
+
 pub returns-in-Serve-clause-stops : goal.returns-in-Serve-clause-stops
 returns-in-Serve-clause-stops g c =
-    subst (λ job. IfErr c.serve_file.result (StopsBy (IsEnded g.F.Files.reads g.F.Files.writes job c.args.files.now c.serve_file.new.files (g.W.Write.contents c.args.out.now) (g.W.Write.contents c.serve_file.new.out)))) (sym c.in-Serve.is) c.serve_file.ensures.stops
+    subst (λ job. IfErr c.serve.result (StopsBy (IsEnded g.F.Files.reads g.F.Files.writes job c.args.files.now c.serve.new.files (g.W.Write.contents c.args.out.now) (g.W.Write.contents c.serve.new.out)))) (sym c.in-Serve.is)
+    (c.serve.ensures.stops (subst (CanDo g.S.Serves.serves) c.in-Serve.is c.requires.can refl))
 
 pub returns-in-Policy-clause-stops : goal.returns-in-Policy-clause-stops
 returns-in-Policy-clause-stops g c =

@@ -1,4 +1,4 @@
--- some bytes of the line were read, and what is given of them stands in the text
+-- some bytes of the line were read, and what is given of them is in the text
 use Rattle.std.proofs.Common.{◌≡◌, ◌≢◌, ℕ, List, All, string_bytes}
 use Rattle.std.specs.Io.KnownBytes.{Consumes}
 use Rattle.job_live.specs.HostLines.{given_text}

@@ -7,7 +7,7 @@ use Rattle.policy_table.specs.Ports.{FitsPort}
 use Rattle.policy_table.specs.declared.port_rules.PortRule.{PortRule}
 use Rattle.policy.proofs.code.table_insns.Goals as goal
 
--- one rule more, and the rules behind it
+-- one rule more, and the rules after it
 code_behind : (rules : List PortRule) (i : ℕ) (d : PortRule) (before after total : List Insn) → i < length rules → after ≡ before ++ port_rule_code (get_or rules i d)
     → before ++ rules_code (drop i rules) ≡ total → after ++ rules_code (drop (i + 1) rules) ≡ total
 code_behind rules i d before after total within pushed whole =

@@ -6,7 +6,7 @@ use Rattle.bpf.specs.declared.fault.ImageFault.TheVariants as faults
 use Rattle.policy.proofs.Weighing.{are_parts, slots_many}
 use Rattle.policy.proofs.compiler.image_of.Goals as goal
 
--- what is read has no fault but that of memory
+-- a reading that succeeds has no fault except that of memory
 no_other : (fault : ImageFault) (read : Result Program ImageFault) (p : Program) → Fails fault read → read ≡ Ok p → ¬ (fault ≡ faults.Memory) → ⊥
 no_other faults.Magic read p fails is other = cc
 no_other faults.Version read p fails is other = cc

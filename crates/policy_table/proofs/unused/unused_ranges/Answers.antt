@@ -11,5 +11,5 @@ loop-line-preserved c =
     let (count, found) = c.loop-line.invariant in (
       omega (arith, count, ap (λ (lines : List (List ℕ)). length lines) next),
       more_unused all c.loop-line.line-iterator line c.next.new.self c.loop-line.number (c.loop-line.number + 1) c.loop-line.unused.items c.push_if.new.numbers.items _ next (add-one c.loop-line.number)
-          (cc (c.in_ok-push_if.ensures, c.is_unused.ensures)) found,
+          (cc (c.in_ok-push_if.ensures, c.is_unused.ensures all c.in_ok-used.ensures)) found,
     )

@@ -1,7 +1,7 @@
 use Rattle.std.proofs.Common.{rules}
 use Rattle.ports.proofs.packet.finish_locked.Goals as goal
 
--- What the bank was and is is said, so that the reply is looked for.
+-- The lemma names what the bank was and is, so that the checker finds the reply.
 pub returns-clause-ended : goal.returns-clause-ended
 returns-clause-ended g c = record {
   before = c.deref_mut-kept.result.now;

@@ -4,7 +4,7 @@ use Rattle.std.specs.PromisedHandle.{KeepsAt}
 use Rattle.std.proofs.Common.{rules, arith, below_more, refl, sym, subst}
 use Rattle.ports.proofs.serves.join_each.Goals as goal
 
--- The handle that is joined stood first among the rest, so it is the one at the next place.
+-- The handle that is joined was first among the rest, so it is the one at the next place.
 pub loop-thread-preserved : goal.loop-thread-preserved
 loop-thread-preserved g c =
     let was = c.loop-thread.invariant in let step = c.in-Some.ensures.steps in let done = vec_len c.loop-thread.all in

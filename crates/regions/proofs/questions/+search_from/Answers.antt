@@ -1,6 +1,6 @@
 use Rattle.std.proofs.Common.{◌≡◌, ◌<◌, ◌+◌, ◌-◌, ◌*◌, ℕ, length, subst, arith}
 use Rattle.regions.specs.Questions.{HoldsOn, IsCutTo, IsFound}
-use Rattle.regions.proofs.Searching.{answered, apart_cut, begun, last_inside, none_of, on_both, step, within_cut}
+use Rattle.regions.proofs.Searching.{answered, apart_cut, begun, last_inside, none_of, on_both, passed_inside, passed_within, step, within_cut}
 use Rattle.regions.proofs.questions.+search_from.Goals as goal
 
 pub returns-then-ask : goal.returns-then-ask
@@ -15,6 +15,20 @@ cuts-preserved-then-is_within g t c = record {
   under_way = λ some. absurd (omega (arith, some, c.if-sides-eq0.true));
   back = c.cuts.invariant.back;
 }
+
+pub returns-then-passes : goal.returns-then-passes
+returns-then-passes g t c =
+    c.cuts.invariant.back (passed_within (g.Q.Question.tests c.args.question.now) c.cuts.at c.cuts.part c.in-Some-shape.next (g.Q.Question.holds c.args.question.now) c.in-Some-shape.ensures c.if-is_within.ensures c.if-passes.ensures)
+
+pub returns-then-passes-2 : goal.returns-then-passes-2
+returns-then-passes-2 g t c =
+    let tests = g.Q.Question.tests c.args.question.now in
+    let holds = g.Q.Question.holds c.args.question.now in
+    let found = IsFound (g.Q.Question.fails c.args.question.now) in
+    let is_step = step tests c.cuts.at c.cuts.part c.cuts.cutter c.cuts.sides c.side_of.result c.cut.result.0 c.cut.result.1 (omega (arith, c.if-sides-eq0.false)) c.side_of.ensures c.cuts.invariant.under_way c.cut.ensures c.cuts.invariant.cut in
+    let none : c.cuts.sides - 1 ≡ 0 = omega (arith, c.if-sides-eq1.true) in
+    let passed = passed_inside tests c.cuts.at c.cuts.cutter c.cut.result.0 holds (subst (λ (n : ℕ). IsCutTo tests c.cuts.at c.cuts.cutter n c.cut.result.0) none is_step.in_to) c.if-passes-2.ensures in
+    c.cuts.invariant.back (on_both c.cuts.part c.cuts.cutter c.side_of.result c.cut.result.0 c.cut.result.1 holds c.cut.ensures (none_of c.search_from.result (HoldsOn holds c.cut.result.1) found c.in_default-search_from.is c.search_from.ensures) passed)
 
 pub cuts-preserved-then-not-may_meet : goal.cuts-preserved-then-not-may_meet
 cuts-preserved-then-not-may_meet g t c = record {

@@ -10,7 +10,7 @@ use Rattle.single_node_c.specs.declared.numbers.ServedNumbers.{ServedNumbers}
 use Rattle.single_node_c.specs.declared.parts.ServedParts.{ServedParts}
 use Rattle.single_node_c.proofs.serving.serve_packet.Goals as goal
 
--- the numbers of what was told, by the parts and the room that were found
+-- the numbers of what the node reported, by the parts and the room that were found
 numbers_told : (answer : Answer) (packet : Cargo) (node : SingleNodeValue) (parts : ServedParts) (left : ℕ) (numbers : ServedNumbers) → numbers ≡ served_numbers answer parts left answer.size
     → left ≡ room_behind answer.told.served parts.extended node → parts ≡ served_parts packet
     → numbers ≡ served_numbers answer (served_parts packet) (room_behind answer.told.served (served_parts packet).extended node) answer.size

@@ -47,7 +47,7 @@ last_of ports port one taken before after below all last =
     replicate_more (ports - (port + 1)) one ∙ sym (ap (λ n. replicate n one) count) ∙ sym all ∙ last in
     (sym (same_before _ _ _ _ begins), sym (same_last _ _ _ _ begins))
 
--- the line of that place among those of so many ports
+-- the line of that place among those of that many ports
 line_at : (ports place : ℕ) (lines : List LineValue) (line : LineValue) → lines ≡ fresh_lines ports → place < length lines → line ≡ get_or lines place line → (place < ports) × (line ≡ record { port = place; asked = [] })
 line_at ports place lines line are inside read =
     let fresh : ℕ → LineValue = λ port. record { port = port; asked = [] } in

@@ -1,7 +1,7 @@
 use Rattle.std.proofs.Common.{◌≡◌, ◌<◌, ◌+◌}
 use Rattle.annals.proofs.chains.Opened.skip.Given as goal
 
--- so many chains are still to be left out
+-- that many chains are still to be left out
 abbrev pub invariant-loop-left : goal.invariant-loop-left
 invariant-loop-left l = record {
   some : l.left < l.self-inside.pens.left;

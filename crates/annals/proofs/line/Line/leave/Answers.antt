@@ -26,7 +26,7 @@ due_then port bank e own left known reached is pre asked =
     asked.last.log ∙ ap (λ (n : ℕ). before ++ link n place (Asks (bank, e)) asked.last.next ∷ []) is.number in
     asks_next port place asked.last.next own.log before left reached (bank, e) asked.asked same is.left (prefix_trans left known before pre asked.last.seen) more
 
--- and the line asked for it behind what it asked for before
+-- and the line asked for it after what it asked for before
 asked_then : (port bank : ℕ) (e : Act) (own : ChainValue) (left known reached : List Link) → IsLine port own left → IsLastOf own known reached (Asks (bank, e))
     → asked_by port reached ≡ asked_by port own.log ++ (bank, e) ∷ []
 asked_then port bank e own left known reached is asked =
@@ -37,7 +37,7 @@ asked_then port bank e own left known reached is asked =
     asked.last.log ∙ ap (λ (n : ℕ). before ++ link n place (Asks (bank, e)) asked.last.next ∷ []) is.number in
     ap (asked_by port) more ∙ (asked_more port place asked.last.next before (bank, e) ∙ ap (λ (ls : List Link). asked_in ls ++ (bank, e) ∷ []) same)
 
--- once the bank has it, all that the line asked for was left
+-- after the bank has it, all that the line asked for was left
 left_then : (port bank : ℕ) (e : Act) (chain : ChainValue) (known reached : List Link) → owner_of e ≡ port → chain.number ≡ bank → IsPrefix chain.log known
     → asked_by port known ≡ done_for port known ++ (bank, e) ∷ [] → IsLastOf chain known reached (Does e) → IsPrefix (asked_by port known) (done_for port reached)
 left_then port bank e chain known reached own is pre due added =

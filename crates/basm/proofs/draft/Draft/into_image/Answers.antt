@@ -9,7 +9,7 @@ use Rattle.bpf.specs.Program.{Program}
 use Rattle.basm.proofs.Images.{image_reading, refused}
 use Rattle.basm.proofs.draft.Draft.into_image.Goals as goal
 
--- lent parts are the parts
+-- lent parts are equal to the parts
 lent : (version : Version) (insns given : List Insn) (loops sorted : List Loop) (budget : ℕ) → insns ≡ given → loops ≡ sorted → parts_reading version insns loops budget ≡ parts_reading version given sorted budget
 lent version insns given loops sorted budget same_insns same_loops =
     ap (λ (is : List Insn). parts_reading version is loops budget) same_insns ∙ ap (λ (ls : List Loop). parts_reading version given ls budget) same_loops

@@ -1,4 +1,4 @@
-use Rattle.std.proofs.Common.{◌≡◌, rules}
+use Rattle.std.proofs.Common.{rules}
 use Rattle.chart_lines.proofs.Joining.{by_last}
 use Rattle.chart_lines.proofs.rows.Told.is.Goals as goal
 

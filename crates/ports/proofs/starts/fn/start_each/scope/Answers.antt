@@ -25,7 +25,7 @@ loop-worker-preserved-then-not-all g c =
       (λ no. let fewer = was.9 no in omega (arith, fewer, step.1, more.len)),
     )
 
--- The worker stands first among those ahead, so it is the one at the next place.
+-- The worker is first among those ahead, so it is the one at the next place.
 pub port_of-port-requires : goal.port_of-port-requires
 port_of-port-requires g c =
     let was = c.loop-worker.invariant in let worker = c.in-Some.worker in let done = vec_len c.loop-worker.threads in

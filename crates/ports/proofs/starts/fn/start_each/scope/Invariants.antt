@@ -3,7 +3,8 @@ use Rattle.std.specs.Vec.Iter.{into_iter_items, into_iter_len}
 use Rattle.ports.specs.Serves.{AreLast, AreServed, AreThreadsOf}
 use Rattle.ports.proofs.starts.fn.start_each.scope.Given as goal
 
--- While all threads could be made, each worker so far has one, and the others are ahead; from then on they go to the rest.
+-- While all threads could be made, each worker so far has one, and the others are ahead. From then on they go to the
+-- rest.
 abbrev pub invariant-loop-worker : goal.invariant-loop-worker
 invariant-loop-worker g l =
     let done = vec_len l.threads in let ahead = l.worker-iterator in let first = l.initial.worker-iterator in

@@ -1,0 +1,24 @@
+-- Two comparisons of the same tables say the same of each command.
+use Rattle.std.proofs.Common.{◌⊎◌, inl, inr, Bool, true, false, List, sym, ◌∙◌}
+use Rattle.policy_table.specs.declared.rules.Rule.{Rule}
+use Rattle.regions.specs.declared.points.Point.{Point}
+use Rattle.regions.specs.declared.regions.Region.{Region}
+use Rattle.charts.specs.Lines.{IsComparison, IsToldRightly, is_told}
+use Rattle.charts.specs.declared.lines.Line.{Line}
+use Rattle.differences.specs.Joined.{IsSaidByBoth, IsSaidByNone, SayTheSame}
+
+said : (told : Bool) (old new : List Rule) (one other : List Line) (p : Point) → IsToldRightly told old new one p → IsToldRightly told old new other p
+    → IsSaidByBoth old new one other p ⊎ IsSaidByNone one other p
+said true old new one other p own its = inl (record {
+  own = own.line;
+  its = its.line;
+  own_alone = own.alone;
+  its_alone = its.alone;
+  old_course = sym own.old_course ∙ its.old_course;
+  new_course = sym own.new_course ∙ its.new_course;
+})
+said false old new one other p own its = inr (record { own = own; its = its })
+
+pub say_the_same : (asked : Region) (old new : List Rule) (one other : List Line) → IsComparison asked old new one → IsComparison asked old new other
+    → SayTheSame old new one other
+say_the_same asked old new one other own its p command = said (is_told asked false old new p) old new one other p (own p command) (its p command)

@@ -1,0 +1,9 @@
+use Rattle.std.proofs.Common.{◌++◌}
+use Rattle.std.specs.Prelude.{string_bytes}
+use Rattle.job_node_file.specs.Headers.{each_from, publish_array}
+use Rattle.job_node_file.proofs.Rows.{RowsGoOn}
+use Rattle.job_node_file.proofs.header.add_publish_arrays.Given as goal
+
+abbrev pub invariant-loop-place : goal.invariant-loop-place
+invariant-loop-place l =
+    RowsGoOn (publish_array) l.publishes l.place (string_bytes l.text) (string_bytes l.initial.text ++ each_from (publish_array) 0 l.publishes)
